@@ -1,0 +1,26 @@
+-- Laws that show that the definitions mean what they should.
+use Rattle.std.specs.Prelude.{◌≡◌, ℕ, ◌+◌, ◌≤◌, Bool, IsTrue, ◌↔◌}
+use Rattle.signals.specs.declared.verdict.Verdict.{Verdict}
+use Rattle.types.specs.declared.sequence.Boolean.{Boolean}
+use Rattle.types.specs.Segments.{Seq, Matches, is_match, longest}
+use Rattle.types.specs.Attempts.{IsVerdict, verdict}
+
+-- A match doesn't end before it begins.
+abbrev pub MatchesForward : Type 0
+MatchesForward = (holds : Boolean → ℕ → Bool) (r : Seq Boolean) (i j : ℕ) → Matches holds r i j → i ≤ j
+
+-- It isn't longer than the longest.
+abbrev pub MatchesWithin : Type 0
+MatchesWithin = (holds : Boolean → ℕ → Bool) (r : Seq Boolean) (i j : ℕ) → Matches holds r i j → j ≤ i + longest r
+
+-- The test of a match says what the relation says.
+abbrev pub TestsMatches : Type 0
+TestsMatches = (holds : Boolean → ℕ → Bool) (r : Seq Boolean) (i j : ℕ) → IsTrue (is_match holds r i j) ↔ Matches holds r i j
+
+-- Each attempt has a verdict, the one that is computed.
+abbrev pub HasVerdict : Type 0
+HasVerdict = (value : Boolean → ℕ → Bool) (off : ℕ → Bool) (r s : Seq Boolean) (end c : ℕ) → IsVerdict value off r s end c (verdict value off r s end c)
+
+-- It has no other.
+abbrev pub HasOneVerdict : Type 0
+HasOneVerdict = (value : Boolean → ℕ → Bool) (off : ℕ → Bool) (r s : Seq Boolean) (end c : ℕ) (v w : Verdict) → IsVerdict value off r s end c v → IsVerdict value off r s end c w → v ≡ w

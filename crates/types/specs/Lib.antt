@@ -1,0 +1,5 @@
+pub mod Quantifiers
+pub mod Segments
+pub mod Attempts
+pub mod Shapes
+pub mod Laws

@@ -1,0 +1,16 @@
+//! Suites of assertions, and their meaning.
+#![tactic(auto)]
+
+mod assertion;
+mod decision;
+mod implication;
+mod laws;
+mod sequence;
+mod suite;
+
+pub use assertion::{Assertion, LONGEST, short_length};
+pub use decision::Decision;
+pub use implication::Implication;
+pub use laws::{match_law, verdict_law};
+pub use sequence::{Boolean, Sequence};
+pub use suite::Suite;
