@@ -266,3 +266,25 @@ first_true-none_at i e p h = first_true_of-none_at i (e - i) p (λ m from below.
 pub none_from : {A : Type 0} (o : Option A) → ((a : A) → o ≡ Some a → ⊥) → o ≡ None
 none_from None h = refl
 none_from (Some a) h = absurd (h a refl)
+
+and_true : (a : Bool) → (a && true) ≡ (true && a)
+and_true true = refl
+and_true false = refl
+
+and_regroup : (a b c : Bool) → (a && (b && c)) ≡ ((a && b) && c)
+and_regroup true b c = refl
+and_regroup false b c = refl
+
+each_of-snoc : (i n : ℕ) (p : ℕ → Bool) → each_of i (suc n) p ≡ (each_of i n p && p (i + n))
+each_of-snoc i zero p = let e : i ≡ i + 0 = omega arith in and_true (p i) ∙ ap p e
+each_of-snoc i (suc n) p =
+    let e : i + 1 + n ≡ i + suc n = omega arith in
+    ap (λ b. p i && b) (each_of-snoc (i + 1) n p) ∙ and_regroup (p i) (each_of (i + 1) n p) (p (i + 1 + n)) ∙ ap (λ k. (p i && each_of (i + 1) n p) && p k) e
+
+-- a test of each tick that goes one tick further
+pub each_in-snoc : (i e : ℕ) (p : ℕ → Bool) → i ≤ e → each_in i (e + 1) p ≡ (each_in i e p && p e)
+unfolding each_in
+each_in-snoc i e p h =
+    let d : e + 1 - i ≡ suc (e - i) = omega arith in
+    let f : i + (e - i) ≡ e = omega arith in
+    ap (λ n. each_of i n p) d ∙ each_of-snoc i (e - i) p ∙ ap (λ k. each_of i (e - i) p && p k) f

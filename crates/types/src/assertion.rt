@@ -37,6 +37,14 @@ pub fn short_length(sequence: &Sequence) -> Option<usize>
     }
 }
 
+/// The length of the longest segments that a sequence may match, at most 127.
+pub fn longest_match(sequence: &Sequence) -> usize
+    requires { longest (shape sequence.now) ≤ 127 }
+    ensures { result ≡ longest (shape sequence.now) }
+{
+    short_length(sequence).unwrap_or(LONGEST)
+}
+
 /// A sum, or none where it is over 127.
 fn short_sum(first: usize, rest: usize) -> Option<usize>
     requires first { first ≤ 127 }

@@ -8,7 +8,7 @@ mod laws;
 mod sequence;
 mod suite;
 
-pub use assertion::{Assertion, LONGEST, short_length};
+pub use assertion::{Assertion, LONGEST, longest_match, short_length};
 pub use decision::Decision;
 pub use implication::Implication;
 pub use laws::{match_law, verdict_law};
