@@ -1,0 +1,10 @@
+use Rattle.verdicts.specs.Texts.{counts_text}
+use Rattle.verdicts.proofs.Pieces.{and_then}
+use Rattle.verdicts.proofs.text.push_counts.Goals as goal
+
+pub returns : goal.returns
+unfolding counts_text
+returns c =
+    and_then
+    (and_then (and_then (and_then (and_then c.in_ok-push_field.ensures c.in_ok-push_field-2.ensures) c.in_ok-push_field-3.ensures) c.in_ok-push_field-4.ensures) c.in_ok-push_field-5.ensures)
+    c.in_ok-push_text.ensures

@@ -1,0 +1,44 @@
+//! Writing a report.
+
+ghost use Rattle.std.specs.Prelude.{◌≡◌, OnOk, IfErr};
+ghost use Rattle.std.specs.Io.KnownBytes.{Appends};
+ghost use Rattle.verdicts.specs.Shown.{shown};
+ghost use Rattle.verdicts.specs.Texts.{report_text};
+ghost use Rattle.verdicts.specs.Written.{WhyUnwritten};
+
+use crate::report::Report;
+use crate::text::text_of;
+use signals::{Sink, write_all};
+use std::alloc::Global;
+use thiserror::Error;
+
+/// Why a report was not written, or not all of it.
+#[derive(Clone, Copy, PartialEq, Eq, Debug, Error)]
+pub enum ReportFault {
+    /// G1: the device failed, or took no byte.
+    #[error("the report could not be written")]
+    Write,
+    /// There was no memory for the text; nothing was written.
+    #[error("out of memory")]
+    Memory,
+}
+
+/// Writes the text of a report to the device, and flushes it.
+///
+/// Where the device fails, it holds a beginning of the text behind what it held before.
+pub fn write_report<W: Sink>(alloc: Global, report: &Report, out: &mut W) -> Result<(), ReportFault>
+    ensures written { OnOk result (Appends (W.contents out.old) (W.contents out.new) (report_text (shown report.now))) }
+    ensures counted { OnOk result (W.failures out.new ≡ W.failures out.old) }
+    ensures refused { IfErr result (WhyUnwritten (W.contents out.old) (W.contents out.new) (W.failures out.old) (W.failures out.new) (report_text (shown report.now))) }
+{
+    let Ok(text) = text_of(alloc, report) else {
+        return Err(ReportFault::Memory);
+    };
+    if write_all(out, text.as_bytes()).is_err() {
+        return Err(ReportFault::Write);
+    }
+    match out.flush() {
+        Ok(()) => Ok(()),
+        Err(_) => Err(ReportFault::Write),
+    }
+}
