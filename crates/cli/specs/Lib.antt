@@ -1,0 +1,7 @@
+pub mod Forms
+pub mod Reads
+pub mod Stated
+pub mod Judged
+pub mod Statuses
+pub mod Reported
+pub mod Outcomes

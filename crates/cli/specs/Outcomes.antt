@@ -1,0 +1,123 @@
+-- What a run over a source, a text and a sink comes to.
+use Rattle.std.specs.Prelude.{◌≡◌, ◌⊎◌, ℕ, ◌<◌, List, [], ◌∷◌, Option, Some, None}
+use Rattle.std.specs.Io.KnownBytes.{Appends}
+use Rattle.signals.specs.Source.{after_failure}
+use Rattle.signals.specs.Sink.{AppendsFront}
+use Rattle.lexer.specs.declared.token.Token.{Token}
+use Rattle.lexer.specs.Covering.{IsRefused}
+use Rattle.vcd_reader.specs.declared.fault.VcdFault.{VcdFault}
+use Rattle.vcd_reader.specs.Variables.{variable_named}
+use Rattle.vcd_reader.specs.Dump.{Contents, Gave, GaveDump, Stands}
+use Rattle.cycle_window.specs.Bound.{IsClockFault}
+use Rattle.verdicts.specs.declared.line.Counts.{Counts}
+use Rattle.verdicts.specs.declared.write.ReportFault.TheVariants as reports
+use Rattle.verdicts.specs.Lines.{ReportData}
+use Rattle.verdicts.specs.Texts.{report_text}
+use Rattle.cli.specs.declared.fault.Fault.{Fault}
+use Rattle.cli.specs.declared.fault.Fault.TheVariants.{Vcd, Lex, Parse, Type', Window, Report, NoAssertion, NotText, Words, File, Memory}
+use Rattle.cli.specs.declared.fault.ParseFault.TheVariants.{Expected}
+use Rattle.cli.specs.declared.fault.TypeFault.TheVariants.{UnknownName}
+use Rattle.cli.specs.Forms.{Statement, form_of, path_text}
+use Rattle.cli.specs.Reported.{AreTokens, IsStated, Reports, IsReport}
+
+-- the counts of a report's last line, in its order
+abbrev pub totals_of : Counts → List ℕ
+totals_of c = c.holds ∷ c.vacuous ∷ c.fails ∷ c.disabled ∷ c.still_open ∷ []
+
+-- What a run was given and what it left: the text, the bytes that the source had left before and after, those that the
+-- sink held, and how many calls of each had failed.
+pub record Run : Type 0 where
+  pub text : List ℕ
+  pub given_old : Option (List ℕ)
+  pub given_new : Option (List ℕ)
+  pub reads_old : ℕ
+  pub reads_new : ℕ
+  pub held_old : Option (List ℕ)
+  pub held_new : Option (List ℕ)
+  pub writes_old : ℕ
+  pub writes_new : ℕ
+
+-- The source gave all its bytes, and the text of the report on them and on the text was written; the totals are its last line's.
+pub record IsAnswered (r : Run) (totals : List ℕ) : Type 0 where
+  pub bytes : List ℕ
+  pub gave : Gave r.given_old r.given_new bytes
+  pub report : ReportData
+  pub is_report : IsReport bytes r.text report
+  pub written : Appends r.held_old r.held_new (report_text report)
+  pub totals_are : totals ≡ totals_of report.total
+
+-- nothing was written
+pub record IsUnwritten (r : Run) : Type 0 where
+  pub held : r.held_new ≡ r.held_old
+  pub counted : r.writes_new ≡ r.writes_old
+
+-- the text has tokens, and they are not of the form that is read
+pub record HasNoForm (text : List ℕ) : Type 0 where
+  pub tokens : List Token
+  pub cut : AreTokens text tokens
+  pub none : form_of tokens ≡ None
+
+-- a side of the implication names no variable that can be bound
+abbrev pub LacksName : Contents → Statement → Type 0
+LacksName c s = (variable_named c.variables (path_text s.antecedent) ≡ None) ⊎ (variable_named c.variables (path_text s.consequent) ≡ None)
+
+-- why a statement has no report over these contents
+abbrev pub WhyUnjudged : Contents → Statement → Fault → Type 0
+WhyUnjudged c s (Type' (UnknownName at)) = LacksName c s
+WhyUnjudged c s (Window e) = IsClockFault c.variables (path_text s.clock) e
+WhyUnjudged c s Memory = Unit {0}
+WhyUnjudged c s _ = ⊥
+
+-- the text states something that has no report over these contents
+pub record IsUnjudged (c : Contents) (text : List ℕ) (fault : Fault) : Type 0 where
+  pub statement : Statement
+  pub stated : IsStated text statement
+  pub why : WhyUnjudged c statement fault
+
+-- why a text has no report over these contents
+abbrev pub WhyNoReport : Contents → List ℕ → Fault → Type 0
+WhyNoReport c text (Lex e) = IsRefused text e
+WhyNoReport c text (Parse e) = HasNoForm text
+WhyNoReport c text (Type' e) = IsUnjudged c text (Type' e)
+WhyNoReport c text (Window e) = IsUnjudged c text (Window e)
+WhyNoReport c text Memory = Unit {0}
+WhyNoReport c text _ = ⊥
+
+-- the text has a report over these contents
+pub record HasReport (c : Contents) (text : List ℕ) (report : ReportData) : Type 0 where
+  pub statement : Statement
+  pub stated : IsStated text statement
+  pub reports : Reports c statement report
+
+-- the source gave a dump over which the text has no report, and nothing was written
+pub record IsRefusedReport (r : Run) (fault : Fault) : Type 0 where
+  pub contents : Contents
+  pub gave : GaveDump r.given_old r.given_new contents
+  pub why : WhyNoReport contents r.text fault
+  pub unwritten : IsUnwritten r
+
+-- the sink failed, and holds a beginning of the report's text behind what it held before
+pub record IsCutShort (r : Run) : Type 0 where
+  pub bytes : List ℕ
+  pub gave : Gave r.given_old r.given_new bytes
+  pub report : ReportData
+  pub is_report : IsReport bytes r.text report
+  pub failed : r.writes_new ≡ after_failure r.writes_old
+  pub front : AppendsFront r.held_old r.held_new (report_text report)
+
+-- the dump's fault stands, and nothing was written
+pub record IsUnread (r : Run) (fault : VcdFault) : Type 0 where
+  pub stands : Stands r.given_old r.given_new r.reads_old r.reads_new fault
+  pub unwritten : IsUnwritten r
+
+-- why there is no report, or not all of it
+abbrev pub WhyRefused : Run → Fault → Type 0
+WhyRefused r (Vcd e) = IsUnread r e
+WhyRefused r (Report reports.Write) = IsCutShort r
+WhyRefused r (Report reports.Memory) = ⊥
+WhyRefused r (Lex e) = IsRefusedReport r (Lex e)
+WhyRefused r (Parse e) = IsRefusedReport r (Parse e)
+WhyRefused r (Type' e) = IsRefusedReport r (Type' e)
+WhyRefused r (Window e) = IsRefusedReport r (Window e)
+WhyRefused r Memory = IsUnwritten r
+WhyRefused r _ = ⊥

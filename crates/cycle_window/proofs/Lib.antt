@@ -1,0 +1,4 @@
+pub mod LastLaws
+pub mod TickLaws
+pub mod HeldLaws
+pub mod BoundLaws

@@ -1,0 +1,4 @@
+pub mod Ticks
+pub mod Held
+pub mod Bound
+pub mod Signals

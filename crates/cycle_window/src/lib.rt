@@ -1,0 +1,16 @@
+//! The ticks of a clock in a dump, and the rows that are sampled there.
+#![tactic(auto)]
+
+mod clocks;
+mod columns;
+mod fault;
+mod last;
+mod laws;
+mod sampling;
+mod window;
+
+pub use clocks::Clocks;
+pub use columns::{Columns, Signal};
+pub use fault::WindowFault;
+pub use laws::ticks_law;
+pub use window::Window;

@@ -1,0 +1,11 @@
+pub mod Terminals
+pub mod Bounds
+pub mod Marks
+pub mod Trees
+pub mod Expressions
+pub mod Sequences
+pub mod Files
+pub mod Readers
+pub mod ReadExpressions
+pub mod ReadSequences
+pub mod ReadFiles

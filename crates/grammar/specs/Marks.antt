@@ -1,0 +1,95 @@
+-- How a token may begin a primary, and how loosely it joins.
+use Rattle.std.specs.Prelude.{ℕ, List, [], ◌∷◌}
+use Rattle.lexer.specs.declared.token.Symbol.{Symbol}
+use Rattle.lexer.specs.declared.token.Symbol.TheVariants as symbol
+use Rattle.lexer.specs.declared.token.Kind.{Kind}
+use Rattle.lexer.specs.declared.token.Kind.TheVariants as kind
+use Rattle.lexer.specs.declared.token.Token.{Token}
+use Rattle.grammar.specs.declared.terminal.Terminal.{Terminal}
+use Rattle.grammar.specs.declared.terminal.Terminal.TheVariants as terminals
+use Rattle.grammar.specs.declared.mark.Function.TheVariants as function
+use Rattle.grammar.specs.declared.mark.Mark.{Mark}
+use Rattle.grammar.specs.declared.mark.Mark.TheVariants.{Number, Name, Prefix, Opening, Brace, Past, Call, Other}
+use Rattle.grammar.specs.Terminals.{terminal}
+
+-- the unary operators ! ~ & ~& | ~| ^ ~^ ^~
+abbrev pub mark_of_operator : Kind → Mark
+mark_of_operator (kind.Symbol symbol.Bang) = Prefix
+mark_of_operator (kind.Symbol symbol.Tilde) = Prefix
+mark_of_operator (kind.Symbol symbol.And) = Prefix
+mark_of_operator (kind.Symbol symbol.Nand) = Prefix
+mark_of_operator (kind.Symbol symbol.Or) = Prefix
+mark_of_operator (kind.Symbol symbol.Nor) = Prefix
+mark_of_operator (kind.Symbol symbol.Xor) = Prefix
+mark_of_operator (kind.Symbol symbol.Xnor) = Prefix
+mark_of_operator (kind.Symbol symbol.XnorCaret) = Prefix
+mark_of_operator _ = Other
+
+-- NUM, NAME, "(", "{", "$past", the functions of one operand, and the unary operators
+abbrev pub mark_of_terminal : Terminal → Kind → Mark
+mark_of_terminal terminals.Number k = Number
+mark_of_terminal terminals.Counter k = Name
+mark_of_terminal terminals.Clear k = Name
+mark_of_terminal terminals.Load k = Name
+mark_of_terminal terminals.Add k = Name
+mark_of_terminal terminals.Sub k = Name
+mark_of_terminal terminals.Name k = Name
+mark_of_terminal terminals.OpenRound k = Opening
+mark_of_terminal terminals.OpenBrace k = Brace
+mark_of_terminal terminals.Past k = Past
+mark_of_terminal terminals.Rose k = Call function.Rose
+mark_of_terminal terminals.Fell k = Call function.Fell
+mark_of_terminal terminals.Stable k = Call function.Stable
+mark_of_terminal terminals.Changed k = Call function.Changed
+mark_of_terminal terminals.OneHot k = Call function.OneHot
+mark_of_terminal terminals.OneHot0 k = Call function.OneHot0
+mark_of_terminal terminals.Operator k = mark_of_operator k
+mark_of_terminal _ k = Other
+
+unfoldable pub mark : Token → Mark
+mark t = mark_of_terminal (terminal t) t.kind
+
+-- How loosely a token joins what stands before it to what follows: 1 to 9 are the levels of the left operators, from the
+-- tightest, 10 is ?, 11 throughout, 12 [*, 13 ##, 15 and, 16 or, 17 the implications. 0 goes on with a path, 100 with
+-- nothing. (14 is left for intersect.)
+abbrev pub looseness_of_operator : Kind → ℕ
+looseness_of_operator (kind.Symbol symbol.Plus) = 1
+looseness_of_operator (kind.Symbol symbol.Minus) = 1
+looseness_of_operator (kind.Symbol symbol.ShiftLeft) = 2
+looseness_of_operator (kind.Symbol symbol.ShiftRight) = 2
+looseness_of_operator (kind.Symbol symbol.Less) = 3
+looseness_of_operator (kind.Symbol symbol.LessEqual) = 3
+looseness_of_operator (kind.Symbol symbol.Greater) = 3
+looseness_of_operator (kind.Symbol symbol.GreaterEqual) = 3
+looseness_of_operator (kind.Symbol symbol.Equal) = 4
+looseness_of_operator (kind.Symbol symbol.NotEqual) = 4
+looseness_of_operator (kind.Symbol symbol.And) = 5
+looseness_of_operator (kind.Symbol symbol.Xor) = 6
+looseness_of_operator (kind.Symbol symbol.Xnor) = 6
+looseness_of_operator (kind.Symbol symbol.XnorCaret) = 6
+looseness_of_operator (kind.Symbol symbol.Or) = 7
+looseness_of_operator (kind.Symbol symbol.AndAnd) = 8
+looseness_of_operator (kind.Symbol symbol.OrOr) = 9
+looseness_of_operator (kind.Symbol symbol.Question) = 10
+looseness_of_operator _ = 100
+
+abbrev pub looseness_of_terminal : Terminal → Kind → ℕ
+looseness_of_terminal terminals.Dot k = 0
+looseness_of_terminal terminals.OpenSquare k = 0
+looseness_of_terminal terminals.Operator k = looseness_of_operator k
+looseness_of_terminal terminals.Throughout k = 11
+looseness_of_terminal terminals.OpenRepeat k = 12
+looseness_of_terminal terminals.Delay k = 13
+looseness_of_terminal terminals.And k = 15
+looseness_of_terminal terminals.Or k = 16
+looseness_of_terminal terminals.Overlapped k = 17
+looseness_of_terminal terminals.Following k = 17
+looseness_of_terminal _ k = 100
+
+unfoldable pub looseness : Token → ℕ
+looseness t = looseness_of_terminal (terminal t) t.kind
+
+-- that of the first token
+abbrev pub next_looseness : List Token → ℕ
+next_looseness [] = 100
+next_looseness (t ∷ ts) = looseness t

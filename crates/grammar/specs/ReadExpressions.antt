@@ -1,0 +1,138 @@
+-- The grammar of expressions as functions, which read as far as they can.
+use Rattle.std.specs.Prelude.{◌≡◌, ℕ, zero, suc, ◌==◌, List, [], ◌∷◌, Bool, Option, Some, None, if◌then◌else◌}
+use Rattle.lexer.specs.declared.token.Token.{Token}
+use Rattle.grammar.specs.declared.bound.Bound.{Bound}
+use Rattle.grammar.specs.declared.bound.Select.{Select}
+use Rattle.grammar.specs.declared.mark.Mark.{Mark}
+use Rattle.grammar.specs.declared.mark.Mark.TheVariants as marks
+use Rattle.grammar.specs.declared.mark.Function.{Function}
+use Rattle.grammar.specs.declared.terminal.Terminal.TheVariants.{OpenRound, CloseRound, CloseBrace, OpenSquare, CloseSquare, Comma, Colon, Dot}
+use Rattle.grammar.specs.Terminals.{is, is_name, is_word}
+use Rattle.grammar.specs.Bounds.{index, bound_within}
+use Rattle.grammar.specs.Marks.{mark, looseness}
+use Rattle.grammar.specs.Trees.{Tree, number, path, concatenation, past, call, unary, chain, choice, Links, end, link, Parts, no_part, part}
+use Rattle.grammar.specs.Readers.{◌>>=◌, Reader, refuse, lead, expect, pick, optional, each}
+
+abbrev pub name_of : Token → Option Token
+name_of t = if is_name t then Some t else None
+
+abbrev pub word_of : Token → Option Token
+word_of t = if is_word t then Some t else None
+
+-- ("." NAME)*
+unfoldable pub members : Reader (List Token)
+members ts = each (is Dot) (λ dot. pick word_of) ts
+
+-- path
+unfoldable pub path_words : Reader (List Token)
+path_words ts = pick name_of ts >>= λ p. members p.1 >>= λ q. Some (p.0 ∷ q.0, q.1)
+
+-- NUM [":" NUM] "]"
+unfoldable pub select : Reader Select
+select ts = pick index ts >>= λ p. optional Colon (pick index) p.1 >>= λ q. expect CloseSquare q.1 >>= λ r. Some (record { high = p.0; low = q.0 }, r.1)
+
+-- what may stand inside, one deeper
+pub record Inner : Type 0 where
+  pub expr : Reader Tree
+  pub prefixed : Reader Tree
+  pub select : Reader Select
+
+abbrev pub links_of : List (Token × Tree) → Links
+links_of [] = end
+links_of (x ∷ xs) = link x.0 x.1 (links_of xs)
+
+abbrev pub parts_of : List Tree → Parts
+parts_of [] = no_part
+parts_of (x ∷ xs) = part x (parts_of xs)
+
+-- behind a path's first word
+unfoldable pub named : Inner → Token → Reader Tree
+named inner t ts = members ts >>= λ p. optional OpenSquare inner.select p.1 >>= λ q. Some (path (t ∷ p.0) q.0, q.1)
+
+-- behind "("
+unfoldable pub bracketed : Inner → Reader Tree
+bracketed inner ts = inner.expr ts >>= λ p. expect CloseRound p.1 >>= λ r. Some (p.0, r.1)
+
+-- behind "{"
+unfoldable pub concatenated : Inner → Token → Reader Tree
+concatenated inner t ts = inner.expr ts >>= λ p. each (is Comma) (λ comma. inner.expr) p.1 >>= λ q. expect CloseBrace q.1 >>= λ r. Some (concatenation t p.0 (parts_of q.0), r.1)
+
+-- behind "$past"
+unfoldable pub passed : Inner → Token → Reader Tree
+passed inner t ts = expect OpenRound ts >>= λ o. inner.expr o.1 >>= λ p. optional Comma (pick (bound_within 1 64)) p.1 >>= λ q. expect CloseRound q.1 >>= λ r. Some (past t p.0 q.0, r.1)
+
+-- behind a function's name
+unfoldable pub called : Inner → Function → Token → Reader Tree
+called inner g t ts = expect OpenRound ts >>= λ o. bracketed inner o.1 >>= λ p. Some (call g t p.0, p.1)
+
+-- behind a unary operator
+unfoldable pub prefixing : Inner → Token → Reader Tree
+prefixing inner t ts = inner.prefixed ts >>= λ p. Some (unary t p.0, p.1)
+
+abbrev pub prefixed_by : Inner → Mark → Token → Reader Tree
+prefixed_by inner marks.Number t ts = Some (number t, ts)
+prefixed_by inner marks.Name t ts = named inner t ts
+prefixed_by inner marks.Prefix t ts = prefixing inner t ts
+prefixed_by inner marks.Opening t ts = bracketed inner ts
+prefixed_by inner marks.Brace t ts = concatenated inner t ts
+prefixed_by inner marks.Past t ts = passed inner t ts
+prefixed_by inner (marks.Call g) t ts = called inner g t ts
+prefixed_by inner marks.Other t ts = None
+
+-- a primary, or a unary operator with its operand
+unfoldable pub prefixed_with : Inner → Reader Tree
+prefixed_with inner [] = None
+prefixed_with inner (t ∷ ts) = prefixed_by inner (mark t) t ts
+
+-- operators of level l + 1 with their right operands
+unfoldable pub links : Reader Tree → ℕ → Reader (List (Token × Tree))
+links operand l ts = each (λ t. looseness t == suc l) (λ t us. operand us >>= λ p. Some ((t, p.0), p.1)) ts
+
+abbrev pub joined : Tree → List (Token × Tree) → Tree
+joined first [] = first
+joined first (x ∷ xs) = chain first (links_of (x ∷ xs))
+
+-- what goes on behind what the reader reads
+abbrev pub behind : Reader Tree → (Tree → Reader Tree) → Reader Tree
+behind reader go ts = reader ts >>= λ p. go p.0 p.1
+
+-- the operators of the l tightest levels, behind a first operand
+unfoldable pub climb : Reader Tree → ℕ → Tree → Reader Tree
+climb base zero first ts = Some (first, ts)
+climb base (suc l) first ts = climb base l first ts >>= λ p. links (behind base (climb base l)) l p.1 >>= λ q. Some (joined p.0 q.0, q.1)
+
+unfoldable pub level : Reader Tree → ℕ → Reader Tree
+level base l ts = behind base (climb base l) ts
+
+abbrev pub choice_by : Reader Tree → Option (Token × List Token) → Tree → Reader Tree
+choice_by inner None c ts = Some (c, ts)
+choice_by inner (Some t) c ts = inner t.1 >>= λ a. expect Colon a.1 >>= λ r. inner r.1 >>= λ b. Some (choice c a.0 b.0, b.1)
+
+-- behind a condition, if it is one
+unfoldable pub choice_with : Reader Tree → Tree → Reader Tree
+choice_with inner c ts = choice_by inner (lead (λ t. looseness t == 10) ts) c ts
+
+-- the rest of an expression behind its first operand
+abbrev pub finish_with : Inner → Reader Tree → Tree → Reader Tree
+finish_with inner base first ts = climb base 9 first ts >>= λ p. choice_with inner.expr p.0 p.1
+
+abbrev pub expr_with : Inner → Reader Tree → Reader Tree
+expr_with inner base = behind base (finish_with inner base)
+
+-- what may stand where so many more brackets and operators may open
+unfoldable pub readers : ℕ → Inner
+readers zero = record { expr = refuse; prefixed = refuse; select = refuse }
+readers (suc d) = record { expr = expr_with (readers d) (prefixed_with (readers d)); prefixed = prefixed_with (readers d); select = select }
+
+unfoldable pub prefixed : ℕ → Reader Tree
+prefixed d ts = prefixed_with (readers d) ts
+
+-- an operand of a left operator looser than l, in which at most d brackets and unfinished operators are open at once
+unfoldable pub operand : ℕ → ℕ → Reader Tree
+operand d l ts = level (prefixed_with (readers d)) l ts
+
+unfoldable pub finish : ℕ → Tree → Reader Tree
+finish d first ts = finish_with (readers d) (prefixed_with (readers d)) first ts
+
+unfoldable pub expression : ℕ → Reader Tree
+expression d ts = expr_with (readers d) (prefixed_with (readers d)) ts

@@ -1,0 +1,166 @@
+-- What a token is to the grammar.
+use Rattle.std.specs.Prelude.{ℕ, List, Bool, true, false, ◌||◌, ◌&&◌, ◌==◌, not, codes, if◌then◌else◌}
+use Rattle.std.specs.Str.{bytes_eq}
+use Rattle.lexer.specs.declared.token.Symbol.{Symbol}
+use Rattle.lexer.specs.declared.token.Symbol.TheVariants as symbols
+use Rattle.lexer.specs.declared.token.Kind.{Kind}
+use Rattle.lexer.specs.declared.token.Kind.TheVariants as kinds
+use Rattle.lexer.specs.declared.token.Token.{Token}
+use Rattle.grammar.specs.declared.terminal.Terminal.{Terminal}
+use Rattle.grammar.specs.declared.terminal.Terminal.TheVariants.{Counter, Clear, Load, Add, Sub, Sequence, EndSequence, Assert, Assume, Property, Posedge, Disable, Iff, Or, And, Throughout, ForeignWord, Name, Past, Rose, Fell, Stable, Changed, OneHot, OneHot0, ForeignSystem, Number, OpenRound, CloseRound, OpenBrace, CloseBrace, OpenSquare, OpenRepeat, CloseSquare, Comma, Semicolon, Colon, AtSign, Dot, Delay, Overlapped, Following, ForeignSymbol, Operator, End}
+
+-- Words of constructs that the profile leaves out. (`property` where an item begins, and `iff` other than behind `disable`, are left out too.)
+unfoldable pub foreign_1 : List ℕ → Bool
+foreign_1 text = bytes_eq text (codes "intersect") || bytes_eq text (codes "within") || bytes_eq text (codes "first_match") || bytes_eq text (codes "strong") || bytes_eq text (codes "weak") || bytes_eq text (codes "not") || bytes_eq text (codes "if") || bytes_eq text (codes "else")
+
+unfoldable pub foreign_2 : List ℕ → Bool
+foreign_2 text = bytes_eq text (codes "case") || bytes_eq text (codes "always") || bytes_eq text (codes "nexttime") || bytes_eq text (codes "eventually") || bytes_eq text (codes "until") || bytes_eq text (codes "s_always") || bytes_eq text (codes "s_nexttime") || bytes_eq text (codes "s_eventually")
+
+unfoldable pub foreign_3 : List ℕ → Bool
+foreign_3 text = bytes_eq text (codes "s_until") || bytes_eq text (codes "s_until_with") || bytes_eq text (codes "until_with") || bytes_eq text (codes "implies") || bytes_eq text (codes "accept_on") || bytes_eq text (codes "reject_on") || bytes_eq text (codes "cover") || bytes_eq text (codes "restrict")
+
+unfoldable pub foreign_4 : List ℕ → Bool
+foreign_4 text = bytes_eq text (codes "default") || bytes_eq text (codes "clocking") || bytes_eq text (codes "negedge") || bytes_eq text (codes "edge") || bytes_eq text (codes "local")
+
+abbrev pub foreign_word : List ℕ → Terminal
+foreign_word text = if foreign_1 text || foreign_2 text || foreign_3 text || foreign_4 text then ForeignWord else Name
+
+-- the words that the rules quote
+unfoldable pub inner_word : List ℕ → Terminal
+inner_word text =
+    if bytes_eq text (codes "assume") then Assume
+    else (if bytes_eq text (codes "property") then Property
+    else (if bytes_eq text (codes "posedge") then Posedge
+    else (if bytes_eq text (codes "disable") then Disable
+    else (if bytes_eq text (codes "iff") then Iff
+    else (if bytes_eq text (codes "or") then Or
+    else (if bytes_eq text (codes "and") then And
+    else (if bytes_eq text (codes "throughout") then Throughout
+    else foreign_word text)))))))
+
+unfoldable pub word_terminal : List ℕ → Terminal
+word_terminal text =
+    if bytes_eq text (codes "counter") then Counter
+    else (if bytes_eq text (codes "clear") then Clear
+    else (if bytes_eq text (codes "load") then Load
+    else (if bytes_eq text (codes "add") then Add
+    else (if bytes_eq text (codes "sub") then Sub
+    else (if bytes_eq text (codes "sequence") then Sequence
+    else (if bytes_eq text (codes "endsequence") then EndSequence
+    else (if bytes_eq text (codes "assert") then Assert
+    else inner_word text)))))))
+
+unfoldable pub system_terminal : List ℕ → Terminal
+system_terminal text =
+    if bytes_eq text (codes "$past") then Past
+    else (if bytes_eq text (codes "$rose") then Rose
+    else (if bytes_eq text (codes "$fell") then Fell
+    else (if bytes_eq text (codes "$stable") then Stable
+    else (if bytes_eq text (codes "$changed") then Changed
+    else (if bytes_eq text (codes "$onehot") then OneHot
+    else (if bytes_eq text (codes "$onehot0") then OneHot0
+    else ForeignSystem))))))
+
+abbrev pub symbol_terminal : Symbol → Terminal
+symbol_terminal symbols.OpenRound = OpenRound
+symbol_terminal symbols.CloseRound = CloseRound
+symbol_terminal symbols.OpenBrace = OpenBrace
+symbol_terminal symbols.CloseBrace = CloseBrace
+symbol_terminal symbols.OpenSquare = OpenSquare
+symbol_terminal symbols.OpenRepeat = OpenRepeat
+symbol_terminal symbols.CloseSquare = CloseSquare
+symbol_terminal symbols.Comma = Comma
+symbol_terminal symbols.Semicolon = Semicolon
+symbol_terminal symbols.Colon = Colon
+symbol_terminal symbols.AtSign = AtSign
+symbol_terminal symbols.Dot = Dot
+symbol_terminal symbols.Delay = Delay
+symbol_terminal symbols.Overlapped = Overlapped
+symbol_terminal symbols.Following = Following
+symbol_terminal symbols.Star = ForeignSymbol
+symbol_terminal symbols.Slash = ForeignSymbol
+symbol_terminal symbols.Percent = ForeignSymbol
+symbol_terminal _ = Operator
+
+abbrev pub kind_terminal : Kind → List ℕ → Terminal
+kind_terminal kinds.Word text = word_terminal text
+kind_terminal kinds.System text = system_terminal text
+kind_terminal (kinds.Number n) text = Number
+kind_terminal (kinds.Symbol s) text = symbol_terminal s
+kind_terminal kinds.End text = End
+
+abbrev pub terminal : Token → Terminal
+terminal t = kind_terminal t.kind t.text.now
+
+-- NAME: any word but those that the rules quote and those of constructs that the profile leaves out. The words of a counter are names too.
+abbrev pub names : Terminal → Bool
+names Counter = true
+names Clear = true
+names Load = true
+names Add = true
+names Sub = true
+names Name = true
+names _ = false
+
+unfoldable pub is_name : Token → Bool
+is_name t = names (terminal t)
+
+abbrev pub is_word_kind : Kind → Bool
+is_word_kind kinds.Word = true
+is_word_kind _ = false
+
+-- any word: what may stand behind a dot
+unfoldable pub is_word : Token → Bool
+is_word t = is_word_kind t.kind
+
+-- numbers for the terminals, so that two can be compared
+abbrev pub number_of : Terminal → ℕ
+number_of Counter = 0
+number_of Clear = 1
+number_of Load = 2
+number_of Add = 3
+number_of Sub = 4
+number_of Sequence = 5
+number_of EndSequence = 6
+number_of Assert = 7
+number_of Assume = 8
+number_of Property = 9
+number_of Posedge = 10
+number_of Disable = 11
+number_of Iff = 12
+number_of Or = 13
+number_of And = 14
+number_of Throughout = 15
+number_of ForeignWord = 16
+number_of Name = 17
+number_of Past = 18
+number_of Rose = 19
+number_of Fell = 20
+number_of Stable = 21
+number_of Changed = 22
+number_of OneHot = 23
+number_of OneHot0 = 24
+number_of ForeignSystem = 25
+number_of Number = 26
+number_of OpenRound = 27
+number_of CloseRound = 28
+number_of OpenBrace = 29
+number_of CloseBrace = 30
+number_of OpenSquare = 31
+number_of OpenRepeat = 32
+number_of CloseSquare = 33
+number_of Comma = 34
+number_of Semicolon = 35
+number_of Colon = 36
+number_of AtSign = 37
+number_of Dot = 38
+number_of Delay = 39
+number_of Overlapped = 40
+number_of Following = 41
+number_of ForeignSymbol = 42
+number_of Operator = 43
+number_of End = 44
+
+-- whether the token is the terminal
+unfoldable pub is : Terminal → Token → Bool
+is wanted t = number_of wanted == number_of (terminal t)

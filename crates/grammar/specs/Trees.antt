@@ -1,0 +1,79 @@
+-- Trees without brackets, and without where they lie in memory.
+use Rattle.std.specs.Prelude.{ℕ, List, Option}
+use Rattle.lexer.specs.declared.token.Token.{Token}
+use Rattle.grammar.specs.declared.bound.Bound.{Bound}
+use Rattle.grammar.specs.declared.bound.Range.{Range}
+use Rattle.grammar.specs.declared.bound.Select.{Select}
+use Rattle.grammar.specs.declared.mark.Function.{Function}
+
+-- An expression. The tokens that stand in it are those with which a node begins, and the operators.
+mutual
+  pub data Tree : Type 0 where
+    number : Token → Tree
+    path : List Token → Option Select → Tree
+    concatenation : Token → Tree → Parts → Tree
+    past : Token → Tree → Option Bound → Tree
+    call : Function → Token → Tree → Tree
+    unary : Token → Tree → Tree
+    chain : Tree → Links → Tree
+    choice : Tree → Tree → Tree → Tree
+
+  -- left operators of one level, each with its right operand
+  pub data Links : Type 0 where
+    end : Links
+    link : Token → Tree → Links → Links
+
+  -- more parts of a concatenation
+  pub data Parts : Type 0 where
+    no_part : Parts
+    part : Tree → Parts → Parts
+
+-- A sequence. Delays of one chain, and the sides of one "and" or "or", are one node.
+mutual
+  pub data Sequence : Type 0 where
+    boolean : Tree → Sequence
+    repeated : Sequence → Range → Sequence
+    late : Range → Sequence → Sequence
+    delayed : Sequence → Steps → Sequence
+    throughout : Tree → Sequence → Sequence
+    all : Sequence → Others → Sequence
+    either : Sequence → Others → Sequence
+
+  -- delays, each with what it delays
+  pub data Steps : Type 0 where
+    no_step : Steps
+    step : Range → Sequence → Steps → Steps
+
+  -- more sides
+  pub data Others : Type 0 where
+    no_other : Others
+    other : Sequence → Others → Others
+
+-- A sequence alone, or an implication with its token.
+pub data Property : Type 0 where
+  plain : Sequence → Property
+  implication : Sequence → Token → Sequence → Property
+
+pub record Counter : Type 0 where
+  pub name : Token
+  pub width : Bound
+  pub clear : Option Tree
+  pub load : Option (Tree × Tree)
+  pub add : Option (Tree × Tree)
+  pub sub : Option (Tree × Tree)
+
+pub record Declaration : Type 0 where
+  pub name : Token
+  pub body : Sequence
+
+pub record Assertion : Type 0 where
+  pub label : Option Token
+  pub verb : Token
+  pub clock : List Token
+  pub disable : Option Tree
+  pub property : Property
+
+pub data Item : Type 0 where
+  counter : Counter → Item
+  declaration : Declaration → Item
+  assertion : Assertion → Item

@@ -1,0 +1,13 @@
+//! The grammar of the assertion language: what its tokens are, which trees there are, which tokens a tree spells, and
+//! that reading from the left finds that tree, and finds nothing where there is none.
+#![tactic(auto)]
+
+mod bound;
+mod looseness;
+mod mark;
+mod terminal;
+
+pub use bound::{Bound, Index, Range, Select, bound_of, index_of};
+pub use looseness::looseness_of;
+pub use mark::{Function, Mark, mark_of};
+pub use terminal::{Terminal, is, is_name, is_word, terminal_of};

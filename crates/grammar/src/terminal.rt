@@ -1,0 +1,285 @@
+//! What a token is to the grammar.
+
+ghost use Rattle.std.specs.Prelude.{◌≡◌};
+ghost use Rattle.grammar.specs.Terminals.{foreign_1, foreign_2, foreign_3, foreign_4, foreign_word, inner_word, word_terminal, system_terminal, symbol_terminal, terminal, is, is_name, is_word};
+
+use lexer::{Kind, Symbol, Token};
+
+/// A word, symbol or class of tokens that the grammar's rules name.
+#[derive(Clone, Copy, Debug, PartialEq, Eq)]
+pub enum Terminal {
+    Counter,
+    Clear,
+    Load,
+    Add,
+    Sub,
+    Sequence,
+    EndSequence,
+    Assert,
+    Assume,
+    Property,
+    Posedge,
+    Disable,
+    Iff,
+    Or,
+    And,
+    Throughout,
+    /// A word that stands for something of the language which the profile leaves out.
+    ForeignWord,
+    /// Any other word.
+    Name,
+    Past,
+    Rose,
+    Fell,
+    Stable,
+    Changed,
+    OneHot,
+    OneHot0,
+    /// `$` alone, and every other system name.
+    ForeignSystem,
+    Number,
+    OpenRound,
+    CloseRound,
+    OpenBrace,
+    CloseBrace,
+    OpenSquare,
+    OpenRepeat,
+    CloseSquare,
+    Comma,
+    Semicolon,
+    Colon,
+    AtSign,
+    Dot,
+    Delay,
+    Overlapped,
+    Following,
+    /// `*`, `/` and `%`, which the profile leaves out.
+    ForeignSymbol,
+    /// Any other symbol.
+    Operator,
+    End,
+}
+
+#[tactic(auto, unfolding(crate::specs::Terminals::foreign_1))]
+fn foreign_1(text: &str) -> bool
+    ensures { result ≡ foreign_1 text.now }
+{
+    text == "intersect"
+        || text == "within"
+        || text == "first_match"
+        || text == "strong"
+        || text == "weak"
+        || text == "not"
+        || text == "if"
+        || text == "else"
+}
+
+#[tactic(auto, unfolding(crate::specs::Terminals::foreign_2))]
+fn foreign_2(text: &str) -> bool
+    ensures { result ≡ foreign_2 text.now }
+{
+    text == "case"
+        || text == "always"
+        || text == "nexttime"
+        || text == "eventually"
+        || text == "until"
+        || text == "s_always"
+        || text == "s_nexttime"
+        || text == "s_eventually"
+}
+
+#[tactic(auto, unfolding(crate::specs::Terminals::foreign_3))]
+fn foreign_3(text: &str) -> bool
+    ensures { result ≡ foreign_3 text.now }
+{
+    text == "s_until"
+        || text == "s_until_with"
+        || text == "until_with"
+        || text == "implies"
+        || text == "accept_on"
+        || text == "reject_on"
+        || text == "cover"
+        || text == "restrict"
+}
+
+#[tactic(auto, unfolding(crate::specs::Terminals::foreign_4))]
+fn foreign_4(text: &str) -> bool
+    ensures { result ≡ foreign_4 text.now }
+{
+    text == "default"
+        || text == "clocking"
+        || text == "negedge"
+        || text == "edge"
+        || text == "local"
+}
+
+fn foreign_word(text: &str) -> Terminal
+    ensures { result ≡ foreign_word text.now }
+{
+    if foreign_1(text) || foreign_2(text) || foreign_3(text) || foreign_4(text) {
+        Terminal::ForeignWord
+    } else {
+        Terminal::Name
+    }
+}
+
+/// The words inside items.
+#[tactic(auto, unfolding(crate::specs::Terminals::inner_word))]
+fn inner_word(text: &str) -> Terminal
+    ensures { result ≡ inner_word text.now }
+{
+    if text == "assume" {
+        return Terminal::Assume;
+    }
+    if text == "property" {
+        return Terminal::Property;
+    }
+    if text == "posedge" {
+        return Terminal::Posedge;
+    }
+    if text == "disable" {
+        return Terminal::Disable;
+    }
+    if text == "iff" {
+        return Terminal::Iff;
+    }
+    if text == "or" {
+        return Terminal::Or;
+    }
+    if text == "and" {
+        return Terminal::And;
+    }
+    if text == "throughout" {
+        return Terminal::Throughout;
+    }
+    foreign_word(text)
+}
+
+/// The words of items.
+#[tactic(auto, unfolding(crate::specs::Terminals::word_terminal))]
+fn word_terminal(text: &str) -> Terminal
+    ensures { result ≡ word_terminal text.now }
+{
+    if text == "counter" {
+        return Terminal::Counter;
+    }
+    if text == "clear" {
+        return Terminal::Clear;
+    }
+    if text == "load" {
+        return Terminal::Load;
+    }
+    if text == "add" {
+        return Terminal::Add;
+    }
+    if text == "sub" {
+        return Terminal::Sub;
+    }
+    if text == "sequence" {
+        return Terminal::Sequence;
+    }
+    if text == "endsequence" {
+        return Terminal::EndSequence;
+    }
+    if text == "assert" {
+        return Terminal::Assert;
+    }
+    inner_word(text)
+}
+
+/// The system names.
+#[tactic(auto, unfolding(crate::specs::Terminals::system_terminal))]
+fn system_terminal(text: &str) -> Terminal
+    ensures { result ≡ system_terminal text.now }
+{
+    if text == "$past" {
+        return Terminal::Past;
+    }
+    if text == "$rose" {
+        return Terminal::Rose;
+    }
+    if text == "$fell" {
+        return Terminal::Fell;
+    }
+    if text == "$stable" {
+        return Terminal::Stable;
+    }
+    if text == "$changed" {
+        return Terminal::Changed;
+    }
+    if text == "$onehot" {
+        return Terminal::OneHot;
+    }
+    if text == "$onehot0" {
+        return Terminal::OneHot0;
+    }
+    Terminal::ForeignSystem
+}
+
+fn symbol_terminal(symbol: Symbol) -> Terminal
+    ensures { result ≡ symbol_terminal symbol }
+{
+    match symbol {
+        Symbol::OpenRound => Terminal::OpenRound,
+        Symbol::CloseRound => Terminal::CloseRound,
+        Symbol::OpenBrace => Terminal::OpenBrace,
+        Symbol::CloseBrace => Terminal::CloseBrace,
+        Symbol::OpenSquare => Terminal::OpenSquare,
+        Symbol::OpenRepeat => Terminal::OpenRepeat,
+        Symbol::CloseSquare => Terminal::CloseSquare,
+        Symbol::Comma => Terminal::Comma,
+        Symbol::Semicolon => Terminal::Semicolon,
+        Symbol::Colon => Terminal::Colon,
+        Symbol::AtSign => Terminal::AtSign,
+        Symbol::Dot => Terminal::Dot,
+        Symbol::Delay => Terminal::Delay,
+        Symbol::Overlapped => Terminal::Overlapped,
+        Symbol::Following => Terminal::Following,
+        Symbol::Star | Symbol::Slash | Symbol::Percent => Terminal::ForeignSymbol,
+        _ => Terminal::Operator,
+    }
+}
+
+/// What the token is to the grammar.
+pub fn terminal_of(token: Token) -> Terminal
+    ensures { result ≡ terminal token.entry }
+{
+    match token.kind {
+        Kind::Word => word_terminal(token.text),
+        Kind::System => system_terminal(token.text),
+        Kind::Number(_) => Terminal::Number,
+        Kind::Symbol(symbol) => symbol_terminal(symbol),
+        Kind::End => Terminal::End,
+    }
+}
+
+/// Whether the token is the terminal.
+pub fn is(wanted: Terminal, token: Token) -> bool
+    ensures { result ≡ is wanted token.entry }
+{
+    wanted == terminal_of(token)
+}
+
+/// Whether the token may be a NAME.
+#[tactic(auto, unfolding(crate::specs::Terminals::is_name))]
+pub fn is_name(token: Token) -> bool
+    ensures { result ≡ is_name token.entry }
+{
+    matches!(
+        terminal_of(token),
+        Terminal::Counter
+            | Terminal::Clear
+            | Terminal::Load
+            | Terminal::Add
+            | Terminal::Sub
+            | Terminal::Name
+    )
+}
+
+/// Whether the token is a word, as behind a dot.
+#[tactic(auto, unfolding(crate::specs::Terminals::is_word))]
+pub fn is_word(token: Token) -> bool
+    ensures { result ≡ is_word token.entry }
+{
+    matches!(token.kind, Kind::Word)
+}

@@ -1,0 +1,5 @@
+pub mod LongestLaws
+pub mod CutLaws
+pub mod NumberEnds
+pub mod NumberLaws
+pub mod CoveringLaws

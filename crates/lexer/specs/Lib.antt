@@ -1,0 +1,5 @@
+pub mod Lexemes
+pub mod Runs
+pub mod Numbers
+pub mod Cutting
+pub mod Covering

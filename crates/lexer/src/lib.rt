@@ -1,0 +1,16 @@
+//! The tokens of an assertion's text.
+#![tactic(auto)]
+
+mod fault;
+mod longest;
+mod number;
+mod piece;
+mod scan;
+#[cfg(test)]
+mod tests;
+mod token;
+
+pub use fault::LexFault;
+pub use piece::Shape;
+pub use scan::{Next, lex};
+pub use token::{Base, Kind, Number, Symbol, Token};

@@ -1,0 +1,56 @@
+-- A dump from its two parts.
+use Rattle.std.proofs.Common.{◌≡◌, ℕ, List, [], ◌∷◌, length, map, Result, Ok, Err, refl, sym, ap, ◌∙◌}
+use Rattle.vcd_reader.specs.declared.fault.Fault.{Fault}
+use Rattle.vcd_reader.specs.declared.fault.ReadError.{ReadError}
+use Rattle.vcd_reader.specs.declared.fault.ReadError.TheVariants as errors
+use Rattle.vcd_reader.specs.declared.variable.Variable.{Variable}
+use Rattle.vcd_reader.specs.declared.step.Step.{Step}
+use Rattle.vcd_reader.specs.declared.places.Part.TheVariants.{Code}
+use Rattle.vcd_reader.specs.Tokens.{Token, tokens}
+use Rattle.vcd_reader.specs.Faults.{◌>>=◌, viewed, Fails}
+use Rattle.vcd_reader.specs.Values.{Moment}
+use Rattle.vcd_reader.specs.Variables.{Declared, codes_of}
+use Rattle.vcd_reader.specs.Index.{texts_in}
+use Rattle.vcd_reader.specs.Stored.{StoredStep, declared, stored_step, kept_step}
+use Rattle.vcd_reader.specs.Kept.{kept_steps}
+use Rattle.vcd_reader.specs.Header.{header}
+use Rattle.vcd_reader.specs.Body.{body, steps_of}
+use Rattle.vcd_reader.specs.Dump.{Contents, behind, dump_of}
+use Rattle.vcd_reader.proofs.LookupLaws.{codes-texts}
+
+-- contents that are stored so
+pub record Says (bytes : List ℕ) (vars : List Declared) (stored : List StoredStep) : Type 0 where
+  pub contents : Contents
+  pub read : dump_of bytes ≡ Ok contents
+  pub variables : vars ≡ contents.variables
+  pub steps : stored ≡ map kept_step contents.steps
+
+finish : List Declared → Result (List Moment) Fault → Result Contents Fault
+finish vars read = read >>= λ steps. Ok (record { variables = vars; steps = steps })
+
+says : (bytes : List ℕ) (vars : List Declared) (stored : List StoredStep) (read : Result (List Moment) Fault) → kept_steps read ≡ Ok stored → dump_of bytes ≡ finish vars read → Says bytes vars stored
+unfolding finish
+says bytes vars stored (Ok ms) k e = record { contents = record { variables = vars; steps = ms }; read = e; variables = refl; steps = cc }
+says bytes vars stored (Err f) k e = absurd cc
+
+fails : (bytes : List ℕ) (vars : List Declared) (read : Result (List Moment) Fault) (e : ReadError) → Fails e (kept_steps read) → dump_of bytes ≡ finish vars read → Fails e (dump_of bytes)
+unfolding finish
+fails bytes vars read errors.Memory k e = tt
+fails bytes vars (Ok ms) (errors.Fault f) k e = absurd cc
+fails bytes vars (Err g) (errors.Fault f) k e = e ∙ (let h : g ≡ f = cc in ap (λ (x : Fault). Err x) h)
+
+module _ (bytes : List ℕ) (vs : List Variable) (ts : List Token) (read : header [] [] (tokens 0 bytes) ≡ Ok (map declared vs, ts)) where
+  joined : dump_of bytes ≡ finish (map declared vs) (steps_of (body (texts_in Code vs) (length bytes) 0 0 ts))
+  unfolding finish dump_of behind
+  joined = rw (read, codes-texts vs) refl
+
+  pub dump-says : (stored : List StoredStep) → kept_steps (steps_of (body (texts_in Code vs) (length bytes) 0 0 ts)) ≡ Ok stored → Says bytes (map declared vs) stored
+  dump-says stored k = says bytes (map declared vs) stored _ k joined
+
+  pub dump-fails : (e : ReadError) → Fails e (kept_steps (steps_of (body (texts_in Code vs) (length bytes) 0 0 ts))) → Fails e (dump_of bytes)
+  dump-fails e k = fails bytes (map declared vs) _ e k joined
+
+pub header-fails : (bytes : List ℕ) (e : ReadError) → Fails e (header [] [] (tokens 0 bytes)) → Fails e (dump_of bytes)
+unfolding dump_of
+header-fails bytes errors.Memory h = tt
+header-fails bytes (errors.Fault f) h = rw h refl

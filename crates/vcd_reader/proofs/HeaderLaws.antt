@@ -1,0 +1,126 @@
+-- Reading the header section by section.
+use Rattle.std.proofs.Common.{◌≡◌, ℕ, zero, suc, ◌+◌, ◌-◌, ◌^◌, ◌<◌, ◌≤◌, Bool, true, false, cond, List, [], ◌∷◌, ◌++◌, length, get_or, take, map, append_assoc, Option, Some, None, Result, Ok, Err, refl, sym, ap, ◌∙◌, arith, subst}
+use Rattle.std.specs.List.{list_all, flat_map}
+use Rattle.std.proofs.lemmas.List.{take_more, length-map, get_or-map, append-nil}
+use Rattle.std.proofs.lemmas.Grind.{flat_map-append}
+use Rattle.vcd_reader.specs.declared.fault.Fault.{Fault}
+use Rattle.vcd_reader.specs.declared.fault.Fault.TheVariants.{BadToken, UnclosedSection, BadSize, Truncated}
+use Rattle.vcd_reader.specs.declared.fault.ReadError.{ReadError}
+use Rattle.vcd_reader.specs.declared.fault.ReadError.TheVariants as errors
+use Rattle.vcd_reader.specs.declared.header.Word.{Word}
+use Rattle.vcd_reader.specs.declared.header.Word.TheVariants as words
+use Rattle.vcd_reader.specs.Faults.{Fails, resumed}
+use Rattle.vcd_reader.specs.Tokens.{Token}
+use Rattle.vcd_reader.specs.Numbers.{decimal_below}
+use Rattle.vcd_reader.specs.Variables.{Declared, is_code_byte}
+use Rattle.vcd_reader.specs.Header.{Header, Head, is_end, field, close, sized, by_word, word_of, ended, outer, variable, header, closed, skipped, scope_type, scope_name, var_type, var_size, var_code, var_reference, var_more}
+
+-- the path with one more scope
+pub path-more : {A : Type 0} (items : A → List ℕ) (ss : List A) (i : ℕ) (s : A) (front : List ℕ) → i < length ss → s ≡ get_or ss i s → front ≡ flat_map (λ (x : List ℕ). x ++ 46 ∷ []) (take i (map items ss))
+    → (front ++ items s) ++ 46 ∷ [] ≡ flat_map (λ (x : List ℕ). x ++ 46 ∷ []) (take (i + 1) (map items ss))
+path-more items ss i s front lt at e =
+    let long : i < length (map items ss) = rw length-map lt in
+    let item : get_or (map items ss) i [] ≡ items s = get_or-map items ss i s [] lt ∙ ap items (sym at) in
+    sym (ap (flat_map (λ (x : List ℕ). x ++ 46 ∷ [])) (take_more (map items ss) i [] long)
+    ∙ flat_map-append (λ (x : List ℕ). x ++ 46 ∷ []) (take i (map items ss)) (get_or (map items ss) i [] ∷ [])
+    ∙ rw (item, ← e, append-nil) (sym (append_assoc front (items s) (46 ∷ []))))
+
+module _ (scopes : List (List ℕ)) (vars : List Declared) (word : Token) where
+  pub scope_type-field : (ts : List Token) → scope_type scopes vars word ts ≡ field word ts (λ t us. scope_name scopes vars word us)
+  unfolding header scope_type
+  scope_type-field [] = refl
+  scope_type-field (t ∷ ts) = refl
+
+  pub scope_name-field : (ts : List Token) → scope_name scopes vars word ts ≡ field word ts (λ t us. closed (scopes ++ t.text ∷ []) vars word us)
+  unfolding header scope_name
+  scope_name-field [] = refl
+  scope_name-field (t ∷ ts) = refl
+
+  pub closed-close : (ts : List Token) → closed scopes vars word ts ≡ close word ts (λ us. header scopes vars us)
+  unfolding header closed
+  closed-close [] = refl
+  closed-close (t ∷ ts) = refl
+
+  pub var_type-field : (ts : List Token) → var_type scopes vars word ts ≡ field word ts (λ t us. var_size scopes vars word t.text us)
+  unfolding header var_type
+  var_type-field [] = refl
+  var_type-field (t ∷ ts) = refl
+
+  pub var_size-field : (type : List ℕ) (ts : List Token) → var_size scopes vars word type ts ≡ field word ts (λ t us. sized (decimal_below (2 ^ 32) t.text) t (λ size. var_code scopes vars word type size us))
+  unfolding header var_size
+  var_size-field type [] = refl
+  var_size-field type (t ∷ ts) = refl
+
+  pub var_code-field : (type : List ℕ) (size : ℕ) (ts : List Token) → var_code scopes vars word type size ts
+      ≡ field word ts (λ t us. cond (list_all is_code_byte t.text) (var_reference scopes vars word (record { type = type; size = size; code = t.text }) us) (Err (BadToken t.place)))
+  unfolding header var_code
+  var_code-field type size [] = refl
+  var_code-field type size (t ∷ ts) = refl
+
+  pub var_reference-field : (h : Head) (ts : List Token) → var_reference scopes vars word h ts ≡ field word ts (λ t us. var_more scopes vars word h t.text us)
+  unfolding header var_reference
+  var_reference-field h [] = refl
+  var_reference-field h (t ∷ ts) = refl
+
+  pub skipped-none : (ts : List Token) → ts ≡ [] → skipped scopes vars word ts ≡ Err (UnclosedSection word.place)
+  unfolding header skipped
+  skipped-none ts e = rw e refl
+
+  pub skipped-end : (ts : List Token) (text : List ℕ) (place : ℕ) (rest : List Token) → ts ≡ record { text = text; place = place } ∷ rest → is_end text ≡ true → skipped scopes vars word ts ≡ header scopes vars rest
+  unfolding header skipped
+  skipped-end ts text place rest e h = rw (e, h) refl
+
+  pub skipped-more : (ts : List Token) (text : List ℕ) (place : ℕ) (rest : List Token) → ts ≡ record { text = text; place = place } ∷ rest → is_end text ≡ false → skipped scopes vars word ts ≡ skipped scopes vars word rest
+  unfolding header skipped
+  skipped-more ts text place rest e h = rw (e, h) refl
+
+  pub more-none : (h : Head) (reference : List ℕ) (ts : List Token) → ts ≡ [] → var_more scopes vars word h reference ts ≡ Err (UnclosedSection word.place)
+  unfolding header var_more
+  more-none h reference ts e = rw e refl
+
+  pub more-end : (h : Head) (reference : List ℕ) (ts : List Token) (text : List ℕ) (place : ℕ) (rest : List Token) → ts ≡ record { text = text; place = place } ∷ rest → is_end text ≡ true
+      → var_more scopes vars word h reference ts ≡ header scopes (vars ++ variable scopes h reference ∷ []) rest
+  unfolding header var_more
+  more-end h reference ts text place rest e is = rw (e, is) refl
+
+  pub more-more : (h : Head) (reference : List ℕ) (ts : List Token) (text : List ℕ) (place : ℕ) (rest : List Token) → ts ≡ record { text = text; place = place } ∷ rest → is_end text ≡ false
+      → var_more scopes vars word h reference ts ≡ var_more scopes vars word h (reference ++ text) rest
+  unfolding header var_more
+  more-more h reference ts text place rest e is = rw (e, is) refl
+
+-- what each word leads to
+module _ (scopes : List (List ℕ)) (vars : List Declared) (text : List ℕ) (place : ℕ) (ts : List Token) where
+  abbrev opener : Token
+  opener = record { text = text; place = place }
+
+  at-word : (w : Word) → w ≡ word_of text → header scopes vars (opener ∷ ts) ≡ by_word w opener (ended vars opener ts) (scope_type scopes vars opener ts) (closed (outer scopes) vars opener ts) (var_type scopes vars opener ts) (skipped scopes vars opener ts)
+  unfolding header
+  at-word w e = rw e refl
+
+  pub at-no_word : words.NoWord ≡ word_of text → header scopes vars (opener ∷ ts) ≡ Err (BadToken place)
+  at-no_word e = at-word words.NoWord e
+
+  pub at-ends : words.Ends ≡ word_of text → header scopes vars (opener ∷ ts) ≡ close opener ts (λ rest. Ok (vars, rest))
+  at-ends e = at-word words.Ends e
+
+  pub at-scope : words.Scope ≡ word_of text → header scopes vars (opener ∷ ts) ≡ scope_type scopes vars opener ts
+  at-scope e = at-word words.Scope e
+
+  pub at-upscope : words.Upscope ≡ word_of text → header scopes vars (opener ∷ ts) ≡ close opener ts (λ us. header (outer scopes) vars us)
+  at-upscope e = at-word words.Upscope e ∙ closed-close (outer scopes) vars opener ts
+
+  pub at-var : words.Var ≡ word_of text → header scopes vars (opener ∷ ts) ≡ var_type scopes vars opener ts
+  at-var e = at-word words.Var e
+
+  pub at-other : words.Other ≡ word_of text → header scopes vars (opener ∷ ts) ≡ skipped scopes vars opener ts
+  at-other e = at-word words.Other e
+
+pub ruleset sections = (at-no_word)
+
+-- a failing call fails the whole
+pub fails-along : {a b : Result Header Fault} (e : ReadError) → a ≡ b → Fails e b → Fails e a
+fails-along {a} {b} e p h = subst (λ (r : Result Header Fault). Fails e r) (sym p) h
+
+pub header-none : (scopes : List (List ℕ)) (vars : List Declared) (ts : List Token) → ts ≡ [] → header scopes vars ts ≡ Err Truncated
+unfolding header
+header-none scopes vars ts e = rw e refl

@@ -1,0 +1,10 @@
+pub mod TokenLaws
+pub mod NumberLaws
+pub mod NameLaws
+pub mod ValueLaws
+pub mod HeaderLaws
+pub mod PlaceLaws
+pub mod BodyLaws
+pub mod StoredLaws
+pub mod LookupLaws
+pub mod DumpLaws

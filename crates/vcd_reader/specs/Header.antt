@@ -1,0 +1,134 @@
+-- The part of a dump up to $enddefinitions: sections, each from its word to $end (IEEE 1364-2005, clause 18.2.3).
+use Rattle.std.specs.Prelude.{◌≡◌, ℕ, suc, ◌^◌, ◌-◌, List, [], ◌∷◌, ◌++◌, length, take, Bool, true, false, not, ◌||◌, ◌&&◌, ◌==◌, nat_lt, nat_le, Option, Some, None, Result, Ok, Err, if◌then◌else◌, codes}
+use Rattle.std.specs.List.{list_all, list_any}
+use Rattle.std.specs.Str.{bytes_eq}
+use Rattle.vcd_reader.specs.declared.fault.Fault.{Fault}
+use Rattle.vcd_reader.specs.declared.fault.Fault.TheVariants.{BadToken, UnclosedSection, BadSize, Truncated}
+use Rattle.vcd_reader.specs.declared.header.Word.{Word}
+use Rattle.vcd_reader.specs.declared.header.Word.TheVariants.{Ends, Scope, Upscope, Var, Other, NoWord}
+use Rattle.vcd_reader.specs.Tokens.{Token}
+use Rattle.vcd_reader.specs.Numbers.{decimal_below}
+use Rattle.vcd_reader.specs.Variables.{Declared, is_code_byte, path_of, can_bind}
+
+abbrev pub is_end : List ℕ → Bool
+is_end text = bytes_eq text (codes "$end")
+
+-- whether the last byte is a `]`
+abbrev pub ends_in_bracket : List ℕ → Bool
+ends_in_bracket [] = false
+ends_in_bracket (b ∷ []) = b == 93
+ends_in_bracket (b ∷ c ∷ cs) = ends_in_bracket (c ∷ cs)
+
+-- a range, as [7:0]: a `[`, no further one, a `:` and a final `]`
+abbrev pub is_range : List ℕ → Bool
+is_range [] = false
+is_range (b ∷ bs) = (b == 91) && not (list_any (λ c. c == 91) bs) && list_any (λ c. c == 58) bs && ends_in_bracket bs
+
+-- a reference's name: the text without a range at its end
+unfoldable pub name_of : List ℕ → List ℕ
+name_of [] = []
+name_of (b ∷ bs) = if is_range (b ∷ bs) then [] else b ∷ name_of bs
+
+-- what opens a section, by its word; `Other` is skipped
+unfoldable pub word_of : List ℕ → Word
+word_of [] = NoWord
+word_of (b ∷ bs) =
+    if bytes_eq (b ∷ bs) (codes "$var") then Var
+    else (if bytes_eq (b ∷ bs) (codes "$scope") then Scope
+    else (if bytes_eq (b ∷ bs) (codes "$upscope") then Upscope
+    else (if bytes_eq (b ∷ bs) (codes "$enddefinitions") then Ends
+    else (if (b == 36) && not (is_end (b ∷ bs)) then Other
+    else NoWord))))
+
+-- the scopes that are open behind $upscope, which does nothing at the top
+abbrev pub outer : List (List ℕ) → List (List ℕ)
+outer scopes = take (length scopes - 1) scopes
+
+-- what stands in a $var before its reference
+pub record Head : Type 0 where
+  pub type : List ℕ
+  pub size : ℕ
+  pub code : List ℕ
+
+-- the variable that a $var declares, where its reference's tokens make this text
+abbrev pub variable : List (List ℕ) → Head → List ℕ → Declared
+variable scopes h reference = record { path = path_of scopes (name_of reference); code = h.code; size = h.size; bindable = can_bind h.type h.size }
+
+-- the header's variables, and the tokens of the body
+abbrev pub Header : Type 0
+Header = List Declared × List Token
+
+abbrev pub by_word : Word → Token → Result Header Fault → Result Header Fault → Result Header Fault → Result Header Fault → Result Header Fault → Result Header Fault
+by_word Ends t ends scope upscope var other = ends
+by_word Scope t ends scope upscope var other = scope
+by_word Upscope t ends scope upscope var other = upscope
+by_word Var t ends scope upscope var other = var
+by_word Other t ends scope upscope var other = other
+by_word NoWord t ends scope upscope var other = Err (BadToken t.place)
+
+-- the next token of the section that the word opens, which needs one more
+abbrev pub field : Token → List Token → (Token → List Token → Result Header Fault) → Result Header Fault
+field word [] go = Err (UnclosedSection word.place)
+field word (t ∷ ts) go = if is_end t.text then Err (BadToken t.place) else go t ts
+
+-- the end of the section that the word opens, which has no more
+abbrev pub close : Token → List Token → (List Token → Result Header Fault) → Result Header Fault
+close word [] go = Err (UnclosedSection word.place)
+close word (t ∷ ts) go = if is_end t.text then go ts else Err (BadToken t.place)
+
+abbrev pub sized : Option ℕ → Token → (ℕ → Result Header Fault) → Result Header Fault
+sized None t go = Err (BadSize t.place)
+sized (Some n) t go = go n
+
+-- $enddefinitions
+abbrev pub ended : List Declared → Token → List Token → Result Header Fault
+ended vars word ts = close word ts (λ rest. Ok (vars, rest))
+
+unfoldable mutual
+  -- between sections
+  pub header : List (List ℕ) → List Declared → List Token → Result Header Fault
+  header scopes vars [] = Err Truncated
+  header scopes vars (t ∷ ts) = by_word (word_of t.text) t (ended vars t ts) (scope_type scopes vars t ts) (closed (outer scopes) vars t ts) (var_type scopes vars t ts) (skipped scopes vars t ts)
+
+  -- before the $end of a section with nothing left to say
+  pub closed : List (List ℕ) → List Declared → Token → List Token → Result Header Fault
+  closed scopes vars word [] = Err (UnclosedSection word.place)
+  closed scopes vars word (t ∷ ts) = if is_end t.text then header scopes vars ts else Err (BadToken t.place)
+
+  -- in a section that is skipped
+  pub skipped : List (List ℕ) → List Declared → Token → List Token → Result Header Fault
+  skipped scopes vars word [] = Err (UnclosedSection word.place)
+  skipped scopes vars word (t ∷ ts) = if is_end t.text then header scopes vars ts else skipped scopes vars word ts
+
+  -- $scope type name $end
+  pub scope_type : List (List ℕ) → List Declared → Token → List Token → Result Header Fault
+  scope_type scopes vars word [] = Err (UnclosedSection word.place)
+  scope_type scopes vars word (t ∷ ts) = if is_end t.text then Err (BadToken t.place) else scope_name scopes vars word ts
+
+  pub scope_name : List (List ℕ) → List Declared → Token → List Token → Result Header Fault
+  scope_name scopes vars word [] = Err (UnclosedSection word.place)
+  scope_name scopes vars word (t ∷ ts) = if is_end t.text then Err (BadToken t.place) else closed (scopes ++ t.text ∷ []) vars word ts
+
+  -- $var type size code reference.. $end
+  pub var_type : List (List ℕ) → List Declared → Token → List Token → Result Header Fault
+  var_type scopes vars word [] = Err (UnclosedSection word.place)
+  var_type scopes vars word (t ∷ ts) = if is_end t.text then Err (BadToken t.place) else var_size scopes vars word t.text ts
+
+  pub var_size : List (List ℕ) → List Declared → Token → List ℕ → List Token → Result Header Fault
+  var_size scopes vars word type [] = Err (UnclosedSection word.place)
+  var_size scopes vars word type (t ∷ ts) = if is_end t.text then Err (BadToken t.place) else sized (decimal_below (2 ^ 32) t.text) t (λ size. var_code scopes vars word type size ts)
+
+  pub var_code : List (List ℕ) → List Declared → Token → List ℕ → ℕ → List Token → Result Header Fault
+  var_code scopes vars word type size [] = Err (UnclosedSection word.place)
+  var_code scopes vars word type size (t ∷ ts) =
+      if is_end t.text then Err (BadToken t.place)
+      else (if list_all is_code_byte t.text then var_reference scopes vars word (record { type = type; size = size; code = t.text }) ts else Err (BadToken t.place))
+
+  pub var_reference : List (List ℕ) → List Declared → Token → Head → List Token → Result Header Fault
+  var_reference scopes vars word h [] = Err (UnclosedSection word.place)
+  var_reference scopes vars word h (t ∷ ts) = if is_end t.text then Err (BadToken t.place) else var_more scopes vars word h t.text ts
+
+  -- further tokens of the reference, behind this text of those before
+  pub var_more : List (List ℕ) → List Declared → Token → Head → List ℕ → List Token → Result Header Fault
+  var_more scopes vars word h reference [] = Err (UnclosedSection word.place)
+  var_more scopes vars word h reference (t ∷ ts) = if is_end t.text then header scopes (vars ++ variable scopes h reference ∷ []) ts else var_more scopes vars word h (reference ++ t.text) ts

@@ -1,0 +1,13 @@
+pub mod Tokens
+pub mod Numbers
+pub mod Values
+pub mod Variables
+pub mod Faults
+pub mod Header
+pub mod Body
+pub mod Dump
+pub mod Stored
+pub mod Held
+pub mod Index
+pub mod Sections
+pub mod Kept

@@ -1,0 +1,40 @@
+-- What the code has read of a header, beside the definition.
+use Rattle.std.specs.Prelude.{ℕ, ◌≤◌, List, [], ◌∷◌, ◌++◌, map, length, drop, Result, Ok, Err, slice_range, Vec}
+use Rattle.vcd_reader.specs.declared.fault.Fault.{Fault}
+use Rattle.vcd_reader.specs.declared.span.Span.{Span}
+use Rattle.vcd_reader.specs.declared.header.Section.{Section}
+use Rattle.vcd_reader.specs.declared.header.Section.TheVariants.{Ended, Opened, Closed, Declared, Skipped}
+use Rattle.vcd_reader.specs.declared.header.VarHead.{VarHead}
+use Rattle.vcd_reader.specs.Tokens.{Token, tokens}
+use Rattle.vcd_reader.specs.Variables as variables
+use Rattle.vcd_reader.specs.Stored.{declared}
+use Rattle.vcd_reader.specs.Header.{Header, Head, header, outer}
+
+abbrev pub text_at : List ℕ → Span → List ℕ
+text_at bytes s = slice_range bytes s.from s.end
+
+-- the tokens from a place on
+abbrev pub tokens_at : List ℕ → ℕ → List Token
+tokens_at bytes place = tokens place (drop place bytes)
+
+abbrev pub head_at : List ℕ → VarHead → Head
+head_at bytes h = record { type = text_at bytes h.kind; size = h.size; code = text_at bytes h.code }
+
+-- what stands behind a section that was read
+abbrev pub stated : Section → List (List ℕ) → List variables.Declared → List ℕ → Result Header Fault
+stated (Ended end) scopes vars bytes = Ok (vars, tokens_at bytes end)
+stated (Opened name end) scopes vars bytes = header (scopes ++ text_at bytes name ∷ []) vars (tokens_at bytes end)
+stated (Closed end) scopes vars bytes = header (outer scopes) vars (tokens_at bytes end)
+stated (Declared v end) scopes vars bytes = header scopes (vars ++ declared v ∷ []) (tokens_at bytes end)
+stated (Skipped end) scopes vars bytes = header scopes vars (tokens_at bytes end)
+
+abbrev pub end_of : Section → ℕ
+end_of (Ended end) = end
+end_of (Opened name end) = end
+end_of (Closed end) = end
+end_of (Declared v end) = end
+end_of (Skipped end) = end
+
+abbrev pub IsInside : Section → ℕ → Type 0
+IsInside (Opened name end) len = name.end ≤ len
+IsInside s len = Unit {0}

@@ -1,0 +1,253 @@
+//! The times and changes of a dump.
+
+ghost use Rattle.std.specs.Prelude.{◌≡◌, ℕ, ◌<◌, ◌≤◌, ◌+◌, ◌++◌, List, map, length, drop, Ok, Err, Some, IfOk, IfSome, slice_range, Result, Option};
+ghost use Rattle.std.specs.List.{list_all};
+ghost use Rattle.vcd_reader.specs.declared.places.Part.TheVariants.{Code};
+ghost use Rattle.vcd_reader.specs.Faults.{Gives, resumed};
+ghost use Rattle.vcd_reader.specs.Variables.{is_code_byte, place_of};
+ghost use Rattle.vcd_reader.specs.Index.{texts_in};
+ghost use Rattle.vcd_reader.specs.Stored.{stored_change, stored_step};
+ghost use Rattle.vcd_reader.specs.Body.{kind_of, is_lone_word, missing, body, section, steps_of};
+ghost use Rattle.vcd_reader.specs.Kept.{seen, kept, kept_steps, continued, code_item, scalar_item, Extends};
+ghost use Rattle.vcd_reader.specs.Sections.{tokens_at};
+
+use crate::codes::Codes;
+use crate::fault::{Fault, ReadError};
+use crate::item::{Item, Seen};
+use crate::number::{bit_value, bits, decimal, is_bit_digit};
+use crate::places::{Part, find_place};
+use crate::step::{Change, Step};
+use crate::token::next_token;
+use std::alloc::{AllocError, Global};
+
+fn is_lone(text: &[u8]) -> bool
+    ensures { result ≡ is_lone_word text.now }
+{
+    text == b"$dumpvars".as_slice()
+        || text == b"$dumpall".as_slice()
+        || text == b"$dumpon".as_slice()
+        || text == b"$dumpoff".as_slice()
+        || text == b"$end".as_slice()
+}
+
+#[tactic(auto, unfolding(crate::specs::Body::kind_of))]
+fn classify(text: &[u8]) -> Seen
+    ensures { result ≡ seen (kind_of text.now) }
+{
+    match text {
+        [] => Seen::Bad,
+        [b'#', digits @ ..] => match decimal(digits, u64::MAX) {
+            None => Seen::Bad,
+            Some(time) => Seen::Time(time),
+        },
+        [b'b' | b'B'] => Seen::Bad,
+        [b'b' | b'B', digits @ ..] => match bits(digits) {
+            None => Seen::Bad,
+            Some(value) => Seen::Vector(value),
+        },
+        [b'r' | b'R' | b's' | b'S', ..] => Seen::Text,
+        [b'$', ..] => {
+            if is_lone(text) {
+                Seen::Lone
+            } else {
+                Seen::Section
+            }
+        }
+        [digit, ..] => {
+            if is_bit_digit(*digit) {
+                Seen::Scalar(bit_value(*digit))
+            } else {
+                Seen::Bad
+            }
+        }
+    }
+}
+
+/// The end of the section that begins before there, at `place`.
+fn section_end(bytes: &[u8], start: usize, place: usize) -> Result<usize, Fault>
+    requires { start ≤ length bytes.now }
+    ensures high { IfOk result (λ end. (start < end) × (end ≤ length bytes.now)) }
+    ensures section { (declared : List (List ℕ)) (len count now : ℕ) → section declared len count now place (tokens_at bytes.now start)
+        ≡ resumed result (λ end. body declared len count now (tokens_at bytes.now end)) }
+{
+    let mut at = start;
+    'sections: loop {
+        let Some((from, end)) = next_token(bytes, at) else {
+            return Err(Fault::UnclosedSection(place));
+        };
+        if &bytes[from..end] == b"$end".as_slice() {
+            return Ok(end);
+        }
+        at = end;
+    }
+}
+
+fn is_code(text: &[u8]) -> bool
+    ensures { result ≡ list_all is_code_byte text.now }
+{
+    text.iter().all(|b| *b >= 33 && *b <= 126)
+}
+
+/// Why the code is not the header's.
+fn missing_code(code: &[u8], place: usize) -> Fault
+    ensures { result ≡ missing code.now place }
+{
+    if is_code(code) {
+        Fault::UnknownCode(place)
+    } else {
+        Fault::BadToken(place)
+    }
+}
+
+/// The change of a code to a value.
+fn change_of(codes: &Codes, code: &[u8], value: u128, place: usize) -> Result<Item, Fault>
+    ensures { result ≡ code_item (place_of (texts_in Code codes.now.variables.now) code.now) code.now value place }
+{
+    match find_place(codes.places, codes.variables, Part::Code, code) {
+        None => Err(missing_code(code, place)),
+        Some(number) => Ok(Item::Changed(number, value)),
+    }
+}
+
+/// The change that a scalar's token names.
+#[tactic(auto, using(crate::proofs::BodyLaws::scalars))]
+fn scalar_change(
+    bytes: &[u8],
+    from: usize,
+    end: usize,
+    codes: &Codes,
+    value: u128,
+) -> Result<Item, Fault>
+    requires order { from < end }
+    requires inside { end ≤ length bytes.now }
+    ensures { result ≡ scalar_item (texts_in Code codes.now.variables.now) (length bytes.now) (slice_range bytes.now (from + 1) end) value from }
+{
+    if from + 1 == end {
+        if end == bytes.len() {
+            return Err(Fault::Truncated);
+        }
+        return Err(Fault::BadToken(from));
+    }
+    change_of(codes, &bytes[from + 1..end], value, from)
+}
+
+/// The next item of the body, and where it ends.
+#[tactic(auto, using(crate::proofs::BodyLaws::items))]
+fn next_item(bytes: &[u8], at: usize, codes: &Codes) -> Result<Option<(Item, usize)>, Fault>
+    requires { at ≤ length bytes.now }
+    ensures high { IfOk result (λ r. IfSome r (λ p. (at < p.1) × (p.1 ≤ length bytes.now))) }
+    ensures item { (count now : ℕ) → kept (body (texts_in Code codes.now.variables.now) (length bytes.now) count now (tokens_at bytes.now at))
+        ≡ continued result count now (λ c n end. kept (body (texts_in Code codes.now.variables.now) (length bytes.now) c n (tokens_at bytes.now end))) }
+{
+    let Some((from, end)) = next_token(bytes, at) else {
+        return Ok(None);
+    };
+    match classify(&bytes[from..end]) {
+        Seen::Time(time) => Ok(Some((Item::Timed(time, from), end))),
+        Seen::Scalar(value) => match scalar_change(bytes, from, end, codes, value) {
+            Err(fault) => Err(fault),
+            Ok(item) => Ok(Some((item, end))),
+        },
+        Seen::Vector(value) => {
+            let Some((from, end)) = next_token(bytes, end) else {
+                return Err(Fault::Truncated);
+            };
+            match change_of(codes, &bytes[from..end], value, from) {
+                Err(fault) => Err(fault),
+                Ok(item) => Ok(Some((item, end))),
+            }
+        }
+        Seen::Text => {
+            let Some((_, end)) = next_token(bytes, end) else {
+                return Err(Fault::Truncated);
+            };
+            Ok(Some((Item::Skipped, end)))
+        }
+        Seen::Lone => Ok(Some((Item::Skipped, end))),
+        Seen::Section => match section_end(bytes, end, from) {
+            Err(fault) => Err(fault),
+            Ok(end) => Ok(Some((Item::Skipped, end))),
+        },
+        Seen::Bad => Err(Fault::BadToken(from)),
+    }
+}
+
+/// The change as it is stored; the high part of a value from 2^64 on goes into `high`.
+fn stored(high: &mut Vec<u64>, code: u32, value: u128) -> Result<Change, AllocError>
+    requires { length high.old.items < 4294967295 }
+    ensures grows { IfOk result (λ c. Extends high.old.items high.new.items) }
+    ensures bound { length high.new.items ≤ length high.old.items + 1 }
+    ensures change { (more : List ℕ) → IfOk result (λ c. stored_change (high.new.items ++ more) c ≡ record { code = code; value = value }) }
+{
+    let low = (value % (1 << 64)) as u64;
+    let above = (value / (1 << 64)) as u64;
+    if above == 0 {
+        return Ok(Change { code, high: 0, low });
+    }
+    high.push(above)?;
+    Ok(Change {
+        code,
+        high: high.len() as u32,
+        low,
+    })
+}
+
+/// The steps of the body that begins there, and the high parts of their wide values.
+pub(crate) fn read_body(
+    alloc: Global,
+    bytes: &[u8],
+    start: usize,
+    codes: &Codes,
+) -> Result<(Vec<Step>, Vec<u64>), ReadError>
+    requires { start ≤ length bytes.now }
+    ensures { Gives (λ r. map (stored_step r.1.items) r.0.items) result
+        (kept_steps (steps_of (body (texts_in Code codes.now.variables.now) (length bytes.now) 0 0 (tokens_at bytes.now start)))) }
+{
+    let mut steps = Vec::new(alloc);
+    let mut high = Vec::new(alloc);
+    let mut changes = Vec::new(alloc);
+    let mut count = 0u32;
+    let mut now = 0;
+    let mut at = start;
+    'items: loop {
+        match next_item(bytes, at, codes) {
+            Err(fault) => return Err(ReadError::Fault(fault)),
+            Ok(None) => {
+                let changes = Vec::from_slice(alloc, &changes)?;
+                steps.push(Step { time: now, changes })?;
+                return Ok((steps, high));
+            }
+            Ok(Some((item, end))) => {
+                at = end;
+                match item {
+                    Item::Skipped => continue,
+                    Item::Changed(code, value) => {
+                        if count == u32::MAX {
+                            return Err(ReadError::Fault(Fault::TooLarge));
+                        }
+                        let change = stored(&mut high, code, value)?;
+                        changes.push(change)?;
+                        count += 1;
+                        continue;
+                    }
+                    Item::Timed(time, place) => {
+                        if time < now {
+                            return Err(ReadError::Fault(Fault::TimeBack(place)));
+                        }
+                        if time == now {
+                            continue;
+                        }
+                        let done = Vec::from_slice(alloc, &changes)?;
+                        steps.push(Step {
+                            time: now,
+                            changes: done,
+                        })?;
+                        changes.clear();
+                        now = time;
+                        continue;
+                    }
+                }
+            }
+        }
+    }
+}

@@ -1,0 +1,20 @@
+//! What a dump holds.
+
+ghost use Rattle.vcd_reader.specs.declared.places.Part.TheVariants.{Path, Code};
+ghost use Rattle.vcd_reader.specs.Index.{texts_in, IsIndex};
+
+use crate::places::Places;
+use crate::step::Step;
+use crate::variable::Variable;
+
+/// What a dump says: its variables, and its steps in the order of their times.
+#[derive(Drop)]
+pub struct Dump {
+    pub(crate) variables: Vec<Variable>,
+    pub(crate) paths: Places,
+    pub(crate) codes: Places,
+    pub(crate) steps: Vec<Step>,
+    pub(crate) high: Vec<u64>,
+    ghost path_index: { IsIndex (texts_in Path variables.items) paths },
+    ghost code_index: { IsIndex (texts_in Code variables.items) codes },
+}

@@ -1,0 +1,353 @@
+//! The sections of a dump's header.
+
+ghost use Rattle.std.specs.Prelude.{◌≡◌, ℕ, ◌<◌, ◌≤◌, ◌++◌, ◌∷◌, [], List, Result, map, length, drop, slice_range, IfOk, MatchResult};
+ghost use Rattle.std.specs.List.{list_all};
+ghost use Rattle.vcd_reader.specs.Tokens.{Token};
+ghost use Rattle.vcd_reader.specs.Faults.{Gives, Fails, resumed};
+ghost use Rattle.vcd_reader.specs.Variables as variables;
+ghost use Rattle.vcd_reader.specs.Stored.{declared};
+ghost use Rattle.vcd_reader.specs.Header.{Header, Head, is_end, word_of, field, close, header, skipped, scope_type, var_type, var_reference, variable};
+ghost use Rattle.vcd_reader.specs.Sections.{text_at, tokens_at, head_at, stated, end_of, IsInside};
+
+use crate::fault::{Fault, ReadError};
+use crate::name::reference_name;
+use crate::number::decimal;
+use crate::span::Span;
+use crate::token::next_token;
+use crate::variable::{Variable, has_digits};
+use std::alloc::{AllocError, Global};
+
+/// What opens a section, by its word.
+#[derive(Clone, Copy, Debug, PartialEq, Eq)]
+pub(crate) enum Word {
+    Ends,
+    Scope,
+    Upscope,
+    Var,
+    Other,
+    NoWord,
+}
+
+/// What a section says, and where it ends.
+#[derive(Drop)]
+pub(crate) enum Section {
+    Ended(usize),
+    Opened(Span, usize),
+    Closed(usize),
+    Declared(Variable, usize),
+    Skipped(usize),
+}
+
+/// What stands in a `$var` before its reference, and where that begins.
+#[derive(Clone, Copy)]
+pub(crate) struct VarHead {
+    pub(crate) kind: Span,
+    pub(crate) size: u32,
+    pub(crate) code: Span,
+    pub(crate) end: usize,
+}
+
+fn is_section_end(text: &[u8]) -> bool
+    ensures { result ≡ is_end text.now }
+{
+    text == b"$end".as_slice()
+}
+
+#[tactic(auto, unfolding(crate::specs::Header::word_of))]
+fn section_word(text: &[u8]) -> Word
+    ensures { result ≡ word_of text.now }
+{
+    match text {
+        [] => Word::NoWord,
+        [first, ..] => {
+            if text == b"$var".as_slice() {
+                Word::Var
+            } else if text == b"$scope".as_slice() {
+                Word::Scope
+            } else if text == b"$upscope".as_slice() {
+                Word::Upscope
+            } else if text == b"$enddefinitions".as_slice() {
+                Word::Ends
+            } else if *first == b'$' && !is_section_end(text) {
+                Word::Other
+            } else {
+                Word::NoWord
+            }
+        }
+    }
+}
+
+fn is_code(text: &[u8]) -> bool
+    ensures { result ≡ list_all variables.is_code_byte text.now }
+{
+    text.iter().all(|b| *b >= 33 && *b <= 126)
+}
+
+/// The next token of the section whose word stands at `word`, which needs one more.
+fn next_field(bytes: &[u8], at: usize, word: usize) -> Result<Span, Fault>
+    requires { at ≤ length bytes.now }
+    ensures high { IfOk result (λ s. (at < s.end) × (s.end ≤ length bytes.now)) }
+    ensures field { (opener : List ℕ) (go : Token → List Token → Result Header Fault) → field (record { text = opener; place = word }) (tokens_at bytes.now at) go
+        ≡ resumed result (λ s. go (record { text = text_at bytes.now s; place = s.from }) (tokens_at bytes.now s.end)) }
+{
+    let Some((from, end)) = next_token(bytes, at) else {
+        return Err(Fault::UnclosedSection(word));
+    };
+    if is_section_end(&bytes[from..end]) {
+        return Err(Fault::BadToken(from));
+    }
+    Ok(Span { from, end })
+}
+
+/// The end of the section whose word stands at `word`, which needs no more.
+fn section_end(bytes: &[u8], at: usize, word: usize) -> Result<usize, Fault>
+    requires { at ≤ length bytes.now }
+    ensures high { IfOk result (λ end. (at < end) × (end ≤ length bytes.now)) }
+    ensures close { (opener : List ℕ) (go : List Token → Result Header Fault) → close (record { text = opener; place = word }) (tokens_at bytes.now at) go
+        ≡ resumed result (λ end. go (tokens_at bytes.now end)) }
+{
+    let Some((from, end)) = next_token(bytes, at) else {
+        return Err(Fault::UnclosedSection(word));
+    };
+    if is_section_end(&bytes[from..end]) {
+        return Ok(end);
+    }
+    Err(Fault::BadToken(from))
+}
+
+/// The end of a section that is skipped.
+fn skipped_end(bytes: &[u8], start: usize, word: usize) -> Result<usize, Fault>
+    requires { start ≤ length bytes.now }
+    ensures high { IfOk result (λ end. (start < end) × (end ≤ length bytes.now)) }
+    ensures skipped { (opener : List ℕ) (scopes : List (List ℕ)) (vars : List variables.Declared) → skipped scopes vars (record { text = opener; place = word }) (tokens_at bytes.now start)
+        ≡ resumed result (λ end. header scopes vars (tokens_at bytes.now end)) }
+{
+    let mut at = start;
+    'words: loop {
+        let Some((from, end)) = next_token(bytes, at) else {
+            return Err(Fault::UnclosedSection(word));
+        };
+        if is_section_end(&bytes[from..end]) {
+            return Ok(end);
+        }
+        at = end;
+    }
+}
+
+/// The name of a `$scope`, and the section's end.
+fn read_scope(bytes: &[u8], at: usize, word: usize) -> Result<(Span, usize), Fault>
+    requires { at ≤ length bytes.now }
+    ensures high { IfOk result (λ r. (at < r.1) × (r.1 ≤ length bytes.now) × (r.0.end ≤ length bytes.now)) }
+    ensures scope { (opener : List ℕ) (scopes : List (List ℕ)) (vars : List variables.Declared) → scope_type scopes vars (record { text = opener; place = word }) (tokens_at bytes.now at)
+        ≡ resumed result (λ r. header (scopes ++ text_at bytes.now r.0 ∷ []) vars (tokens_at bytes.now r.1)) }
+{
+    match next_field(bytes, at, word) {
+        Err(fault) => Err(fault),
+        Ok(kind) => match next_field(bytes, kind.end, word) {
+            Err(fault) => Err(fault),
+            Ok(name) => match section_end(bytes, name.end, word) {
+                Err(fault) => Err(fault),
+                Ok(end) => Ok((name, end)),
+            },
+        },
+    }
+}
+
+/// The type of a `$var`, its size and its code.
+fn read_var_head(bytes: &[u8], at: usize, word: usize) -> Result<VarHead, Fault>
+    requires { at ≤ length bytes.now }
+    ensures high { IfOk result (λ h. (at < h.end) × (h.end ≤ length bytes.now) × (h.kind.end ≤ length bytes.now) × (h.code.end ≤ length bytes.now)) }
+    ensures head { (opener : List ℕ) (scopes : List (List ℕ)) (vars : List variables.Declared) → var_type scopes vars (record { text = opener; place = word }) (tokens_at bytes.now at)
+        ≡ resumed result (λ h. var_reference scopes vars (record { text = opener; place = word }) (head_at bytes.now h) (tokens_at bytes.now h.end)) }
+{
+    match next_field(bytes, at, word) {
+        Err(fault) => Err(fault),
+        Ok(kind) => match next_field(bytes, kind.end, word) {
+            Err(fault) => Err(fault),
+            Ok(digits) => match decimal(&bytes[digits.from..digits.end], 0xffff_ffff) {
+                None => Err(Fault::BadSize(digits.from)),
+                Some(size) => match next_field(bytes, digits.end, word) {
+                    Err(fault) => Err(fault),
+                    Ok(code) => {
+                        if is_code(&bytes[code.from..code.end]) {
+                            Ok(VarHead {
+                                kind,
+                                size: size as u32,
+                                code,
+                                end: code.end,
+                            })
+                        } else {
+                            Err(Fault::BadToken(code.from))
+                        }
+                    }
+                },
+            },
+        },
+    }
+}
+
+/// The text that the tokens of a reference make, and the section's end.
+fn read_reference(
+    alloc: Global,
+    bytes: &[u8],
+    at: usize,
+    word: usize,
+) -> Result<(Vec<u8>, usize), ReadError>
+    requires { at ≤ length bytes.now }
+    ensures high { IfOk result (λ r. (at < r.1) × (r.1 ≤ length bytes.now)) }
+    ensures reference { (opener : List ℕ) (scopes : List (List ℕ)) (vars : List variables.Declared) (h : Head) → MatchResult result
+        (λ r. var_reference scopes vars (record { text = opener; place = word }) h (tokens_at bytes.now at) ≡ header scopes (vars ++ variable scopes h r.0.items ∷ []) (tokens_at bytes.now r.1))
+        (λ e. Fails e (var_reference scopes vars (record { text = opener; place = word }) h (tokens_at bytes.now at))) }
+{
+    let first = match next_field(bytes, at, word) {
+        Err(fault) => return Err(ReadError::Fault(fault)),
+        Ok(first) => first,
+    };
+    let mut text = Vec::from_slice(alloc, &bytes[first.from..first.end])?;
+    let mut place = first.end;
+    'words: loop {
+        let Some((from, end)) = next_token(bytes, place) else {
+            return Err(ReadError::Fault(Fault::UnclosedSection(word)));
+        };
+        if is_section_end(&bytes[from..end]) {
+            return Ok((text, end));
+        }
+        text.extend_from_slice(&bytes[from..end])?;
+        place = end;
+    }
+}
+
+/// The scopes and the name, joined by dots.
+fn joined_path(
+    alloc: Global,
+    scopes: &[Vec<u8>],
+    name: &[u8],
+) -> Result<Vec<u8>, AllocError>
+    ensures { IfOk result (λ v. v.items ≡ variables.path_of (map (λ s. s.items) scopes.now) name.now) }
+{
+    let mut path = Vec::new(alloc);
+    for scope in scopes {
+        path.extend_from_slice(scope)?;
+        path.push(b'.')?;
+    }
+    path.extend_from_slice(name)?;
+    Ok(path)
+}
+
+/// The variable that a `$var` declares, and the section's end.
+fn read_variable(
+    alloc: Global,
+    bytes: &[u8],
+    at: usize,
+    word: usize,
+    scopes: &[Vec<u8>],
+) -> Result<(Variable, usize), ReadError>
+    requires { at ≤ length bytes.now }
+    ensures high { IfOk result (λ r. (at < r.1) × (r.1 ≤ length bytes.now)) }
+    ensures variable { (opener : List ℕ) (vars : List variables.Declared) → MatchResult result
+        (λ r. var_type (map (λ s. s.items) scopes.now) vars (record { text = opener; place = word }) (tokens_at bytes.now at) ≡ header (map (λ s. s.items) scopes.now) (vars ++ declared r.0 ∷ []) (tokens_at bytes.now r.1))
+        (λ e. Fails e (var_type (map (λ s. s.items) scopes.now) vars (record { text = opener; place = word }) (tokens_at bytes.now at))) }
+{
+    match read_var_head(bytes, at, word) {
+        Err(fault) => Err(ReadError::Fault(fault)),
+        Ok(head) => match read_reference(alloc, bytes, head.end, word) {
+            Err(e) => Err(e),
+            Ok((text, end)) => {
+                let path = joined_path(alloc, scopes, reference_name(&text))?;
+                let code = Vec::from_slice(alloc, &bytes[head.code.from..head.code.end])?;
+                let bindable = has_digits(&bytes[head.kind.from..head.kind.end], head.size);
+                let variable = Variable {
+                    path,
+                    code,
+                    size: head.size,
+                    bindable,
+                };
+                Ok((variable, end))
+            }
+        },
+    }
+}
+
+/// The section whose word stands from `from` to `end`.
+#[tactic(auto, using(crate::proofs::HeaderLaws::sections))]
+fn read_section(
+    alloc: Global,
+    bytes: &[u8],
+    from: usize,
+    end: usize,
+    scopes: &[Vec<u8>],
+) -> Result<Section, ReadError>
+    requires order { from < end }
+    requires inside { end ≤ length bytes.now }
+    ensures high { IfOk result (λ s. (end < end_of s) × (end_of s ≤ length bytes.now)) }
+    ensures name { IfOk result (λ s. IsInside s (length bytes.now)) }
+    ensures section { (vars : List variables.Declared) → MatchResult result
+        (λ s. header (map (λ v. v.items) scopes.now) vars (record { text = slice_range bytes.now from end; place = from } ∷ tokens_at bytes.now end) ≡ stated s (map (λ v. v.items) scopes.now) vars bytes.now)
+        (λ e. Fails e (header (map (λ v. v.items) scopes.now) vars (record { text = slice_range bytes.now from end; place = from } ∷ tokens_at bytes.now end))) }
+{
+    match section_word(&bytes[from..end]) {
+        Word::NoWord => Err(ReadError::Fault(Fault::BadToken(from))),
+        Word::Ends => match section_end(bytes, end, from) {
+            Err(fault) => Err(ReadError::Fault(fault)),
+            Ok(stop) => Ok(Section::Ended(stop)),
+        },
+        Word::Scope => match read_scope(bytes, end, from) {
+            Err(fault) => Err(ReadError::Fault(fault)),
+            Ok((name, stop)) => Ok(Section::Opened(name, stop)),
+        },
+        Word::Upscope => match section_end(bytes, end, from) {
+            Err(fault) => Err(ReadError::Fault(fault)),
+            Ok(stop) => Ok(Section::Closed(stop)),
+        },
+        Word::Var => match read_variable(alloc, bytes, end, from, scopes) {
+            Err(e) => Err(e),
+            Ok((variable, stop)) => Ok(Section::Declared(variable, stop)),
+        },
+        Word::Other => match skipped_end(bytes, end, from) {
+            Err(fault) => Err(ReadError::Fault(fault)),
+            Ok(stop) => Ok(Section::Skipped(stop)),
+        },
+    }
+}
+
+/// The variables, and where the body begins.
+pub(crate) fn read_header(
+    alloc: Global,
+    bytes: &[u8],
+) -> Result<(Vec<Variable>, usize), ReadError>
+    ensures high { IfOk result (λ r. r.1 ≤ length bytes.now) }
+    ensures header { Gives (λ r. (map declared r.0.items, tokens_at bytes.now r.1)) result (header [] [] (tokens_at bytes.now 0)) }
+{
+    let mut variables = Vec::new(alloc);
+    let mut scopes: Vec<Vec<u8>> = Vec::new(alloc);
+    let mut at = 0;
+    'sections: loop {
+        let Some((from, end)) = next_token(bytes, at) else {
+            return Err(ReadError::Fault(Fault::Truncated));
+        };
+        match read_section(alloc, bytes, from, end, &scopes) {
+            Err(e) => return Err(e),
+            Ok(Section::Ended(stop)) => return Ok((variables, stop)),
+            Ok(Section::Opened(name, stop)) => {
+                let name = Vec::from_slice(alloc, &bytes[name.from..name.end])?;
+                scopes.push(name)?;
+                at = stop;
+                continue;
+            }
+            Ok(Section::Closed(stop)) => {
+                let _ = scopes.pop();
+                at = stop;
+                continue;
+            }
+            Ok(Section::Declared(variable, stop)) => {
+                variables.push(variable)?;
+                at = stop;
+                continue;
+            }
+            Ok(Section::Skipped(stop)) => {
+                at = stop;
+                continue;
+            }
+        }
+    }
+}

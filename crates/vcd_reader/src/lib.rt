@@ -1,0 +1,26 @@
+//! Reads VCD dumps.
+#![tactic(auto)]
+
+mod body;
+mod codes;
+mod dump;
+mod fault;
+mod header;
+mod item;
+mod laws;
+mod lookups;
+mod name;
+mod number;
+mod places;
+mod reader;
+mod span;
+mod token;
+mod step;
+mod variable;
+
+pub use dump::Dump;
+pub use fault::VcdFault;
+pub use laws::digits_law;
+pub use reader::read_dump;
+pub use step::{Change, Step};
+pub use variable::{Name, VarId, Variable};

@@ -1,0 +1,80 @@
+//! Dumps from bytes, and from devices.
+
+ghost use Rattle.std.specs.Prelude.{◌≡◌, ◌<◌, ◌^◌, length, IfOk, IfErr, OnOk, MatchResult};
+ghost use Rattle.vcd_reader.specs.Faults.{Fails};
+ghost use Rattle.vcd_reader.specs.Dump.{dump_of, line_of, located, Stands};
+ghost use Rattle.vcd_reader.specs.Held.{Parses, ReadsAs};
+
+use crate::body::read_body;
+use crate::codes::Codes;
+use crate::dump::Dump;
+use crate::fault::{Fault, ReadError, VcdFault};
+use crate::header::read_header;
+use crate::places::{Part, places_of};
+use signals::{ReadAllError, Source, read_all};
+use std::alloc::Global;
+
+/// The dump that the bytes are.
+fn parse(alloc: Global, bytes: &[u8]) -> Result<Dump, ReadError>
+    ensures { MatchResult result (Parses bytes.now) (λ e. Fails e (dump_of bytes.now)) }
+{
+    let (variables, start) = read_header(alloc, bytes)?;
+    let paths = places_of(alloc, &variables, Part::Path)?;
+    let codes = places_of(alloc, &variables, Part::Code)?;
+    let header = Codes {
+        variables: &variables,
+        places: &codes,
+    };
+    let (steps, high) = read_body(alloc, bytes, start, &header)?;
+    Ok(Dump {
+        variables,
+        paths,
+        codes,
+        steps,
+        high,
+    })
+}
+
+fn line_at(bytes: &[u8], place: usize) -> usize
+    requires { length bytes.now < 2 ^ 62 }
+    ensures { result ≡ line_of bytes.now place }
+{
+    let end = place.min(bytes.len());
+    1 + bytes[..end].iter().filter(|b| **b == 10).count()
+}
+
+fn with_line(bytes: &[u8], fault: Fault) -> VcdFault
+    requires { length bytes.now < 2 ^ 62 }
+    ensures { result ≡ located bytes.now fault }
+{
+    match fault {
+        Fault::BadToken(place) => VcdFault::BadToken(line_at(bytes, place)),
+        Fault::UnknownCode(place) => VcdFault::UnknownCode(line_at(bytes, place)),
+        Fault::TimeBack(place) => VcdFault::TimeBack(line_at(bytes, place)),
+        Fault::UnclosedSection(place) => VcdFault::UnclosedSection(line_at(bytes, place)),
+        Fault::BadSize(place) => VcdFault::BadSize(line_at(bytes, place)),
+        Fault::Truncated => VcdFault::Truncated,
+        Fault::TooLarge => VcdFault::TooLarge,
+    }
+}
+
+/// The dump that the source gives, read to its end.
+pub fn read_dump<S: Source>(alloc: Global, source: &mut S) -> Result<Dump, VcdFault>
+    // What is accepted is what the grammar says of all the bytes that the source had.
+    ensures accepted { IfOk result (ReadsAs (S.remaining source.old) (S.remaining source.new)) }
+    ensures counted { OnOk result (S.failures source.new ≡ S.failures source.old) }
+    // What is refused has the fault, the first one, or the source failed, or it gave too much.
+    ensures refused { IfErr result (Stands (S.remaining source.old) (S.remaining source.new) (S.failures source.old) (S.failures source.new)) }
+{
+    let bytes = match read_all(alloc, source, 1 << 48) {
+        Ok(bytes) => bytes,
+        Err(ReadAllError::Memory) => return Err(VcdFault::Memory),
+        Err(ReadAllError::Failed) => return Err(VcdFault::Read),
+        Err(ReadAllError::TooLarge) => return Err(VcdFault::TooLarge),
+    };
+    match parse(alloc, &bytes) {
+        Ok(dump) => Ok(dump),
+        Err(ReadError::Memory) => Err(VcdFault::Memory),
+        Err(ReadError::Fault(fault)) => Err(with_line(&bytes, fault)),
+    }
+}
