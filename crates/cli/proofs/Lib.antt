@@ -1,3 +1,5 @@
 pub mod Steps
 pub mod MemberLaws
 pub mod PushLaws
+pub mod SampledLaws
+pub mod RunLaws

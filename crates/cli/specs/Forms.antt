@@ -1,8 +1,7 @@
 -- The form of text that is read for now: one assertion, an implication between two names.
-use Rattle.std.specs.Prelude.{◌≡◌, ℕ, List, [], ◌∷◌, ◌++◌, Option, Some, None, Result, Ok, Err, codes, if◌then◌else◌}
+use Rattle.std.specs.Prelude.{ℕ, List, [], ◌∷◌, ◌++◌, Option, Some, None, codes, if◌then◌else◌}
 use Rattle.std.specs.List.{flat_map}
 use Rattle.lexer.specs.declared.token.Token.{Token}
-use Rattle.grammar.specs.declared.terminal.Terminal.{Terminal}
 use Rattle.grammar.specs.declared.terminal.Terminal.TheVariants as word
 use Rattle.grammar.specs.declared.terminal.Terminal.TheVariants.{OpenRound, CloseRound, Semicolon, Colon, AtSign, Dot, Posedge, Overlapped, Following, End}
 use Rattle.grammar.specs.Terminals.{is, is_name, is_word}

@@ -1,5 +1,5 @@
 -- What a run over a source, a text and a sink comes to.
-use Rattle.std.specs.Prelude.{◌≡◌, ◌⊎◌, ℕ, ◌<◌, List, [], ◌∷◌, Option, Some, None}
+use Rattle.std.specs.Prelude.{◌≡◌, ◌⊎◌, ℕ, List, [], ◌∷◌, Option, None}
 use Rattle.std.specs.Io.KnownBytes.{Appends}
 use Rattle.signals.specs.Source.{after_failure}
 use Rattle.signals.specs.Sink.{AppendsFront}
@@ -8,14 +8,14 @@ use Rattle.lexer.specs.Covering.{IsRefused}
 use Rattle.vcd_reader.specs.declared.fault.VcdFault.{VcdFault}
 use Rattle.vcd_reader.specs.Variables.{variable_named}
 use Rattle.vcd_reader.specs.Dump.{Contents, Gave, GaveDump, Stands}
-use Rattle.cycle_window.specs.Bound.{IsClockFault}
+use Rattle.cycle_window.specs.declared.fault.WindowFault.TheVariants as windows
+use Rattle.cycle_window.specs.Bound.{IsClockFault, IsBadSize}
 use Rattle.verdicts.specs.declared.line.Counts.{Counts}
 use Rattle.verdicts.specs.declared.write.ReportFault.TheVariants as reports
 use Rattle.verdicts.specs.Lines.{ReportData}
 use Rattle.verdicts.specs.Texts.{report_text}
 use Rattle.cli.specs.declared.fault.Fault.{Fault}
-use Rattle.cli.specs.declared.fault.Fault.TheVariants.{Vcd, Lex, Parse, Type', Window, Report, NoAssertion, NotText, Words, File, Memory}
-use Rattle.cli.specs.declared.fault.ParseFault.TheVariants.{Expected}
+use Rattle.cli.specs.declared.fault.Fault.TheVariants.{Vcd, Lex, Parse, Typing, Window, Report, Memory}
 use Rattle.cli.specs.declared.fault.TypeFault.TheVariants.{UnknownName}
 use Rattle.cli.specs.Forms.{Statement, form_of, path_text}
 use Rattle.cli.specs.Reported.{AreTokens, IsStated, Reports, IsReport}
@@ -36,6 +36,19 @@ pub record Run : Type 0 where
   pub held_new : Option (List ℕ)
   pub writes_old : ℕ
   pub writes_new : ℕ
+
+abbrev pub run_of : List ℕ → Option (List ℕ) → Option (List ℕ) → ℕ → ℕ → Option (List ℕ) → Option (List ℕ) → ℕ → ℕ → Run
+run_of text given_old given_new reads_old reads_new held_old held_new writes_old writes_new = record {
+  text = text;
+  given_old = given_old;
+  given_new = given_new;
+  reads_old = reads_old;
+  reads_new = reads_new;
+  held_old = held_old;
+  held_new = held_new;
+  writes_old = writes_old;
+  writes_new = writes_new;
+}
 
 -- The source gave all its bytes, and the text of the report on them and on the text was written; the totals are its last line's.
 pub record IsAnswered (r : Run) (totals : List ℕ) : Type 0 where
@@ -63,7 +76,7 @@ LacksName c s = (variable_named c.variables (path_text s.antecedent) ≡ None) �
 
 -- why a statement has no report over these contents
 abbrev pub WhyUnjudged : Contents → Statement → Fault → Type 0
-WhyUnjudged c s (Type' (UnknownName at)) = LacksName c s
+WhyUnjudged c s (Typing (UnknownName at)) = LacksName c s
 WhyUnjudged c s (Window e) = IsClockFault c.variables (path_text s.clock) e
 WhyUnjudged c s Memory = Unit {0}
 WhyUnjudged c s _ = ⊥
@@ -78,7 +91,7 @@ pub record IsUnjudged (c : Contents) (text : List ℕ) (fault : Fault) : Type 0 
 abbrev pub WhyNoReport : Contents → List ℕ → Fault → Type 0
 WhyNoReport c text (Lex e) = IsRefused text e
 WhyNoReport c text (Parse e) = HasNoForm text
-WhyNoReport c text (Type' e) = IsUnjudged c text (Type' e)
+WhyNoReport c text (Typing e) = IsUnjudged c text (Typing e)
 WhyNoReport c text (Window e) = IsUnjudged c text (Window e)
 WhyNoReport c text Memory = Unit {0}
 WhyNoReport c text _ = ⊥
@@ -117,7 +130,19 @@ WhyRefused r (Report reports.Write) = IsCutShort r
 WhyRefused r (Report reports.Memory) = ⊥
 WhyRefused r (Lex e) = IsRefusedReport r (Lex e)
 WhyRefused r (Parse e) = IsRefusedReport r (Parse e)
-WhyRefused r (Type' e) = IsRefusedReport r (Type' e)
+WhyRefused r (Typing e) = IsRefusedReport r (Typing e)
 WhyRefused r (Window e) = IsRefusedReport r (Window e)
 WhyRefused r Memory = IsUnwritten r
 WhyRefused r _ = ⊥
+
+-- the window's size is out of range, and nothing was read or written
+pub record IsOutOfRange (window : ℕ) (r : Run) : Type 0 where
+  pub size : IsBadSize window
+  pub unread : r.given_new ≡ r.given_old
+  pub calls : r.reads_new ≡ r.reads_old
+  pub unwritten : IsUnwritten r
+
+-- why nothing was checked, or not all of the report written
+abbrev pub WhyNotChecked : ℕ → Run → Fault → Type 0
+WhyNotChecked window r (Window windows.BadSize) = IsOutOfRange window r
+WhyNotChecked window r fault = WhyRefused r fault

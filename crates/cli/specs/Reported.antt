@@ -1,9 +1,8 @@
 -- The report on a dump and a text, by the definitions alone.
-use Rattle.std.specs.Prelude.{◌≡◌, ℕ, List, [], ◌∷◌, length, map, Option, Some, None, Ok}
+use Rattle.std.specs.Prelude.{◌≡◌, ℕ, List, [], ◌∷◌, length, map, Some, None, Ok}
 use Rattle.signals.specs.declared.verdict.Verdict.{Verdict}
 use Rattle.lexer.specs.declared.token.Token.{Token}
 use Rattle.lexer.specs.Cutting.{cut_of, tokens_of}
-use Rattle.types.specs.declared.sequence.Boolean.{Boolean}
 use Rattle.types.specs.Shapes.{Table, value_in, off_in}
 use Rattle.vcd_reader.specs.Variables.{variable_named, size_of, code_number}
 use Rattle.vcd_reader.specs.Dump.{Contents, dump_of}
@@ -34,15 +33,19 @@ pub record IsBound (c : Contents) (s : Statement) (clock antecedent consequent :
 abbrev pub rows_of : Contents → ℕ → ℕ → ℕ → Table
 rows_of c clock antecedent consequent = map (row_of c (antecedent ∷ consequent ∷ [])) (ticks_of c (code_number c.variables clock))
 
--- The report on these contents and this statement: one line, with the verdict of the definition on the attempt at each tick.
+-- The report on a statement over its rows: one line, with the verdict of the definition on the attempt at each tick.
+pub record OverRows (s : Statement) (rows : Table) (report : ReportData) : Type 0 where
+  pub verdicts : List Verdict
+  pub judged : AreVerdicts (value_in rows) (off_in rows None) (antecedent_of s) (consequent_of s) (length rows) verdicts
+  pub is : report ≡ report_of (length rows) (line_of (name_text s.label) verdicts ∷ [])
+
+-- The report on a statement over the contents of a dump: over the rows of the variables that its paths name.
 pub record Reports (c : Contents) (s : Statement) (report : ReportData) : Type 0 where
   pub clock : ℕ
   pub antecedent : ℕ
   pub consequent : ℕ
   pub bound : IsBound c s clock antecedent consequent
-  pub verdicts : List Verdict
-  pub judged : AreVerdicts (value_in (rows_of c clock antecedent consequent)) (off_in (rows_of c clock antecedent consequent) None) (antecedent_of s) (consequent_of s) (length (rows_of c clock antecedent consequent)) verdicts
-  pub is : report ≡ report_of (length (rows_of c clock antecedent consequent)) (line_of (name_text s.label) verdicts ∷ [])
+  pub over : OverRows s (rows_of c clock antecedent consequent) report
 
 -- The report on the bytes of a dump and the bytes of a text.
 pub record IsReport (bytes text : List ℕ) (report : ReportData) : Type 0 where

@@ -30,7 +30,7 @@ pub enum Fault {
     Vcd(VcdFault),
     Lex(LexFault),
     Parse(ParseFault),
-    Type(TypeFault),
+    Typing(TypeFault),
     Window(WindowFault),
     Report(ReportFault),
     /// N1: the suite has no assertion of that name.
@@ -98,7 +98,7 @@ pub fn fault_line(alloc: Global, fault: &Fault) -> Result<String, AllocError> {
         Fault::Vcd(fault) => vcd_line(alloc, fault),
         Fault::Lex(fault) => lex_line(alloc, fault),
         Fault::Parse(ParseFault::Expected(at)) => format!(in alloc; "svamon: P1 Expected {at}"),
-        Fault::Type(TypeFault::UnknownName(at)) => {
+        Fault::Typing(TypeFault::UnknownName(at)) => {
             format!(in alloc; "svamon: Y1 UnknownName {at}")
         }
         Fault::Window(fault) => window_line(alloc, fault),
@@ -119,13 +119,7 @@ pub fn status(outcome: &Result<[u64; 5], Fault>) -> u8
     ensures { result ≡ status_of outcome.now }
 {
     match outcome {
-        Ok(totals) => {
-            if totals[2] == 0 {
-                0
-            } else {
-                1
-            }
-        }
+        Ok(totals) => { if totals[2] == 0 { 0 } else { 1 } }
         Err(fault) => fault_status(fault),
     }
 }

@@ -48,10 +48,7 @@ fn place(tokens: &[Token]) -> usize {
 
 #[tactic(auto, using(crate::proofs::Steps::steps))]
 /// The first token, if it is the terminal.
-fn accept<'t, 'a>(
-    tokens: &'t [Token<'a>],
-    wanted: Terminal,
-) -> Option<(Token<'a>, &'t [Token<'a>])>
+fn accept<'t, 'a>(tokens: &'t [Token<'a>], wanted: Terminal) -> Option<(Token<'a>, &'t [Token<'a>])>
     ensures token { MatchOption result (expect wanted tokens.now ≡ None) (λ r. expect wanted tokens.now ≡ Some (r.0, r.1.now)) }
     ensures shorter { IfSome result (λ r. length r.1.now < length tokens.now) }
 {
@@ -99,10 +96,7 @@ fn expect_name<'t, 'a>(tokens: &'t [Token<'a>]) -> Read<'t, 'a, Token<'a>>
 }
 
 /// The words of a path behind its first.
-fn read_members<'t, 'a>(
-    alloc: Global,
-    tokens: &'t [Token<'a>],
-) -> Read<'t, 'a, Vec<Token<'a>>>
+fn read_members<'t, 'a>(alloc: Global, tokens: &'t [Token<'a>]) -> Read<'t, 'a, Vec<Token<'a>>>
     ensures { Gives (λ r. (r.0.items, r.1.now)) result (members_of tokens.now) }
 {
     let mut found = Vec::new(alloc);

@@ -2,12 +2,15 @@
 #![tactic(auto)]
 
 mod attempts;
+mod check;
 mod fault;
 mod form;
+mod run;
 mod sampled;
 mod stop;
 mod suite;
 mod words;
 
+pub use check::{check_one, judge_one};
 pub use fault::{Fault, ParseFault, TypeFault, fault_line, status};
 pub use words::{Request, WordsFault, read_words};

@@ -1,19 +1,23 @@
 //! The rows that a statement is judged over.
 
-ghost use Rattle.std.specs.Prelude.{◌≡◌, ℕ, ◌+◌, ◌<◌, ◌≤◌, IfOk, IfErr, Some, None, map, length};
-ghost use Rattle.vcd_reader.specs.Variables.{variable_named, size_of};
+ghost use Rattle.std.specs.Prelude.{◌≡◌, ℕ, ◌+◌, ◌<◌, ◌≤◌, IfOk, IfErr, OnOk, Some, None, map, take, length};
+ghost use Rattle.vcd_reader.specs.Variables.{variable_named};
+ghost use Rattle.cli.specs.Named.{Names};
 ghost use Rattle.vcd_reader.specs.Dump.{Contents};
 ghost use Rattle.vcd_reader.specs.Held.{Holds, variables_of};
+ghost use Rattle.cycle_window.specs.Ticks.{ticks_of, row_of};
+ghost use Rattle.cycle_window.specs.Held.{ticks_in, code_in, places_in, clock_in, columns_in, first_in, end_in, AreClocksOf, AreColumnsOf, IsOver};
 
-use crate::fault::{Fault, TypeFault};
-use cycle_window::Signal;
-use std::alloc::Global;
+use crate::fault::TypeFault;
+use cycle_window::{Clocks, Columns, Signal, Window};
+use judging::Rows;
+use std::alloc::{AllocError, Global};
 use vcd_reader::Dump;
 
 /// The signal that a path names, at the width that the dump gives it.
 pub(crate) fn signal_of<'a>(dump: &Dump, path: &'a str, at: usize) -> Result<Signal<'a>, TypeFault>
     ensures path { IfOk result (λ s. s.path.now ≡ path.entry.now) }
-    ensures named { IfOk result (λ s. (v : ℕ) × (variable_named (variables_of dump.now) path.entry.now ≡ Some v) × (s.width ≡ size_of (variables_of dump.now) v)) }
+    ensures named { IfOk result (λ s. Names (variables_of dump.now) path.entry.now s.width) }
     ensures unnamed { IfErr result (λ _. variable_named (variables_of dump.now) path.entry.now ≡ None) }
 {
     match dump.var(path) {
@@ -23,4 +27,47 @@ pub(crate) fn signal_of<'a>(dump: &Dump, path: &'a str, at: usize) -> Result<Sig
             width: dump.width(variable),
         }),
     }
+}
+
+/// Adds the rows of a window behind those of the clocks before it.
+fn push_rows(rows: &mut Rows, window: &Window) -> Result<(), AllocError>
+    requires order { first_in window.now ≤ end_in window.now }
+    requires behind { length rows.old ≡ first_in window.now }
+    ensures long { OnOk result (length rows.new ≡ end_in window.now) }
+    ensures rows { OnOk result ((c : Contents) → IsOver window.now c
+        → rows.old ≡ map (row_of c (places_in (columns_in window.now))) (take (first_in window.now) (ticks_of c (clock_in (columns_in window.now))))
+        → rows.new ≡ map (row_of c (places_in (columns_in window.now))) (take (end_in window.now) (ticks_of c (clock_in (columns_in window.now))))) }
+{
+    let (first, end) = window.bounds();
+    for clock in first..end {
+        rows.push(window.row(clock))?;
+    }
+    Ok(())
+}
+
+/// The rows of the columns at all ticks of their clock, read through windows of so many clocks, 1 to 65,536.
+pub(crate) fn rows_through(
+    alloc: Global,
+    dump: &Dump,
+    clocks: &Clocks,
+    columns: Columns,
+    size: usize,
+) -> Result<Rows, AllocError>
+    requires some { 1 ≤ size }
+    requires most { size ≤ 65536 }
+    requires held { (c : Contents) × Holds dump.now c }
+    requires clocks { AreClocksOf dump.now clocks.now }
+    requires clock { clock_in columns ≡ code_in clocks.now }
+    requires columns { (c : Contents) → Holds dump.now c → AreColumnsOf columns c }
+    ensures { IfOk result (λ rows. (c : Contents) → Holds dump.now c → rows ≡ map (row_of c (places_in columns)) (ticks_of c (code_in clocks.now))) }
+{
+    let Ok(mut window) = Window::new(size, columns) else {
+        unreachable!()
+    };
+    let mut rows = Rows::new(alloc);
+    while (rows.len() as u64) < clocks.len() {
+        window.slide(dump, clocks);
+        push_rows(&mut rows, &window)?;
+    }
+    Ok(rows)
 }

@@ -18,7 +18,10 @@ pub enum Request {
         window: u64,
     },
     /// Judges them by the slow judge.
-    Judge { vcd: String, sva: String },
+    Judge {
+        vcd: String,
+        sva: String,
+    },
 }
 
 /// Why the words ask for nothing.

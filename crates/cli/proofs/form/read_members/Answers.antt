@@ -1,4 +1,4 @@
-use Rattle.std.proofs.Common.{◌≡◌, ◌≤◌, ◌<◌, ◌+◌, sym, ap, ◌∙◌, arith, length}
+use Rattle.std.proofs.Common.{sym, ap, ◌∙◌, arith}
 use Rattle.cli.specs.Forms.{members_of}
 use Rattle.cli.proofs.MemberLaws.{behind, behind-nothing, stops_at, ends_at, lacks, breaks, goes_on}
 use Rattle.cli.proofs.form.read_members.Goals as goal

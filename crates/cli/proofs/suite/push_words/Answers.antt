@@ -1,4 +1,4 @@
-use Rattle.std.proofs.Common.{◌++◌, [], string_bytes, refl, sym, append-nil}
+use Rattle.std.proofs.Common.{◌++◌, [], sym, append-nil}
 use Rattle.std.specs.Prelude.{codes}
 use Rattle.lexer.specs.declared.token.Token.{Token}
 use Rattle.verdicts.proofs.Pieces.{piece_more}

@@ -1,4 +1,4 @@
-use Rattle.std.proofs.Common.{◌≡◌, ◌∙◌, ◌++◌, ◌∷◌, [], List, ℕ, string_bytes, map, ap, subst}
+use Rattle.std.proofs.Common.{◌∙◌, ◌++◌, ◌∷◌, [], List, ℕ, string_bytes, map, ap, subst}
 use Rattle.cli.specs.Forms.{path_text}
 use Rattle.cli.specs.Stated.{stated, IsAssertionOf}
 use Rattle.cli.proofs.suite.suite_of.Goals as goal

@@ -1,0 +1,59 @@
+//! The calls behind the commands `check` and `judge`.
+
+ghost use Rattle.std.specs.Prelude.{◌≡◌, ◌↔◌, Err, IfOk, IfErr};
+ghost use Rattle.cycle_window.specs.declared.fault.WindowFault.TheVariants.{BadSize};
+ghost use Rattle.cycle_window.specs.Bound.{IsBadSize};
+ghost use Rattle.cli.specs.declared.fault.Fault.TheVariants.{Window};
+ghost use Rattle.cli.specs.Outcomes.{IsAnswered, WhyRefused, WhyNotChecked, run_of};
+
+use crate::fault::Fault;
+use crate::run::run_through;
+use cycle_window::WindowFault;
+use signals::{Sink, Source};
+use std::alloc::Global;
+
+/// Judges the assertion of a text over the dump that a source gives, through windows of so many clocks, and writes the report.
+///
+/// The answer is the report's totals: how many attempts held, were vacuous, failed, were disabled, and are open. `window` is from
+/// 1 to 65,536, and does not change what is written.
+///
+/// # Errors
+///
+/// C3 where `window` is out of its range, before anything is read; then what is wrong with the dump (V1 to V8), with the text
+/// (L1 to L3, P1), with its paths (Y1, C1, C2), all before anything is written; G1 where the sink failed, which then holds a
+/// beginning of the report behind what it held before; and want of memory.
+///
+/// IEEE 1800-2017, clauses 16.5, 16.7, 16.12.6, 16.14; IEEE 1364-2005, clause 18.2.
+pub fn check_one<S: Source, W: Sink>(
+    alloc: Global,
+    source: &mut S,
+    text: &str,
+    window: u64,
+    out: &mut W,
+) -> Result<[u64; 5], Fault>
+    ensures answered { IfOk result (IsAnswered (run_of text.now (S.remaining source.old) (S.remaining source.new) (S.failures source.old) (S.failures source.new) (W.contents out.old) (W.contents out.new) (W.failures out.old) (W.failures out.new))) }
+    ensures refused { IfErr result (WhyNotChecked window (run_of text.now (S.remaining source.old) (S.remaining source.new) (S.failures source.old) (S.failures source.new) (W.contents out.old) (W.contents out.new) (W.failures out.old) (W.failures out.new))) }
+    ensures bad_size { IsBadSize window ↔ (result ≡ Err (Window BadSize)) }
+{
+    if window < 1 || window > 65_536 {
+        return Err(Fault::Window(WindowFault::BadSize));
+    }
+    run_through(alloc, source, text, window as usize, out)
+}
+
+/// Does what [`check_one`] does, by the slow judge.
+///
+/// # Errors
+///
+/// Those of [`check_one`], but for C3.
+pub fn judge_one<S: Source, W: Sink>(
+    alloc: Global,
+    source: &mut S,
+    text: &str,
+    out: &mut W,
+) -> Result<[u64; 5], Fault>
+    ensures answered { IfOk result (IsAnswered (run_of text.now (S.remaining source.old) (S.remaining source.new) (S.failures source.old) (S.failures source.new) (W.contents out.old) (W.contents out.new) (W.failures out.old) (W.failures out.new))) }
+    ensures refused { IfErr result (WhyRefused (run_of text.now (S.remaining source.old) (S.remaining source.new) (S.failures source.old) (S.failures source.new) (W.contents out.old) (W.contents out.new) (W.failures out.old) (W.failures out.new))) }
+{
+    run_through(alloc, source, text, 1024, out)
+}
