@@ -1,0 +1,39 @@
+//! Files by their paths, and what is wrong with them.
+
+use cli::Fault;
+use std::alloc::Global;
+use std::fs::{File, Files};
+use std::io;
+use std::io::{ErrorKind, Read};
+
+/// The fault of a file that could not be opened or read.
+fn file_fault(alloc: Global, path: &str, error: io::Error) -> Fault {
+    if error.kind() == ErrorKind::OutOfMemory {
+        return Fault::Memory;
+    }
+    match String::from_str(alloc, path) {
+        Ok(path) => Fault::File(path),
+        Err(_) => Fault::Memory,
+    }
+}
+
+/// An opened file.
+pub fn open<R: Files + AllocGlobal>(rt: &R, path: &str) -> Result<R::File, Fault> {
+    match File::open(rt, path) {
+        Ok(file) => Ok(file),
+        Err(error) => Err(file_fault(rt.alloc(), path, error)),
+    }
+}
+
+/// All of a file, as text; N2 where it is no UTF-8.
+pub fn read_text<R: Files + AllocGlobal>(rt: &R, path: &str) -> Result<String, Fault> {
+    let mut file = open(rt, path)?;
+    let mut bytes = Vec::new(rt.alloc());
+    if let Err(error) = file.read_to_end(&mut bytes) {
+        return Err(file_fault(rt.alloc(), path, error));
+    }
+    match String::from_utf8(bytes) {
+        Ok(text) => Ok(text),
+        Err(_) => Err(Fault::NotText(String::from_str(rt.alloc(), path)?)),
+    }
+}
