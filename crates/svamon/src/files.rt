@@ -2,9 +2,10 @@
 
 use cli::Fault;
 use std::alloc::Global;
+use std::fs;
 use std::fs::{File, Files};
 use std::io;
-use std::io::{ErrorKind, Read};
+use std::io::ErrorKind;
 
 /// The fault of a file that could not be opened or read.
 fn file_fault(alloc: Global, path: &str, error: io::Error) -> Fault {
@@ -27,11 +28,10 @@ pub fn open<R: Files + AllocGlobal>(rt: &R, path: &str) -> Result<R::File, Fault
 
 /// All of a file, as text; N2 where it is no UTF-8.
 pub fn read_text<R: Files + AllocGlobal>(rt: &R, path: &str) -> Result<String, Fault> {
-    let mut file = open(rt, path)?;
-    let mut bytes = Vec::new(rt.alloc());
-    if let Err(error) = file.read_to_end(&mut bytes) {
-        return Err(file_fault(rt.alloc(), path, error));
-    }
+    let bytes = match fs::read(rt, path) {
+        Ok(bytes) => bytes,
+        Err(error) => return Err(file_fault(rt.alloc(), path, error)),
+    };
     match String::from_utf8(bytes) {
         Ok(text) => Ok(text),
         Err(_) => Err(Fault::NotText(String::from_str(rt.alloc(), path)?)),
