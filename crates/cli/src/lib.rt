@@ -9,6 +9,8 @@ mod run;
 mod sampled;
 mod stop;
 mod suite;
+#[cfg(test)]
+mod tests;
 mod words;
 
 pub use check::{check_one, judge_one};

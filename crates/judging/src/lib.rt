@@ -6,6 +6,8 @@ mod outlook;
 mod rows;
 mod seen;
 mod table;
+#[cfg(test)]
+mod tests;
 mod verdict;
 
 pub use rows::Rows;

@@ -7,6 +7,8 @@ mod implication;
 mod laws;
 mod sequence;
 mod suite;
+#[cfg(test)]
+mod tests;
 
 pub use assertion::{Assertion, LONGEST, longest_match, short_length};
 pub use decision::Decision;

@@ -4,6 +4,8 @@
 mod failures;
 mod line;
 mod report;
+#[cfg(test)]
+mod tests;
 mod text;
 mod write;
 

@@ -1,0 +1,356 @@
+//! Whole runs, against answers from outside.
+
+use crate::{
+    Fault, ParseFault, Request, TypeFault, WordsFault, check_one, fault_line, judge_one,
+    read_words, status,
+};
+use cycle_window::WindowFault;
+use lexer::LexFault;
+use signals::{Counted, CutReader, CutWriter, Sink, Source};
+use std::alloc::AllocError;
+use std::test::Fail;
+use vcd_reader::VcdFault;
+use verdicts::ReportFault;
+
+/// A dump with one tick, at which x is 1 and y is 0.
+const DUMP: &str =
+    "$timescale 1ns $end\n$scope module top $end\n$var wire 1 ! clk $end\n$var wire 1 \" x $end\n$var wire 1 # y $end\n$upscope $end\n$enddefinitions $end\n#0\n0!\n1\"\n0#\n#5\n1!\n#10\n0!\n";
+
+const OVERLAPPED: &str = "r: assert property (@(posedge top.clk) top.x |-> top.y);\n";
+
+const NON_OVERLAPPED: &str = "assert property (@(posedge top.clk) top.x |=> top.y);";
+
+/// The report on the first over the dump.
+const REPORT: &[u8] =
+    b"svamon 1\nclocks 1\nmonitor r holds 0 vacuous 0 fails 1 disabled 0 open 0\nfail r start 0 clock 0\ntotal holds 0 vacuous 0 fails 1 disabled 0 open 0\n";
+
+/// What a run left.
+#[derive(Drop)]
+struct Outcome {
+    answer: Result<[u64; 5], Fault>,
+    written: Vec<u8>,
+    failed_reads: u64,
+    failed_writes: u64,
+}
+
+/// The bytes that a device took.
+fn taken(rt: &impl AllocGlobal, out: &CutWriter) -> Result<Vec<u8>, AllocError> {
+    Vec::from_slice(rt.alloc(), out.as_slice())
+}
+
+/// A run over a source of bytes, into a device that takes so many.
+fn run(
+    rt: &impl AllocGlobal,
+    dump: &[u8],
+    text: &str,
+    window: u64,
+    room: usize,
+) -> Result<Outcome, AllocError> {
+    let mut source = Counted::new(dump);
+    let mut out = Counted::new(CutWriter::new(rt.alloc(), room)?);
+    let answer = check_one(rt.alloc(), &mut source, text, window, &mut out);
+    Ok(Outcome {
+        answer,
+        written: taken(rt, &out.inner)?,
+        failed_reads: source.failed_calls(),
+        failed_writes: out.failed_calls(),
+    })
+}
+
+/// The header of the dump, and a body.
+fn dump_with(rt: &impl AllocGlobal, body: &str) -> Result<String, AllocError> {
+    let header = DUMP.split_once("#0").map_or("", |parts| parts.0);
+    format!(in rt.alloc(); "{header}{body}")
+}
+
+/// The totals of a run over the dump with that body.
+fn totals(rt: &impl AllocGlobal, body: &str, text: &str) -> Result<Option<[u64; 5]>, AllocError> {
+    let dump = dump_with(rt, body)?;
+    Ok(run(rt, dump.as_bytes(), text, 1024, 10_000)?.answer.ok())
+}
+
+/// The line and the status of what a run was refused with; it has written nothing.
+fn refusal(rt: &impl AllocGlobal, dump: &[u8], text: &str) -> Result<(String, u8), Fail> {
+    let outcome = run(rt, dump, text, 1024, 10_000)?;
+    let status = status(&outcome.answer);
+    match &outcome.answer {
+        Err(fault) if outcome.written.is_empty() => Ok((fault_line(rt.alloc(), fault)?, status)),
+        _ => Err(Fail::from("it was not refused before writing")),
+    }
+}
+
+#[test]
+fn fails_at_its_tick(rt: HostRuntime) -> Result<(), Fail> {
+    let outcome = run(&rt, DUMP.as_bytes(), OVERLAPPED, 1024, 10_000)?;
+    assert_eq!(rt; outcome.written.as_slice(), REPORT);
+    assert_eq!(rt; status(&outcome.answer), 1);
+    assert_eq!(rt; outcome.answer.ok(), Some([0, 0, 1, 0, 0]));
+    let mut source = Counted::new(DUMP.as_bytes());
+    let mut out = Counted::new(CutWriter::new(rt.alloc(), 10_000)?);
+    let answer = judge_one(rt.alloc(), &mut source, OVERLAPPED, &mut out);
+    assert_eq!(rt; answer.ok(), Some([0, 0, 1, 0, 0]));
+    assert_eq!(rt; out.inner.as_slice(), REPORT);
+    Ok(())
+}
+
+#[test]
+fn no_edge_and_empty_file(rt: HostRuntime) -> Result<(), Fail> {
+    let dump = dump_with(&rt, "")?;
+    let outcome = run(&rt, dump.as_bytes(), OVERLAPPED, 1024, 10_000)?;
+    let want =
+        b"svamon 1\nclocks 0\nmonitor r holds 0 vacuous 0 fails 0 disabled 0 open 0\ntotal holds 0 vacuous 0 fails 0 disabled 0 open 0\n".as_slice();
+    assert_eq!(rt; outcome.written.as_slice(), want);
+    assert_eq!(rt; status(&outcome.answer), 0);
+    let (line, status) = refusal(&rt, b"".as_slice(), OVERLAPPED)?;
+    assert_eq!(rt; line.as_str(), "svamon: V6 Truncated");
+    assert_eq!(rt; status, 2);
+    Ok(())
+}
+
+#[test]
+fn next_tick_holds(rt: HostRuntime) -> Result<(), Fail> {
+    let body = "#0\n0!\n1\"\n0#\n#5\n1!\n#6\n0\"\n1#\n#10\n0!\n#15\n1!\n";
+    assert_eq!(rt; totals(&rt, body, NON_OVERLAPPED)?, Some([1, 1, 0, 0, 0]));
+    Ok(())
+}
+
+#[test]
+fn open_at_the_end(rt: HostRuntime) -> Result<(), Fail> {
+    let body = "#0\n0!\n0\"\n0#\n#5\n1!\n#6\n1\"\n#10\n0!\n#15\n1!\n";
+    let dump = dump_with(&rt, body)?;
+    let outcome = run(&rt, dump.as_bytes(), NON_OVERLAPPED, 1024, 10_000)?;
+    assert_eq!(rt; status(&outcome.answer), 0);
+    assert_eq!(rt; outcome.answer.ok(), Some([0, 1, 0, 0, 1]));
+    Ok(())
+}
+
+#[test]
+fn dump_edges(rt: HostRuntime) -> Result<(), Fail> {
+    let cut = dump_with(&rt, "#0\nb101")?;
+    assert_eq!(rt;
+        refusal(&rt, cut.as_bytes(), OVERLAPPED)?.0.as_str(),
+        "svamon: V6 Truncated"
+    );
+    let back = dump_with(&rt, "#30\n#20\n")?;
+    assert_eq!(rt;
+        refusal(&rt, back.as_bytes(), OVERLAPPED)?.0.as_str(),
+        "svamon: V3 TimeBack 9"
+    );
+    for body in ["#0\n1!\n1\"\n#5\n", "#5000\n1!\n1\"\n#6000\n"] {
+        assert_eq!(rt;
+            totals(&rt, body, OVERLAPPED)?,
+            Some([0, 0, 0, 0, 0]),
+            "no edge in {body}"
+        );
+    }
+    let unknown = "#0\n0!\nx\"\n0#\n#5\n1!\n";
+    assert_eq!(rt; totals(&rt, unknown, OVERLAPPED)?, Some([0, 1, 0, 0, 0]));
+    Ok(())
+}
+
+#[test]
+fn one_refusal_each(rt: HostRuntime) -> Result<(), Fail> {
+    for (text, want) in [
+        (
+            "assert property (@(posedge top.clk) top.x |-> top.y",
+            "svamon: P1 Expected 51",
+        ),
+        (
+            "assert property (@(posedge top.clk) top.x |-> ;",
+            "svamon: P1 Expected 46",
+        ),
+        ("", "svamon: P1 Expected 0"),
+        ("assert `", "svamon: L1 BadCharacter 7"),
+        (
+            "assert property (@(posedge top.clk) top.z |-> top.y);",
+            "svamon: Y1 UnknownName 36",
+        ),
+        (
+            "assert property (@(posedge top.c) top.x |-> top.y);",
+            "svamon: C1 NoClock",
+        ),
+    ] {
+        let (line, status) = refusal(&rt, DUMP.as_bytes(), text)?;
+        assert_eq!(rt; line.as_str(), want, "for {text}");
+        assert_eq!(rt; status, 2, "for {text}");
+    }
+    Ok(())
+}
+
+#[test]
+fn bad_worker_and_window(rt: HostRuntime) -> Result<(), Fail> {
+    for (window, fits) in [(0, false), (1, true), (65_536, true), (65_537, false)] {
+        let outcome = run(&rt, DUMP.as_bytes(), OVERLAPPED, window, 10_000)?;
+        assert_eq!(rt; outcome.answer.is_ok(), fits, "at {window}");
+        assert_eq!(rt; outcome.written.is_empty(), !fits, "at {window}");
+        assert_eq!(rt;
+            matches!(outcome.answer, Err(Fault::Window(WindowFault::BadSize))),
+            !fits,
+            "at {window}"
+        );
+    }
+    Ok(())
+}
+
+#[test]
+fn cut_reports(rt: HostRuntime) -> Result<(), Fail> {
+    for room in 0..REPORT.len() {
+        let outcome = run(&rt, DUMP.as_bytes(), OVERLAPPED, 7, room)?;
+        assert_eq!(rt;
+            outcome.written.as_slice(),
+            &REPORT[..room],
+            "cut at {room}"
+        );
+        assert_eq!(rt; status(&outcome.answer), 4, "cut at {room}");
+        assert_eq!(rt; outcome.failed_writes, 1, "cut at {room}");
+        assert!(rt;
+            matches!(outcome.answer, Err(Fault::Report(ReportFault::Write))),
+            "cut at {room}"
+        );
+    }
+    Ok(())
+}
+
+#[test]
+fn cut_dumps(rt: HostRuntime) -> Result<(), Fail> {
+    for cut in 0..DUMP.len() {
+        let mut source = Counted::new(CutReader::new(DUMP.as_bytes(), cut));
+        let mut out = Counted::new(CutWriter::new(rt.alloc(), 10_000)?);
+        let answer = check_one(rt.alloc(), &mut source, OVERLAPPED, 1024, &mut out);
+        assert!(rt; out.inner.as_slice().is_empty(), "cut at {cut}");
+        assert_eq!(rt; source.failed_calls(), 1, "cut at {cut}");
+        assert_eq!(rt; status(&answer), 4, "cut at {cut}");
+        assert!(rt;
+            matches!(answer, Err(Fault::Vcd(VcdFault::Read))),
+            "cut at {cut}"
+        );
+    }
+    Ok(())
+}
+
+/// A dump that ends early, at a byte, is refused or is a dump of its own; no run hangs or writes and refuses.
+#[test]
+fn short_dumps(rt: HostRuntime) -> Result<(), Fail> {
+    for end in 0..DUMP.len() {
+        let outcome = run(&rt, &DUMP.as_bytes()[..end], OVERLAPPED, 1024, 10_000)?;
+        assert_eq!(rt;
+            outcome.answer.is_err(),
+            outcome.written.is_empty(),
+            "ends at {end}"
+        );
+        assert_eq!(rt; outcome.failed_reads, 0, "ends at {end}");
+    }
+    Ok(())
+}
+
+#[test]
+fn lines_and_statuses(rt: HostRuntime) -> Result<(), Fail> {
+    let alloc = rt.alloc();
+    let faults = [
+        (
+            Fault::Vcd(VcdFault::TimeBack(7)),
+            "svamon: V3 TimeBack 7",
+            2,
+        ),
+        (Fault::Vcd(VcdFault::Read), "svamon: V8 Read", 4),
+        (Fault::Vcd(VcdFault::Memory), "svamon: OutOfMemory", 3),
+        (
+            Fault::Lex(LexFault::BadNumber(3)),
+            "svamon: L2 BadNumber 3",
+            2,
+        ),
+        (
+            Fault::Parse(ParseFault::Expected(9)),
+            "svamon: P1 Expected 9",
+            2,
+        ),
+        (
+            Fault::Typing(TypeFault::UnknownName(4)),
+            "svamon: Y1 UnknownName 4",
+            2,
+        ),
+        (
+            Fault::Window(WindowFault::ClockWidth),
+            "svamon: C2 ClockWidth",
+            2,
+        ),
+        (Fault::Report(ReportFault::Write), "svamon: G1 Write", 4),
+        (
+            Fault::NoAssertion(String::from_str(alloc, "a")?),
+            "svamon: N1 NoAssertion a",
+            2,
+        ),
+        (
+            Fault::NotText(String::from_str(alloc, "f.sva")?),
+            "svamon: N2 NotText f.sva",
+            2,
+        ),
+        (
+            Fault::File(String::from_str(alloc, "f.vcd")?),
+            "svamon: file f.vcd",
+            4,
+        ),
+        (
+            Fault::Words(WordsFault::OutOfMemory),
+            "svamon: OutOfMemory",
+            3,
+        ),
+        (Fault::Memory, "svamon: OutOfMemory", 3),
+    ];
+    for (fault, line, number) in faults {
+        assert_eq!(rt; fault_line(alloc, &fault)?.as_str(), line);
+        assert_eq!(rt; status(&Err(fault)), number, "for {line}");
+    }
+    assert_eq!(rt; status(&Ok([3, 2, 0, 1, 1])), 0);
+    assert_eq!(rt; status(&Ok([3, 2, 1, 1, 1])), 1);
+    Ok(())
+}
+
+#[test]
+fn words(rt: HostRuntime) -> Result<(), Fail> {
+    let alloc = rt.alloc();
+    let words = [
+        "svamon", "check", "--vcd", "a.vcd", "--sva", "a.sva", "--window", "7",
+    ];
+    let Ok(Request::Check { vcd, sva, window }) = read_words(alloc, words.as_slice()) else {
+        return Err(Fail::from("the words are refused"));
+    };
+    assert_eq!(rt; (vcd.as_str(), sva.as_str(), window), ("a.vcd", "a.sva", 7));
+    let words = ["svamon", "check", "--sva", "a.sva", "--vcd", "a.vcd"];
+    let read = read_words(alloc, words.as_slice());
+    assert!(rt; matches!(read, Ok(Request::Check { window: 1024, .. })));
+    let words = ["svamon", "judge", "--vcd", "a.vcd", "--sva", "a.sva"];
+    assert!(rt;
+        matches!(
+            read_words(alloc, words.as_slice()),
+            Ok(Request::Judge { .. })
+        )
+    );
+    Ok(())
+}
+
+#[test]
+fn refused_words(rt: HostRuntime) -> Result<(), Fail> {
+    let alloc = rt.alloc();
+    let window = [
+        "svamon", "check", "--vcd", "a", "--sva", "b", "--window", "0",
+    ];
+    let missing = ["svamon", "check", "--vcd", "a"];
+    let unknown = ["svamon", "chek"];
+    let help = ["svamon", "--help"];
+    for words in [
+        window.as_slice(),
+        missing.as_slice(),
+        unknown.as_slice(),
+        help.as_slice(),
+    ] {
+        match read_words(alloc, words) {
+            Err(WordsFault::Words(error)) => {
+                let answer = Err(Fault::Words(WordsFault::Words(error)));
+                assert_eq!(rt; status(&answer), 2);
+            }
+            _ => return Err(Fail::from("the words are taken")),
+        }
+    }
+    Ok(())
+}
