@@ -22,7 +22,7 @@ pub data Seq (B : Type 0) : Type 0 where
   times : (r : Seq B) (least most : ℕ) → Seq B
 
 -- The letter at a tick: with the ticks below n seen, a boolean is true at k where it was seen to be, and at each
--- tick from n on (the letter that satisfies everything, F.3).
+-- tick from n on (the letter that satisfies everything, F.5).
 abbrev pub sat : {B : Type 0} → (B → ℕ → Bool) → ℕ → B → ℕ → Bool
 sat value n b k = nat_le n k || value b k
 
