@@ -70,3 +70,8 @@ path_text (t ∷ ts) = t.text.now ++ flat_map (λ w. codes "." ++ w.text.now) ts
 abbrev pub name_text : Option Token → List ℕ
 name_text None = codes "assert_1"
 name_text (Some t) = t.text.now
+
+-- the byte at which a path begins
+abbrev pub first_byte : List Token → ℕ
+first_byte [] = 0
+first_byte (t ∷ ts) = t.at

@@ -17,7 +17,7 @@ use Rattle.verdicts.specs.Texts.{report_text}
 use Rattle.cli.specs.declared.fault.Fault.{Fault}
 use Rattle.cli.specs.declared.fault.Fault.TheVariants.{Vcd, Lex, Parse, Typing, Window, Report, Memory}
 use Rattle.cli.specs.declared.fault.TypeFault.TheVariants.{UnknownName}
-use Rattle.cli.specs.Forms.{Statement, form_of, path_text}
+use Rattle.cli.specs.Forms.{Statement, form_of, path_text, first_byte}
 use Rattle.cli.specs.Reported.{AreTokens, IsStated, Reports, IsReport}
 
 -- the counts of a report's last line, in its order
@@ -50,7 +50,7 @@ run_of text given_old given_new reads_old reads_new held_old held_new writes_old
   writes_new = writes_new;
 }
 
--- The source gave all its bytes, and the text of the report on them and on the text was written; the totals are its last line's.
+-- The source gave all its bytes, and the text of the report on them and on the text was written; the totals are its last line's. No call failed.
 pub record IsAnswered (r : Run) (totals : List ℕ) : Type 0 where
   pub bytes : List ℕ
   pub gave : Gave r.given_old r.given_new bytes
@@ -58,6 +58,8 @@ pub record IsAnswered (r : Run) (totals : List ℕ) : Type 0 where
   pub is_report : IsReport bytes r.text report
   pub written : Appends r.held_old r.held_new (report_text report)
   pub totals_are : totals ≡ totals_of report.total
+  pub reads : r.reads_new ≡ r.reads_old
+  pub writes : r.writes_new ≡ r.writes_old
 
 -- nothing was written
 pub record IsUnwritten (r : Run) : Type 0 where
@@ -70,13 +72,17 @@ pub record HasNoForm (text : List ℕ) : Type 0 where
   pub cut : AreTokens text tokens
   pub none : form_of tokens ≡ None
 
--- a side of the implication names no variable that can be bound
-abbrev pub LacksName : Contents → Statement → Type 0
-LacksName c s = (variable_named c.variables (path_text s.antecedent) ≡ None) ⊎ (variable_named c.variables (path_text s.consequent) ≡ None)
+-- the path names no variable that can be bound, and begins at the byte
+abbrev pub IsUnknown : Contents → List Token → ℕ → Type 0
+IsUnknown c path at = (variable_named c.variables (path_text path) ≡ None) × (at ≡ first_byte path)
+
+-- a side of the implication is unknown
+abbrev pub LacksName : Contents → Statement → ℕ → Type 0
+LacksName c s at = IsUnknown c s.antecedent at ⊎ IsUnknown c s.consequent at
 
 -- why a statement has no report over these contents
 abbrev pub WhyUnjudged : Contents → Statement → Fault → Type 0
-WhyUnjudged c s (Typing (UnknownName at)) = LacksName c s
+WhyUnjudged c s (Typing (UnknownName at)) = LacksName c s at
 WhyUnjudged c s (Window e) = IsClockFault c.variables (path_text s.clock) e
 WhyUnjudged c s Memory = Unit {0}
 WhyUnjudged c s _ = ⊥
@@ -107,6 +113,7 @@ pub record IsRefusedReport (r : Run) (fault : Fault) : Type 0 where
   pub contents : Contents
   pub gave : GaveDump r.given_old r.given_new contents
   pub why : WhyNoReport contents r.text fault
+  pub reads : r.reads_new ≡ r.reads_old
   pub unwritten : IsUnwritten r
 
 -- the sink failed, and holds a beginning of the report's text behind what it held before
@@ -115,6 +122,7 @@ pub record IsCutShort (r : Run) : Type 0 where
   pub gave : Gave r.given_old r.given_new bytes
   pub report : ReportData
   pub is_report : IsReport bytes r.text report
+  pub reads : r.reads_new ≡ r.reads_old
   pub failed : r.writes_new ≡ after_failure r.writes_old
   pub front : AppendsFront r.held_old r.held_new (report_text report)
 

@@ -8,7 +8,7 @@ ghost use Rattle.cycle_window.specs.Bound.{IsBadSize, IsClock};
 ghost use Rattle.cycle_window.specs.Held.{AreClocksOf, code_in};
 ghost use Rattle.cycle_window.specs.Ticks.{ticks_of, row_of};
 ghost use Rattle.verdicts.specs.Shown.{shown};
-ghost use Rattle.cli.specs.Forms.{Statement, path_text};
+ghost use Rattle.cli.specs.Forms.{Statement, path_text, first_byte};
 ghost use Rattle.cli.specs.Reported.{OverRows, Reports};
 ghost use Rattle.cli.specs.Stated.{stated, States};
 ghost use Rattle.cli.specs.Named.{Names};
@@ -30,7 +30,9 @@ use vcd_reader::{Dump, VcdFault, read_dump};
 use verdicts::{Line, Report, ReportFault, write_report};
 
 /// The byte at which a path begins.
-fn byte_of(words: &[Token]) -> usize {
+fn byte_of(words: &[Token]) -> usize
+    ensures { result ≡ first_byte words.now }
+{
     match words.first() {
         Some(word) => word.at,
         None => 0,

@@ -3,6 +3,7 @@
 ghost use Rattle.std.specs.Prelude.{◌≡◌, ℕ, ◌+◌, ◌<◌, ◌≤◌, IfOk, IfErr, OnOk, Some, None, map, take, length};
 ghost use Rattle.vcd_reader.specs.Variables.{variable_named};
 ghost use Rattle.cli.specs.Named.{Names};
+ghost use Rattle.cli.specs.declared.fault.TypeFault.TheVariants.{UnknownName};
 ghost use Rattle.vcd_reader.specs.Dump.{Contents};
 ghost use Rattle.vcd_reader.specs.Held.{Holds, variables_of};
 ghost use Rattle.cycle_window.specs.Ticks.{ticks_of, row_of};
@@ -18,7 +19,7 @@ use vcd_reader::Dump;
 pub(crate) fn signal_of<'a>(dump: &Dump, path: &'a str, at: usize) -> Result<Signal<'a>, TypeFault>
     ensures path { IfOk result (λ s. s.path.now ≡ path.entry.now) }
     ensures named { IfOk result (λ s. Names (variables_of dump.now) path.entry.now s.width) }
-    ensures unnamed { IfErr result (λ _. variable_named (variables_of dump.now) path.entry.now ≡ None) }
+    ensures unnamed { IfErr result (λ e. (variable_named (variables_of dump.now) path.entry.now ≡ None) × (e ≡ UnknownName at)) }
 {
     match dump.var(path) {
         None => Err(TypeFault::UnknownName(at)),
