@@ -1,8 +1,12 @@
 PREFIX ?= /usr/local
+DUMP ?= crates/read_traces/data/fifo_arb_bug1.vcd
+CLOCK ?= tb.clk
 
 help:
 	@echo 'make demo             proves and builds svamon, and shows its reports on examples/'
 	@echo 'make test             the gate: proves everything from nothing, and runs edits, tests and programs'
+	@echo 'make bench            times reading against the plain C baseline, on dumps of 50 and 200 MB made from DUMP (clock CLOCK)'
+	@echo 'make allocations      refuses each allocation of svamon in turn'
 	@echo 'make install PREFIX=  proves and builds svamon, and puts it into PREFIX/bin (PREFIX is $(PREFIX))'
 
 demo:
@@ -17,9 +21,18 @@ test:
 	rt ci
 	@date '+gate ended    %H:%M:%S'
 
+bench:
+	cd crates/bench_read && rt run > /dev/null
+	bench/run $(DUMP) $(CLOCK)
+
+allocations:
+	cd crates/svamon && { rt run -- help; test -x out/svamon; }
+	scripts/fail_alloc examples/fails_at_its_tick/dump.vcd examples/fails_at_its_tick/assertion.sva
+	scripts/fail_alloc examples/one_then_down/dump.vcd examples/one_then_down/assertion.sva
+
 install:
 	cd crates/svamon && { rt run -- help; test -x out/svamon; }
 	install -d $(PREFIX)/bin
 	install crates/svamon/out/svamon $(PREFIX)/bin/svamon
 
-.PHONY: help demo test install
+.PHONY: help demo test bench allocations install

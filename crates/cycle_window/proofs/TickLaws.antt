@@ -1,13 +1,13 @@
 -- The ticks are the rising edges, in order.
-use Rattle.std.proofs.Common.{◌≡◌, ◌≢◌, ℕ, zero, suc, ◌+◌, ◌-◌, ◌<◌, ◌≤◌, Bool, true, false, cond, eqb, ◌&&◌, List, [], ◌∷◌, ◌++◌, length, get_or, ◌↔◌, ◌⊎◌, refl, sym, ap, ◌∙◌, arith, inl, inr, subst, add-one}
-use Rattle.std.specs.Prelude.{Contains, is_some, slice_index, slice_index_or}
+use Rattle.std.proofs.Common.{◌≡◌, ℕ, zero, suc, ◌+◌, ◌-◌, ◌<◌, ◌≤◌, Bool, true, false, eqb, ◌&&◌, List, [], ◌∷◌, ◌++◌, length, get_or, ◌⊎◌, refl, sym, ap, ◌∙◌, arith, inl, inr, subst}
+use Rattle.std.specs.Prelude.{Contains, slice_index}
 use Rattle.std.specs.List.Sorted.{IsStrictlyIncreasing}
 use Rattle.std.proofs.lemmas.Bool.{eq-eqb, cases_lt}
 use Rattle.std.proofs.lemmas.Bool.Decides.{eqb_tells}
 use Rattle.std.proofs.lemmas.List.{get_or_append_left, get_or_default, length-append}
 use Rattle.std.proofs.Math.Seq.{get_or-append_seam}
 use Rattle.std.proofs.lemmas.List.Elements.{Contains-append_left, Contains-append_right, Contains-append_cases}
-use Rattle.vcd_reader.specs.Values.{Moment, last_digits, changes_before, value_at}
+use Rattle.vcd_reader.specs.Values.{Moment}
 use Rattle.vcd_reader.specs.Dump.{Contents}
 use Rattle.cycle_window.specs.Ticks.{IsTick, is_tick, ticks_below, ticks_of, AreTicks}
 
@@ -53,9 +53,9 @@ below-in steps code (suc n) k h = elim (tells (is_tick steps code n)) [
   | inl t ↦ elim (Contains-append_cases (ticks_below steps code n) (n ∷ []) k (subst (λ (xs : List ℕ). Contains xs k) (ticks-yes steps code n t) h)) [
     | inl before ↦ let r = below-in steps code n k before in (omega (arith, r.0), r.1)
     | inr last ↦ let e = one n k last in (omega arith, ap (is_tick steps code) (sym e) ∙ t)
-    ]
-  | inr f ↦ let r = below-in steps code n k (subst (λ (xs : List ℕ). Contains xs k) (ticks-no steps code n f) h) in (omega (arith, r.0), r.1)
   ]
+  | inr f ↦ let r = below-in steps code n k (subst (λ (xs : List ℕ). Contains xs k) (ticks-no steps code n f) h) in (omega (arith, r.0), r.1)
+]
 
 in-below : (steps : List Moment) (code n k : ℕ) → k < n → is_tick steps code k ≡ true → Contains (ticks_below steps code n) k
 unfolding ticks_below
@@ -64,12 +64,12 @@ in-below steps code (suc n) k lt t = elim (cases_lt k n) [
   | inl less ↦ elim (tells (is_tick steps code n)) [
     | inl y ↦ subst (λ (xs : List ℕ). Contains xs k) (sym (ticks-yes steps code n y)) (Contains-append_left (ticks_below steps code n) (n ∷ []) k (in-below steps code n k less t))
     | inr f ↦ subst (λ (xs : List ℕ). Contains xs k) (sym (ticks-no steps code n f)) (in-below steps code n k less t)
-    ]
-  | inr more ↦
-    let e : k ≡ n = omega arith in
-    let y : is_tick steps code n ≡ true = ap (is_tick steps code) (sym e) ∙ t in
-    subst (λ (xs : List ℕ). Contains xs k) (sym (ticks-yes steps code n y)) (Contains-append_right (ticks_below steps code n) (n ∷ []) k (0, omega arith, sym e))
   ]
+  | inr more ↦
+      let e : k ≡ n = omega arith in
+      let y : is_tick steps code n ≡ true = ap (is_tick steps code) (sym e) ∙ t in
+      subst (λ (xs : List ℕ). Contains xs k) (sym (ticks-yes steps code n y)) (Contains-append_right (ticks_below steps code n) (n ∷ []) k (0, omega arith, sym e))
+]
 
 -- they rise
 rise-more : (xs : List ℕ) (n : ℕ) → IsStrictlyIncreasing xs → ((i : ℕ) → i < length xs → slice_index xs i < n) → IsStrictlyIncreasing (xs ++ n ∷ [])
@@ -91,7 +91,7 @@ ticks-rise steps code zero = λ k lt. absurd (omega arith)
 ticks-rise steps code (suc n) = elim (tells (is_tick steps code n)) [
   | inl y ↦ subst IsStrictlyIncreasing (sym (ticks-yes steps code n y)) (rise-more (ticks_below steps code n) n (ticks-rise steps code n) (λ i lt. (below-at steps code n i lt).0))
   | inr f ↦ subst IsStrictlyIncreasing (sym (ticks-no steps code n f)) (ticks-rise steps code n)
-  ]
+]
 
 pub are-ticks : (c : Contents) (code : ℕ) → AreTicks c code
 unfolding ticks_of

@@ -1,5 +1,5 @@
 -- What clocks, columns and windows hold of a dump.
-use Rattle.std.specs.Prelude.{◌≡◌, ℕ, ◌+◌, ◌<◌, ◌≤◌, ◌==◌, List, [], ◌∷◌, map, take, length, min, slice_index, get_or, Option, Some, None, if◌then◌else◌}
+use Rattle.std.specs.Prelude.{◌≡◌, ℕ, ◌<◌, ◌==◌, List, [], ◌∷◌, map, take, length, get_or, Option, Some, None, if◌then◌else◌}
 use Rattle.std.specs.List.{flat_map}
 use Rattle.vcd_reader.specs.declared.dump.Dump.{Dump}
 use Rattle.vcd_reader.specs.declared.step.Step.{Step}

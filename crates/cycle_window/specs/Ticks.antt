@@ -1,5 +1,5 @@
 -- The ticks of a clock in a dump, and the rows that are sampled there (IEEE 1800-2017, clause 16.5.1: values as they stood before the time step of the edge).
-use Rattle.std.specs.Prelude.{◌≡◌, ℕ, zero, suc, ◌+◌, ◌<◌, ◌↔◌, ◌==◌, ◌&&◌, List, [], ◌∷◌, ◌++◌, Bool, true, length, map, is_some, IsSome, Contains, if◌then◌else◌}
+use Rattle.std.specs.Prelude.{◌≡◌, ℕ, zero, suc, ◌<◌, ◌↔◌, ◌==◌, ◌&&◌, List, [], ◌∷◌, ◌++◌, Bool, true, length, map, is_some, Contains, if◌then◌else◌}
 use Rattle.std.specs.List.Sorted.{IsStrictlyIncreasing}
 use Rattle.vcd_reader.specs.Values.{Moment, last_digits, changes_before, value_at}
 use Rattle.vcd_reader.specs.Variables.{code_number, size_of}

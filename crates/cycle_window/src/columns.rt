@@ -45,10 +45,7 @@ fn signal_variable(alloc: Global, dump: &Dump, signal: &Signal<'_>) -> Result<Va
             if dump.width(variable) == signal.width {
                 Ok(variable)
             } else {
-                Err(WindowFault::SignalWidth(String::from_str(
-                    alloc,
-                    signal.path,
-                )?))
+                Err(WindowFault::SignalWidth(String::from_str(alloc, signal.path)?))
             }
         }
     }

@@ -7,5 +7,4 @@ ghost use Rattle.cycle_window.specs.Ticks.{AreTicks};
 /// The ticks of a clock are its rising edges, in order.
 pub fn ticks_law()
     ensures { (c : Contents) (code : ℕ) → AreTicks c code }
-{
-}
+{}

@@ -38,7 +38,7 @@ impl Window {
         ensures over { (c : Contents) → AreColumnsOf columns c → IfOk result (λ w. IsOver w c) }
         ensures fault { IfErr result (λ e. e ≡ BadSize) }
         ensures bad { IfErr result (λ _. IsBadSize size) }
-        ensures good { IfOk result (λ _. 1 ≤ size) }
+        ensures good { IfOk result (λ _. (1 ≤ size) × (size ≤ 65536)) }
     {
         if size == 0 || size > MOST {
             return Err(WindowFault::BadSize);

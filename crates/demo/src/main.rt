@@ -3,13 +3,11 @@
 
 use cli::{check_one, fault_line, status};
 use signals::Counted;
-use std::env;
 use std::env::Env;
-use std::fs;
 use std::fs::{File, Files};
-use std::io;
 use std::io::Print;
 use std::process::ExitCode;
+use std::{env, fs, io};
 
 /// The examples, by the names of their directories.
 const EXAMPLES: [&str; 4] = [

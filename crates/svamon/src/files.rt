@@ -2,10 +2,9 @@
 
 use cli::Fault;
 use std::alloc::Global;
-use std::fs;
 use std::fs::{File, Files};
-use std::io;
 use std::io::ErrorKind;
+use std::{fs, io};
 
 /// The fault of a file that could not be opened or read.
 fn file_fault(alloc: Global, path: &str, error: io::Error) -> Fault {

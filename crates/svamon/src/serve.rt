@@ -4,11 +4,10 @@ use crate::files::{open, read_text};
 use cli::{Fault, Request, check_one, fault_line, judge_one, read_words};
 use signals::Counted;
 use std::alloc::AllocError;
-use std::env;
 use std::env::Env;
 use std::fs::Files;
-use std::io;
 use std::io::{Eprint, Print};
+use std::{env, io};
 
 /// Does what the words ask for.
 fn serve<R: Files + Print + AllocGlobal>(rt: &R, request: &Request) -> Result<[u64; 5], Fault> {

@@ -1,5 +1,5 @@
 -- Reading the body item by item.
-use Rattle.std.proofs.Common.{◌≡◌, ℕ, zero, suc, ◌+◌, ◌-◌, ◌%◌, ◌^◌, ◌<◌, ◌≤◌, Bool, true, false, cond, ltb, eqb, List, [], ◌∷◌, ◌++◌, length, map, Option, Some, None, Result, Ok, Err, refl, sym, ap, ◌∙◌, arith, append_assoc, add-one, get_or, drop, take, inl, inr}
+use Rattle.std.proofs.Common.{◌≡◌, ℕ, suc, ◌+◌, ◌-◌, ◌<◌, ◌≤◌, Bool, true, false, cond, ltb, eqb, List, [], ◌∷◌, ◌++◌, length, Option, Some, None, Result, Ok, Err, refl, sym, ap, ◌∙◌, arith, append_assoc, add-one, get_or, inl, inr}
 use Rattle.std.specs.Str.{bytes_eq}
 use Rattle.std.specs.Prelude.{codes}
 use Rattle.std.specs.List.{slice_range}
@@ -7,20 +7,18 @@ use Rattle.std.proofs.Math.Seq.{drop-cons}
 use Rattle.std.proofs.lemmas.List.{append-nil}
 use Rattle.std.proofs.lemmas.Bool.{eq-eqb, lt-ltb, le-ltb}
 use Rattle.std.proofs.lemmas.Bool.Decides.{eqb_tells}
-use Rattle.vcd_reader.specs.declared.item.Seen.{Seen}
 use Rattle.vcd_reader.specs.declared.item.Seen.TheVariants as code
 use Rattle.vcd_reader.specs.declared.fault.Fault.{Fault}
-use Rattle.vcd_reader.specs.declared.fault.Fault.TheVariants.{BadToken, UnknownCode, TimeBack, UnclosedSection, Truncated, TooLarge}
-use Rattle.vcd_reader.specs.declared.item.Item.{Item}
-use Rattle.vcd_reader.specs.declared.item.Item.TheVariants.{Timed, Changed, Skipped}
+use Rattle.vcd_reader.specs.declared.fault.Fault.TheVariants.{BadToken, TimeBack, UnclosedSection, Truncated, TooLarge}
+use Rattle.vcd_reader.specs.declared.item.Item.TheVariants.{Timed, Changed}
 use Rattle.vcd_reader.specs.Tokens.{Token}
 use Rattle.vcd_reader.specs.Numbers.{bit_of, bits_from, bits_value}
-use Rattle.vcd_reader.specs.Values.{ValueChange, Moment}
+use Rattle.vcd_reader.specs.Values.{ValueChange}
 use Rattle.vcd_reader.specs.Variables.{place_of}
-use Rattle.vcd_reader.specs.Faults.{◌>>=◌, viewed}
+use Rattle.vcd_reader.specs.Faults.{◌>>=◌}
 use Rattle.vcd_reader.specs.Stored.{StoredChange, StoredStep, kept_change, kept_step}
-use Rattle.vcd_reader.specs.Body.{Kind, Time, Scalar, Vector, Text, Lone, Section, Bad, Rest, Next, with_change, with_step, with_time, changed, scalar, by_kind, behind_first, codeless, missing, most_changes, body, section, vector, ignored, steps_of, kind_of}
-use Rattle.vcd_reader.specs.Kept.{seen, KeptRest, kept_rest, kept, kept_steps, with_kept, with_kept_step, applied, code_item, scalar_item}
+use Rattle.vcd_reader.specs.Body.{Kind, Time, Scalar, Vector, Text, Lone, Section, Bad, Rest, Next, with_step, with_time, changed, scalar, by_kind, behind_first, most_changes, body, section, vector, ignored, steps_of, kind_of}
+use Rattle.vcd_reader.specs.Kept.{seen, KeptRest, kept, kept_steps, with_kept, with_kept_step, applied, code_item, scalar_item}
 
 -- the steps so far, the open step, and what is still read
 abbrev pub joined : List StoredStep → ℕ → List StoredChange → Result KeptRest Fault → Result (List StoredStep) Fault

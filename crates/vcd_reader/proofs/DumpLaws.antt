@@ -1,17 +1,16 @@
 -- A dump from its two parts.
-use Rattle.std.proofs.Common.{◌≡◌, ℕ, List, [], ◌∷◌, length, map, Result, Ok, Err, refl, sym, ap, ◌∙◌}
+use Rattle.std.proofs.Common.{◌≡◌, ℕ, List, [], length, map, Result, Ok, Err, refl, ap, ◌∙◌}
 use Rattle.vcd_reader.specs.declared.fault.Fault.{Fault}
 use Rattle.vcd_reader.specs.declared.fault.ReadError.{ReadError}
 use Rattle.vcd_reader.specs.declared.fault.ReadError.TheVariants as errors
 use Rattle.vcd_reader.specs.declared.variable.Variable.{Variable}
-use Rattle.vcd_reader.specs.declared.step.Step.{Step}
 use Rattle.vcd_reader.specs.declared.places.Part.TheVariants.{Code}
 use Rattle.vcd_reader.specs.Tokens.{Token, tokens}
-use Rattle.vcd_reader.specs.Faults.{◌>>=◌, viewed, Fails}
+use Rattle.vcd_reader.specs.Faults.{◌>>=◌, Fails}
 use Rattle.vcd_reader.specs.Values.{Moment}
-use Rattle.vcd_reader.specs.Variables.{Declared, codes_of}
+use Rattle.vcd_reader.specs.Variables.{Declared}
 use Rattle.vcd_reader.specs.Index.{texts_in}
-use Rattle.vcd_reader.specs.Stored.{StoredStep, declared, stored_step, kept_step}
+use Rattle.vcd_reader.specs.Stored.{StoredStep, declared, kept_step}
 use Rattle.vcd_reader.specs.Kept.{kept_steps}
 use Rattle.vcd_reader.specs.Header.{header}
 use Rattle.vcd_reader.specs.Body.{body, steps_of}

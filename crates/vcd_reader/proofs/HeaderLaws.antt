@@ -1,15 +1,14 @@
 -- Reading the header section by section.
-use Rattle.std.proofs.Common.{◌≡◌, ℕ, zero, suc, ◌+◌, ◌-◌, ◌^◌, ◌<◌, ◌≤◌, Bool, true, false, cond, List, [], ◌∷◌, ◌++◌, length, get_or, take, map, append_assoc, Option, Some, None, Result, Ok, Err, refl, sym, ap, ◌∙◌, arith, subst}
+use Rattle.std.proofs.Common.{◌≡◌, ℕ, ◌+◌, ◌^◌, ◌<◌, true, false, cond, List, [], ◌∷◌, ◌++◌, length, get_or, take, map, append_assoc, Result, Ok, Err, refl, sym, ap, ◌∙◌, subst}
 use Rattle.std.specs.List.{list_all, flat_map}
 use Rattle.std.proofs.lemmas.List.{take_more, length-map, get_or-map, append-nil}
 use Rattle.std.proofs.lemmas.Grind.{flat_map-append}
 use Rattle.vcd_reader.specs.declared.fault.Fault.{Fault}
-use Rattle.vcd_reader.specs.declared.fault.Fault.TheVariants.{BadToken, UnclosedSection, BadSize, Truncated}
+use Rattle.vcd_reader.specs.declared.fault.Fault.TheVariants.{BadToken, UnclosedSection, Truncated}
 use Rattle.vcd_reader.specs.declared.fault.ReadError.{ReadError}
-use Rattle.vcd_reader.specs.declared.fault.ReadError.TheVariants as errors
 use Rattle.vcd_reader.specs.declared.header.Word.{Word}
 use Rattle.vcd_reader.specs.declared.header.Word.TheVariants as words
-use Rattle.vcd_reader.specs.Faults.{Fails, resumed}
+use Rattle.vcd_reader.specs.Faults.{Fails}
 use Rattle.vcd_reader.specs.Tokens.{Token}
 use Rattle.vcd_reader.specs.Numbers.{decimal_below}
 use Rattle.vcd_reader.specs.Variables.{Declared, is_code_byte}

@@ -8,3 +8,6 @@ pub mod BodyLaws
 pub mod StoredLaws
 pub mod LookupLaws
 pub mod DumpLaws
+pub mod GrammarLaws
+pub mod FoundLaws
+pub mod PackedLaws

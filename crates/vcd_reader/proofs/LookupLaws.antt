@@ -1,5 +1,5 @@
 -- Looking up variables.
-use Rattle.std.proofs.Common.{◌≡◌, ℕ, zero, suc, ◌+◌, ◌<◌, ◌≤◌, Bool, true, false, cond, eqb, List, [], ◌∷◌, ◌++◌, length, get_or, map, drop, Option, Some, None, refl, sym, ap, ◌∙◌, arith, add-one, inl, inr}
+use Rattle.std.proofs.Common.{◌≡◌, ℕ, zero, suc, ◌+◌, ◌<◌, Bool, true, false, cond, List, [], ◌∷◌, length, get_or, map, drop, Option, Some, None, refl, sym, ap, ◌∙◌, arith, add-one, inl, inr}
 use Rattle.std.specs.Prelude.{nat_eq, unwrap_or}
 use Rattle.std.proofs.Math.Seq.{drop-cons}
 use Rattle.std.proofs.Math.ListN.{get_or-eq_default}
@@ -30,10 +30,10 @@ unfolding is_bindable
 bindable-inside vs i b = elim (cases_lt i (length vs)) [
   | inl lt ↦ lt
   | inr ge ↦
-    let long : length (map declared vs) ≡ length vs = rw length-map refl in
-    let none : get_or (map declared vs) i no_variable ≡ no_variable = get_or-eq_default (map declared vs) no_variable (omega arith) in
-    absurd (let e = ap (λ (d : Declared). d.bindable) none in cc)
-  ]
+      let long : length (map declared vs) ≡ length vs = rw length-map refl in
+      let none : get_or (map declared vs) i no_variable ≡ no_variable = get_or-eq_default (map declared vs) no_variable (omega arith) in
+      absurd (let e = ap (λ (d : Declared). d.bindable) none in cc)
+]
 
 code-at : (vs : List Variable) (i : ℕ) → (get_or (map declared vs) i no_variable).code ≡ get_or (texts_in Code vs) i []
 code-at [] i = refl

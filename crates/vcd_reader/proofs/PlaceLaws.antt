@@ -1,5 +1,5 @@
 -- First places of texts, and their table.
-use Rattle.std.proofs.Common.{◌≡◌, ℕ, zero, suc, ◌+◌, ◌*◌, ◌%◌, ◌^◌, ◌<◌, ◌≤◌, Bool, true, false, cond, List, [], ◌∷◌, ◌++◌, length, get_or, take, drop, map, Option, Some, None, refl, sym, ap, ◌∙◌, arith, add-one, inl, inr}
+use Rattle.std.proofs.Common.{◌≡◌, ℕ, suc, ◌+◌, ◌*◌, ◌%◌, ◌^◌, ◌<◌, Bool, true, false, cond, List, [], ◌∷◌, ◌++◌, length, get_or, take, drop, map, Option, Some, None, refl, sym, ap, ◌∙◌, arith, add-one, inl, inr}
 use Rattle.std.specs.Prelude.{is_some, nat_eq}
 use Rattle.std.specs.Option.{option_map}
 use Rattle.std.specs.HashMap as table
@@ -94,27 +94,27 @@ module _ (ts : List (List ℕ)) (t : List ℕ) (p q : Places) (first key place :
   first-at : (i : ℕ) → i < length (ts ++ t ∷ []) → Some (slice_index q.firsts.items i) ≡ place_of (ts ++ t ∷ []) (get_or (ts ++ t ∷ []) i [])
   first-at i lt = elim (cases_lt i (length ts)) [
     | inl less ↦
-      let a : get_or (ts ++ t ∷ []) i [] ≡ get_or ts i [] = get_or_append_left ts (t ∷ []) [] i less in
-      let b : get_or (p.firsts.items ++ first ∷ []) i 0 ≡ get_or p.firsts.items i 0 = get_or_append_left p.firsts.items (first ∷ []) 0 i (omega (arith, index.long)) in
-      rw (items, a, b) (sym (place-kept ts (t ∷ []) (get_or ts i []) (get_or p.firsts.items i 0) (sym (index.first i less))))
+        let a : get_or (ts ++ t ∷ []) i [] ≡ get_or ts i [] = get_or_append_left ts (t ∷ []) [] i less in
+        let b : get_or (p.firsts.items ++ first ∷ []) i 0 ≡ get_or p.firsts.items i 0 = get_or_append_left p.firsts.items (first ∷ []) 0 i (omega (arith, index.long)) in
+        rw (items, a, b) (sym (place-kept ts (t ∷ []) (get_or ts i []) (get_or p.firsts.items i 0) (sym (index.first i less))))
     | inr more ↦
-      let at : i ≡ length ts = omega (arith, one-more) in
-      let a : get_or (ts ++ t ∷ []) (length ts) [] ≡ t = get_or-append_seam ts t [] [] in
-      let b : get_or (p.firsts.items ++ first ∷ []) (length ts) 0 ≡ first = ap (λ (n : ℕ). get_or (p.firsts.items ++ first ∷ []) n 0) (sym index.long) ∙ get_or-append_seam p.firsts.items first [] 0 in
-      rw (items, at, a, b) here
-    ]
+        let at : i ≡ length ts = omega (arith, one-more) in
+        let a : get_or (ts ++ t ∷ []) (length ts) [] ≡ t = get_or-append_seam ts t [] [] in
+        let b : get_or (p.firsts.items ++ first ∷ []) (length ts) 0 ≡ first = ap (λ (n : ℕ). get_or (p.firsts.items ++ first ∷ []) n 0) (sym index.long) ∙ get_or-append_seam p.firsts.items first [] 0 in
+        rw (items, at, a, b) here
+  ]
 
   complete-at : (i : ℕ) → i < length (ts ++ t ∷ []) → is_some (table.get nat_eq q.hints (key_of (get_or (ts ++ t ∷ []) i []))) ≡ true
   complete-at i lt = rw hints (elim (cases_lt i (length ts)) [
     | inl less ↦
-      let a : get_or (ts ++ t ∷ []) i [] ≡ get_or ts i [] = get_or_append_left ts (t ∷ []) [] i less in
-      rw a (some-cond (nat_eq key (key_of (get_or ts i []))) place (table.get nat_eq p.hints (key_of (get_or ts i []))) (index.complete i less))
+        let a : get_or (ts ++ t ∷ []) i [] ≡ get_or ts i [] = get_or_append_left ts (t ∷ []) [] i less in
+        rw a (some-cond (nat_eq key (key_of (get_or ts i []))) place (table.get nat_eq p.hints (key_of (get_or ts i []))) (index.complete i less))
     | inr more ↦
-      let at : i ≡ length ts = omega (arith, one-more) in
-      let a : get_or (ts ++ t ∷ []) (length ts) [] ≡ t = get_or-append_seam ts t [] [] in
-      let k : nat_eq key (key_of t) ≡ true = eq-eqb key (key_of t) is_key in
-      rw (at, a, k) refl
-    ])
+        let at : i ≡ length ts = omega (arith, one-more) in
+        let a : get_or (ts ++ t ∷ []) (length ts) [] ≡ t = get_or-append_seam ts t [] [] in
+        let k : nat_eq key (key_of t) ≡ true = eq-eqb key (key_of t) is_key in
+        rw (at, a, k) refl
+  ])
 
   pub index-more : IsIndex (ts ++ t ∷ []) q
   index-more = record { fits = omega (arith, one-more); long = rw items (omega (arith, one-more, firsts-more, index.long)); first = first-at; complete = complete-at }

@@ -1,11 +1,11 @@
 -- What is stored for a change.
-use Rattle.std.proofs.Common.{◌≡◌, ℕ, zero, suc, ◌+◌, ◌-◌, ◌*◌, ◌/◌, ◌%◌, ◌^◌, ◌<◌, ◌≤◌, Bool, true, false, cond, eqb, List, [], ◌∷◌, ◌++◌, length, get_or, map, refl, sym, ap, ◌∙◌, arith, append_assoc, inl, inr}
+use Rattle.std.proofs.Common.{◌≡◌, ℕ, ◌+◌, ◌-◌, ◌*◌, ◌/◌, ◌%◌, ◌^◌, false, eqb, List, [], ◌∷◌, ◌++◌, length, get_or, map, refl, ap, arith, inl, inr}
 use Rattle.std.proofs.lemmas.List.{length-append, map-append}
 use Rattle.std.proofs.Math.Nat.{div-add-mod}
 use Rattle.std.proofs.lemmas.Bool.Decides.{eqb_tells}
 use Rattle.vcd_reader.specs.declared.step.Change.{Change}
 use Rattle.vcd_reader.specs.declared.step.Step.{Step}
-use Rattle.vcd_reader.specs.Stored.{StoredChange, StoredStep, stored_value, stored_change, stored_step}
+use Rattle.vcd_reader.specs.Stored.{StoredChange, stored_value, stored_change, stored_step}
 
 pub stored-narrow : (high : List ℕ) (code value : ℕ) → value / 2 ^ 64 ≡ 0 → stored_change high (record { code = code; high = 0; low = value % 2 ^ 64 }) ≡ record { code = code; value = value }
 unfolding stored_change stored_value

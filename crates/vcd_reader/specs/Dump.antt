@@ -1,5 +1,5 @@
 -- What a dump says, from its bytes.
-use Rattle.std.specs.Prelude.{◌≡◌, ℕ, ◌+◌, ◌^◌, ◌==◌, List, [], ◌∷◌, length, take, Option, Some, None, Result, Ok, Err, count_by}
+use Rattle.std.specs.Prelude.{◌≡◌, ℕ, ◌+◌, ◌^◌, ◌==◌, List, [], length, take, Option, Result, Ok, Err, count_by}
 use Rattle.std.specs.Io.KnownBytes.{Consumes, IsAtEnd}
 use Rattle.signals.specs.Source.{after_failure, GaveOver}
 use Rattle.vcd_reader.specs.declared.fault.Fault.{Fault}

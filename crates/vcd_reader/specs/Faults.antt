@@ -1,5 +1,5 @@
 -- Reading that may meet a fault.
-use Rattle.std.specs.Prelude.{◌≡◌, Option, Some, None, Result, Ok, Err}
+use Rattle.std.specs.Prelude.{◌≡◌, Result, Ok, Err}
 use Rattle.vcd_reader.specs.declared.fault.Fault.{Fault}
 use Rattle.vcd_reader.specs.declared.fault.ReadError.{ReadError}
 use Rattle.vcd_reader.specs.declared.fault.ReadError.TheVariants as errors

@@ -11,3 +11,5 @@ pub mod Held
 pub mod Index
 pub mod Sections
 pub mod Kept
+pub mod Grammar
+pub mod Packed

@@ -1,5 +1,5 @@
 -- What the code has read of a header, beside the definition.
-use Rattle.std.specs.Prelude.{ℕ, ◌≤◌, List, [], ◌∷◌, ◌++◌, map, length, drop, Result, Ok, Err, slice_range, Vec}
+use Rattle.std.specs.Prelude.{ℕ, ◌≤◌, List, [], ◌∷◌, ◌++◌, drop, Result, Ok, slice_range}
 use Rattle.vcd_reader.specs.declared.fault.Fault.{Fault}
 use Rattle.vcd_reader.specs.declared.span.Span.{Span}
 use Rattle.vcd_reader.specs.declared.header.Section.{Section}

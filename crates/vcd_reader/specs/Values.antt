@@ -1,5 +1,5 @@
 -- What value changes say of a variable (IEEE 1364-2005, clauses 18.2.1 and 18.2.2).
-use Rattle.std.specs.Prelude.{◌≡◌, ℕ, ◌+◌, ◌-◌, ◌==◌, ◌||◌, List, [], ◌∷◌, ◌++◌, length, take, drop, Option, Some, None, if◌then◌else◌, replicate}
+use Rattle.std.specs.Prelude.{ℕ, ◌-◌, ◌==◌, List, [], ◌∷◌, ◌++◌, length, take, drop, Option, Some, None, if◌then◌else◌, replicate}
 use Rattle.std.specs.List.{flat_map}
 use Rattle.vcd_reader.specs.Numbers.{bits_from}
 

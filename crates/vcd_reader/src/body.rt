@@ -15,7 +15,7 @@ use crate::codes::Codes;
 use crate::fault::{Fault, ReadError};
 use crate::item::{Item, Seen};
 use crate::number::{bit_value, bits, decimal, is_bit_digit};
-use crate::places::{Part, find_place};
+use crate::packed::find_code;
 use crate::step::{Change, Step};
 use crate::token::next_token;
 use std::alloc::{AllocError, Global};
@@ -103,7 +103,7 @@ fn missing_code(code: &[u8], place: usize) -> Fault
 fn change_of(codes: &Codes, code: &[u8], value: u128, place: usize) -> Result<Item, Fault>
     ensures { result ≡ code_item (place_of (texts_in Code codes.now.variables.now) code.now) code.now value place }
 {
-    match find_place(codes.places, codes.variables, Part::Code, code) {
+    match find_code(codes, code) {
         None => Err(missing_code(code, place)),
         Some(number) => Ok(Item::Changed(number, value)),
     }

@@ -218,11 +218,7 @@ fn read_reference(
 }
 
 /// The scopes and the name, joined by dots.
-fn joined_path(
-    alloc: Global,
-    scopes: &[Vec<u8>],
-    name: &[u8],
-) -> Result<Vec<u8>, AllocError>
+fn joined_path(alloc: Global, scopes: &[Vec<u8>], name: &[u8]) -> Result<Vec<u8>, AllocError>
     ensures { IfOk result (λ v. v.items ≡ variables.path_of (map (λ s. s.items) scopes.now) name.now) }
 {
     let mut path = Vec::new(alloc);
@@ -311,10 +307,7 @@ fn read_section(
 }
 
 /// The variables, and where the body begins.
-pub(crate) fn read_header(
-    alloc: Global,
-    bytes: &[u8],
-) -> Result<(Vec<Variable>, usize), ReadError>
+pub(crate) fn read_header(alloc: Global, bytes: &[u8]) -> Result<(Vec<Variable>, usize), ReadError>
     ensures high { IfOk result (λ r. r.1 ≤ length bytes.now) }
     ensures header { Gives (λ r. (map declared r.0.items, tokens_at bytes.now r.1)) result (header [] [] (tokens_at bytes.now 0)) }
 {

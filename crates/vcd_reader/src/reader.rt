@@ -1,18 +1,45 @@
 //! Dumps from bytes, and from devices.
 
-ghost use Rattle.std.specs.Prelude.{◌≡◌, ◌<◌, ◌^◌, length, IfOk, IfErr, OnOk, MatchResult};
-ghost use Rattle.vcd_reader.specs.Faults.{Fails};
+ghost use Rattle.std.specs.Prelude.{◌≡◌, ◌<◌, ◌≤◌, ◌^◌, map, length, IfOk, IfErr, OnOk, MatchResult};
+ghost use Rattle.vcd_reader.specs.declared.places.Part.TheVariants.{Code};
+ghost use Rattle.vcd_reader.specs.Faults.{Gives, Fails};
+ghost use Rattle.vcd_reader.specs.Index.{texts_in, IsIndex};
+ghost use Rattle.vcd_reader.specs.Stored.{stored_step};
+ghost use Rattle.vcd_reader.specs.Body.{body, steps_of};
+ghost use Rattle.vcd_reader.specs.Kept.{kept_steps};
+ghost use Rattle.vcd_reader.specs.Sections.{tokens_at};
 ghost use Rattle.vcd_reader.specs.Dump.{dump_of, line_of, located, Stands};
 ghost use Rattle.vcd_reader.specs.Held.{Parses, ReadsAs};
 
 use crate::body::read_body;
-use crate::codes::Codes;
 use crate::dump::Dump;
 use crate::fault::{Fault, ReadError, VcdFault};
 use crate::header::read_header;
-use crate::places::{Part, places_of};
+use crate::packed::table_of;
+use crate::places::{Part, Places, places_of};
+use crate::step::Step;
+use crate::variable::Variable;
 use signals::{ReadAllError, Source, read_all};
 use std::alloc::Global;
+
+/// The steps of the body that begins there, and the high parts of their wide values.
+fn read_steps(
+    alloc: Global,
+    bytes: &[u8],
+    start: usize,
+    variables: &[Variable],
+    codes: &Places,
+) -> Result<(Vec<Step>, Vec<u64>), ReadError>
+    requires start { start ≤ length bytes.now }
+    requires index { IsIndex (texts_in Code variables.now) codes.now }
+    ensures { Gives (λ r. map (stored_step r.1.items) r.0.items) result
+        (kept_steps (steps_of (body (texts_in Code variables.now) (length bytes.now) 0 0 (tokens_at bytes.now start)))) }
+{
+    let header = table_of(alloc, variables, codes)?;
+    let read = read_body(alloc, bytes, start, &header);
+    drop(header);
+    read
+}
 
 /// The dump that the bytes are.
 fn parse(alloc: Global, bytes: &[u8]) -> Result<Dump, ReadError>
@@ -21,11 +48,7 @@ fn parse(alloc: Global, bytes: &[u8]) -> Result<Dump, ReadError>
     let (variables, start) = read_header(alloc, bytes)?;
     let paths = places_of(alloc, &variables, Part::Path)?;
     let codes = places_of(alloc, &variables, Part::Code)?;
-    let header = Codes {
-        variables: &variables,
-        places: &codes,
-    };
-    let (steps, high) = read_body(alloc, bytes, start, &header)?;
+    let (steps, high) = read_steps(alloc, bytes, start, &variables, &codes)?;
     Ok(Dump {
         variables,
         paths,

@@ -1,9 +1,8 @@
-use Rattle.std.proofs.Common.{◌≡◌, ◌∙◌, ◌+◌, ◌<◌, ◌++◌, ◌∷◌, [], ℕ, List, Bool, true, false, Option, sym, ap, refl, arith, length, suc, get_or}
+use Rattle.std.proofs.Common.{◌≡◌, ◌∙◌, ◌+◌, ◌<◌, ◌++◌, ◌∷◌, [], ℕ, List, true, false, sym, ap, refl, arith, length, suc, get_or}
 use Rattle.vcd_reader.specs.declared.step.Change.{Change}
 use Rattle.vcd_reader.specs.declared.step.Step.{Step}
 use Rattle.vcd_reader.specs.Variables.{size_of}
-use Rattle.vcd_reader.specs.Dump.{Contents}
-use Rattle.vcd_reader.specs.Held.{Holds, steps_in, variables_of}
+use Rattle.vcd_reader.specs.Held.{steps_in, variables_of}
 use Rattle.cycle_window.specs.Ticks.{is_tick, ticks_below, ticks_of}
 use Rattle.cycle_window.specs.Held.{changes_to, last_of}
 use Rattle.cycle_window.proofs.LastLaws.{last_of-code, changes_to-more}
@@ -29,7 +28,7 @@ loop-k-preserved-then-not-edge c =
     let at : c.index-steps-k.result ≡ get_or S c.loop-k.k c.index-steps-k.result = c.index-steps-k.is ∙ ap (λ (xs : List Step). get_or xs c.loop-k.k c.index-steps-k.result) steps in
     let changes : c.deref.result.now ≡ c.index-steps-k.result.changes.items = c.deref.ensures.value in
     let after : c.last_change-after.result ≡ last_of c.args.code (changes_to S (c.loop-k.k + 1)) =
-        c.last_change-after.ensures (changes_to S c.loop-k.k) (sym c.loop-k.invariant.last) ∙ ap (λ (xs : List Change). last_of c.args.code (changes_to S c.loop-k.k ++ xs)) changes ∙ ap (last_of c.args.code) (sym (changes_to-more S c.loop-k.k c.index-steps-k.result lt at)) in
+    c.last_change-after.ensures (changes_to S c.loop-k.k) (sym c.loop-k.invariant.last) ∙ ap (λ (xs : List Change). last_of c.args.code (changes_to S c.loop-k.k ++ xs)) changes ∙ ap (last_of c.args.code) (sym (changes_to-more S c.loop-k.k c.index-steps-k.result lt at)) in
     record {
       last = after;
       ticks = λ c' h.
@@ -45,7 +44,7 @@ loop-k-preserved c =
     let at : c.index-steps-k.result ≡ get_or S c.loop-k.k c.index-steps-k.result = c.index-steps-k.is ∙ ap (λ (xs : List Step). get_or xs c.loop-k.k c.index-steps-k.result) steps in
     let changes : c.deref.result.now ≡ c.index-steps-k.result.changes.items = c.deref.ensures.value in
     let after : c.last_change-after.result ≡ last_of c.args.code (changes_to S (c.loop-k.k + 1)) =
-        c.last_change-after.ensures (changes_to S c.loop-k.k) (sym c.loop-k.invariant.last) ∙ ap (λ (xs : List Change). last_of c.args.code (changes_to S c.loop-k.k ++ xs)) changes ∙ ap (last_of c.args.code) (sym (changes_to-more S c.loop-k.k c.index-steps-k.result lt at)) in
+    c.last_change-after.ensures (changes_to S c.loop-k.k) (sym c.loop-k.invariant.last) ∙ ap (λ (xs : List Change). last_of c.args.code (changes_to S c.loop-k.k ++ xs)) changes ∙ ap (last_of c.args.code) (sym (changes_to-more S c.loop-k.k c.index-steps-k.result lt at)) in
     record {
       last = after;
       ticks = λ c' h.

@@ -1,12 +1,9 @@
-use Rattle.std.proofs.Common.{◌≡◌, ◌∙◌, ◌<◌, ◌≤◌, ◌++◌, ◌∷◌, ◌+◌, [], ℕ, List, length, map, take, get_or, sym, ap, arith, refl, subst}
+use Rattle.std.proofs.Common.{◌≡◌, ◌∙◌, ◌<◌, ◌++◌, ◌∷◌, [], ℕ, List, length, map, take, get_or, sym, ap, arith, refl}
 use Rattle.std.proofs.lemmas.List.{take_more, map-append}
-use Rattle.vcd_reader.specs.declared.step.Change.{Change}
-use Rattle.vcd_reader.specs.declared.step.Step.{Step}
 use Rattle.vcd_reader.specs.declared.variable.VarId.{VarId}
-use Rattle.vcd_reader.specs.Dump.{Contents}
-use Rattle.vcd_reader.specs.Held.{Holds, steps_in}
-use Rattle.cycle_window.specs.Ticks.{ticks_of, row_of}
-use Rattle.cycle_window.specs.Held.{changes_to, IsTable}
+use Rattle.vcd_reader.specs.Held.{steps_in}
+use Rattle.cycle_window.specs.Ticks.{row_of}
+use Rattle.cycle_window.specs.Held.{changes_to}
 use Rattle.cycle_window.proofs.LastLaws.{last_of-code}
 use Rattle.cycle_window.proofs.TickLaws.{tick-order, tick-inside}
 use Rattle.cycle_window.proofs.HeldLaws.{held-length}

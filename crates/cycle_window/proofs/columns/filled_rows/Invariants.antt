@@ -1,4 +1,4 @@
-use Rattle.std.proofs.Common.{◌≡◌, ℕ, ◌≤◌, ◌<◌, List, length, map, take, get_or}
+use Rattle.std.proofs.Common.{◌≡◌, ℕ, ◌≤◌, ◌<◌, length, map, take, get_or}
 use Rattle.vcd_reader.specs.Dump.{Contents}
 use Rattle.vcd_reader.specs.Held.{Holds, steps_in}
 use Rattle.cycle_window.specs.Ticks.{ticks_of, row_of}

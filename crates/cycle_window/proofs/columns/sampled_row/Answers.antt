@@ -1,10 +1,9 @@
-use Rattle.std.proofs.Common.{◌≡◌, ◌∙◌, ◌+◌, ◌<◌, ◌++◌, ◌∷◌, [], ℕ, List, map, take, length, get_or, sym, ap, arith, refl, None, Option}
+use Rattle.std.proofs.Common.{◌≡◌, ◌∙◌, ◌<◌, map, take, length, get_or, ap, arith, refl, None}
 use Rattle.std.proofs.lemmas.List.{length-map, get_or_default}
 use Rattle.std.proofs.lemmas.List.{take_all}
 use Rattle.vcd_reader.specs.declared.variable.VarId.{VarId}
 use Rattle.vcd_reader.specs.Variables.{code_number}
 use Rattle.vcd_reader.specs.Held.{variables_of, steps_in}
-use Rattle.vcd_reader.specs.Dump.{Contents}
 use Rattle.cycle_window.specs.Held.{changes_to, last_of}
 use Rattle.cycle_window.specs.Ticks.{sample, row_of}
 use Rattle.cycle_window.proofs.HeldLaws.{sample-is, row-more}
@@ -16,7 +15,7 @@ loop-variable-preserved c = λ c' k h table.
     let v = get_or c.args.variables.now c.loop-variable.variable-index (record { place = 0 }) in
     let inside : c.code-code.result < length c.args.last.now = rw c.code-code.ensures.number (c.requires.inside c.loop-variable.variable-index (record { place = 0 }) lt) in
     let last : get_or c.args.last.now c.code-code.result None ≡ last_of (code_number (variables_of c.args.dump.now) v.place) (changes_to (steps_in c.args.dump.now) k) =
-        rw (← c.code-code.ensures.number) (table c.code-code.result inside) in
+    rw (← c.code-code.ensures.number) (table c.code-code.result inside) in
     row-more c' k c.args.variables.now c.loop-variable.variable-index c.value_behind.result v c.loop-variable.row.items _ lt (get_or_default c.args.variables.now c.loop-variable.variable-index (record { place = 0 }) v lt) (c.loop-variable.invariant c' k h table) c.in_ok-push.ensures.items
     (sample-is c.args.dump.now c' h k v.place c.value_behind.result (get_or c.args.last.now c.code-code.result None) last c.value_behind.ensures)
 

@@ -1,4 +1,4 @@
-use Rattle.std.proofs.Common.{◌≡◌, ◌∙◌, ◌<◌, length, arith}
+use Rattle.std.proofs.Common.{◌∙◌, ◌<◌, length, arith}
 use Rattle.vcd_reader.specs.Held.{variables_of}
 use Rattle.cycle_window.proofs.BoundLaws.{places-more, bindable-more, refused-more}
 use Rattle.cycle_window.proofs.columns.signal_variables.Goals as goal

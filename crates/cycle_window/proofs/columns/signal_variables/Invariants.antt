@@ -1,4 +1,4 @@
-use Rattle.std.proofs.Common.{◌≡◌, ℕ, ◌<◌, List, length, map, take, drop, get_or, Some}
+use Rattle.std.proofs.Common.{◌≡◌, ℕ, ◌<◌, length, map, take, drop, get_or, Some}
 use Rattle.vcd_reader.specs.declared.variable.VarId.{VarId}
 use Rattle.vcd_reader.specs.Held.{variables_of, IsOf}
 use Rattle.cycle_window.specs.Bound.{first_refused, places_of}

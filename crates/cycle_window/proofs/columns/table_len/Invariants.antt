@@ -1,4 +1,4 @@
-use Rattle.std.proofs.Common.{◌≡◌, ℕ, ◌<◌, get_or}
+use Rattle.std.proofs.Common.{ℕ, ◌<◌, get_or}
 use Rattle.vcd_reader.specs.declared.variable.VarId.{VarId}
 use Rattle.vcd_reader.specs.Variables.{code_number}
 use Rattle.vcd_reader.specs.Held.{variables_of}

@@ -1,4 +1,4 @@
-use Rattle.std.proofs.Common.{◌≡◌, ◌∙◌, ◌++◌, sym, ap, arith, List, subst}
+use Rattle.std.proofs.Common.{◌∙◌, ◌++◌, sym, ap, arith, List, subst}
 use Rattle.vcd_reader.specs.declared.step.Change.{Change}
 use Rattle.vcd_reader.specs.declared.step.Step.{Step}
 use Rattle.cycle_window.specs.Held.{changes_to, IsTable}

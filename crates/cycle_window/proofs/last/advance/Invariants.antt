@@ -1,4 +1,4 @@
-use Rattle.std.proofs.Common.{◌≡◌, ◌≤◌, ◌-◌, length}
+use Rattle.std.proofs.Common.{◌≤◌, ◌-◌, length}
 use Rattle.cycle_window.specs.Held.{changes_to, IsTable}
 use Rattle.cycle_window.proofs.last.advance.Given as goal
 

@@ -1,4 +1,4 @@
-use Rattle.std.proofs.Common.{◌≡◌, ◌∙◌, ◌++◌, ◌∷◌, [], sym, ap, arith, get_or, take, append_assoc, List, subst, Option, ◌+◌}
+use Rattle.std.proofs.Common.{◌≡◌, ◌∙◌, ◌++◌, ◌∷◌, [], sym, ap, get_or, take, append_assoc, List, subst, Option, ◌+◌}
 use Rattle.std.proofs.lemmas.List.{take_more}
 use Rattle.vcd_reader.specs.declared.step.Change.{Change}
 use Rattle.cycle_window.specs.Held.{IsTable}

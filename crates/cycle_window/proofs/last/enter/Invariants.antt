@@ -1,4 +1,4 @@
-use Rattle.std.proofs.Common.{◌≡◌, List, take, ◌++◌, length}
+use Rattle.std.proofs.Common.{List, take, ◌++◌}
 use Rattle.vcd_reader.specs.declared.step.Change.{Change}
 use Rattle.cycle_window.specs.Held.{IsTable}
 use Rattle.cycle_window.proofs.last.enter.Given as goal

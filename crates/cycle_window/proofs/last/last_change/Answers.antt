@@ -1,7 +1,6 @@
-use Rattle.std.proofs.Common.{◌≡◌, ◌∙◌, ◌++◌, sym, ap, arith, get_or, take, append_assoc, List}
+use Rattle.std.proofs.Common.{◌∙◌, ◌++◌, sym, get_or, take, append_assoc}
 use Rattle.std.proofs.lemmas.List.{take_more}
 use Rattle.vcd_reader.specs.declared.step.Change.{Change}
-use Rattle.cycle_window.specs.Held.{last_of}
 use Rattle.cycle_window.proofs.LastLaws.{last_of-here, last_of-elsewhere}
 use Rattle.cycle_window.proofs.last.last_change.Goals as goal
 use Rattle.cycle_window.proofs.last.last_change.Goals.{then-change-code, else-change-code}

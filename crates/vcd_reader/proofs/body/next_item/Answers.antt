@@ -1,9 +1,9 @@
-use Rattle.std.proofs.Common.{◌≡◌, ◌∙◌, ℕ, List, ap, sym, length, Result}
+use Rattle.std.proofs.Common.{◌∙◌, ℕ, List, ap, sym, length, Result}
 use Rattle.vcd_reader.specs.declared.fault.Fault.{Fault}
 use Rattle.vcd_reader.specs.declared.places.Part.TheVariants.{Code}
 use Rattle.vcd_reader.specs.declared.item.Item.{Item}
 use Rattle.vcd_reader.specs.Index.{texts_in}
-use Rattle.vcd_reader.specs.Body.{body, section}
+use Rattle.vcd_reader.specs.Body.{body}
 use Rattle.vcd_reader.specs.Faults.{◌>>=◌}
 use Rattle.vcd_reader.specs.Kept.{kept, applied, scalar_item}
 use Rattle.vcd_reader.specs.Sections.{tokens_at}

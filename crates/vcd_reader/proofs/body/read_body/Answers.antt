@@ -1,13 +1,10 @@
-use Rattle.std.proofs.Common.{◌≡◌, ◌∙◌, ◌++◌, ◌∷◌, ◌+◌, [], ℕ, List, Result, Ok, Err, ap, sym, length, map, append_assoc, arith, refl}
+use Rattle.std.proofs.Common.{◌≡◌, ◌∙◌, ◌++◌, ◌∷◌, ◌+◌, [], ℕ, List, Ok, ap, sym, length, map, append_assoc, arith, refl}
 use Rattle.std.proofs.lemmas.List.{append-nil}
-use Rattle.vcd_reader.specs.declared.fault.Fault.{Fault}
 use Rattle.vcd_reader.specs.declared.places.Part.TheVariants.{Code}
-use Rattle.vcd_reader.specs.declared.item.Item.{Item}
-use Rattle.vcd_reader.specs.declared.item.Item.TheVariants.{Timed, Changed, Skipped}
 use Rattle.vcd_reader.specs.Index.{texts_in}
 use Rattle.vcd_reader.specs.Stored.{StoredChange, StoredStep, stored_change, stored_step}
-use Rattle.vcd_reader.specs.Body.{body, steps_of}
-use Rattle.vcd_reader.specs.Kept.{KeptRest, kept, applied, with_kept, with_kept_step}
+use Rattle.vcd_reader.specs.Body.{body}
+use Rattle.vcd_reader.specs.Kept.{kept}
 use Rattle.vcd_reader.specs.Sections.{tokens_at}
 use Rattle.vcd_reader.proofs.BodyLaws.{joined, joined-none, joined-change, joined-step, applied-full, applied-change, applied-back, applied-later}
 use Rattle.vcd_reader.proofs.StoredLaws.{step-pushed, change-pushed}

@@ -1,4 +1,4 @@
-use Rattle.std.proofs.Common.{◌≡◌, ◌∙◌, arith, sym, ap}
+use Rattle.std.proofs.Common.{◌∙◌, arith}
 use Rattle.vcd_reader.proofs.BodyLaws.{section-none, section-end, section-more}
 use Rattle.vcd_reader.proofs.body.section_end.Goals as goal
 

@@ -1,4 +1,4 @@
-use Rattle.std.proofs.Common.{◌≡◌, ◌∙◌, ◌/◌, ◌%◌, ◌^◌, ◌++◌, ◌∷◌, [], ℕ, List, ap, sym, length, refl}
+use Rattle.std.proofs.Common.{◌≡◌, ◌∙◌, ◌/◌, ◌%◌, ◌^◌, ◌++◌, ◌∷◌, [], ℕ, List, ap, length, refl}
 use Rattle.vcd_reader.specs.Stored.{stored_change}
 use Rattle.vcd_reader.proofs.StoredLaws.{stored-narrow, stored-wide}
 use Rattle.vcd_reader.proofs.body.stored.Goals as goal

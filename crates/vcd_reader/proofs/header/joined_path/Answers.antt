@@ -1,4 +1,4 @@
-use Rattle.std.proofs.Common.{◌≡◌, ◌∙◌, ◌++◌, ◌∷◌, [], ℕ, List, ap}
+use Rattle.std.proofs.Common.{◌∙◌, ◌++◌, ◌∷◌, [], ℕ, List, ap}
 use Rattle.vcd_reader.proofs.HeaderLaws.{path-more}
 use Rattle.vcd_reader.proofs.header.joined_path.Goals as goal
 

@@ -1,4 +1,4 @@
-use Rattle.std.proofs.Common.{◌≡◌, ◌∙◌}
+use Rattle.std.proofs.Common.{◌∙◌}
 use Rattle.vcd_reader.proofs.HeaderLaws.{header-none}
 use Rattle.vcd_reader.proofs.header.read_header.Goals as goal
 

@@ -1,4 +1,4 @@
-use Rattle.std.proofs.Common.{◌≡◌, ℕ, ◌≤◌, ◌-◌, List, [], length, map}
+use Rattle.std.proofs.Common.{◌≡◌, ◌≤◌, ◌-◌, [], length, map}
 use Rattle.vcd_reader.specs.Stored.{declared}
 use Rattle.vcd_reader.specs.Header.{header}
 use Rattle.vcd_reader.specs.Sections.{tokens_at}

@@ -1,7 +1,7 @@
-use Rattle.std.proofs.Common.{◌≡◌, ◌∙◌, ℕ, List, arith, sym, ap}
+use Rattle.std.proofs.Common.{◌∙◌, ℕ, List, arith, sym, ap}
 use Rattle.vcd_reader.specs.Tokens.{Token}
 use Rattle.vcd_reader.specs.Header.{var_more}
-use Rattle.vcd_reader.specs.Sections.{text_at, tokens_at}
+use Rattle.vcd_reader.specs.Sections.{tokens_at}
 use Rattle.vcd_reader.proofs.HeaderLaws.{var_reference-field, more-none, more-end, more-more}
 use Rattle.vcd_reader.proofs.header.read_reference.Goals as goal
 

@@ -1,10 +1,10 @@
-use Rattle.std.proofs.Common.{◌≡◌, ◌∙◌, ℕ, List, map, Ok, ap, sym, Result}
+use Rattle.std.proofs.Common.{◌∙◌, List, map, Ok, Result}
 use Rattle.std.specs.Prelude.{slice_range}
 use Rattle.vcd_reader.specs.Tokens.{Token}
 use Rattle.vcd_reader.specs.declared.fault.Fault.{Fault}
 use Rattle.vcd_reader.specs.Header.{Header, header, outer}
 use Rattle.vcd_reader.specs.Sections.{tokens_at}
-use Rattle.vcd_reader.proofs.HeaderLaws.{at-no_word, at-ends, at-scope, at-upscope, at-var, at-other, fails-along}
+use Rattle.vcd_reader.proofs.HeaderLaws.{at-ends, at-scope, at-upscope, at-var, at-other, fails-along}
 use Rattle.vcd_reader.proofs.header.read_section.Goals as goal
 
 pub returns-in-Err-clause-section : goal.returns-in-Err-clause-section

@@ -1,4 +1,4 @@
-use Rattle.std.proofs.Common.{◌≡◌, ◌∙◌, ℕ, ◌^◌, Bool, cond, List, [], ◌∷◌, ◌++◌, Option, Err, sym, ap}
+use Rattle.std.proofs.Common.{◌∙◌, ℕ, ◌^◌, Bool, cond, List, Option, Err, sym, ap}
 use Rattle.std.specs.List.{list_all}
 use Rattle.vcd_reader.specs.declared.fault.Fault.TheVariants.{BadToken}
 use Rattle.vcd_reader.specs.Tokens.{Token}

@@ -1,4 +1,4 @@
-use Rattle.std.proofs.Common.{◌≡◌, ◌∙◌, arith, sym}
+use Rattle.std.proofs.Common.{◌∙◌, arith, sym}
 use Rattle.vcd_reader.proofs.HeaderLaws.{skipped-none, skipped-end, skipped-more}
 use Rattle.vcd_reader.proofs.header.skipped_end.Goals as goal
 

@@ -1,4 +1,4 @@
-use Rattle.std.proofs.Common.{◌≡◌, ◌∙◌, true, false, sym, ap}
+use Rattle.std.proofs.Common.{◌∙◌, sym, ap}
 use Rattle.vcd_reader.specs.Header.{is_range}
 use Rattle.vcd_reader.proofs.NameLaws.{name-cut, name-kept}
 use Rattle.vcd_reader.proofs.name.reference_name.Goals as goal

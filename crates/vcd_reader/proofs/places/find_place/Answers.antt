@@ -1,7 +1,7 @@
 use Rattle.std.proofs.Common.{◌≡◌, None, sym, ap}
 use Rattle.std.specs.Prelude.{nat_eq, is_some}
 use Rattle.std.specs.HashMap as table
-use Rattle.vcd_reader.specs.Index.{key_of, texts_in}
+use Rattle.vcd_reader.specs.Index.{key_of}
 use Rattle.vcd_reader.proofs.PlaceLaws.{absent, known, inside}
 use Rattle.vcd_reader.proofs.places.find_place.Goals as goal
 

@@ -1,7 +1,7 @@
-use Rattle.std.proofs.Common.{◌≡◌, ◌∙◌, ℕ, List, ap, sym, length, take, arith, refl, ◌++◌, ◌∷◌, [], Some, None, ◌+◌, ◌<◌, ◌^◌}
+use Rattle.std.proofs.Common.{◌≡◌, ◌∙◌, ℕ, ap, sym, length, take, arith, refl, ◌++◌, ◌∷◌, [], Some, ◌<◌, ◌^◌}
 use Rattle.std.proofs.lemmas.List.{length-map, length-take}
 use Rattle.vcd_reader.specs.Variables.{place_of}
-use Rattle.vcd_reader.specs.Index.{key_of, text_in, texts_in, IsIndex}
+use Rattle.vcd_reader.specs.Index.{key_of, text_in, texts_in}
 use Rattle.vcd_reader.proofs.PlaceLaws.{place-known, place-fresh, texts-more, index-more}
 use Rattle.vcd_reader.proofs.places.places_of.Goals as goal
 use Rattle.vcd_reader.proofs.places.places_of.Goals.{in-None, in-Some}

@@ -1,4 +1,4 @@
-use Rattle.std.proofs.Common.{◌≡◌, ◌∙◌, ◌<◌, [], List, ℕ, length, drop, arith, sym, ap, refl}
+use Rattle.std.proofs.Common.{◌≡◌, [], drop}
 use Rattle.std.proofs.Math.ListN.{drop_of_length-le}
 use Rattle.vcd_reader.specs.Index.{key_from}
 use Rattle.vcd_reader.proofs.PlaceLaws.{key_from-step}

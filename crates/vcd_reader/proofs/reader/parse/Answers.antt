@@ -1,4 +1,3 @@
-use Rattle.std.proofs.Common.{◌≡◌, ◌∙◌, sym, ap}
 use Rattle.std.proofs.lemmas.Result.{err_from_is_err_and}
 use Rattle.vcd_reader.specs.Held.{variables_of, steps_in, high_of}
 use Rattle.vcd_reader.proofs.DumpLaws.{dump-says, dump-fails, header-fails}

@@ -1,4 +1,4 @@
-use Rattle.std.proofs.Common.{◌≡◌, ◌∙◌, sym}
+use Rattle.std.proofs.Common.{◌∙◌, sym}
 use Rattle.cycle_window.specs.Held.{ticks_in, code_in}
 use Rattle.cycle_window.proofs.clocks.Clocks.of.Goals as goal
 

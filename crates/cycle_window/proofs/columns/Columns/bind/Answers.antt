@@ -1,4 +1,4 @@
-use Rattle.std.proofs.Common.{◌≡◌, ◌∙◌, sym, ap, List, ℕ, map, Option, Some, refl}
+use Rattle.std.proofs.Common.{◌∙◌, refl}
 use Rattle.cycle_window.specs.Held.{ticks_in, code_in, places_in, clock_in, AreColumnsOf}
 use Rattle.cycle_window.proofs.BoundLaws.{map-map}
 use Rattle.cycle_window.proofs.columns.Columns.bind.Goals as goal

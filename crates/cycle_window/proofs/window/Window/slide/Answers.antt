@@ -1,5 +1,4 @@
-use Rattle.std.proofs.Common.{◌≡◌, ◌∙◌, ◌<◌, ◌≤◌, ℕ, List, length, map, vec_len, sym, ap, arith, refl}
-use Rattle.std.proofs.lemmas.List.{length-map}
+use Rattle.std.proofs.Common.{◌≡◌, ◌∙◌, ℕ, List, length, vec_len, ap, arith, refl}
 use Rattle.cycle_window.specs.Ticks.{ticks_of, row_of}
 use Rattle.cycle_window.specs.Held.{ticks_in, code_in, places_in, clock_in, columns_in, size_in, first_in, end_in, AreColumnsOf, IsOver}
 use Rattle.cycle_window.proofs.HeldLaws.{rows-many}

@@ -1,4 +1,4 @@
-use Rattle.std.proofs.Common.{◌≡◌, ◌∙◌, ◌<◌, arith, length, vec_len, refl, ℕ, List}
+use Rattle.std.proofs.Common.{◌≡◌, arith, length, vec_len, refl}
 use Rattle.std.proofs.lemmas.List.{length-map}
 use Rattle.vcd_reader.specs.declared.places.Part.TheVariants.{Code}
 use Rattle.vcd_reader.specs.Index.{texts_in}

@@ -1,4 +1,4 @@
-use Rattle.std.proofs.Common.{◌≡◌, ◌∙◌, ◌≤◌, ◌%◌, ◌^◌, sym, ap, ℕ, List, subst}
+use Rattle.std.proofs.Common.{◌∙◌, ◌%◌, ◌^◌, sym, ap, ℕ, List}
 use Rattle.vcd_reader.specs.Stored.{stored_value}
 use Rattle.vcd_reader.specs.Variables.{size_of}
 use Rattle.vcd_reader.specs.Held.{variables_of, high_of, value_in}

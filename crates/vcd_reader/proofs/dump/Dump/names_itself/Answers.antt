@@ -1,4 +1,4 @@
-use Rattle.std.proofs.Common.{◌≡◌, ◌∙◌, ◌<◌, arith, sym, length, vec_len, refl, ℕ, List, map}
+use Rattle.std.proofs.Common.{◌≡◌, ◌∙◌, ◌<◌, arith, length, vec_len, refl, map}
 use Rattle.std.proofs.lemmas.List.{length-map}
 use Rattle.vcd_reader.specs.declared.places.Part.TheVariants.{Path}
 use Rattle.vcd_reader.specs.Index.{texts_in}

@@ -1,7 +1,4 @@
-use Rattle.std.proofs.Common.{◌≡◌, ◌∙◌, None, Some, sym, ap, List, ℕ, Option}
-use Rattle.vcd_reader.specs.declared.places.Part.TheVariants.{Path}
-use Rattle.vcd_reader.specs.Index.{texts_in}
-use Rattle.vcd_reader.specs.Variables.{place_of}
+use Rattle.std.proofs.Common.{◌∙◌}
 use Rattle.vcd_reader.specs.Held.{variables_of}
 use Rattle.vcd_reader.proofs.LookupLaws.{bindable-at, named-none, named-bound, named-unbound}
 use Rattle.vcd_reader.proofs.dump.Dump.var.Goals as goal

@@ -1,4 +1,4 @@
-use Rattle.std.proofs.Common.{◌≡◌, ◌∙◌, ◌<◌, ◌≤◌, sym, ap, arith, length, vec_len, true}
+use Rattle.std.proofs.Common.{◌≡◌, ◌∙◌, sym, arith, length, vec_len}
 use Rattle.vcd_reader.specs.Held.{variables_of}
 use Rattle.vcd_reader.proofs.LookupLaws.{bindable-at, bindable-inside, size-at}
 use Rattle.vcd_reader.proofs.dump.Dump.width.Goals as goal

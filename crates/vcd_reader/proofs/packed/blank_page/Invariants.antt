@@ -1,0 +1,6 @@
+use Rattle.std.proofs.Common.{List, ℕ}
+use Rattle.vcd_reader.specs.Packed.{AreKnown}
+use Rattle.vcd_reader.proofs.packed.blank_page.Given as goal
+
+abbrev pub invariant-loop-i : goal.invariant-loop-i
+invariant-loop-i l = (texts : List (List ℕ)) → AreKnown texts l.table.items
