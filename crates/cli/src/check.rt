@@ -23,7 +23,7 @@ use std::alloc::Global;
 /// (L1 to L3, P1), with its paths (Y1, C1, C2), all before anything is written; G1 where the sink failed, which then holds a
 /// beginning of the report behind what it held before; and want of memory.
 ///
-/// IEEE 1800-2017, clauses 16.5, 16.7, 16.12.6, 16.14; IEEE 1364-2005, clause 18.2.
+/// IEEE 1800-2017, clauses 16.5, 16.7, 16.12.7, 16.14; IEEE 1364-2005, clause 18.2.
 pub fn check_one<S: Source, W: Sink>(
     alloc: Global,
     source: &mut S,

@@ -1,1 +1,9 @@
 pub mod TerminalLaws
+pub mod ReaderLaws
+pub mod Complete
+pub mod Sound
+pub mod SequencesComplete
+pub mod SequencesSound
+pub mod PropertyLaws
+pub mod FilesComplete
+pub mod FilesSound

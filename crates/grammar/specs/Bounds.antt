@@ -1,7 +1,6 @@
 -- Numbers as bounds.
 use Rattle.std.specs.Prelude.{ℕ, Option, Some, None, ◌&&◌, nat_le, if◌then◌else◌}
 use Rattle.lexer.specs.declared.token.Base.{Base}
-use Rattle.lexer.specs.declared.token.Number.{Number}
 use Rattle.lexer.specs.declared.token.Kind.{Kind}
 use Rattle.lexer.specs.declared.token.Kind.TheVariants as kinds
 use Rattle.lexer.specs.declared.token.Token.{Token}
@@ -13,7 +12,7 @@ index_of_kind at (kinds.Number n) = Some (record { value = n.value; at = at })
 index_of_kind at _ = None
 
 -- NUM in a select: any number
-abbrev pub index : Token → Option Index
+unfoldable pub index : Token → Option Index
 index t = index_of_kind t.at t.kind
 
 -- a plain decimal has no base
@@ -26,5 +25,5 @@ bound_of_kind least most at (kinds.Number n) = plain_within least most at n.valu
 bound_of_kind least most at _ = None
 
 -- NUM in a bound: an unsized decimal from least to most
-abbrev pub bound_within : ℕ → ℕ → Token → Option Bound
+unfoldable pub bound_within : ℕ → ℕ → Token → Option Bound
 bound_within least most t = bound_of_kind least most t.at t.kind

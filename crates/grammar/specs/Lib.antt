@@ -9,3 +9,4 @@ pub mod Readers
 pub mod ReadExpressions
 pub mod ReadSequences
 pub mod ReadFiles
+pub mod Laws

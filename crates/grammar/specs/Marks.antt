@@ -1,6 +1,5 @@
 -- How a token may begin a primary, and how loosely it joins.
-use Rattle.std.specs.Prelude.{ℕ, List, [], ◌∷◌}
-use Rattle.lexer.specs.declared.token.Symbol.{Symbol}
+use Rattle.std.specs.Prelude.{ℕ, List, [], ◌∷◌, Bool, ◌==◌}
 use Rattle.lexer.specs.declared.token.Symbol.TheVariants as symbol
 use Rattle.lexer.specs.declared.token.Kind.{Kind}
 use Rattle.lexer.specs.declared.token.Kind.TheVariants as kind
@@ -88,6 +87,10 @@ looseness_of_terminal _ k = 100
 
 unfoldable pub looseness : Token → ℕ
 looseness t = looseness_of_terminal (terminal t) t.kind
+
+-- whether a token is an operator so loose
+unfoldable pub so_loose : ℕ → Token → Bool
+so_loose k t = looseness t == k
 
 -- that of the first token
 abbrev pub next_looseness : List Token → ℕ

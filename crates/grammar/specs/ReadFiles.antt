@@ -1,14 +1,14 @@
 -- The grammar of files as functions.
-use Rattle.std.specs.Prelude.{◌≡◌, ℕ, zero, suc, List, [], ◌∷◌, Bool, true, false, not, ◌&&◌, ◌||◌, Option, Some, None, if◌then◌else◌}
+use Rattle.std.specs.Prelude.{◌≡◌, ℕ, List, [], ◌∷◌, Bool, true, false, not, ◌&&◌, ◌||◌, Option, Some, None, if◌then◌else◌}
 use Rattle.std.specs.Str.{bytes_eq}
 use Rattle.lexer.specs.declared.token.Token.{Token}
 use Rattle.grammar.specs.declared.bound.Bound.{Bound}
 use Rattle.grammar.specs.declared.terminal.Terminal.{Terminal}
 use Rattle.grammar.specs.declared.terminal.Terminal.TheVariants as word
 use Rattle.grammar.specs.declared.terminal.Terminal.TheVariants.{OpenRound, CloseRound, OpenSquare, CloseSquare, Comma, Semicolon, Colon, AtSign, Posedge, Disable, Iff, EndSequence, End}
-use Rattle.grammar.specs.Terminals.{is, is_name, is_word}
+use Rattle.grammar.specs.Terminals.{terminal, is, is_name, is_word}
 use Rattle.grammar.specs.Bounds.{bound_within}
-use Rattle.grammar.specs.Trees.{Tree, Sequence, Property, Counter, Declaration, Assertion, Item, counter, declaration, assertion}
+use Rattle.grammar.specs.Trees.{Tree, Property, Item, counter, declaration, assertion}
 use Rattle.grammar.specs.Readers.{◌>>=◌, Reader, lead, expect, pick, optional, each}
 use Rattle.grammar.specs.ReadExpressions.{name_of, path_words, expression}
 use Rattle.grammar.specs.ReadSequences.{whole, property}
@@ -35,7 +35,7 @@ counter_item ts = counter_head ts >>= λ h. optional word.Clear (one_operand in_
     >>= λ d. expect Semicolon d.1 >>= λ r. Some (counter_of h.0.0 h.0.1 a.0 b.0 c.0 d.0, r.1)
 
 -- the name once more
-abbrev pub again_of : Token → Token → Option Token
+unfoldable pub again_of : Token → Token → Option Token
 again_of name t = if is_word t && bytes_eq t.text.now name.text.now then Some t else None
 
 abbrev pub skip_by : Option (Token × List Token) → List Token → List Token
@@ -54,7 +54,7 @@ ending_of name ts = expect EndSequence (skip Semicolon ts) >>= λ e. optional Co
 unfoldable pub declaration_item : Reader Item
 declaration_item ts = pick name_of ts >>= λ n. expect Semicolon n.1 >>= λ o. whole most_open o.1 >>= λ p. ending_of n.0 p.1 >>= λ rest. Some (declaration (record { name = n.0; body = p.0 }), rest)
 
-abbrev pub is_verb_token : Token → Bool
+unfoldable pub is_verb_token : Token → Bool
 is_verb_token t = is word.Assert t || is word.Assume t
 
 -- "property" "("
@@ -115,9 +115,16 @@ asserts (counter c ∷ more) = asserts more
 asserts (declaration s ∷ more) = asserts more
 asserts (assertion a ∷ more) = true
 
-abbrev pub is_more : Token → Bool
+unfoldable pub is_more : Token → Bool
 is_more t = not (is End t)
 
 -- item*, up to the end
 unfoldable pub items : Reader (List Item)
 items ts = each is_more (λ t us. item (t ∷ us)) ts
+
+-- The tokens are read as the items, one of which is an assertion, up to the token of the text's end.
+pub record ReadsFile (xs : List Item) (tokens : List Token) : Type 0 where
+  pub last : Token
+  pub ends : terminal last ≡ End
+  pub read : items tokens ≡ Some (xs, last ∷ [])
+  pub asserted : asserts xs ≡ true

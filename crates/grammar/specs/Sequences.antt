@@ -1,5 +1,5 @@
 -- The grammar of sequences and properties, rule by rule (IEEE 1800-2017, 16.7 to 16.12 and annex F).
-use Rattle.std.specs.Prelude.{◌≡◌, ℕ, suc, List, [], ◌∷◌, Option, Some, None}
+use Rattle.std.specs.Prelude.{◌≡◌, ℕ, suc, List, ◌∷◌, Option, Some, None}
 use Rattle.lexer.specs.declared.token.Token.{Token}
 use Rattle.grammar.specs.declared.bound.Bound.{Bound}
 use Rattle.grammar.specs.declared.bound.Range.{Range}
@@ -12,7 +12,7 @@ use Rattle.grammar.specs.Expressions.{Spells}
 
 -- NUM, a bound of a delay or a repetition
 abbrev pub bound : Token → Option Bound
-bound t = bound_within 0 127 t
+bound = bound_within 0 127
 
 -- What can't be read as an expression: where text can, it is one.
 abbrev pub IsNoExpression : Sequence → Type 0

@@ -1,5 +1,5 @@
 -- Trees without brackets, and without where they lie in memory.
-use Rattle.std.specs.Prelude.{ℕ, List, Option}
+use Rattle.std.specs.Prelude.{List, Option}
 use Rattle.lexer.specs.declared.token.Token.{Token}
 use Rattle.grammar.specs.declared.bound.Bound.{Bound}
 use Rattle.grammar.specs.declared.bound.Range.{Range}

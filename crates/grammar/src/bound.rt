@@ -34,6 +34,7 @@ pub struct Select {
 }
 
 /// The bound that a plain decimal is, if it lies between the two.
+#[tactic(auto, unfolding(crate::specs::Bounds::bound_within))]
 pub fn bound_of(token: Token, least: u8, most: u8) -> Option<Bound>
     ensures { result ≡ bound_within least most token.entry }
 {
@@ -44,6 +45,7 @@ pub fn bound_of(token: Token, least: u8, most: u8) -> Option<Bound>
 }
 
 /// The bit that a number names.
+#[tactic(auto, unfolding(crate::specs::Bounds::index))]
 pub fn index_of(token: Token) -> Option<Index>
     ensures { result ≡ index token.entry }
 {

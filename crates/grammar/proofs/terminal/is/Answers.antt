@@ -1,8 +1,7 @@
 use Rattle.std.proofs.Common.{◌≡◌, ◌⊎◌, Bool, true, false, refl, sym, ap, ◌∙◌, inl, inr, rules}
 use denote.Enum.Bare.{sameb, same_true, same_false}
-use Rattle.grammar.specs.declared.terminal.Terminal.{Terminal}
 use Rattle.grammar.specs.contracts.terminal.Terminal.{the_type}
-use Rattle.grammar.specs.Terminals.{is, terminal}
+use Rattle.grammar.specs.Terminals.{terminal}
 use Rattle.grammar.proofs.TerminalLaws.{true-is, false-is}
 use Rattle.grammar.proofs.terminal.is.Goals as goal
 

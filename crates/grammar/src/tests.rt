@@ -1,0 +1,240 @@
+//! Each function at the tokens of a text, against the grammar.
+
+use crate::bound::{Bound, Index, bound_of, index_of};
+use crate::laws::grammar_law;
+use crate::looseness::looseness_of;
+use crate::mark::{Function, Mark, mark_of};
+use crate::terminal::{Terminal, is, is_name, is_word, terminal_of};
+use lexer::lex;
+use std::test::Fail;
+
+#[test]
+fn bounds(rt: HostRuntime) -> Result<(), Fail> {
+    let tokens = lex(rt.alloc(), "127 128 0 8'd5 'd5 width")?;
+    assert_eq!(rt; tokens.len(), 7);
+    assert_eq!(rt;
+        bound_of(tokens[0], 0, 127),
+        Some(Bound { value: 127, at: 0 })
+    );
+    assert_eq!(rt; bound_of(tokens[1], 0, 127), None);
+    assert_eq!(rt;
+        bound_of(tokens[1], 1, 128),
+        Some(Bound { value: 128, at: 4 })
+    );
+    assert_eq!(rt;
+        bound_of(tokens[2], 0, 127),
+        Some(Bound { value: 0, at: 8 })
+    );
+    assert_eq!(rt; bound_of(tokens[2], 1, 128), None);
+    assert_eq!(rt; bound_of(tokens[3], 0, 127), None);
+    assert_eq!(rt; bound_of(tokens[4], 0, 127), None);
+    assert_eq!(rt; bound_of(tokens[5], 0, 127), None);
+    assert_eq!(rt; bound_of(tokens[6], 0, 127), None);
+    Ok(())
+}
+
+#[test]
+fn indices(rt: HostRuntime) -> Result<(), Fail> {
+    let tokens = lex(rt.alloc(), "31 8'h1F bit")?;
+    assert_eq!(rt; tokens.len(), 4);
+    assert_eq!(rt; index_of(tokens[0]), Some(Index { value: 31, at: 0 }));
+    assert_eq!(rt; index_of(tokens[1]), Some(Index { value: 31, at: 3 }));
+    assert_eq!(rt; index_of(tokens[2]), None);
+    assert_eq!(rt; index_of(tokens[3]), None);
+    Ok(())
+}
+
+#[test]
+fn looseness(rt: HostRuntime) -> Result<(), Fail> {
+    for (text, expected) in [
+        (".", 0),
+        ("[", 0),
+        ("-", 1),
+        (">>", 2),
+        ("<=", 3),
+        ("!=", 4),
+        ("&", 5),
+        ("~^", 6),
+        ("^~", 6),
+        ("|", 7),
+        ("&&", 8),
+        ("||", 9),
+        ("?", 10),
+        ("throughout", 11),
+        ("[*", 12),
+        ("##", 13),
+        ("and", 15),
+        ("or", 16),
+        ("|->", 17),
+        ("|=>", 17),
+        ("!", 100),
+        (")", 100),
+        (":", 100),
+        ("ready", 100),
+        ("", 100),
+    ] {
+        let tokens = lex(rt.alloc(), text)?;
+        assert!(rt; tokens.len() > 0, "{text}");
+        assert_eq!(rt; looseness_of(tokens[0]), expected, "{text}");
+    }
+    Ok(())
+}
+
+#[test]
+fn marks(rt: HostRuntime) -> Result<(), Fail> {
+    for (text, expected) in [
+        ("4'b1", Mark::Number),
+        ("ready", Mark::Name),
+        ("counter", Mark::Name),
+        ("!", Mark::Prefix),
+        ("~|", Mark::Prefix),
+        ("^~", Mark::Prefix),
+        ("(", Mark::Opening),
+        ("{", Mark::Brace),
+        ("$past", Mark::Past),
+        ("$rose", Mark::Call(Function::Rose)),
+        ("$fell", Mark::Call(Function::Fell)),
+        ("$stable", Mark::Call(Function::Stable)),
+        ("$changed", Mark::Call(Function::Changed)),
+        ("$onehot", Mark::Call(Function::OneHot)),
+        ("$onehot0", Mark::Call(Function::OneHot0)),
+        ("$clog2", Mark::Other),
+        ("+", Mark::Other),
+        ("&&", Mark::Other),
+        ("or", Mark::Other),
+        ("until", Mark::Other),
+        ("", Mark::Other),
+    ] {
+        let tokens = lex(rt.alloc(), text)?;
+        assert!(rt; tokens.len() > 0, "{text}");
+        assert_eq!(rt; mark_of(tokens[0]), expected, "{text}");
+    }
+    Ok(())
+}
+
+#[test]
+fn terminals(rt: HostRuntime) -> Result<(), Fail> {
+    for (text, expected) in [
+        ("counter", Terminal::Counter),
+        ("clear", Terminal::Clear),
+        ("load", Terminal::Load),
+        ("add", Terminal::Add),
+        ("sub", Terminal::Sub),
+        ("sequence", Terminal::Sequence),
+        ("endsequence", Terminal::EndSequence),
+        ("assert", Terminal::Assert),
+        ("assume", Terminal::Assume),
+        ("property", Terminal::Property),
+        ("posedge", Terminal::Posedge),
+        ("disable", Terminal::Disable),
+        ("iff", Terminal::Iff),
+        ("or", Terminal::Or),
+        ("and", Terminal::And),
+        ("throughout", Terminal::Throughout),
+        ("Or", Terminal::Name),
+        ("ready", Terminal::Name),
+        ("$past", Terminal::Past),
+        ("$onehot0", Terminal::OneHot0),
+        ("$", Terminal::ForeignSystem),
+        ("$clog2", Terminal::ForeignSystem),
+        ("12", Terminal::Number),
+        ("[*", Terminal::OpenRepeat),
+        ("##", Terminal::Delay),
+        ("|->", Terminal::Overlapped),
+        ("|=>", Terminal::Following),
+        ("%", Terminal::ForeignSymbol),
+        ("#", Terminal::Operator),
+        ("", Terminal::End),
+    ] {
+        let tokens = lex(rt.alloc(), text)?;
+        assert!(rt; tokens.len() > 0, "{text}");
+        assert_eq!(rt; terminal_of(tokens[0]), expected, "{text}");
+        assert!(rt; is(expected, tokens[0]), "{text}");
+        assert!(rt; !is(Terminal::Comma, tokens[0]), "{text}");
+    }
+    Ok(())
+}
+
+/// The words of constructs that the language leaves out: no names, but words.
+#[test]
+fn foreign_words(rt: HostRuntime) -> Result<(), Fail> {
+    for text in [
+        "intersect",
+        "within",
+        "first_match",
+        "strong",
+        "weak",
+        "not",
+        "if",
+        "else",
+        "case",
+        "always",
+        "nexttime",
+        "eventually",
+        "until",
+        "s_always",
+        "s_nexttime",
+        "s_eventually",
+        "s_until",
+        "s_until_with",
+        "until_with",
+        "implies",
+        "accept_on",
+        "reject_on",
+        "cover",
+        "restrict",
+        "default",
+        "clocking",
+        "negedge",
+        "edge",
+        "local",
+    ] {
+        let tokens = lex(rt.alloc(), text)?;
+        assert_eq!(rt; tokens.len(), 2, "{text}");
+        assert_eq!(rt; terminal_of(tokens[0]), Terminal::ForeignWord, "{text}");
+        assert!(rt; !is_name(tokens[0]), "{text}");
+        assert!(rt; is_word(tokens[0]), "{text}");
+    }
+    Ok(())
+}
+
+/// The words of a counter are names, so that `counter` before `:` may be a label. Behind a dot each word is one.
+#[test]
+fn names(rt: HostRuntime) -> Result<(), Fail> {
+    for (text, name, word) in [
+        ("counter:", true, true),
+        ("clear", true, true),
+        ("load", true, true),
+        ("add", true, true),
+        ("sub", true, true),
+        ("ready", true, true),
+        ("Or", true, true),
+        ("sequence", false, true),
+        ("endsequence", false, true),
+        ("assert", false, true),
+        ("assume", false, true),
+        ("property", false, true),
+        ("posedge", false, true),
+        ("disable", false, true),
+        ("iff", false, true),
+        ("or", false, true),
+        ("and", false, true),
+        ("throughout", false, true),
+        ("$past", false, false),
+        ("7", false, false),
+        (".", false, false),
+        ("", false, false),
+    ] {
+        let tokens = lex(rt.alloc(), text)?;
+        assert!(rt; tokens.len() > 0, "{text}");
+        assert_eq!(rt; is_name(tokens[0]), name, "{text}");
+        assert_eq!(rt; is_word(tokens[0]), word, "{text}");
+    }
+    Ok(())
+}
+
+#[test]
+fn laws(_rt: HostRuntime) -> Result<(), Fail> {
+    grammar_law();
+    Ok(())
+}

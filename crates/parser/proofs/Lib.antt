@@ -1,0 +1,4 @@
+pub mod Steps
+pub mod TreeLaws
+pub mod LoopLaws
+pub mod WholeLaws

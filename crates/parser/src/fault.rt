@@ -1,0 +1,88 @@
+//! Why a text isn't read.
+
+ghost use Rattle.std.specs.Prelude.{◌≡◌};
+ghost use Rattle.parser.specs.declared.fault.ParseFault.TheVariants.{Memory};
+ghost use Rattle.parser.specs.Faults.{Names};
+
+use crate::stop::Stop;
+use grammar::{Terminal, terminal_of};
+use lexer::Token;
+use std::alloc::{AllocError, AllocFailed};
+use thiserror::Error;
+
+/// Each but `Memory` with the byte of the first token at which reading can't go on.
+#[derive(Clone, Copy, Debug, Error)]
+pub enum ParseFault<'a> {
+    /// P1: something else would go on.
+    #[error("P1 Expected {1}: {0}")]
+    Expected(&'static str, usize),
+    /// P2: the word of a construct that the profile leaves out.
+    #[error("P2 OutsideProfile {0} {1}")]
+    OutsideProfile(&'a str, usize),
+    /// P3: the 65th bracket or unfinished operator that would be open.
+    #[error("P3 TooDeep {0}")]
+    TooDeep(usize),
+    /// P4: a number that is no bound here.
+    #[error("P4 BadBound {0}")]
+    BadBound(usize),
+    /// Memory ran out.
+    #[error("out of memory")]
+    Memory,
+}
+
+/// Whether the profile leaves out what the token stands for.
+fn is_foreign(token: Token) -> bool {
+    matches!(
+        terminal_of(token),
+        Terminal::ForeignWord | Terminal::ForeignSystem | Terminal::ForeignSymbol | Terminal::Iff
+    )
+}
+
+/// The fault at the byte, where something else would go on.
+fn unexpected<'a>(tokens: &[Token<'a>], what: &'static str, at: usize) -> ParseFault<'a>
+    ensures { result ≡ Memory → ⊥ }
+{
+    for token in tokens {
+        if token.at == at {
+            if is_foreign(*token) {
+                return ParseFault::OutsideProfile(token.text, at);
+            }
+            return ParseFault::Expected(what, at);
+        }
+    }
+    ParseFault::Expected(what, at)
+}
+
+/// The fault of a stop.
+pub(crate) fn fault_of<'a>(tokens: &[Token<'a>], stop: Stop) -> ParseFault<'a>
+    ensures { Names stop result }
+{
+    match stop {
+        Stop::Memory => ParseFault::Memory,
+        Stop::Expected(what, at) => unexpected(tokens, what, at),
+        Stop::TooDeep(at) => ParseFault::TooDeep(at),
+        Stop::BadBound(at) => ParseFault::BadBound(at),
+    }
+}
+
+impl From<AllocError> for ParseFault<'_> {
+    ghost use Rattle.parser.specs.declared.fault.ParseFault.TheVariants.{Memory};
+    ghost use Rattle.std.specs.Prelude.{◌≡◌};
+
+    ghost from_gives = { λ _ e. e ≡ Memory };
+
+    fn from(_error: AllocError) -> Self {
+        ParseFault::Memory
+    }
+}
+
+impl<T: Drop> From<AllocFailed<T>> for ParseFault<'_> {
+    ghost use Rattle.parser.specs.declared.fault.ParseFault.TheVariants.{Memory};
+    ghost use Rattle.std.specs.Prelude.{◌≡◌};
+
+    ghost from_gives = { λ _ e. e ≡ Memory };
+
+    fn from(_error: AllocFailed<T>) -> Self {
+        ParseFault::Memory
+    }
+}

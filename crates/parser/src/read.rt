@@ -1,0 +1,153 @@
+//! Single tokens, read from the front of what is left.
+
+ghost use Rattle.std.specs.Prelude.{◌≡◌, ◌≤◌, ◌<◌, ◌+◌, ◌==◌, ℕ, length, [], ◌∷◌, Some, None, MatchOption, IfSome, IfOk, IfErr};
+ghost use Rattle.lexer.specs.declared.token.Token.{Token};
+ghost use Rattle.grammar.specs.Bounds.{bound_within, index};
+ghost use Rattle.grammar.specs.Marks.{so_loose};
+ghost use Rattle.grammar.specs.Readers.{lead, expect, pick};
+ghost use Rattle.grammar.specs.ReadExpressions.{word_of};
+ghost use Rattle.parser.specs.Views.{Gives};
+
+use crate::stop::{Stop, in_words};
+use grammar::{Bound, Index, Terminal, bound_of, index_of, is, is_word, looseness_of};
+use lexer::Token;
+
+/// A part, and the tokens behind it.
+pub(crate) type Read<'t, 'a, T> = Result<(T, &'t [Token<'a>]), Stop>;
+
+/// The first token.
+pub(crate) fn first<'t, 'a>(tokens: &'t [Token<'a>]) -> Option<(Token<'a>, &'t [Token<'a>])>
+    ensures { MatchOption result (tokens.now ≡ []) (λ r. tokens.now ≡ r.0 ∷ r.1.now) }
+{
+    match tokens.split_first() {
+        Some((token, rest)) => Some((*token, rest)),
+        None => None,
+    }
+}
+
+/// The same tokens, with which a loop goes on.
+pub(crate) fn same<'t, 'a>(tokens: &'t [Token<'a>]) -> &'t [Token<'a>]
+    ensures { result.now ≡ tokens.now }
+{
+    tokens
+}
+
+/// The byte of the first token. There is one: reading never goes past the end's.
+pub(crate) fn place(tokens: &[Token]) -> usize {
+    match tokens.first() {
+        Some(token) => token.at,
+        None => 0,
+    }
+}
+
+/// The first token, if it is the terminal.
+#[tactic(auto, using(crate::proofs::Steps::for_accept))]
+pub(crate) fn accept<'t, 'a>(
+    tokens: &'t [Token<'a>],
+    wanted: Terminal,
+) -> Option<(Token<'a>, &'t [Token<'a>])>
+    ensures token { MatchOption result (expect wanted tokens.now ≡ None) (λ r. expect wanted tokens.now ≡ Some (r.0, r.1.now)) }
+    ensures shorter { IfSome result (λ r. length r.1.now < length tokens.now) }
+{
+    let Some((token, rest)) = first(tokens) else {
+        return None;
+    };
+    if is(wanted, token) {
+        return Some((token, rest));
+    }
+    None
+}
+
+/// The first token, which is to be the terminal.
+pub(crate) fn expect<'t, 'a>(tokens: &'t [Token<'a>], wanted: Terminal) -> Read<'t, 'a, Token<'a>>
+    ensures token { Gives (λ r. (r.0, r.1.now)) result (expect wanted tokens.now) }
+    ensures shorter { IfOk result (λ r. length r.1.now < length tokens.now) }
+{
+    match accept(tokens, wanted) {
+        Some(read) => Ok(read),
+        None => Err(Stop::Expected(in_words(wanted), place(tokens))),
+    }
+}
+
+/// The first token, if it is an operator so loose.
+#[tactic(auto, using(crate::proofs::Steps::for_operator))]
+pub(crate) fn operator<'t, 'a>(
+    tokens: &'t [Token<'a>],
+    loose: usize,
+) -> Option<(Token<'a>, &'t [Token<'a>])>
+    ensures token { MatchOption result (lead (so_loose loose) tokens.now ≡ None) (λ r. lead (so_loose loose) tokens.now ≡ Some (r.0, r.1.now)) }
+    ensures shorter { IfSome result (λ r. length r.1.now < length tokens.now) }
+{
+    let Some((token, rest)) = first(tokens) else {
+        return None;
+    };
+    if looseness_of(token) == loose {
+        return Some((token, rest));
+    }
+    None
+}
+
+/// A word, as behind a dot.
+#[tactic(auto, using(crate::proofs::Steps::for_word))]
+pub(crate) fn expect_word<'t, 'a>(tokens: &'t [Token<'a>]) -> Read<'t, 'a, Token<'a>>
+    ensures token { Gives (λ r. (r.0, r.1.now)) result (pick word_of tokens.now) }
+    ensures shorter { IfOk result (λ r. length r.1.now < length tokens.now) }
+{
+    let Some((token, rest)) = first(tokens) else {
+        return Err(Stop::Expected("a word", 0));
+    };
+    if !is_word(token) {
+        return Err(Stop::Expected("a word", token.at));
+    }
+    Ok((token, rest))
+}
+
+/// The number of a bit.
+#[tactic(auto, using(crate::proofs::Steps::for_index))]
+pub(crate) fn expect_index<'t, 'a>(tokens: &'t [Token<'a>]) -> Read<'t, 'a, Index>
+    ensures index { Gives (λ r. (r.0, r.1.now)) result (pick index tokens.now) }
+    ensures shorter { IfOk result (λ r. length r.1.now < length tokens.now) }
+{
+    let Some((token, rest)) = first(tokens) else {
+        return Err(Stop::Expected("a number", 0));
+    };
+    match index_of(token) {
+        Some(index) => Ok((index, rest)),
+        None => Err(Stop::Expected("a number", token.at)),
+    }
+}
+
+/// A bound between the two.
+#[tactic(auto, using(crate::proofs::Steps::for_bound))]
+pub(crate) fn expect_bound<'t, 'a>(
+    tokens: &'t [Token<'a>],
+    least: u8,
+    most: u8,
+) -> Read<'t, 'a, Bound>
+    ensures bound { Gives (λ r. (r.0, r.1.now)) result (pick (bound_within least most) tokens.now) }
+    ensures shorter { IfOk result (λ r. length r.1.now < length tokens.now) }
+{
+    let Some((token, rest)) = first(tokens) else {
+        return Err(Stop::Expected("a number", 0));
+    };
+    match bound_of(token, least, most) {
+        Some(bound) => Ok((bound, rest)),
+        None => {
+            if is(Terminal::Number, token) {
+                return Err(Stop::BadBound(token.at));
+            }
+            Err(Stop::Expected("a number", token.at))
+        }
+    }
+}
+
+/// One bracket or unfinished operator less that may open.
+pub(crate) fn deeper(depth: usize, token: Token) -> Result<usize, Stop>
+    ensures some { IfOk result (λ d. depth ≡ d + 1) }
+    ensures none { IfErr result (λ e. depth ≡ 0) }
+{
+    if depth == 0 {
+        return Err(Stop::TooDeep(token.at));
+    }
+    Ok(depth - 1)
+}
