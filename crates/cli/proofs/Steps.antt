@@ -31,15 +31,15 @@ unfolding expect
 expect-fails w ts us t e h = lead-fails (is w) ts us t e h
 
 pub name-empty : (ts : List Token) → ts ≡ [] → pick name_of ts ≡ None
-unfolding pick
+unfolding pick name_of
 name-empty ts e = rw e refl
 
 pub name-passes : (ts us : List Token) (t : Token) → ts ≡ t ∷ us → is_name t ≡ true → pick name_of ts ≡ Some (t, us)
-unfolding pick
+unfolding pick name_of
 name-passes ts us t e h = rw (e, h) refl
 
 pub name-fails : (ts us : List Token) (t : Token) → ts ≡ t ∷ us → is_name t ≡ false → pick name_of ts ≡ None
-unfolding pick
+unfolding pick name_of
 name-fails ts us t e h = rw (e, h) refl
 
 -- what goes on behind a part, and what doesn't
