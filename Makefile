@@ -27,12 +27,12 @@ bench:
 	bench/shapes
 
 allocations:
-	cd crates/svamon && { rt run -- help; test -x out/svamon; }
+	cd crates/svamon && rm -f out/svamon && { rt run -- help; test -x out/svamon; }
 	scripts/fail_alloc examples/fails_at_its_tick/dump.vcd examples/fails_at_its_tick/assertion.sva
 	scripts/fail_alloc examples/one_then_down/dump.vcd examples/one_then_down/assertion.sva
 
 install:
-	cd crates/svamon && { rt run -- help; test -x out/svamon; }
+	cd crates/svamon && rm -f out/svamon && { rt run -- help; test -x out/svamon; }
 	install -d $(PREFIX)/bin
 	install crates/svamon/out/svamon $(PREFIX)/bin/svamon
 
