@@ -141,7 +141,7 @@ operand-at o = is_tighter (is_tighter (is_tighter (is_tighter (is_tighter (is_ti
 group-sequence : (d : ℕ) (left right : Token) (s : Sequence) (ts rest : List Token) → terminal left ≡ OpenRound → terminal right ≡ CloseRound → IsSequence d s ts (right ∷ rest) → IsSequence (suc d) s (left ∷ ts) rest
 group-sequence d left right (boolean e) ts rest o c w = single (is_boolean (is_operand (operand-at {d = suc d} (expressions.in_brackets (opening-mark left o) (sequence-is_boolean w) c))))
 group-sequence d left right (repeated s n) ts rest o c w = single (in_brackets o c tt w)
-group-sequence d left right (late n s) ts rest o c w = single (in_brackets o c tt w)
+group-sequence d left right (late t n s) ts rest o c w = single (in_brackets o c tt w)
 group-sequence d left right (delayed s more) ts rest o c w = single (in_brackets o c tt w)
 group-sequence d left right (throughout e s) ts rest o c w = single (in_brackets o c tt w)
 group-sequence d left right (all s more) ts rest o c w = single (in_brackets o c tt w)

@@ -58,7 +58,7 @@ during-cat : (d : ℕ) (inner : Inner) (s : Sequence) (ts : List Token) → expe
 unfolding during_behind
 during-cat d inner (boolean e) ts h = rw h refl
 during-cat d inner (repeated s n) ts h = refl
-during-cat d inner (late n s) ts h = refl
+during-cat d inner (late t n s) ts h = refl
 during-cat d inner (delayed s more) ts h = refl
 during-cat d inner (throughout e s) ts h = refl
 during-cat d inner (all s more) ts h = refl
@@ -101,7 +101,7 @@ pub regroup-none : (d : ℕ) (s : Sequence) (ts : List Token) → 10 < next_loos
 unfolding regroup
 regroup-none d (boolean e) ts h = rw (finish-none d e ts h) refl
 regroup-none d (repeated s n) ts h = refl
-regroup-none d (late n s) ts h = refl
+regroup-none d (late t n s) ts h = refl
 regroup-none d (delayed s more) ts h = refl
 regroup-none d (throughout e s) ts h = refl
 regroup-none d (all s more) ts h = refl
@@ -379,7 +379,7 @@ unfolding cat_behind
 during-prompt d s v ts us rest p h =
     during-body d ts p.first p.middle p.read ∙ during-cat d (sequences d) p.first p.middle p.no_word ∙ ap (λ (o : Option (Sequence × List Token)). o >>= λ q. delayed_behind d (sequences d) q.0 q.1) p.repeats ∙ h
 
-during-late : (d : ℕ) (t : Token) (n : Range) (s v : Sequence) (ts us rest : List Token) → terminal t ≡ Delay → late_part d (sequences d) ts ≡ Some ((n, s), us) → delayed_behind d (sequences d) (late n s) us ≡ Some (v, rest) → during d (t ∷ ts) ≡ Some (v, rest)
+during-late : (d : ℕ) (t : Token) (n : Range) (s v : Sequence) (ts us rest : List Token) → terminal t ≡ Delay → late_part d (sequences d) ts ≡ Some ((n, s), us) → delayed_behind d (sequences d) (late t n s) us ≡ Some (v, rest) → during d (t ∷ ts) ≡ Some (v, rest)
 unfolding during_with
 during-late d t n s v ts us rest o h k = rw (expect-is Delay t ts o, h) k
 

@@ -69,7 +69,7 @@ regroup-sound d t c (boolean e) ts vs p o k w h =
     let same : (boolean a.0.0, a.0.1) ≡ p = cc (a.2) in
     subst (λ (r : Sequence × List Token). IsBody (suc d) r.0 (t ∷ ts) r.1) same (is_boolean (expression-sound (suc d) (t ∷ ts) a.0 (bracketed-boolean d t c e ts vs o k (sequence-is_boolean w) ∙ a.1)))
 regroup-sound d t c (repeated s n) ts vs p o k w h = group-is d t c (repeated s n) ts vs p o k tt w h
-regroup-sound d t c (late n s) ts vs p o k w h = group-is d t c (late n s) ts vs p o k tt w h
+regroup-sound d t c (late q n s) ts vs p o k w h = group-is d t c (late q n s) ts vs p o k tt w h
 regroup-sound d t c (delayed s more) ts vs p o k w h = group-is d t c (delayed s more) ts vs p o k tt w h
 regroup-sound d t c (throughout e s) ts vs p o k w h = group-is d t c (throughout e s) ts vs p o k tt w h
 regroup-sound d t c (all s more) ts vs p o k w h = group-is d t c (all s more) ts vs p o k tt w h
@@ -231,7 +231,7 @@ pub behind-sound : (d : ℕ) → IsSoundBelow d → (s : Sequence) (ts us : List
 unfolding during_behind
 behind-sound d inner (boolean e) ts us p b h = throughout_by-sound d inner e ts us p b (expect Throughout us) refl h
 behind-sound d inner (repeated s n) ts us p b h = cat-sound d inner (repeated s n) ts us p b h
-behind-sound d inner (late n s) ts us p b h = cat-sound d inner (late n s) ts us p b h
+behind-sound d inner (late t n s) ts us p b h = cat-sound d inner (late t n s) ts us p b h
 behind-sound d inner (delayed s more) ts us p b h = cat-sound d inner (delayed s more) ts us p b h
 behind-sound d inner (throughout e s) ts us p b h = cat-sound d inner (throughout e s) ts us p b h
 behind-sound d inner (all s more) ts us p b h = cat-sound d inner (all s more) ts us p b h
@@ -243,9 +243,9 @@ during_by-sound d inner ts p None l h =
     behind-sound d inner a.0.0 ts a.0.1 p (body-sound d inner ts a.0 a.1) a.2
 during_by-sound d inner ts p (Some q) l h =
     let x = expect-some Delay ts q l in
-    let a = bind-some (late_part d (sequences d) q.1) (λ (p : (Range × Sequence) × List Token). delayed_behind d (sequences d) (late p.0.0 p.0.1) p.1) p h in
+    let a = bind-some (late_part d (sequences d) q.1) (λ (p : (Range × Sequence) × List Token). delayed_behind d (sequences d) (late q.0 p.0.0 p.0.1) p.1) p h in
     let w = late-sound d inner q.0 q.1 a.0 x.marked a.1 in
-    subst (λ (us : List Token). IsDuring d p.0 us p.1) (sym x.parts) (delayed-sound d inner (late a.0.0.0 a.0.0.1) (q.0 ∷ q.1) a.0.1 p (is_late w.delays w.repeats) a.2)
+    subst (λ (us : List Token). IsDuring d p.0 us p.1) (sym x.parts) (delayed-sound d inner (late q.0 a.0.0.0 a.0.0.1) (q.0 ∷ q.1) a.0.1 p (is_late w.delays w.repeats) a.2)
 
 during-sound : (d : ℕ) → IsSoundBelow d → Reads (during d) (λ s ts rest. IsDuring d s ts rest)
 unfolding during_with

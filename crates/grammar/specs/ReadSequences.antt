@@ -38,7 +38,7 @@ delay inner ts = delay_by inner (expect OpenSquare ts) ts
 unfoldable pub regroup : ℕ → Sequence → Reader Sequence
 regroup d (boolean e) ts = finish d e ts >>= λ p. Some (boolean p.0, p.1)
 regroup d (repeated s n) ts = Some (repeated s n, ts)
-regroup d (late n s) ts = Some (late n s, ts)
+regroup d (late t n s) ts = Some (late t n s, ts)
 regroup d (delayed s more) ts = Some (delayed s more, ts)
 regroup d (throughout e s) ts = Some (throughout e s, ts)
 regroup d (all s more) ts = Some (all s more, ts)
@@ -91,7 +91,7 @@ throughout_by d inner e (Some t) ts = inner.during t.1 >>= λ q. Some (throughou
 unfoldable pub during_behind : ℕ → Inner → Sequence → Reader Sequence
 during_behind d inner (boolean e) ts = throughout_by d inner e (expect Throughout ts) ts
 during_behind d inner (repeated s n) ts = cat_behind d inner (repeated s n) ts
-during_behind d inner (late n s) ts = cat_behind d inner (late n s) ts
+during_behind d inner (late t n s) ts = cat_behind d inner (late t n s) ts
 during_behind d inner (delayed s more) ts = cat_behind d inner (delayed s more) ts
 during_behind d inner (throughout e s) ts = cat_behind d inner (throughout e s) ts
 during_behind d inner (all s more) ts = cat_behind d inner (all s more) ts
@@ -99,7 +99,7 @@ during_behind d inner (either s more) ts = cat_behind d inner (either s more) ts
 
 abbrev pub during_by : ℕ → Inner → Option (Token × List Token) → Reader Sequence
 during_by d inner None ts = body_with d inner ts >>= λ p. during_behind d inner p.0 p.1
-during_by d inner (Some t) ts = late_part d inner t.1 >>= λ p. delayed_behind d inner (late p.0.0 p.0.1) p.1
+during_by d inner (Some t) ts = late_part d inner t.1 >>= λ p. delayed_behind d inner (late t.0 p.0.0 p.0.1) p.1
 
 -- thr
 unfoldable pub during_with : ℕ → Inner → Reader Sequence

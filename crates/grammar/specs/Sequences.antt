@@ -18,7 +18,7 @@ bound = bound_within 0 127
 abbrev pub IsNoExpression : Sequence → Type 0
 IsNoExpression (boolean e) = ⊥
 IsNoExpression (repeated s n) = Unit {0}
-IsNoExpression (late n s) = Unit {0}
+IsNoExpression (late t n s) = Unit {0}
 IsNoExpression (delayed s more) = Unit {0}
 IsNoExpression (throughout e s) = Unit {0}
 IsNoExpression (all s more) = Unit {0}
@@ -50,7 +50,7 @@ mutual
   -- [delay] rep
   pub data IsHead : ℕ → Sequence → List Token → List Token → Type 0 where
     is_prompt : {d : ℕ} {s : Sequence} {ts rest : List Token} → IsRepetition d s ts rest → IsHead d s ts rest
-    is_late : {d : ℕ} {n : Range} {s : Sequence} {ts us rest : List Token} → IsDelay d n ts us → IsRepetition d s us rest → IsHead d (late n s) ts rest
+    is_late : {d : ℕ} {t : Token} {n : Range} {s : Sequence} {ts us rest : List Token} → IsDelay d n (t ∷ ts) us → IsRepetition d s us rest → IsHead d (late t n s) (t ∷ ts) rest
 
   -- (delay rep)*
   pub data AreSteps : ℕ → Steps → List Token → List Token → Type 0 where

@@ -33,7 +33,8 @@ mutual
   pub data Sequence : Type 0 where
     boolean : Tree → Sequence
     repeated : Sequence → Range → Sequence
-    late : Range → Sequence → Sequence
+    -- the token "##" with which it begins, its count, and what it delays
+    late : Token → Range → Sequence → Sequence
     delayed : Sequence → Steps → Sequence
     throughout : Tree → Sequence → Sequence
     all : Sequence → Others → Sequence

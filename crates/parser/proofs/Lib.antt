@@ -1,4 +1,7 @@
 pub mod Steps
 pub mod TreeLaws
 pub mod LoopLaws
-pub mod WholeLaws
+pub mod SequenceSteps
+pub mod PropertySteps
+pub mod ItemSteps
+pub mod FileLaws

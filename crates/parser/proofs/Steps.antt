@@ -32,7 +32,7 @@ none-fails (stops.TooDeep at) o h = h
 none-fails (stops.BadBound at) o h = h
 
 -- one deeper
-below : (d : ℕ) → (d ≡ 0 → ⊥) → d ≡ d - 1 + 1
+pub below : (d : ℕ) → (d ≡ 0 → ⊥) → d ≡ d - 1 + 1
 below d h = omega arith
 
 expr-at : (d k : ℕ) → d ≡ k + 1 → (readers d).expr ≡ expression k

@@ -1,3 +1,3 @@
 pub mod Views
 pub mod Faults
-pub mod Wholes
+pub mod Bodies

@@ -6,11 +6,12 @@ ghost use Rattle.grammar.specs.Terminals.{is};
 ghost use Rattle.grammar.specs.declared.terminal.Terminal.TheVariants.{Comma, OpenSquare, Colon};
 ghost use Rattle.grammar.specs.Bounds.{bound_within, index};
 ghost use Rattle.grammar.specs.Readers.{pick, optional, each};
-ghost use Rattle.grammar.specs.ReadExpressions.{members, select, readers, named, bracketed, concatenated, passed, called, prefixing, prefixed, links, climb, operand, prefixed_with, finish, expression};
-ghost use Rattle.parser.specs.Views.{tree_of, link_of, Gives};
+ghost use Rattle.grammar.specs.ReadExpressions.{members, select, readers, path_words, named, bracketed, concatenated, passed, called, prefixing, prefixed, links, climb, operand, prefixed_with, finish, expression};
+ghost use Rattle.parser.specs.Views.{path_of, tree_of, link_of, Gives};
 
 use crate::read::{
-    Read, accept, deeper, expect, expect_bound, expect_index, expect_word, first, operator, same,
+    Read, accept, deeper, expect, expect_bound, expect_index, expect_name, expect_word, first,
+    operator, same,
 };
 use crate::stop::Stop;
 use crate::tree::{Expr, Path};
@@ -36,6 +37,17 @@ fn read_members<'t, 'a>(alloc: Global, tokens: &'t [Token<'a>]) -> Read<'t, 'a, 
         found.push(word)?;
         left = same(rest);
     }
+}
+
+/// The words of a path.
+#[tactic(auto, using(crate::proofs::ItemSteps::for_path))]
+pub(crate) fn read_path<'t, 'a>(alloc: Global, tokens: &'t [Token<'a>]) -> Read<'t, 'a, Path<'a>>
+    ensures read { Gives (λ r. (path_of r.0, r.1.now)) result (path_words tokens.now) }
+    ensures shorter { IfOk result (λ r. length r.1.now ≤ length tokens.now) }
+{
+    let (first, rest) = expect_name(tokens)?;
+    let (more, rest) = read_members(alloc, rest)?;
+    Ok((Path { first, more }, rest))
 }
 
 /// The lower bit of a select, if one is written.
@@ -326,7 +338,7 @@ fn read_climb<'t, 'a>(
 /// An expression.
 #[tactic(auto, using(crate::proofs::Steps::for_expression))]
 #[cycle(expressions)]
-pub(crate) fn read_expression<'t, 'a>(
+fn read_expression<'t, 'a>(
     alloc: Global,
     tokens: &'t [Token<'a>],
     depth: usize,
@@ -372,4 +384,31 @@ fn finish_expression<'t, 'a>(
         ),
         rest,
     ))
+}
+
+/// An expression, in a box.
+pub(crate) fn read_boxed<'t, 'a>(
+    alloc: Global,
+    tokens: &'t [Token<'a>],
+    depth: usize,
+) -> Read<'t, 'a, Box<Expr<'a>>>
+    ensures read { Gives (λ r. (tree_of r.0.value, r.1.now)) result (expression depth tokens.now) }
+    ensures shorter { IfOk result (λ r. length r.1.now ≤ length tokens.now) }
+{
+    let (expr, rest) = read_expression(alloc, tokens, depth)?;
+    Ok((Box::new(alloc, expr)?, rest))
+}
+
+/// The expression that begins with an operand, in a box.
+pub(crate) fn finish_boxed<'t, 'a>(
+    alloc: Global,
+    tokens: &'t [Token<'a>],
+    left: Box<Expr<'a>>,
+    depth: usize,
+) -> Read<'t, 'a, Box<Expr<'a>>>
+    ensures read { Gives (λ r. (tree_of r.0.value, r.1.now)) result (finish depth (tree_of left.entry.value) tokens.now) }
+    ensures shorter { IfOk result (λ r. length r.1.now ≤ length tokens.now) }
+{
+    let (expr, rest) = finish_expression(alloc, tokens, Box::into_inner(left), depth)?;
+    Ok((Box::new(alloc, expr)?, rest))
 }

@@ -5,7 +5,7 @@ ghost use Rattle.parser.specs.declared.fault.ParseFault.TheVariants.{Memory};
 ghost use Rattle.parser.specs.Faults.{Names};
 
 use crate::stop::Stop;
-use grammar::{Terminal, terminal_of};
+use grammar::{Terminal, is, terminal_of};
 use lexer::Token;
 use std::alloc::{AllocError, AllocFailed};
 use thiserror::Error;
@@ -16,7 +16,7 @@ pub enum ParseFault<'a> {
     /// P1: something else would go on.
     #[error("P1 Expected {1}: {0}")]
     Expected(&'static str, usize),
-    /// P2: the word of a construct that the profile leaves out.
+    /// P2: the word or symbol of a construct that the profile leaves out, and a second implication.
     #[error("P2 OutsideProfile {0} {1}")]
     OutsideProfile(&'a str, usize),
     /// P3: the 65th bracket or unfinished operator that would be open.
@@ -30,7 +30,7 @@ pub enum ParseFault<'a> {
     Memory,
 }
 
-/// Whether the profile leaves out what the token stands for.
+/// Whether the profile leaves out what the token stands for, wherever it stands.
 fn is_foreign(token: Token) -> bool {
     matches!(
         terminal_of(token),
@@ -38,22 +38,57 @@ fn is_foreign(token: Token) -> bool {
     )
 }
 
-/// The fault at the byte, where something else would go on.
+/// Whether the token is an implication.
+fn is_implication(token: Token) -> bool {
+    matches!(
+        terminal_of(token),
+        Terminal::Overlapped | Terminal::Following
+    )
+}
+
+/// What stands before a token in its item.
+#[derive(Clone, Copy)]
+struct Before {
+    nothing: bool,
+    implication: bool,
+}
+
+/// Whether the profile leaves out what the token stands for behind those before it: `property` where an item begins, and
+/// a second implication, too.
+fn is_outside(token: Token, before: Before) -> bool {
+    if is_implication(token) {
+        return before.implication;
+    }
+    if is(Terminal::Property, token) {
+        return before.nothing;
+    }
+    is_foreign(token)
+}
+
+/// The fault at the byte, where something else would go on. The tokens are those from the item's first on.
 fn unexpected<'a>(tokens: &[Token<'a>], what: &'static str, at: usize) -> ParseFault<'a>
     ensures { result ≡ Memory → ⊥ }
 {
+    let mut before = Before {
+        nothing: true,
+        implication: false,
+    };
     for token in tokens {
         if token.at == at {
-            if is_foreign(*token) {
+            if is_outside(*token, before) {
                 return ParseFault::OutsideProfile(token.text, at);
             }
             return ParseFault::Expected(what, at);
         }
+        before = Before {
+            nothing: false,
+            implication: before.implication || is_implication(*token),
+        };
     }
     ParseFault::Expected(what, at)
 }
 
-/// The fault of a stop.
+/// The fault of a stop, in the item that begins with the tokens.
 pub(crate) fn fault_of<'a>(tokens: &[Token<'a>], stop: Stop) -> ParseFault<'a>
     ensures { Names stop result }
 {

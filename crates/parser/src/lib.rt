@@ -1,16 +1,21 @@
-//! Reads the tokens of a text that is one expression, as its tree.
+//! Reads the tokens of a text as the tree of its items.
 #![tactic(auto)]
 
+mod body;
+mod count;
 mod expression;
 mod fault;
-mod parse;
+mod file;
+mod item;
+mod property;
 mod read;
+mod sequence;
 mod stop;
-#[cfg(test)]
-mod tests;
 mod tree;
 
 pub use fault::ParseFault;
-pub use grammar::{Bound, Function, Index, Select};
-pub use parse::parse_expression;
-pub use tree::{Expr, Path};
+pub use grammar::{Bound, Function, Index, Range, Select};
+pub use file::parse;
+pub use tree::{
+    Assertion, Counter, Declaration, Expr, File, Item, Operands, Path, Property, Sequence,
+};

@@ -5,11 +5,15 @@ ghost use Rattle.lexer.specs.declared.token.Token.{Token};
 ghost use Rattle.grammar.specs.Bounds.{bound_within, index};
 ghost use Rattle.grammar.specs.Marks.{so_loose};
 ghost use Rattle.grammar.specs.Readers.{lead, expect, pick};
-ghost use Rattle.grammar.specs.ReadExpressions.{word_of};
+ghost use Rattle.grammar.specs.ReadExpressions.{name_of, word_of};
+ghost use Rattle.grammar.specs.ReadFiles.{is_verb_token};
+ghost use Rattle.grammar.specs.Terminals.{is_name};
 ghost use Rattle.parser.specs.Views.{Gives};
 
 use crate::stop::{Stop, in_words};
-use grammar::{Bound, Index, Terminal, bound_of, index_of, is, is_word, looseness_of};
+use grammar::{
+    Bound, Index, Terminal, bound_of, index_of, is, is_name, is_word, looseness_of,
+};
 use lexer::Token;
 
 /// A part, and the tokens behind it.
@@ -100,6 +104,53 @@ pub(crate) fn expect_word<'t, 'a>(tokens: &'t [Token<'a>]) -> Read<'t, 'a, Token
         return Err(Stop::Expected("a word", token.at));
     }
     Ok((token, rest))
+}
+
+/// A NAME, if one stands first.
+#[tactic(auto, using(crate::proofs::ItemSteps::for_lead_name))]
+pub(crate) fn accept_name<'t, 'a>(
+    tokens: &'t [Token<'a>],
+) -> Option<(Token<'a>, &'t [Token<'a>])>
+    ensures token { MatchOption result (lead is_name tokens.now ≡ None) (λ r. lead is_name tokens.now ≡ Some (r.0, r.1.now)) }
+    ensures shorter { IfSome result (λ r. length r.1.now < length tokens.now) }
+{
+    let Some((token, rest)) = first(tokens) else {
+        return None;
+    };
+    if is_name(token) {
+        return Some((token, rest));
+    }
+    None
+}
+
+/// A NAME.
+#[tactic(auto, using(crate::proofs::ItemSteps::for_name))]
+pub(crate) fn expect_name<'t, 'a>(tokens: &'t [Token<'a>]) -> Read<'t, 'a, Token<'a>>
+    ensures token { Gives (λ r. (r.0, r.1.now)) result (pick name_of tokens.now) }
+    ensures shorter { IfOk result (λ r. length r.1.now < length tokens.now) }
+{
+    let Some((token, rest)) = first(tokens) else {
+        return Err(Stop::Expected("a name", 0));
+    };
+    if !is_name(token) {
+        return Err(Stop::Expected("a name", token.at));
+    }
+    Ok((token, rest))
+}
+
+/// `assert` or `assume`.
+#[tactic(auto, using(crate::proofs::ItemSteps::for_verb))]
+pub(crate) fn expect_verb<'t, 'a>(tokens: &'t [Token<'a>]) -> Read<'t, 'a, Token<'a>>
+    ensures token { Gives (λ r. (r.0, r.1.now)) result (lead is_verb_token tokens.now) }
+    ensures shorter { IfOk result (λ r. length r.1.now < length tokens.now) }
+{
+    if let Some(read) = accept(tokens, Terminal::Assert) {
+        return Ok(read);
+    }
+    match accept(tokens, Terminal::Assume) {
+        Some(read) => Ok(read),
+        None => Err(Stop::Expected("an item", place(tokens))),
+    }
 }
 
 /// The number of a bit.

@@ -1,0 +1,89 @@
+//! Properties.
+
+ghost use Rattle.std.specs.Prelude.{◌≡◌, ◌<◌, ◌≤◌, ◌+◌, ℕ, length, IfOk};
+ghost use Rattle.grammar.specs.ReadSequences.{implication_behind, regroup_property, property};
+ghost use Rattle.parser.specs.Views.{sequence_of, property_of, Gives};
+
+use crate::read::{Read, accept, deeper, expect, operator};
+use crate::sequence::{finish_sequence, read_sequence, regroup};
+use crate::tree::{Property, Sequence};
+use grammar::Terminal;
+use lexer::Token;
+use std::alloc::Global;
+
+/// The property that begins with a sequence.
+#[tactic(auto, using(crate::proofs::PropertySteps::for_implication))]
+fn read_implication<'t, 'a>(
+    alloc: Global,
+    tokens: &'t [Token<'a>],
+    antecedent: Box<Sequence<'a>>,
+    depth: usize,
+) -> Read<'t, 'a, Property<'a>>
+    ensures read { Gives (λ r. (property_of r.0, r.1.now)) result (implication_behind depth (sequence_of antecedent.entry.value) tokens.now) }
+    ensures shorter { IfOk result (λ r. length r.1.now ≤ length tokens.now) }
+{
+    let Some((sign, right)) = operator(tokens, 17) else {
+        return Ok((Property::Plain(antecedent), tokens));
+    };
+    let (consequent, rest) = match read_sequence(alloc, right, depth) {
+        Ok(read) => read,
+        Err(stop) => return Err(stop),
+    };
+    Ok((Property::Implication(antecedent, sign, consequent), rest))
+}
+
+/// What goes on behind brackets.
+#[tactic(auto, using(crate::proofs::PropertySteps::for_regroup))]
+fn regroup_property<'t, 'a>(
+    alloc: Global,
+    tokens: &'t [Token<'a>],
+    inner: Property<'a>,
+    depth: usize,
+) -> Read<'t, 'a, Property<'a>>
+    ensures read { Gives (λ r. (property_of r.0, r.1.now)) result (regroup_property depth (property_of inner.entry) tokens.now) }
+    ensures shorter { IfOk result (λ r. length r.1.now ≤ length tokens.now) }
+{
+    match inner {
+        Property::Plain(sequence) => {
+            let (body, rest) = match regroup(alloc, tokens, sequence, depth) {
+                Ok(read) => read,
+                Err(stop) => return Err(stop),
+            };
+            let (sequence, rest) = match finish_sequence(alloc, rest, body, depth) {
+                Ok(read) => read,
+                Err(stop) => return Err(stop),
+            };
+            read_implication(alloc, rest, sequence, depth)
+        }
+        Property::Implication(antecedent, sign, consequent) => Ok((
+            Property::Implication(antecedent, sign, consequent),
+            tokens,
+        )),
+    }
+}
+
+/// A property.
+#[tactic(auto, using(crate::proofs::PropertySteps::for_property))]
+pub(crate) fn read_property<'t, 'a>(
+    alloc: Global,
+    tokens: &'t [Token<'a>],
+    depth: usize,
+) -> Read<'t, 'a, Property<'a>>
+    ensures read { Gives (λ r. (property_of r.0, r.1.now)) result (property depth tokens.now) }
+    ensures shorter { IfOk result (λ r. length r.1.now ≤ length tokens.now) }
+{
+    let Some((bracket, inside)) = accept(tokens, Terminal::OpenRound) else {
+        let (sequence, rest) = match read_sequence(alloc, tokens, depth) {
+            Ok(read) => read,
+            Err(stop) => return Err(stop),
+        };
+        return read_implication(alloc, rest, sequence, depth);
+    };
+    let inner = deeper(depth, bracket)?;
+    let (property, rest) = match read_property(alloc, inside, inner) {
+        Ok(read) => read,
+        Err(stop) => return Err(stop),
+    };
+    let (_, rest) = expect(rest, Terminal::CloseRound)?;
+    regroup_property(alloc, rest, property, depth)
+}

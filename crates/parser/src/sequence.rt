@@ -1,0 +1,289 @@
+//! Sequences.
+
+ghost use Rattle.std.specs.Prelude.{◌≡◌, ◌<◌, ◌≤◌, ◌+◌, ◌==◌, ℕ, suc, length, map, IfOk};
+ghost use Rattle.grammar.specs.ReadSequences.{sequences, regroup, body_with, repeat_behind, late_part, delayed_behind, during_behind, during, conjunction_behind, conjunction_with, alternatives_behind, sequence_behind, whole};
+ghost use Rattle.parser.specs.Views.{sequence_of, boxed_step_of, Gives};
+ghost use Rattle.parser.specs.Bodies.{body_of, IsProper};
+
+use crate::body::{
+    Body, into_body, into_sequence, throughout_side, with_alternatives, with_conjuncts, with_steps,
+    with_times,
+};
+use crate::count::{read_counts, read_delay};
+use crate::expression::{finish_boxed, read_boxed};
+use crate::read::{Read, accept, deeper, expect, same};
+use crate::stop::Stop;
+use crate::tree::Sequence;
+use grammar::{Range, Terminal};
+use lexer::Token;
+use std::alloc::Global;
+
+/// What goes on behind brackets.
+#[tactic(auto, using(crate::proofs::SequenceSteps::for_regroup))]
+pub(crate) fn regroup<'t, 'a>(
+    alloc: Global,
+    tokens: &'t [Token<'a>],
+    inner: Box<Sequence<'a>>,
+    depth: usize,
+) -> Read<'t, 'a, Body<'a>>
+    ensures read { Gives (λ r. (body_of r.0, r.1.now)) result (regroup depth (sequence_of inner.entry.value) tokens.now) }
+    ensures proper { IfOk result (λ r. IsProper r.0) }
+    ensures shorter { IfOk result (λ r. length r.1.now ≤ length tokens.now) }
+{
+    match into_body(alloc, inner)? {
+        Body::Expression(expr) => {
+            let (expr, rest) = match finish_boxed(alloc, tokens, expr, depth) {
+                Ok(read) => read,
+                Err(stop) => return Err(stop),
+            };
+            Ok((Body::Expression(expr), rest))
+        }
+        Body::Sequence(sequence) => Ok((Body::Sequence(sequence), tokens)),
+    }
+}
+
+/// An expression, or a sequence in brackets.
+#[tactic(auto, using(crate::proofs::SequenceSteps::for_body))]
+#[cycle(sequences)]
+fn read_body<'t, 'a>(
+    alloc: Global,
+    tokens: &'t [Token<'a>],
+    depth: usize,
+) -> Read<'t, 'a, Body<'a>>
+    ensures read { Gives (λ r. (body_of r.0, r.1.now)) result (body_with depth (sequences depth) tokens.now) }
+    ensures proper { IfOk result (λ r. IsProper r.0) }
+    ensures shorter { IfOk result (λ r. length r.1.now ≤ length tokens.now) }
+{
+    let Some((bracket, inside)) = accept(tokens, Terminal::OpenRound) else {
+        let (expr, rest) = match read_boxed(alloc, tokens, depth) {
+            Ok(read) => read,
+            Err(stop) => return Err(stop),
+        };
+        return Ok((Body::Expression(expr), rest));
+    };
+    let inner = deeper(depth, bracket)?;
+    let (sequence, rest) = match read_sequence(alloc, inside, inner) {
+        Ok(read) => read,
+        Err(stop) => return Err(stop),
+    };
+    let (_, rest) = expect(rest, Terminal::CloseRound)?;
+    regroup(alloc, rest, sequence, depth)
+}
+
+/// A body's repetition, if one is written.
+#[tactic(auto, using(crate::proofs::SequenceSteps::for_repeat))]
+fn read_repeat<'t, 'a>(
+    alloc: Global,
+    tokens: &'t [Token<'a>],
+    body: Body<'a>,
+    depth: usize,
+) -> Read<'t, 'a, Box<Sequence<'a>>>
+    ensures read { Gives (λ r. (sequence_of r.0.value, r.1.now)) result (repeat_behind (sequences depth) (body_of body.entry) tokens.now) }
+    ensures shorter { IfOk result (λ r. length r.1.now ≤ length tokens.now) }
+{
+    let body = into_sequence(alloc, body)?;
+    let (counts, rest) = read_counts(tokens, depth)?;
+    Ok((with_times(alloc, body, counts)?, rest))
+}
+
+/// A delay behind its `##`, and what it delays.
+#[tactic(auto, using(crate::proofs::SequenceSteps::for_late))]
+#[cycle(sequences)]
+fn read_late<'t, 'a>(
+    alloc: Global,
+    tokens: &'t [Token<'a>],
+    depth: usize,
+) -> Read<'t, 'a, (Range, Box<Sequence<'a>>)>
+    ensures read { Gives (λ r. (boxed_step_of r.0, r.1.now)) result (late_part depth (sequences depth) tokens.now) }
+    ensures shorter { IfOk result (λ r. length r.1.now ≤ length tokens.now) }
+{
+    let (range, rest) = read_delay(tokens, depth)?;
+    let (body, rest) = read_body(alloc, rest, depth)?;
+    let (body, rest) = read_repeat(alloc, rest, body, depth)?;
+    Ok(((range, body), rest))
+}
+
+/// The delays that follow a first part, with what they delay.
+#[cycle(sequences)]
+fn read_delayed<'t, 'a>(
+    alloc: Global,
+    tokens: &'t [Token<'a>],
+    head: Box<Sequence<'a>>,
+    depth: usize,
+) -> Read<'t, 'a, Box<Sequence<'a>>>
+    ensures read { Gives (λ r. (sequence_of r.0.value, r.1.now)) result (delayed_behind depth (sequences depth) (sequence_of head.entry.value) tokens.now) }
+    ensures shorter { IfOk result (λ r. length r.1.now ≤ length tokens.now) }
+{
+    let mut found = Vec::new(alloc);
+    let mut left = tokens;
+    'steps: loop {
+        let Some((_, rest)) = accept(left, Terminal::Delay) else {
+            return Ok((with_steps(alloc, head, found)?, left));
+        };
+        let ((range, body), rest) = match read_late(alloc, rest, depth) {
+            Ok(read) => read,
+            Err(stop) => return Err(stop),
+        };
+        found.push((range, Box::into_inner(body)))?;
+        left = same(rest);
+    }
+}
+
+/// What follows a first body: behind an expression that is `throughout` and its right side, too.
+#[tactic(auto, using(crate::proofs::SequenceSteps::for_behind, crate::proofs::TreeLaws::sequence_rules))]
+#[cycle(sequences)]
+fn read_behind<'t, 'a>(
+    alloc: Global,
+    tokens: &'t [Token<'a>],
+    body: Body<'a>,
+    depth: usize,
+) -> Read<'t, 'a, Box<Sequence<'a>>>
+    requires proper { IsProper body }
+    ensures read { Gives (λ r. (sequence_of r.0.value, r.1.now)) result (during_behind depth (sequences depth) (body_of body.entry) tokens.now) }
+    ensures shorter { IfOk result (λ r. length r.1.now ≤ length tokens.now) }
+{
+    let (expr, word, right) = match throughout_side(tokens, body) {
+        Ok(side) => side,
+        Err(body) => {
+            let (head, rest) = match read_repeat(alloc, tokens, body, depth) {
+                Ok(read) => read,
+                Err(stop) => return Err(stop),
+            };
+            return read_delayed(alloc, rest, head, depth);
+        }
+    };
+    let inner = deeper(depth, word)?;
+    let (body, rest) = match read_during(alloc, right, inner) {
+        Ok(read) => read,
+        Err(stop) => return Err(stop),
+    };
+    Ok((
+        Box::new(alloc, Sequence::Throughout(expr, body))?,
+        rest,
+    ))
+}
+
+/// A chain of delays, or `throughout` with both its sides.
+#[tactic(auto, using(crate::proofs::SequenceSteps::for_during, crate::proofs::TreeLaws::sequence_rules))]
+#[cycle(sequences)]
+fn read_during<'t, 'a>(
+    alloc: Global,
+    tokens: &'t [Token<'a>],
+    depth: usize,
+) -> Read<'t, 'a, Box<Sequence<'a>>>
+    ensures read { Gives (λ r. (sequence_of r.0.value, r.1.now)) result (during depth tokens.now) }
+    ensures shorter { IfOk result (λ r. length r.1.now ≤ length tokens.now) }
+{
+    let Some((token, rest)) = accept(tokens, Terminal::Delay) else {
+        let (body, rest) = match read_body(alloc, tokens, depth) {
+            Ok(read) => read,
+            Err(stop) => return Err(stop),
+        };
+        return read_behind(alloc, rest, body, depth);
+    };
+    let ((range, body), rest) = match read_late(alloc, rest, depth) {
+        Ok(read) => read,
+        Err(stop) => return Err(stop),
+    };
+    let head = Box::new(alloc, Sequence::Late(token, range, body))?;
+    read_delayed(alloc, rest, head, depth)
+}
+
+/// What the `and`s that follow make of a first side.
+#[cycle(sequences)]
+fn read_conjunction<'t, 'a>(
+    alloc: Global,
+    tokens: &'t [Token<'a>],
+    side: Box<Sequence<'a>>,
+    depth: usize,
+) -> Read<'t, 'a, Box<Sequence<'a>>>
+    ensures read { Gives (λ r. (sequence_of r.0.value, r.1.now)) result (conjunction_behind depth (sequences depth) (sequence_of side.entry.value) tokens.now) }
+    ensures shorter { IfOk result (λ r. length r.1.now ≤ length tokens.now) }
+{
+    let mut found = Vec::new(alloc);
+    let mut left = tokens;
+    'conjuncts: loop {
+        let Some((_, rest)) = accept(left, Terminal::And) else {
+            return Ok((with_conjuncts(alloc, side, found)?, left));
+        };
+        let (conjunct, rest) = match read_during(alloc, rest, depth) {
+            Ok(read) => read,
+            Err(stop) => return Err(stop),
+        };
+        found.push(Box::into_inner(conjunct))?;
+        left = same(rest);
+    }
+}
+
+/// A side of `or`.
+#[tactic(auto, using(crate::proofs::SequenceSteps::for_side))]
+#[cycle(sequences)]
+fn read_side<'t, 'a>(
+    alloc: Global,
+    tokens: &'t [Token<'a>],
+    depth: usize,
+) -> Read<'t, 'a, Box<Sequence<'a>>>
+    ensures read { Gives (λ r. (sequence_of r.0.value, r.1.now)) result (conjunction_with depth (sequences depth) tokens.now) }
+    ensures shorter { IfOk result (λ r. length r.1.now ≤ length tokens.now) }
+{
+    let (side, rest) = read_during(alloc, tokens, depth)?;
+    read_conjunction(alloc, rest, side, depth)
+}
+
+/// What the `or`s that follow make of a first side.
+#[cycle(sequences)]
+fn read_alternatives<'t, 'a>(
+    alloc: Global,
+    tokens: &'t [Token<'a>],
+    side: Box<Sequence<'a>>,
+    depth: usize,
+) -> Read<'t, 'a, Box<Sequence<'a>>>
+    ensures read { Gives (λ r. (sequence_of r.0.value, r.1.now)) result (alternatives_behind depth (sequences depth) (sequence_of side.entry.value) tokens.now) }
+    ensures shorter { IfOk result (λ r. length r.1.now ≤ length tokens.now) }
+{
+    let mut found = Vec::new(alloc);
+    let mut left = tokens;
+    'alternatives: loop {
+        let Some((_, rest)) = accept(left, Terminal::Or) else {
+            return Ok((with_alternatives(alloc, side, found)?, left));
+        };
+        let (alternative, rest) = match read_side(alloc, rest, depth) {
+            Ok(read) => read,
+            Err(stop) => return Err(stop),
+        };
+        found.push(Box::into_inner(alternative))?;
+        left = same(rest);
+    }
+}
+
+/// A sequence.
+#[tactic(auto, using(crate::proofs::SequenceSteps::for_whole))]
+#[cycle(sequences)]
+pub(crate) fn read_sequence<'t, 'a>(
+    alloc: Global,
+    tokens: &'t [Token<'a>],
+    depth: usize,
+) -> Read<'t, 'a, Box<Sequence<'a>>>
+    ensures read { Gives (λ r. (sequence_of r.0.value, r.1.now)) result (whole depth tokens.now) }
+    ensures shorter { IfOk result (λ r. length r.1.now ≤ length tokens.now) }
+{
+    let (side, rest) = read_side(alloc, tokens, depth)?;
+    read_alternatives(alloc, rest, side, depth)
+}
+
+/// The sequence that begins with a body.
+#[tactic(auto, using(crate::proofs::SequenceSteps::for_finish))]
+pub(crate) fn finish_sequence<'t, 'a>(
+    alloc: Global,
+    tokens: &'t [Token<'a>],
+    body: Body<'a>,
+    depth: usize,
+) -> Read<'t, 'a, Box<Sequence<'a>>>
+    requires proper { IsProper body }
+    ensures read { Gives (λ r. (sequence_of r.0.value, r.1.now)) result (sequence_behind depth (body_of body.entry) tokens.now) }
+    ensures shorter { IfOk result (λ r. length r.1.now ≤ length tokens.now) }
+{
+    let (side, rest) = read_behind(alloc, tokens, body, depth)?;
+    let (side, rest) = read_conjunction(alloc, rest, side, depth)?;
+    read_alternatives(alloc, rest, side, depth)
+}
