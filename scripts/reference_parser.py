@@ -10,7 +10,7 @@ import random
 import re
 import sys
 
-TOKEN = re.compile(r'''\s+|(?P<word>[A-Za-z_][A-Za-z0-9_$]*)|(?P<system>\$[A-Za-z0-9_]*)
+TOKEN = re.compile(r'''\s+|//.*|/\*.*?\*/|(?P<word>[A-Za-z_][A-Za-z0-9_$]*)|(?P<system>\$[A-Za-z0-9_]*)
     |(?P<number>[0-9][0-9_]*'[bodhBODH][0-9a-fA-F_]+|'[bodhBODH][0-9a-fA-F_]+|[0-9][0-9_]*)
     |(?P<symbol>\|->|\|=>|\[\*|\#\#|<<|>>|<=|>=|==|!=|&&|\|\||~&|~\||~\^|\^~|[(){}\[\],;:?@.\#+\-<>&|^~!=*/%])''', re.X)
 KEYWORDS = set('sequence endsequence assert assume property posedge disable iff or and throughout'.split())
@@ -123,7 +123,7 @@ def rules(symbol):
         return [[n('primary')]] + ([[operator, n('unary', inner)] for operator in UNARY] if deep else [])
     if name == 'primary':
         if not deep:
-            return [['NUMBER'], [n('path')]]
+            return [['NUMBER'], [n('path')], ['$past', 'NEVER'], ['FUNCTION', 'NEVER']]  # it is the bracket that is too deep
         return [['NUMBER'], [n('path')], [n('path'), '[', 'NUMBER', ']'], [n('path'), '[', 'NUMBER', ':', 'NUMBER', ']'],
                 ['{', n('parts', inner), '}'], ['(', n('expr', inner), ')'], ['$past', '(', n('expr', inner), ')'],
                 ['$past', '(', n('expr', inner), ',', 'BOUND1-64', ')'], ['FUNCTION', '(', n('expr', inner), ')']]
@@ -229,7 +229,6 @@ def verdict(text):
 def outside(tokens, position):
     kind, word, _ = tokens[position]
     if kind == 'word':
-        begins = position == 0 or tokens[position - 1][1] in (';', 'endsequence')
         return word in FOREIGN or word == 'iff' or (word == 'property' and begins_item(tokens, position))
     if kind == 'system':
         return word not in FUNCTIONS and word != '$past'
@@ -307,8 +306,51 @@ def foreign_words():
     for word in sorted(FOREIGN) + ['property', 'iff']:
         texts += [f'{word} x;', f'{word}: assert property (@(posedge c) a);', f'assert property (@(posedge {word}) a);',
                   f'assert property (@(posedge c) {word});', f'assert property (@(posedge c) a {word} b);', f'sequence {word}; a; endsequence',
-                  f'counter {word} [2];', f'assert property (@(posedge c) x.{word});']
+                  f'counter {word} [2];', f'assert property (@(posedge c) x.{word});', f'assert {word} (@(posedge c) a);',
+                  f'assert property (@({word} c) a);', f'assert property (@(posedge c) disable {word} (r) a);',
+                  f'assert property (@(posedge c) disable iff ({word}) a);', f'counter n [2] {word}(a);',
+                  f'sequence s; a; endsequence : {word} assert property (@(posedge c) s);', f'sequence s; a {word} endsequence']
     return texts
+
+
+def asserted(text):
+    return f'assert property (@(posedge c) {text});'
+
+
+SMALLEST = ['a', '1', "'hF", 'a.b', 'a[0]', 'a[1:0]', '{a}', '{a, b}', '(a)', '$past(a)', '$past(a, 1)', '$rose(a)', '$fell(a)', '$stable(a)',
+            '$changed(a)', '$onehot(a)', '$onehot0(a)', '!a', '~a', '&a', '~&a', '|a', '~|a', '^a', '~^a', '^~a', 'a ? b : c', 'a ##1 b',
+            '##0 a', '##[0:1] a', 'a[*0]', 'a[*0:1]', '(a ##1 b)', '(a ##1 b)[*2]', 'a throughout b', 'a and b', 'a or b', 'a |-> b', 'a |=> b',
+            '(a |-> b)', '((a |=> b))', '(s)', '((s))', 's[*2]', 's throughout a', '(a |-> b) |-> c', 'a |-> (b |-> c)', 'a |-> b |-> c',
+            '(a |-> b) and c', '(a ##1 b) + c', '(a ##1 b) && c', '(a) && c', '((a)[1])', 'a[1][2]', 'a ##1', 'a[*]', 'a[+]', 'a ##[1:$] b', 'a[*1:$]',
+            'a throughout', 'a[*1][*2]', '(a[*1])[*2]', 'a ##1 ##2 b', '##1 ##2 a', '##1 (##2 a)', 'a or', 'and a', 'a and or b', '$', '$time', '$countones(a)',
+            'a * b', 'a / b', 'a % b', 'a ** b', '+a', '-a', 'a !b', 'a = b', 'a # b', '@a', 'a ? b', 'a ? b : c : d', 'a ? b ? c : d : e', '{}', '{a,}', '()',
+            'a,', "a ##1'b1 b", 'posedge', 'disable', 'a.posedge', 'clear', 'load', 'add', 'sub', 'counter', 'counter.x', 'x.counter[1]']
+BOUNDS = ['a |-> ##[3:1] b', 'a |-> ##128 b', '##127 a', '##[127:127] a', '##[0:128] a', '##[128:128] a', '##[2:2] a', '##[1_0:9] a', "##4'd3 a", "##'d3 a",
+          'a[*127]', 'a[*128]', 'a[*2:1]', 'a[*0:127]', 'a[*0:128]', "a[*'d2]", '$past(a, 0)', '$past(a, 64)', '$past(a, 65)', "$past(a, 4'd3)", "v[4'd3]", "v['d3:2]", 'v[99999]']
+WIDTHS = ['0', '1', '128', '129', "8'd4", 'w', '1_2']
+
+
+def nested(count):
+    """Nesting of each kind: so deep, within what is left behind `property (`."""
+    deep = '(' * count + 'a' + ')' * count
+    return [asserted(deep), asserted('!' * count + 'a'), asserted('a ? b : ' * count + 'c'), asserted('a throughout ' * count + 'b'),
+            asserted('{' * count + 'a' + '}' * count), asserted('$rose(' * count + 'a' + ')' * count), asserted('(' * (count - 1) + 'a[0]' + ')' * (count - 1)),
+            asserted('(' * (count - 1) + 'a[*2]' + ')' * (count - 1)), asserted('(' * (count - 1) + '##[1:2] a' + ')' * (count - 1)),
+            asserted('(' * count + 'a |-> b' + ')' * count), asserted('b ##1 ' + deep), asserted('a ? ' * count + 'b' + ' : c' * count),
+            f'sequence s; {"(" * (count + 1)}a ##1 b{")" * (count + 1)}; endsequence ' + asserted('s'),
+            f'assert property (@(posedge c) disable iff ({"(" * (count - 1)}r{")" * (count - 1)}) a);',
+            f'counter n [2] clear({deep}); ' + asserted('a'), f'counter n [2] add({deep}, {deep}); ' + asserted('a')]
+
+
+def texts_of_rules():
+    whole = ['', '  ', '// only a comment', 'counter n [2];', 'sequence s; a; endsequence', 'sequence s; a endsequence : s', asserted('a'),
+             'x: ' + asserted('a'), 'assume property (@(posedge c.d) a);', 'assert property (@(posedge c) disable iff (r) a);',
+             'sequence s; a; endsequence : t ' + asserted('a'), 'sequence s; a; ; endsequence ' + asserted('a'), asserted('a') + ' ;',
+             'counter n [2] load(a, b) clear(c); ' + asserted('a'), 'counter n [2] sub(a, b) add(a, b); ' + asserted('a'),
+             'counter n [2] clear(a, b); ' + asserted('a'), 'counter n [2] add(a); ' + asserted('a'), 'counter: ' + asserted('a'), 'clear: ' + asserted('a'),
+             'load: ' + asserted('a'), 'counter counter [1]; ' + asserted('counter'), 'sequence sequence; a; endsequence', 'assert (a);', 'cover property (a);',
+             'property p; a; endproperty', asserted('a') + ' property p;', asserted('a') + ' else $error("x");'[:5], 'x: y: ' + asserted('a')]
+    return (whole + [asserted(text) for text in SMALLEST + BOUNDS] + [f'counter n [{width}]; ' + asserted('a') for width in WIDTHS] + nested(63) + nested(64))
 
 
 def main(arguments):
@@ -316,7 +358,7 @@ def main(arguments):
         for line in open(arguments[0]):
             print(verdict(line.rstrip('\n')))
         return
-    texts = BASES + mutated(16, 400) + foreign_words()
+    texts = BASES + texts_of_rules() + mutated(16, 400) + foreign_words()
     with open(f'{arguments[1]}/data/texts.txt', 'w') as out:
         out.writelines(text + '\n' for text in texts)
     with open(f'{arguments[1]}/stdout', 'w') as out:

@@ -47,7 +47,7 @@ fn sized_literals(rt: HostRuntime) -> Result<(), Fail> {
 }
 
 #[test]
-fn bad_texts(rt: HostRuntime) -> Result<(), Fail> {
+fn bad_numbers(rt: HostRuntime) -> Result<(), Fail> {
     for (text, fault) in [
         ("a 4294967296", LexFault::BadNumber(2)),
         ("'hFFFFFFFFF", LexFault::BadNumber(0)),
@@ -57,6 +57,19 @@ fn bad_texts(rt: HostRuntime) -> Result<(), Fail> {
         ("4'b", LexFault::BadNumber(0)),
         ("4'b_1", LexFault::BadNumber(0)),
         ("8'hFF?a:b", LexFault::BadNumber(0)),
+    ] {
+        let refused = match lex(rt.alloc(), text) {
+            Ok(_) => false,
+            Err(found) => found == fault,
+        };
+        assert!(rt; refused, "{text}");
+    }
+    Ok(())
+}
+
+#[test]
+fn bad_texts(rt: HostRuntime) -> Result<(), Fail> {
+    for (text, fault) in [
         ("4'sb1", LexFault::BadCharacter(1)),
         ("a '0", LexFault::BadCharacter(2)),
         ("a \\ b", LexFault::BadCharacter(2)),

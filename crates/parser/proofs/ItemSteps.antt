@@ -39,7 +39,7 @@ verb-neither false false p h k = refl
 
 pub one-fail1 : (d : ℕ) (ts : List Token) (x : Stop) → Fails x (expect OpenRound ts) → Fails x (one_operand d ts)
 unfolding one_operand
-one-fail1 d ts x  f = failing x _ _ (λ none. rw (none) refl) f
+one-fail1 d ts x f = failing x _ _ (λ none. rw (none) refl) f
 
 pub one-fail2 : (d : ℕ) (ts : List Token) (o : Token) (us : List Token) (x : Stop) → expect OpenRound ts ≡ Some (o, us) → Fails x (expression d us) → Fails x (one_operand d ts)
 unfolding one_operand
@@ -55,7 +55,7 @@ one-ok d ts o us e vs c ws h1 h2 h3 = rw (h1, h2, h3) refl
 
 pub two-fail1 : (ts : List Token) (x : Stop) → Fails x (expect OpenRound ts) → Fails x (two_operands ts)
 unfolding two_operands
-two-fail1 ts x  f = failing x _ _ (λ none. rw (none) refl) f
+two-fail1 ts x f = failing x _ _ (λ none. rw (none) refl) f
 
 pub two-fail2 : (ts : List Token) (o : Token) (us : List Token) (x : Stop) → expect OpenRound ts ≡ Some (o, us) → Fails x (expression in_one us) → Fails x (two_operands ts)
 unfolding two_operands
@@ -79,7 +79,7 @@ two-ok ts o us a vs m ms b ws c xs h1 h2 h3 h4 h5 = rw (h1, h2, h3, h4, h5) refl
 
 pub head-fail1 : (ts : List Token) (x : Stop) → Fails x (pick name_of ts) → Fails x (counter_head ts)
 unfolding counter_head
-head-fail1 ts x  f = failing x _ _ (λ none. rw (none) refl) f
+head-fail1 ts x f = failing x _ _ (λ none. rw (none) refl) f
 
 pub head-fail2 : (ts : List Token) (n : Token) (us : List Token) (x : Stop) → pick name_of ts ≡ Some (n, us) → Fails x (expect OpenSquare us) → Fails x (counter_head ts)
 unfolding counter_head
@@ -99,7 +99,7 @@ head-ok ts n us o vs w ws c xs h1 h2 h3 h4 = rw (h1, h2, h3, h4) refl
 
 pub counter-fail1 : (ts : List Token) (x : Stop) → Fails x (counter_head ts) → Fails x (counter_item ts)
 unfolding counter_item
-counter-fail1 ts x  f = failing x _ _ (λ none. rw (none) refl) f
+counter-fail1 ts x f = failing x _ _ (λ none. rw (none) refl) f
 
 pub counter-fail2 : (ts : List Token) (n : Token) (w : Bound) (us : List Token) (x : Stop) → counter_head ts ≡ Some ((n, w), us) → Fails x (optional word.Clear (one_operand in_one) us) → Fails x (counter_item ts)
 unfolding counter_item
@@ -163,7 +163,7 @@ ending-ok n ts qs e us a vs s h k = rw (← s, h, k) refl
 
 pub declaration-fail1 : (ts : List Token) (x : Stop) → Fails x (pick name_of ts) → Fails x (declaration_item ts)
 unfolding declaration_item
-declaration-fail1 ts x  f = failing x _ _ (λ none. rw (none) refl) f
+declaration-fail1 ts x f = failing x _ _ (λ none. rw (none) refl) f
 
 pub declaration-fail2 : (ts : List Token) (n : Token) (us : List Token) (x : Stop) → pick name_of ts ≡ Some (n, us) → Fails x (expect Semicolon us) → Fails x (declaration_item ts)
 unfolding declaration_item
@@ -183,7 +183,7 @@ declaration-ok ts n us s vs b ws xs h1 h2 h3 h4 = rw (h1, h2, h3, h4) refl
 
 pub opening-fail1 : (ts : List Token) (x : Stop) → Fails x (expect word.Property ts) → Fails x (opening ts)
 unfolding opening
-opening-fail1 ts x  f = failing x _ _ (λ none. rw (none) refl) f
+opening-fail1 ts x f = failing x _ _ (λ none. rw (none) refl) f
 
 pub opening-fail2 : (ts : List Token) (p : Token) (us : List Token) (x : Stop) → expect word.Property ts ≡ Some (p, us) → Fails x (expect OpenRound us) → Fails x (opening ts)
 unfolding opening
@@ -195,7 +195,7 @@ opening-ok ts p us o vs h1 h2 = rw (h1, h2) refl
 
 pub clock-fail1 : (ts : List Token) (x : Stop) → Fails x (expect AtSign ts) → Fails x (clock_of ts)
 unfolding clock_of
-clock-fail1 ts x  f = failing x _ _ (λ none. rw (none) refl) f
+clock-fail1 ts x f = failing x _ _ (λ none. rw (none) refl) f
 
 pub clock-fail2 : (ts : List Token) (a : Token) (us : List Token) (x : Stop) → expect AtSign ts ≡ Some (a, us) → Fails x (expect OpenRound us) → Fails x (clock_of ts)
 unfolding clock_of
@@ -231,7 +231,7 @@ disabling-ok ts i us e vs h k = rw (h) k
 
 pub property-end-fail1 : (ts : List Token) (x : Stop) → Fails x (property in_one ts) → Fails x (property_end ts)
 unfolding property_end
-property-end-fail1 ts x  f = failing x _ _ (λ none. rw (none) refl) f
+property-end-fail1 ts x f = failing x _ _ (λ none. rw (none) refl) f
 
 pub property-end-fail2 : (ts : List Token) (p : Property) (us : List Token) (x : Stop) → property in_one ts ≡ Some (p, us) → Fails x (expect CloseRound us) → Fails x (property_end ts)
 unfolding property_end
@@ -247,7 +247,7 @@ property-end-ok ts p us c vs s ws h1 h2 h3 = rw (h1, h2, h3) refl
 
 pub assertion-fail1 : (l : Option Token) (ts : List Token) (x : Stop) → Fails x (lead is_verb_token ts) → Fails x (assertion_item l ts)
 unfolding assertion_item
-assertion-fail1 l ts x  f = failing x _ _ (λ none. rw (none) refl) f
+assertion-fail1 l ts x f = failing x _ _ (λ none. rw (none) refl) f
 
 pub assertion-fail2 : (l : Option Token) (ts : List Token) (v : Token) (us : List Token) (x : Stop) → lead is_verb_token ts ≡ Some (v, us) → Fails x (opening us) → Fails x (assertion_item l ts)
 unfolding assertion_item
@@ -354,7 +354,7 @@ more-yes ts t us h k = rw (h, ← k) refl
 
 pub path-fail1 : (ts : List Token) (x : Stop) → Fails x (pick name_of ts) → Fails x (path_words ts)
 unfolding path_words
-path-fail1 ts x  f = failing x _ _ (λ none. rw (none) refl) f
+path-fail1 ts x f = failing x _ _ (λ none. rw (none) refl) f
 
 pub path-fail2 : (ts : List Token) (n : Token) (us : List Token) (x : Stop) → pick name_of ts ≡ Some (n, us) → Fails x (members us) → Fails x (path_words ts)
 unfolding path_words

@@ -52,7 +52,7 @@ between-zero d h = rw h refl
 
 pub times-fail1 : (ts : List Token) (x : Stop) → Fails x (pick (bound_within 0 127) ts) → Fails x (times ts)
 unfolding times
-times-fail1 ts x  f = failing x _ _ (λ none. rw (none) refl) f
+times-fail1 ts x f = failing x _ _ (λ none. rw (none) refl) f
 
 pub times-fail2 : (ts : List Token) (i : Bound) (us : List Token) (x : Stop) → pick (bound_within 0 127) ts ≡ Some (i, us) → Fails x (optional Colon (pick (bound_within i.value 127)) us) → Fails x (times ts)
 unfolding times
@@ -68,7 +68,7 @@ times-ok ts i us j vs c ws h1 h2 h3 = rw (h1, h2, h3) refl
 
 pub between-fail1 : (ts : List Token) (x : Stop) → Fails x (pick (bound_within 0 127) ts) → Fails x (between ts)
 unfolding between
-between-fail1 ts x  f = failing x _ _ (λ none. rw (none) refl) f
+between-fail1 ts x f = failing x _ _ (λ none. rw (none) refl) f
 
 pub between-fail2 : (ts : List Token) (i : Bound) (us : List Token) (x : Stop) → pick (bound_within 0 127) ts ≡ Some (i, us) → Fails x (expect Colon us) → Fails x (between ts)
 unfolding between
@@ -173,7 +173,7 @@ body-tail d ts o us k s vs c ws h depth h2 h3 = rw (h, whole-at d k depth, h2, h
 
 pub late-part-fail1 : (d : ℕ) (ts : List Token) (x : Stop) → Fails x (delay (sequences d) ts) → Fails x (late_part d (sequences d) ts)
 unfolding late_part repetition_with
-late-part-fail1 d ts x  f = failing x _ _ (λ none. rw (none) refl) f
+late-part-fail1 d ts x f = failing x _ _ (λ none. rw (none) refl) f
 
 pub late-part-fail2 : (d : ℕ) (ts : List Token) (n : Range) (us : List Token) (x : Stop) → delay (sequences d) ts ≡ Some (n, us) → Fails x (body_with d (sequences d) us) → Fails x (late_part d (sequences d) ts)
 unfolding late_part repetition_with

@@ -40,10 +40,7 @@ fn read_operand<'t, 'a>(
 
 /// `( condition , value )`, behind a word.
 #[tactic(auto, using(crate::proofs::ItemSteps::for_two))]
-fn read_operands<'t, 'a>(
-    alloc: Global,
-    tokens: &'t [Token<'a>],
-) -> Read<'t, 'a, Operands<'a>>
+fn read_operands<'t, 'a>(alloc: Global, tokens: &'t [Token<'a>]) -> Read<'t, 'a, Operands<'a>>
     ensures read { Gives (λ r. (pair_of r.0, r.1.now)) result (two_operands tokens.now) }
     ensures shorter { IfOk result (λ r. length r.1.now ≤ length tokens.now) }
 {
@@ -238,7 +235,10 @@ fn read_disabling<'t, 'a>(alloc: Global, tokens: &'t [Token<'a>]) -> Read<'t, 'a
 
 /// `disable iff (operand)`, if it is there.
 #[tactic(auto, using(crate::proofs::Steps::for_optional))]
-fn read_disable<'t, 'a>(alloc: Global, tokens: &'t [Token<'a>]) -> Read<'t, 'a, Option<Box<Expr<'a>>>>
+fn read_disable<'t, 'a>(
+    alloc: Global,
+    tokens: &'t [Token<'a>],
+) -> Read<'t, 'a, Option<Box<Expr<'a>>>>
     ensures read { Gives (λ r. (option_map boxed_of r.0, r.1.now)) result (optional Disable disabling tokens.now) }
     ensures shorter { IfOk result (λ r. length r.1.now ≤ length tokens.now) }
 {

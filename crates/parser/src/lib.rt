@@ -11,11 +11,13 @@ mod property;
 mod read;
 mod sequence;
 mod stop;
+#[cfg(test)]
+mod tests;
 mod tree;
 
 pub use fault::ParseFault;
-pub use grammar::{Bound, Function, Index, Range, Select};
 pub use file::parse;
+pub use grammar::{Bound, Function, Index, Range, Select};
 pub use tree::{
     Assertion, Counter, Declaration, Expr, File, Item, Operands, Path, Property, Sequence,
 };

@@ -11,9 +11,7 @@ ghost use Rattle.grammar.specs.Terminals.{is_name};
 ghost use Rattle.parser.specs.Views.{Gives};
 
 use crate::stop::{Stop, in_words};
-use grammar::{
-    Bound, Index, Terminal, bound_of, index_of, is, is_name, is_word, looseness_of,
-};
+use grammar::{Bound, Index, Terminal, bound_of, index_of, is, is_name, is_word, looseness_of};
 use lexer::Token;
 
 /// A part, and the tokens behind it.
@@ -108,9 +106,7 @@ pub(crate) fn expect_word<'t, 'a>(tokens: &'t [Token<'a>]) -> Read<'t, 'a, Token
 
 /// A NAME, if one stands first.
 #[tactic(auto, using(crate::proofs::ItemSteps::for_lead_name))]
-pub(crate) fn accept_name<'t, 'a>(
-    tokens: &'t [Token<'a>],
-) -> Option<(Token<'a>, &'t [Token<'a>])>
+pub(crate) fn accept_name<'t, 'a>(tokens: &'t [Token<'a>]) -> Option<(Token<'a>, &'t [Token<'a>])>
     ensures token { MatchOption result (lead is_name tokens.now ≡ None) (λ r. lead is_name tokens.now ≡ Some (r.0, r.1.now)) }
     ensures shorter { IfSome result (λ r. length r.1.now < length tokens.now) }
 {

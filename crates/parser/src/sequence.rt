@@ -45,11 +45,7 @@ pub(crate) fn regroup<'t, 'a>(
 /// An expression, or a sequence in brackets.
 #[tactic(auto, using(crate::proofs::SequenceSteps::for_body))]
 #[cycle(sequences)]
-fn read_body<'t, 'a>(
-    alloc: Global,
-    tokens: &'t [Token<'a>],
-    depth: usize,
-) -> Read<'t, 'a, Body<'a>>
+fn read_body<'t, 'a>(alloc: Global, tokens: &'t [Token<'a>], depth: usize) -> Read<'t, 'a, Body<'a>>
     ensures read { Gives (λ r. (body_of r.0, r.1.now)) result (body_with depth (sequences depth) tokens.now) }
     ensures proper { IfOk result (λ r. IsProper r.0) }
     ensures shorter { IfOk result (λ r. length r.1.now ≤ length tokens.now) }
@@ -157,10 +153,7 @@ fn read_behind<'t, 'a>(
         Ok(read) => read,
         Err(stop) => return Err(stop),
     };
-    Ok((
-        Box::new(alloc, Sequence::Throughout(expr, body))?,
-        rest,
-    ))
+    Ok((Box::new(alloc, Sequence::Throughout(expr, body))?, rest))
 }
 
 /// A chain of delays, or `throughout` with both its sides.
@@ -185,8 +178,8 @@ fn read_during<'t, 'a>(
         Ok(read) => read,
         Err(stop) => return Err(stop),
     };
-    let head = Box::new(alloc, Sequence::Late(token, range, body))?;
-    read_delayed(alloc, rest, head, depth)
+    let late = Box::new(alloc, Sequence::Late(token, range, body))?;
+    read_delayed(alloc, rest, late, depth)
 }
 
 /// What the `and`s that follow make of a first side.

@@ -17,11 +17,11 @@ pub returns-in-Err : goal.returns-in-Err
 returns-in-Err c =
     refuses _ _ _
     (items-fail _ _
-        (turns-fail is_more (λ t us. item (t ∷ us)) _ _ _ c.items.invariant _ _ c.in-Some.ensures.token c.in-Some.ensures.shorter _ (at-item-fails _ _ _ _ c.in-Some.ensures.whole c.in-Err.ensures.read)))
+    (turns-fail is_more (λ t us. item (t ∷ us)) _ _ _ c.items.invariant _ _ c.in-Some.ensures.token c.in-Some.ensures.shorter _ (at-item-fails _ _ _ _ c.in-Some.ensures.whole c.in-Err.ensures.read)))
     c.fault_of.ensures
 
 pub items-preserved : goal.items-preserved
 items-preserved c =
     subst (λ (ts : List Token). Turns is_more (λ t us. item (t ∷ us)) c.args.tokens.now (map item_of c.push.new.self.items) ts) (sym c.same-left.ensures)
     (turns-next is_more (λ t us. item (t ∷ us)) _ _ _ c.items.invariant _ _ c.in-Some.ensures.token c.in-Some.ensures.shorter _ _ _ (omega (arith, c.in-Ok.ensures.shorter, ap length c.in-Some.ensures.whole))
-        (at-item _ _ _ _ c.in-Some.ensures.whole c.in-Ok.ensures.read) (ap (map item_of) c.in_ok-push.ensures.items ∙ map-push item_of _ _))
+    (at-item _ _ _ _ c.in-Some.ensures.whole c.in-Ok.ensures.read) (ap (map item_of) c.in_ok-push.ensures.items ∙ map-push item_of _ _))

@@ -1,0 +1,78 @@
+//! Reads the texts of `texts.txt`, one a line, and prints of each whether it is a file, or else its fault. With a file's name as its word
+//! it reads that file as one text, and prints how long cutting it into tokens and reading them took.
+#![tactic(auto)]
+
+use anyhow::Result;
+use lexer::{LexFault, lex};
+use parser::{ParseFault, parse};
+use std::alloc::Global;
+use std::time::Instant;
+use std::{env, fs};
+
+/// The fault's code, name and payload, as the program `svamon` prints them.
+fn parse_line(alloc: Global, fault: ParseFault) -> Result<String> {
+    let line = match fault {
+        ParseFault::Expected(_, at) => format!(in alloc; "P1 Expected {at}")?,
+        ParseFault::OutsideProfile(word, at) => format!(in alloc; "P2 OutsideProfile {word} {at}")?,
+        ParseFault::TooDeep(at) => format!(in alloc; "P3 TooDeep {at}")?,
+        ParseFault::BadBound(at) => format!(in alloc; "P4 BadBound {at}")?,
+        ParseFault::Memory => String::from_str(alloc, "OutOfMemory")?,
+    };
+    Ok(line)
+}
+
+fn lex_line(alloc: Global, fault: LexFault) -> Result<String> {
+    Ok(format!(in alloc; "{fault}")?)
+}
+
+/// What the text is.
+fn verdict(alloc: Global, text: &str) -> Result<String> {
+    let tokens = match lex(alloc, text) {
+        Ok(tokens) => tokens,
+        Err(fault) => return lex_line(alloc, fault),
+    };
+    match parse(alloc, tokens.as_slice()) {
+        Ok(_) => Ok(String::from_str(alloc, "read")?),
+        Err(fault) => parse_line(alloc, fault),
+    }
+}
+
+/// Cuts and reads a text, and prints how long each took.
+fn time_text(rt: &HostRuntime, text: &str) -> Result<()> {
+    let start = Instant::now(rt)?;
+    let tokens = match lex(rt.alloc(), text) {
+        Ok(tokens) => tokens,
+        Err(fault) => {
+            let cut = start.elapsed(rt)?.as_micros();
+            println!(rt; "lex {cut} us {fault}")?;
+            return Ok(());
+        }
+    };
+    let cut = start.elapsed(rt)?.as_micros();
+    let start = Instant::now(rt)?;
+    let read = match parse(rt.alloc(), tokens.as_slice()) {
+        Ok(_) => String::from_str(rt.alloc(), "read")?,
+        Err(fault) => parse_line(rt.alloc(), fault)?,
+    };
+    let took = start.elapsed(rt)?.as_micros();
+    let count = tokens.len();
+    println!(rt; "lex {cut} us parse {took} us tokens {count} {read}")?;
+    Ok(())
+}
+
+fn main(rt: HostRuntime) -> Result<()> {
+    let mut args = env::args(&rt)?;
+    let _name = args.next();
+    if let Some(path) = args.next() {
+        let text = fs::read_to_string(&rt, path.as_str())?;
+        return time_text(&rt, text.as_str());
+    }
+    let texts = fs::read_to_string(&rt, "texts.txt")?;
+    let mut number = 0u64;
+    for text in texts.lines() {
+        number = number.saturating_add(1);
+        let verdict = verdict(rt.alloc(), text)?;
+        println!(rt; "{number} {verdict}")?;
+    }
+    Ok(())
+}
