@@ -4,6 +4,7 @@ use Rattle.signals.specs.declared.verdict.Verdict.{Verdict}
 use Rattle.types.specs.declared.sequence.Boolean.{Boolean}
 use Rattle.types.specs.Segments.{Seq, Matches, is_match, longest}
 use Rattle.types.specs.Attempts.{IsVerdict, verdict}
+use Rattle.types.specs.Written.{Written, kernel, weight, IsOrdered}
 
 -- A match doesn't end before it begins.
 abbrev pub MatchesForward : Type 0
@@ -24,3 +25,7 @@ HasVerdict = (value : Boolean → ℕ → Bool) (off : ℕ → Bool) (r s : Seq 
 -- It has no other.
 abbrev pub HasOneVerdict : Type 0
 HasOneVerdict = (value : Boolean → ℕ → Bool) (off : ℕ → Bool) (r s : Seq Boolean) (end c : ℕ) (v w : Verdict) → IsVerdict value off r s end c v → IsVerdict value off r s end c w → v ≡ w
+
+-- No match of what is written takes more ticks than it weighs.
+abbrev pub MatchesWithinWeight : Type 0
+MatchesWithinWeight = (holds : Boolean → ℕ → Bool) (true_one : Boolean) (r : Written Boolean) (i j : ℕ) → IsOrdered r → Matches holds (kernel true_one r) i j → j ≤ i + weight r

@@ -2,4 +2,5 @@ pub mod Quantifiers
 pub mod Segments
 pub mod Attempts
 pub mod Shapes
+pub mod Written
 pub mod Laws

@@ -13,6 +13,6 @@ mod tests;
 pub use assertion::{Assertion, LONGEST, longest_match, short_length};
 pub use decision::Decision;
 pub use implication::Implication;
-pub use laws::{match_law, verdict_law};
+pub use laws::{match_law, verdict_law, weight_law};
 pub use sequence::{Boolean, Sequence};
 pub use suite::Suite;

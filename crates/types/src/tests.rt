@@ -2,7 +2,7 @@
 
 use crate::{
     Assertion, Boolean, Implication, Sequence, Suite, longest_match, match_law, short_length,
-    verdict_law,
+    verdict_law, weight_law,
 };
 use std::alloc::{AllocError, Global};
 use std::test::Fail;
@@ -59,5 +59,6 @@ fn a_suite_is_made(rt: HostRuntime) -> Result<(), Fail> {
     assert_eq!(rt; suite.clock.as_str(), "top.clk");
     match_law();
     verdict_law();
+    weight_law();
     Ok(())
 }
