@@ -1,0 +1,4 @@
+pub mod Operators
+pub mod Terms
+pub mod Nodes
+pub mod Expressions

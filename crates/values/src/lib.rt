@@ -1,0 +1,13 @@
+//! Expressions over sampled rows, and their values.
+#![tactic(auto)]
+
+mod expr;
+mod name;
+mod node;
+mod operator;
+mod width;
+
+pub use expr::Expr;
+pub use name::{Name, Slice, Source};
+pub use node::Node;
+pub use operator::{Arithmetic, Change, Comparison, Connective, Reduction, Shift};
