@@ -40,31 +40,32 @@ has_some (s ∷ rest) = true
 abbrev pub keeps : ℕ → ℕ → Bool
 keeps kept width = (kept == width) && nat_le 1 width && nat_le width 128
 
+-- a node of one operand, and one of a chain of operators, that keep their widths
+abbrev pub kept_one : (Term → Term) → ℕ → Seen → Seen
+kept_one make kept e = record { term = make e.term; is_typed = e.is_typed && keeps kept (width_of (make e.term)) }
+
+abbrev pub kept_chain : {O : Type 0} → (O → Term → Term → Term) → ℕ → Seen → List (O × Seen) → Seen
+kept_chain make kept first steps =
+    record {
+      term = chained make first.term steps;
+      is_typed = first.is_typed && all_typed steps && keeps kept (width_of (chained make first.term steps));
+    }
+
 -- a node, from what is seen of its parts
 abbrev pub seen_step : Node-F Seen → Seen
 seen_step (Node-F.Constant bits) = record { term = constant bits; is_typed = true }
 seen_step (Node-F.Name name) = record { term = named name; is_typed = true }
 seen_step (Node-F.Slice part) = record { term = slice part; is_typed = true }
-seen_step (Node-F.Group kept e) =
-    record { term = group e.value.term; is_typed = e.value.is_typed && keeps kept (width_of e.value.term) }
+seen_step (Node-F.Group kept e) = kept_one group kept e.value
 seen_step (Node-F.Concat kept first parts) =
     record {
       term = joined first.value.term parts.items;
       is_typed = first.value.is_typed && all_parts_typed parts.items && keeps kept (width_of (joined first.value.term parts.items));
     }
-seen_step (Node-F.Complement kept e) =
-    record { term = inverse e.value.term; is_typed = e.value.is_typed && keeps kept (width_of e.value.term) }
+seen_step (Node-F.Complement kept e) = kept_one inverse kept e.value
 seen_step (Node-F.Reduce op e) = record { term = reduce op e.value.term; is_typed = e.value.is_typed }
-seen_step (Node-F.Arithmetic kept first steps) =
-    record {
-      term = chained combine first.value.term steps.items;
-      is_typed = first.value.is_typed && all_typed steps.items && keeps kept (width_of (chained combine first.value.term steps.items));
-    }
-seen_step (Node-F.Shift kept first steps) =
-    record {
-      term = chained shift first.value.term steps.items;
-      is_typed = first.value.is_typed && all_typed steps.items && keeps kept (width_of (chained shift first.value.term steps.items));
-    }
+seen_step (Node-F.Arithmetic kept first steps) = kept_chain combine kept first.value steps.items
+seen_step (Node-F.Shift kept first steps) = kept_chain shift kept first.value steps.items
 seen_step (Node-F.Compare kept first steps) =
     record {
       term = chained compare first.value.term steps.items;
@@ -80,8 +81,7 @@ seen_step (Node-F.Choose kept c a b) =
       term = choose c.value.term a.value.term b.value.term;
       is_typed = c.value.is_typed && a.value.is_typed && b.value.is_typed && keeps kept (max (width_of a.value.term) (width_of b.value.term));
     }
-seen_step (Node-F.Past kept e ticks) =
-    record { term = past e.value.term ticks; is_typed = e.value.is_typed && keeps kept (width_of e.value.term) }
+seen_step (Node-F.Past kept e ticks) = kept_one (λ d. past d ticks) kept e.value
 seen_step (Node-F.Change op e) = record { term = change op e.value.term; is_typed = e.value.is_typed }
 
 abbrev pub seen : Node → Seen

@@ -5,9 +5,13 @@ mod expr;
 mod name;
 mod node;
 mod operator;
+mod table;
+mod trace;
 mod width;
 
 pub use expr::Expr;
 pub use name::{Name, Slice, Source};
 pub use node::Node;
+pub use table::Table;
+pub use trace::Trace;
 pub use operator::{Arithmetic, Change, Comparison, Connective, Reduction, Shift};
