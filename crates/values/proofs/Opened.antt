@@ -13,8 +13,9 @@ use Rattle.values.specs.declared.node.Node.TheOpen.{Node-F}
 use Rattle.values.specs.declared.node.Node.TheFolds.{fold-roll-Node}
 use Rattle.values.specs.declared.node.Node.TheVariants.{Group, Concat, Complement, Reduce, Arithmetic as Sums, Shift as Shifts, Compare, Connect, Choose, Past, Change as Changes, rolls-Group, rolls-Concat, rolls-Complement, rolls-Reduce, rolls-Arithmetic, rolls-Shift, rolls-Compare, rolls-Connect, rolls-Choose, rolls-Past, rolls-Change}
 use Rattle.values.specs.Terms.{Term, group, concat, inverse, reduce, combine, shift, compare, connect, choose, past, change, width_of}
-use Rattle.values.specs.Nodes.{Seen, chained, joined, all_typed, all_parts_typed, width_compared, has_some, keeps, kept_one, kept_chain, seen_step, seen, shape, is_typed, step_of}
-use Rattle.values.proofs.Chains.{width-compared, width-connected}
+use Rattle.values.specs.Nodes.{Seen, chained, joined, all_typed, all_parts_typed, width_compared, has_some, has_part, keeps, kept_one, kept_chain, seen_step, seen, shape, is_typed, step_of}
+use Rattle.values.specs.Chains.{total_of}
+use Rattle.values.proofs.Chains.{width-compared, width-connected, width-joined, some_compared, first_compared}
 
 -- a kept width
 pub record Kept (kept width : ℕ) : Type 0 where
@@ -103,6 +104,8 @@ opens_shifts node kept first steps is typed =
 pub record IsComparison (kept : ℕ) (node first : Node) (steps : List (Comparison × Seen)) : Type 0 where
   pub chain : IsChain Comparison compare node first steps
   pub width : Kept kept (width_compared (shape first) steps)
+  pub first_narrow : width_of (shape first) ≤ kept
+  pub some : IsTrue (has_some steps)
   pub one : width_of (shape node) ≡ 1
 
 pub opens_compare : (node : Node) (kept : ℕ) (first : Box Node Global) (steps : Vec (Comparison × Node) Global) → node ≡ Compare kept first steps → IsTrue (is_typed node) →
@@ -119,6 +122,8 @@ opens_compare node kept first steps is typed =
     record {
       chain = record { term = ap (λ (s : Seen). s.term) same; first_typed = q.0; steps_typed = q.1 };
       width = width;
+      first_narrow = omega (arith, width.is, first_compared (shape first.value) all some);
+      some = some_compared (shape first.value) all some;
       one = ap (λ (s : Seen). width_of s.term) same ∙ width-compared (shape first.value) all some;
     }
 
@@ -147,18 +152,21 @@ pub record IsJoined (kept : ℕ) (node first : Node) (parts : List Seen) : Type 
   pub term : shape node ≡ joined (shape first) parts
   pub first_typed : IsTrue (is_typed first)
   pub parts_typed : IsTrue (all_parts_typed parts)
+  pub some : IsTrue (has_part parts)
   pub width : Kept kept (width_of (joined (shape first) parts))
+  pub total : total_of (width_of (shape first)) parts ≡ width_of (shape node)
 
 pub opens_concat : (node : Node) (kept : ℕ) (first : Box Node Global) (parts : Vec Node Global) → node ≡ Concat kept first parts → IsTrue (is_typed node) →
     IsJoined kept node first.value (map seen parts.items)
 opens_concat node kept first parts is typed =
     let all = map seen parts.items in
     let w = width_of (joined (shape first.value) all) in
-    let same : seen node ≡ record { term = joined (shape first.value) all; is_typed = is_typed first.value && all_parts_typed all && keeps kept w } =
+    let same : seen node ≡ record { term = joined (shape first.value) all; is_typed = is_typed first.value && all_parts_typed all && has_part all && keeps kept w } =
         ap seen is ∙ ap seen (sym (rolls-Concat kept first parts)) ∙ fold-roll-Node Seen seen_step (Node-F.Concat kept first parts) in
-    let p = and_parts (is_typed first.value && all_parts_typed all) (keeps kept w) (sym (ap (λ (s : Seen). s.is_typed) same) ∙ typed) in
-    let q = and_parts (is_typed first.value) (all_parts_typed all) p.0 in
-    record { term = ap (λ (s : Seen). s.term) same; first_typed = q.0; parts_typed = q.1; width = kept_parts kept w p.1 }
+    let p = and_parts (is_typed first.value && all_parts_typed all && has_part all) (keeps kept w) (sym (ap (λ (s : Seen). s.is_typed) same) ∙ typed) in
+    let q = and_parts (is_typed first.value && all_parts_typed all) (has_part all) p.0 in
+    let r = and_parts (is_typed first.value) (all_parts_typed all) q.0 in
+    record { term = ap (λ (s : Seen). s.term) same; first_typed = r.0; parts_typed = r.1; some = q.1; width = kept_parts kept w p.1; total = sym (ap (λ (s : Seen). width_of s.term) same ∙ width-joined (shape first.value) all) }
 
 -- a choice
 pub record IsChoice (kept : ℕ) (node c a b : Node) : Type 0 where

@@ -4,3 +4,4 @@ pub mod Nodes
 pub mod Expressions
 pub mod Tables
 pub mod Traces
+pub mod Chains

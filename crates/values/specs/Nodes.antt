@@ -36,6 +36,10 @@ abbrev pub has_some : {O : Type 0} → List (O × Seen) → Bool
 has_some [] = false
 has_some (s ∷ rest) = true
 
+abbrev pub has_part : List Seen → Bool
+has_part [] = false
+has_part (part ∷ rest) = true
+
 -- a width that is kept, of 1 to 128 bits
 abbrev pub keeps : ℕ → ℕ → Bool
 keeps kept width = (kept == width) && nat_le 1 width && nat_le width 128
@@ -60,7 +64,7 @@ seen_step (Node-F.Group kept e) = kept_one group kept e.value
 seen_step (Node-F.Concat kept first parts) =
     record {
       term = joined first.value.term parts.items;
-      is_typed = first.value.is_typed && all_parts_typed parts.items && keeps kept (width_of (joined first.value.term parts.items));
+      is_typed = first.value.is_typed && all_parts_typed parts.items && has_part parts.items && keeps kept (width_of (joined first.value.term parts.items));
     }
 seen_step (Node-F.Complement kept e) = kept_one inverse kept e.value
 seen_step (Node-F.Reduce op e) = record { term = reduce op e.value.term; is_typed = e.value.is_typed }

@@ -1,12 +1,14 @@
 //! Expressions over sampled rows, and their values.
 #![tactic(auto)]
 
+mod apply;
 mod expr;
 mod name;
 mod node;
 mod operator;
 mod table;
 mod trace;
+mod evaluate;
 mod width;
 
 pub use expr::Expr;
@@ -14,4 +16,5 @@ pub use name::{Name, Slice, Source};
 pub use node::Node;
 pub use table::Table;
 pub use trace::Trace;
+pub use evaluate::{is_true, value};
 pub use operator::{Arithmetic, Change, Comparison, Connective, Reduction, Shift};

@@ -3,6 +3,21 @@ use Rattle.values.specs.Terms.{width_of}
 use Rattle.values.proofs.Opened.{opens_group, opens_complement, opens_past, opens_sums, opens_shifts, opens_compare, opens_connect, opens_concat, opens_choose}
 use Rattle.values.proofs.width.width_of.Goals as goal
 
+pub returns-in-Group-clause-own : goal.returns-in-Group-clause-own
+returns-in-Group-clause-own c =
+    let o = opens_group c.args.node.now c.in-Group.width c.in-Group.field-1 c.in-Group.is c.requires in
+    o.width.is ∙ sym (ap width_of o.term)
+
+pub returns-in-Group-clause-some_bits : goal.returns-in-Group-clause-some_bits
+returns-in-Group-clause-some_bits c =
+    let o = opens_group c.args.node.now c.in-Group.width c.in-Group.field-1 c.in-Group.is c.requires in
+    o.width.some_bits
+
+pub returns-in-Group-clause-at_most_128 : goal.returns-in-Group-clause-at_most_128
+returns-in-Group-clause-at_most_128 c =
+    let o = opens_group c.args.node.now c.in-Group.width c.in-Group.field-1 c.in-Group.is c.requires in
+    o.width.at_most_128
+
 pub returns-in-Concat-clause-own : goal.returns-in-Concat-clause-own
 returns-in-Concat-clause-own c =
     let o = opens_concat c.args.node.now c.in-Concat.width c.in-Concat.field-1 c.in-Concat.field-2 c.in-Concat.is c.requires in
