@@ -2,6 +2,8 @@
 #![tactic(auto)]
 
 mod apply;
+mod build;
+mod chain;
 mod expr;
 mod name;
 mod node;
