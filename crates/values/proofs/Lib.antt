@@ -1,2 +1,3 @@
 pub mod Opened
 pub mod Chains
+pub mod Grown

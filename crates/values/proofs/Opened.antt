@@ -103,6 +103,7 @@ opens_shifts node kept first steps is typed =
 -- comparisons, with the width of the first
 pub record IsComparison (kept : ℕ) (node first : Node) (steps : List (Comparison × Seen)) : Type 0 where
   pub chain : IsChain Comparison compare node first steps
+  pub keeping : IsTrue (keeps kept (width_compared (shape first) steps))
   pub width : Kept kept (width_compared (shape first) steps)
   pub first_narrow : width_of (shape first) ≤ kept
   pub some : IsTrue (has_some steps)
@@ -121,6 +122,7 @@ opens_compare node kept first steps is typed =
     let some : 1 ≤ width_compared (shape first.value) all = omega (arith, width.is, width.some_bits) in
     record {
       chain = record { term = ap (λ (s : Seen). s.term) same; first_typed = q.0; steps_typed = q.1 };
+      keeping = p.1;
       width = width;
       first_narrow = omega (arith, width.is, first_compared (shape first.value) all some);
       some = some_compared (shape first.value) all some;

@@ -1,5 +1,5 @@
 -- The terms that trees stand for, and the widths that trees keep.
-use Rattle.std.specs.Prelude.{ℕ, ◌+◌, ◌==◌, nat_le, max, not, ◌&&◌, Bool, true, false, List, [], ◌∷◌, map}
+use Rattle.std.specs.Prelude.{◌≡◌, IsTrue, ℕ, ◌+◌, ◌==◌, nat_le, max, not, ◌&&◌, Bool, true, false, List, [], ◌∷◌, map}
 use Rattle.values.specs.declared.node.Node.{Node}
 use Rattle.values.specs.declared.node.Node.TheOpen.{Node-F}
 use Rattle.values.specs.declared.node.Node.TheFolds.{fold-Node}
@@ -102,3 +102,8 @@ is_typed node = (seen node).is_typed
 -- an operator with what is seen of its operand
 abbrev pub step_of : {O : Type 0} → O × Node → O × Seen
 step_of s = (s.0, seen s.1)
+
+-- the tree of a term, each node with its width
+pub record IsTree (meant : Term) (node : Node) : Type 0 where
+  pub term : shape node ≡ meant
+  pub typed : IsTrue (is_typed node)

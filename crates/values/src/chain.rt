@@ -1,39 +1,146 @@
-//! Expressions of two operands. Where the left one is a chain of such operators already, its node grows by one.
+//! Trees of two operands. Where the left one is a chain of such operators already, its node grows by one.
 
-ghost use Rattle.std.specs.Prelude.{◌≡◌, ◌+◌, ◌≤◌, IfOk};
+ghost use Rattle.std.specs.Prelude.{max, IfOk, IsTrue};
 ghost use Rattle.values.specs.Terms.{concat, combine, shift, compare, connect, width_of};
-ghost use Rattle.values.specs.Expressions.{term_of};
+ghost use Rattle.values.specs.Nodes.{keeps, shape, is_typed, IsTree};
 
-use crate::expr::Expr;
 use crate::node::Node;
 use crate::operator::{Arithmetic, Comparison, Connective, Shift};
 use std::alloc::{AllocError, Global};
 
-impl Expr {
-    /// `self op right`, as `a + b`
-    pub fn combine(
-        self,
-        alloc: Global,
-        op: Arithmetic,
-        right: Expr,
-    ) -> Result<Expr, AllocError>
-        ensures { IfOk result (λ e. term_of e ≡ combine op (term_of self) (term_of right)) }
-    {
-        let width = self.width().max(right.width());
-        match self.node {
-            Node::Arithmetic(_, first, mut steps) => {
-                steps.push((op, right.node))?;
-                Ok(Expr {
-                    node: Node::Arithmetic(width, first, steps),
-                })
-            }
-            left => {
-                let first = Box::new(alloc, left)?;
-                let steps = vec![in alloc; (op, right.node)]?;
-                Ok(Expr {
-                    node: Node::Arithmetic(width, first, steps),
-                })
-            }
+/// `left op right`, as `a + b`
+pub(crate) fn combined(
+    alloc: Global,
+    left: Node,
+    op: Arithmetic,
+    right: Node,
+    width: u8,
+) -> Result<Node, AllocError>
+    requires left { IsTrue (is_typed left) }
+    requires right { IsTrue (is_typed right) }
+    requires kept { IsTrue (keeps width (width_of (combine op (shape left) (shape right)))) }
+    ensures { IfOk result (IsTree (combine op (shape left) (shape right))) }
+{
+    match left {
+        Node::Arithmetic(_width, first, steps) => {
+            let mut steps = steps;
+            steps.push((op, right))?;
+            Ok(Node::Arithmetic(width, first, steps))
+        }
+        other => {
+            let first = Box::new(alloc, other)?;
+            let mut steps = Vec::new(alloc);
+            steps.push((op, right))?;
+            Ok(Node::Arithmetic(width, first, steps))
+        }
+    }
+}
+
+/// `left op right`, as `a << b`
+pub(crate) fn shifted(
+    alloc: Global,
+    left: Node,
+    op: Shift,
+    right: Node,
+    width: u8,
+) -> Result<Node, AllocError>
+    requires left { IsTrue (is_typed left) }
+    requires right { IsTrue (is_typed right) }
+    requires kept { IsTrue (keeps width (width_of (shift op (shape left) (shape right)))) }
+    ensures { IfOk result (IsTree (shift op (shape left) (shape right))) }
+{
+    match left {
+        Node::Shift(_width, first, steps) => {
+            let mut steps = steps;
+            steps.push((op, right))?;
+            Ok(Node::Shift(width, first, steps))
+        }
+        other => {
+            let first = Box::new(alloc, other)?;
+            let mut steps = Vec::new(alloc);
+            steps.push((op, right))?;
+            Ok(Node::Shift(width, first, steps))
+        }
+    }
+}
+
+/// `left op right`, as `a == b`
+pub(crate) fn compared(
+    alloc: Global,
+    left: Node,
+    op: Comparison,
+    right: Node,
+    larger: u8,
+) -> Result<Node, AllocError>
+    requires left { IsTrue (is_typed left) }
+    requires right { IsTrue (is_typed right) }
+    requires kept { IsTrue (keeps larger (max (width_of (shape left)) (width_of (shape right)))) }
+    ensures { IfOk result (IsTree (compare op (shape left) (shape right))) }
+{
+    match left {
+        Node::Compare(kept, first, steps) => {
+            let mut steps = steps;
+            steps.push((op, right))?;
+            Ok(Node::Compare(kept, first, steps))
+        }
+        other => {
+            let first = Box::new(alloc, other)?;
+            let mut steps = Vec::new(alloc);
+            steps.push((op, right))?;
+            Ok(Node::Compare(larger, first, steps))
+        }
+    }
+}
+
+/// `left op right`, as `a && b`
+pub(crate) fn connected(
+    alloc: Global,
+    left: Node,
+    op: Connective,
+    right: Node,
+) -> Result<Node, AllocError>
+    requires left { IsTrue (is_typed left) }
+    requires right { IsTrue (is_typed right) }
+    ensures { IfOk result (IsTree (connect op (shape left) (shape right))) }
+{
+    match left {
+        Node::Connect(first, steps) => {
+            let mut steps = steps;
+            steps.push((op, right))?;
+            Ok(Node::Connect(first, steps))
+        }
+        other => {
+            let first = Box::new(alloc, other)?;
+            let mut steps = Vec::new(alloc);
+            steps.push((op, right))?;
+            Ok(Node::Connect(first, steps))
+        }
+    }
+}
+
+/// `{left, right}`
+pub(crate) fn joined(
+    alloc: Global,
+    left: Node,
+    right: Node,
+    width: u8,
+) -> Result<Node, AllocError>
+    requires left { IsTrue (is_typed left) }
+    requires right { IsTrue (is_typed right) }
+    requires kept { IsTrue (keeps width (width_of (concat (shape left) (shape right)))) }
+    ensures { IfOk result (IsTree (concat (shape left) (shape right))) }
+{
+    match left {
+        Node::Concat(_width, first, parts) => {
+            let mut parts = parts;
+            parts.push(right)?;
+            Ok(Node::Concat(width, first, parts))
+        }
+        other => {
+            let first = Box::new(alloc, other)?;
+            let mut parts = Vec::new(alloc);
+            parts.push(right)?;
+            Ok(Node::Concat(width, first, parts))
         }
     }
 }
