@@ -1,3 +1,6 @@
 pub mod Opened
 pub mod Chains
 pub mod Grown
+pub mod Fits
+pub mod Causality
+pub mod Rows

@@ -5,3 +5,6 @@ pub mod Expressions
 pub mod Tables
 pub mod Traces
 pub mod Chains
+pub mod Counters
+pub mod Laws
+pub mod Counted

@@ -10,10 +10,16 @@ mod node;
 mod operator;
 mod table;
 mod trace;
+mod counting;
+mod counter;
 mod evaluate;
+mod laws;
 mod width;
 
+pub use counting::count;
+pub use counter::{Counter, Rule};
 pub use expr::Expr;
+pub use laws::{causality_law, counter_law, width_law};
 pub use name::{Name, Slice, Source};
 pub use node::Node;
 pub use table::Table;
