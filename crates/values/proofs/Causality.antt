@@ -3,8 +3,8 @@ use Rattle.std.proofs.Common.{◌≡◌, inl, inr, ℕ, zero, suc, ◌+◌, ◌-
 use Rattle.std.specs.Prelude.{nat_le, slice_get, unwrap_or, if◌then◌else◌}
 use Rattle.std.proofs.lemmas.Bool.{cases_Bool, leb-true, leb-false, lt-leb}
 use Rattle.std.proofs.lemmas.Nat.{pow_pos}
-use Rattle.values.specs.declared.name.Source.{Source}
-use Rattle.values.specs.declared.name.Source.TheVariants.{Signal, Counter as Counting}
+use Rattle.values.specs.declared.name.Origin.{Origin}
+use Rattle.values.specs.declared.name.Origin.TheVariants.{Signal, Counter as Counting}
 use Rattle.values.specs.declared.name.Name.{Name}
 use Rattle.values.specs.declared.expr.Expr.{Expr}
 use Rattle.values.specs.declared.counter.Rule.{Rule}
@@ -22,12 +22,12 @@ sooner t u k j le h = record {
   counters = λ place i below. h.counters place i (omega arith);
 }
 
-same_held : (t u : Samples) (source : Source) (place k : ℕ) → AgreeTo k t u → held t source place k ≡ held u source place k
+same_held : (t u : Samples) (origin : Origin) (place k : ℕ) → AgreeTo k t u → held t origin place k ≡ held u origin place k
 same_held t u Signal place k h = h.signals place k (omega arith)
 same_held t u Counting place k h = h.counters place k (omega arith)
 
 same_name : (t u : Samples) (name : Name) (k : ℕ) → AgreeTo k t u → name_at t name k ≡ name_at u name k
-same_name t u name k h = ap (λ n. n % 2 ^ name.width) (same_held t u name.source name.place k h)
+same_name t u name k h = ap (λ n. n % 2 ^ name.width) (same_held t u name.origin name.place k h)
 
 pub same_value : ValuesAreCausal
 same_value t u (constant bits) k w h = refl

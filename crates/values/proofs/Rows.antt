@@ -7,7 +7,6 @@ use Rattle.values.specs.declared.counter.Counter.{Counter}
 use Rattle.values.specs.Terms.{Samples}
 use Rattle.values.specs.Tables.{cell, column}
 use Rattle.values.specs.Counters.{next_of, counter_at, counted}
-use Rattle.values.specs.Counted.{HoldsCounts}
 use Rattle.values.specs.Laws.{AgreeTo}
 use Rattle.values.proofs.Causality.{same_next, counts_by_rule}
 
@@ -24,23 +23,23 @@ get_or_past (y ∷ ys) d (suc i) h = get_or_past ys d i (omega arith)
 
 pub table_grows : (signals : List (List ℕ)) (all : List Counter) (table : List (List ℕ)) (row : List ℕ) (tick : ℕ) →
     length table ≡ tick + 1 →
-    HoldsCounts signals all table tick →
+    AgreeTo tick (record { signal_at = column signals; counter_at = column table }) (counted (column signals) all) →
     ((i : ℕ) → slice_index_or row i 0 ≡ next_of (record { signal_at = column signals; counter_at = column table }) (slice_get all i) (cell table tick i) tick) →
-    HoldsCounts signals all (table ++ row ∷ []) (tick + 1)
+    AgreeTo (tick + 1) (record { signal_at = column signals; counter_at = column (table ++ row ∷ []) }) (counted (column signals) all)
 table_grows signals all table row tick long held next = record {
-  each = λ i k le.
+  signals = λ place k le. refl;
+  counters = λ i k le.
       elim (cases_lt k (tick + 1)) [
-        | inl old ↦ ap (λ r. slice_index_or r i 0) (get_or-append table (row ∷ []) [] k (omega arith)) ∙ held.each i k (omega arith)
+        | inl old ↦ ap (λ r. slice_index_or r i 0) (get_or-append table (row ∷ []) [] k (omega arith)) ∙ held.counters i k (omega arith)
         | inr new ↦
             let last : k ≡ tick + 1 = omega arith in
             let s = column signals in
             let t : Samples = record { signal_at = s; counter_at = column table } in
-            let agree : AgreeTo tick t (counted s all) = record { signals = λ place j h. refl; counters = λ place j h. held.each place j h } in
             rw last
             (ap (λ r. slice_index_or r i 0) (get_or_end table row [] (tick + 1) (sym long))
             ∙ next i
-            ∙ ap (λ now. next_of t (slice_get all i) now tick) (held.each i tick (omega arith))
-            ∙ same_next t (counted s all) (slice_get all i) (counter_at s all i tick) tick agree
+            ∙ ap (λ now. next_of t (slice_get all i) now tick) (held.counters i tick (omega arith))
+            ∙ same_next t (counted s all) (slice_get all i) (counter_at s all i tick) tick held
             ∙ sym ((counts_by_rule s all).next i tick))
       ];
 }

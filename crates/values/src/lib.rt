@@ -20,7 +20,7 @@ pub use counting::count;
 pub use counter::{Counter, Rule};
 pub use expr::Expr;
 pub use laws::{causality_law, counter_law, width_law};
-pub use name::{Name, Slice, Source};
+pub use name::{Name, Slice, Origin};
 pub use node::Node;
 pub use table::Table;
 pub use trace::Trace;
