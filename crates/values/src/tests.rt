@@ -160,21 +160,60 @@ fn counters_read_one_another(rt: HostRuntime) -> Result<(), Fail> {
     Ok(())
 }
 
+/// The value at the first tick in a context of so many bits, where there is one.
+fn in_context(expr: &Expr, trace: &Trace, width: u8) -> Option<u128> {
+    if width < expr.width() || width > 128 {
+        return None;
+    }
+    Some(value(expr, trace, 0, width).value)
+}
+
+/// `{left, right}`
+fn beside(alloc: Global, left: Expr, right: Expr) -> Result<Expr, Fail> {
+    if left.width() > 128 - right.width() {
+        return Err(Fail::from("over 128 bits"));
+    }
+    Ok(left.concat(alloc, right)?)
+}
+
 #[test]
-fn operators_of_two(rt: HostRuntime) -> Result<(), Fail> {
+fn parts_side_by_side(rt: HostRuntime) -> Result<(), Fail> {
     let alloc = rt.alloc();
     let run = run_of(alloc, &[0b1010_0110])?;
     let byte = Name::new(Origin::Signal, 0, 8).ok_or("a width of 1 to 128")?;
     let high = Expr::slice(Slice::new(byte, 7, 4).ok_or("bits 7 to 4 of 8")?);
     assert_eq!(rt; high.width(), 4);
-    let shown = number(2, 2)?.concat(alloc, high)?.concat(alloc, number(1, 1)?)?;
-    assert_eq!(rt; (shown.width(), value(&shown, &run, 0, 7).value), (7, 0b10_1010_1));
-    // 8'hA6 << 3 >> 3, in 8 bits and in 16
-    let moved = Expr::name(byte)
+    // {2'd2, v[7:4], 1'b1}
+    let front = beside(alloc, number(2, 2)?, high)?;
+    let shown = beside(alloc, front, number(1, 1)?)?;
+    assert_eq!(rt; shown.width(), 7);
+    assert_eq!(rt; in_context(&shown, &run, 7), Some(0b101_0101));
+    Ok(())
+}
+
+#[test]
+fn shifts_in_context(rt: HostRuntime) -> Result<(), Fail> {
+    let alloc = rt.alloc();
+    let run = run_of(alloc, &[0b1010_0110])?;
+    // v << 3 >> 3, in 8 bits and in 16
+    let moved = first(Origin::Signal, 8)?
         .shift(alloc, Shift::Left, number(2, 3)?)?
         .shift(alloc, Shift::Right, number(2, 3)?)?;
-    assert_eq!(rt; value(&moved, &run, 0, 8).value, 0b0000_0110);
-    assert_eq!(rt; value(&moved, &run, 0, 16).value, 0b1010_0110);
+    assert_eq!(rt; in_context(&moved, &run, 8), Some(0b0000_0110));
+    assert_eq!(rt; in_context(&moved, &run, 16), Some(0b1010_0110));
+    // 1 ? 4'hF : 8'h00, turned
+    let chosen = number(1, 1)?
+        .choose(alloc, number(4, 15)?, number(8, 0)?)?
+        .complement(alloc)?;
+    assert_eq!(rt; chosen.width(), 8);
+    assert_eq!(rt; in_context(&chosen, &run, 8), Some(0xF0));
+    Ok(())
+}
+
+#[test]
+fn comparison_chain(rt: HostRuntime) -> Result<(), Fail> {
+    let alloc = rt.alloc();
+    let run = run_of(alloc, &[])?;
     // 3 > 2 > 1 is 1 > 1
     let falling = number(2, 3)?
         .compare(alloc, Comparison::Greater, number(2, 2)?)?
@@ -182,11 +221,6 @@ fn operators_of_two(rt: HostRuntime) -> Result<(), Fail> {
     assert!(rt; !is_true(&falling, &run, 0));
     let either = falling.connect(alloc, Connective::Either, number(4, 8)?)?;
     assert!(rt; is_true(&either, &run, 0));
-    // 1 ? 4'hF : 8'h00 in 8 bits, turned
-    let chosen = number(1, 1)?
-        .choose(alloc, number(4, 15)?, number(8, 0)?)?
-        .complement(alloc)?;
-    assert_eq!(rt; (chosen.width(), value(&chosen, &run, 0, 8).value), (8, 0xF0));
     Ok(())
 }
 
