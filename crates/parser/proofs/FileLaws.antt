@@ -1,12 +1,11 @@
 -- What is read up to the end is a file; and a file is read so.
-use Rattle.std.proofs.Common.{◌≡◌, Bool, true, false, List, [], ◌∷◌, ◌++◌, map, Option, Some, None, refl, sym, ap, ◌∙◌, subst}
+use Rattle.std.proofs.Common.{◌≡◌, true, false, List, [], ◌∷◌, Option, Some, None, refl, sym, ap, ◌∙◌, subst}
 use Rattle.lexer.specs.declared.token.Token.{Token}
-use Rattle.grammar.specs.declared.terminal.Terminal.{Terminal}
 use Rattle.grammar.specs.declared.terminal.Terminal.TheVariants.{End}
 use Rattle.grammar.specs.Terminals.{terminal, is}
 use Rattle.grammar.specs.Trees.{Item, counter, declaration, assertion}
 use Rattle.grammar.specs.Files.{IsFile}
-use Rattle.grammar.specs.Readers.{lead, each}
+use Rattle.grammar.specs.Readers.{each}
 use Rattle.grammar.specs.ReadFiles.{asserts, is_more, item, items, ReadsFile}
 use Rattle.grammar.proofs.TerminalLaws.{is-true, is-false}
 use Rattle.grammar.proofs.FilesComplete.{file-read}

@@ -1,5 +1,5 @@
 -- Reading of items, in the steps of the code.
-use Rattle.std.proofs.Common.{◌≡◌, ℕ, zero, suc, ◌+◌, ◌-◌, Bool, true, false, not, ◌&&◌, ◌||◌, if◌then◌else◌, List, [], ◌∷◌, Option, Some, None, option_map, refl, sym, ap, ◌∙◌, arith}
+use Rattle.std.proofs.Common.{◌≡◌, ℕ, Bool, true, false, ◌&&◌, ◌||◌, if◌then◌else◌, List, [], ◌∷◌, Option, Some, None, option_map, refl}
 use Rattle.std.specs.Str.{bytes_eq}
 use Rattle.lexer.specs.declared.token.Token.{Token}
 use Rattle.grammar.specs.declared.bound.Bound.{Bound}
@@ -8,16 +8,15 @@ use Rattle.grammar.specs.declared.terminal.Terminal.TheVariants as word
 use Rattle.grammar.specs.declared.terminal.Terminal.TheVariants.{OpenRound, CloseRound, OpenSquare, CloseSquare, Comma, Semicolon, Colon, AtSign, Posedge, Disable, Iff, EndSequence, End}
 use Rattle.grammar.specs.Terminals.{is, is_name, is_word}
 use Rattle.grammar.specs.Bounds.{bound_within}
-use Rattle.grammar.specs.Trees.{Tree, Sequence, Property, Item, declaration}
-use Rattle.grammar.specs.Readers.{◌>>=◌, Reader, lead, expect, pick, optional}
+use Rattle.grammar.specs.Trees.{Tree, Sequence, Property, declaration}
+use Rattle.grammar.specs.Readers.{lead, expect, pick, optional}
 use Rattle.grammar.specs.ReadExpressions.{name_of, members, path_words, expression}
 use Rattle.grammar.specs.ReadSequences.{whole, property}
 use Rattle.grammar.specs.Files.{most_open, in_one, in_two}
 use Rattle.grammar.specs.ReadFiles.{one_operand, two_operands, counter_head, counter_of, counter_item, again_of, skip, ending_of, declaration_item, is_verb_token, opening, clock_of, disabling, property_end, assertion_of, assertion_item, labelled, declared, item, is_more}
 use Rattle.parser.specs.declared.stop.Stop.{Stop}
-use Rattle.parser.specs.declared.stop.Stop.TheVariants as stops
 use Rattle.parser.specs.Views.{Fails}
-use Rattle.parser.proofs.Steps.{failing, none-fails}
+use Rattle.parser.proofs.Steps.{failing}
 
 again-split : (b : Bool) (t : Token) (us : List Token) → option_map {T = Token} {U = Token × List Token} (λ (a : Token). (a, us)) (if b && false then Some t else None) ≡ None
 again-split true t us = refl

@@ -1,18 +1,16 @@
 -- Reading of sequences, in the steps of the code.
-use Rattle.std.proofs.Common.{◌≡◌, ℕ, zero, suc, ◌+◌, ◌-◌, Bool, true, false, List, [], ◌∷◌, Option, Some, None, option_map, refl, sym, ap, ◌∙◌, arith}
+use Rattle.std.proofs.Common.{◌≡◌, ℕ, suc, ◌+◌, ◌-◌, List, Option, Some, None, refl, sym, ap, ◌∙◌, arith}
 use Rattle.lexer.specs.declared.token.Token.{Token}
 use Rattle.grammar.specs.declared.bound.Bound.{Bound}
 use Rattle.grammar.specs.declared.bound.Range.{Range}
-use Rattle.grammar.specs.declared.terminal.Terminal.{Terminal}
 use Rattle.grammar.specs.declared.terminal.Terminal.TheVariants.{OpenRound, CloseRound, OpenSquare, OpenRepeat, CloseSquare, Colon, Delay, Throughout, And, Or}
 use Rattle.grammar.specs.Terminals.{is}
 use Rattle.grammar.specs.Bounds.{bound_within}
-use Rattle.grammar.specs.Trees.{Tree, Sequence, boolean, repeated, late, delayed, throughout, all, either, Steps, Others}
-use Rattle.grammar.specs.Readers.{◌>>=◌, Reader, refuse, lead, expect, pick, optional, each}
+use Rattle.grammar.specs.Trees.{Tree, Sequence, boolean, repeated, late, delayed, throughout, all, either}
+use Rattle.grammar.specs.Readers.{◌>>=◌, refuse, expect, pick, optional, each}
 use Rattle.grammar.specs.ReadExpressions.{expression, finish}
 use Rattle.grammar.specs.ReadSequences.{times, between, delay, regroup, body_with, with_times, repeat_behind, repetition_with, late_part, with_steps, delayed_behind, cat_behind, during_behind, during_with, with_conjuncts, conjunction_behind, conjunction_with, with_alternatives, alternatives_behind, sides_behind, whole_with, sequences, during, whole, sequence_behind}
 use Rattle.parser.specs.declared.stop.Stop.{Stop}
-use Rattle.parser.specs.declared.stop.Stop.TheVariants as stops
 use Rattle.parser.specs.Views.{Fails}
 use Rattle.parser.specs.Bodies.{HasNoThroughout}
 use Rattle.grammar.specs.Sequences.{IsNoExpression}

@@ -1,5 +1,5 @@
 -- The ghost trees that the parser's trees are, and what a reader of the code gives.
-use Rattle.std.specs.Prelude.{◌≡◌, ℕ, List, [], ◌∷◌, map, Option, Some, None, option_map, Result, Ok, Err, Box}
+use Rattle.std.specs.Prelude.{◌≡◌, List, ◌∷◌, map, Option, Some, None, option_map, Result, Ok, Err, Box}
 use Rattle.std.specs.declared.alloc.Global.{Global}
 use Rattle.lexer.specs.declared.token.Token.{Token}
 use Rattle.grammar.specs.declared.bound.Range.{Range}

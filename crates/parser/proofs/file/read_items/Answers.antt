@@ -1,4 +1,4 @@
-use Rattle.std.proofs.Common.{◌∷◌, ◌≤◌, List, map, length, sym, ap, subst, arith, ◌∙◌}
+use Rattle.std.proofs.Common.{◌∷◌, List, map, length, sym, ap, subst, arith, ◌∙◌}
 use Rattle.lexer.specs.declared.token.Token.{Token}
 use Rattle.grammar.specs.ReadFiles.{is_more, item}
 use Rattle.parser.specs.declared.tree.Item.{Item}

@@ -1,4 +1,4 @@
-use Rattle.std.proofs.Common.{◌≤◌, ◌∷◌, map, length}
+use Rattle.std.proofs.Common.{◌∷◌, map, length}
 use Rattle.grammar.specs.ReadFiles.{is_more, item}
 use Rattle.parser.specs.Views.{item_of}
 use Rattle.parser.proofs.LoopLaws.{Turns}

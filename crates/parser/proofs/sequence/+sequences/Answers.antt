@@ -1,4 +1,4 @@
-use Rattle.std.proofs.Common.{◌≡◌, ◌∙◌, ◌+◌, ℕ, suc, List, map, length, Option, Some, refl, sym, ap, subst, arith}
+use Rattle.std.proofs.Common.{◌∙◌, List, map, length, Some, sym, ap, subst, arith}
 use Rattle.lexer.specs.declared.token.Token.{Token}
 use Rattle.grammar.specs.Terminals.{is}
 use Rattle.grammar.specs.declared.terminal.Terminal.TheVariants.{Delay, And, Or}
