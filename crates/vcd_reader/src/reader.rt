@@ -1,9 +1,8 @@
 //! Dumps from bytes, and from devices.
 
 ghost use Rattle.std.specs.Prelude.{◌≡◌, ◌<◌, ◌≤◌, ◌^◌, map, length, IfOk, IfErr, OnOk, MatchResult};
-ghost use Rattle.vcd_reader.specs.declared.places.Part.TheVariants.{Code};
 ghost use Rattle.vcd_reader.specs.Faults.{Gives, Fails};
-ghost use Rattle.vcd_reader.specs.Index.{texts_in, IsIndex};
+ghost use Rattle.vcd_reader.specs.Index.{codes_in, IsIndex};
 ghost use Rattle.vcd_reader.specs.Stored.{stored_step};
 ghost use Rattle.vcd_reader.specs.Body.{body, steps_of};
 ghost use Rattle.vcd_reader.specs.Kept.{kept_steps};
@@ -14,7 +13,7 @@ ghost use Rattle.vcd_reader.specs.Held.{Parses, ReadsAs};
 use crate::body::read_body;
 use crate::dump::Dump;
 use crate::fault::{Fault, ReadError, VcdFault};
-use crate::header::read_header;
+use crate::header::{Declarations, read_header};
 use crate::packed::table_of;
 use crate::places::{Part, Places, places_of};
 use crate::step::Step;
@@ -31,9 +30,9 @@ fn read_steps(
     codes: &Places,
 ) -> Result<(Vec<Step>, Vec<u64>), ReadError>
     requires start { start ≤ length bytes.now }
-    requires index { IsIndex (texts_in Code variables.now) codes.now }
+    requires index { IsIndex (codes_in variables.now) codes.now }
     ensures { Gives (λ r. map (stored_step r.1.items) r.0.items) result
-        (kept_steps (steps_of (body (texts_in Code variables.now) (length bytes.now) 0 0 (tokens_at bytes.now start)))) }
+        (kept_steps (steps_of (body (codes_in variables.now) (length bytes.now) 0 0 (tokens_at bytes.now start)))) }
 {
     let header = table_of(alloc, variables, codes)?;
     let read = read_body(alloc, bytes, start, &header);
@@ -45,11 +44,16 @@ fn read_steps(
 fn parse(alloc: Global, bytes: &[u8]) -> Result<Dump, ReadError>
     ensures { MatchResult result (Parses bytes.now) (λ e. Fails e (dump_of bytes.now)) }
 {
-    let (variables, start) = read_header(alloc, bytes)?;
-    let paths = places_of(alloc, &variables, Part::Path)?;
-    let codes = places_of(alloc, &variables, Part::Code)?;
-    let (steps, high) = read_steps(alloc, bytes, start, &variables, &codes)?;
+    let Declarations {
+        scopes,
+        variables,
+        end,
+    } = read_header(alloc, bytes)?;
+    let paths = places_of(alloc, &scopes, &variables, Part::Path)?;
+    let codes = places_of(alloc, &scopes, &variables, Part::Code)?;
+    let (steps, high) = read_steps(alloc, bytes, end, &variables, &codes)?;
     Ok(Dump {
+        scopes,
         variables,
         paths,
         codes,
