@@ -146,8 +146,8 @@ pub(crate) fn places_of(
     ensures { IfOk result (IsIndex (texts_in part scopes.now variables.now)) }
 {
     let mut places = Places {
-        firsts: Vec::new(alloc),
-        hints: HashMap::new(alloc),
+        firsts: Vec::with_capacity(alloc, variables.len())?,
+        hints: HashMap::with_capacity(alloc, variables.len())?,
     };
     for i in 0..variables.len() {
         let Ok(place) = u32::try_from(i) else {

@@ -129,7 +129,8 @@ fn with_dot(alloc: Global, name: &[u8]) -> Result<Vec<u8>, AllocError>
     ensures dot { IfOk result (λ front. front.items ≡ name.now ++ 46 ∷ []) }
     ensures name { IfOk result (λ front. take (length front.items - 1) front.items ≡ name.now) }
 {
-    let mut front = Vec::from_slice(alloc, name)?;
+    let mut front = Vec::with_capacity(alloc, name.len().saturating_add(1))?;
+    front.extend_from_slice(name)?;
     front.push(b'.')?;
     Ok(front)
 }
