@@ -1,12 +1,12 @@
 //! The times and changes of a dump.
 
-ghost use Rattle.std.specs.Prelude.{◌≡◌, ℕ, ◌<◌, ◌≤◌, ◌+◌, ◌++◌, List, map, length, drop, Ok, Err, Some, IfOk, IfSome, slice_range, Result, Option};
+ghost use Rattle.std.specs.Prelude.{◌≡◌, ℕ, ◌<◌, ◌≤◌, ◌+◌, ◌++◌, List, map, length, drop, Ok, Err, Some, IfOk, IfSome, slice_range, Result, Option, nat_lt};
 ghost use Rattle.std.specs.List.{list_all};
 ghost use Rattle.vcd_reader.specs.Faults.{Gives, resumed};
 ghost use Rattle.vcd_reader.specs.Variables.{is_code_byte, place_of};
 ghost use Rattle.vcd_reader.specs.Index.{codes_in};
 ghost use Rattle.vcd_reader.specs.Stored.{stored_change, stored_step};
-ghost use Rattle.vcd_reader.specs.Body.{kind_of, is_lone_word, missing, body, section, steps_of};
+ghost use Rattle.vcd_reader.specs.Body.{kind_of, is_lone_word, missing, most_changes, body, section, steps_of};
 ghost use Rattle.vcd_reader.specs.Kept.{seen, kept, kept_steps, continued, code_item, scalar_item, Extends};
 ghost use Rattle.vcd_reader.specs.Sections.{tokens_at};
 
@@ -171,6 +171,13 @@ fn next_item(bytes: &[u8], at: usize, codes: &Codes) -> Result<Option<(Item, usi
     }
 }
 
+/// Whether a dump that has so many changes may have one more.
+pub(crate) fn has_room(count: u32) -> bool
+    ensures { result ≡ nat_lt count most_changes }
+{
+    count < u32::MAX
+}
+
 /// The change as it is stored; the high part of a value from 2^64 on goes into `high`.
 fn stored(high: &mut Vec<u64>, code: u32, value: u128) -> Result<Change, AllocError>
     requires { length high.old.items < 4294967295 }
@@ -221,7 +228,7 @@ pub(crate) fn read_body(
                 match item {
                     Item::Skipped => continue,
                     Item::Changed(code, value) => {
-                        if count == u32::MAX {
+                        if !has_room(count) {
                             return Err(ReadError::Fault(Fault::TooLarge));
                         }
                         let change = stored(&mut high, code, value)?;

@@ -19,6 +19,8 @@ mod scope;
 mod scopes;
 mod span;
 mod step;
+#[cfg(test)]
+mod tests;
 mod token;
 mod variable;
 

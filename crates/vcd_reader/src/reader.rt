@@ -21,6 +21,9 @@ use crate::variable::Variable;
 use signals::{ReadAllError, Source, read_all};
 use std::alloc::Global;
 
+/// The most bytes of a dump.
+const MOST_BYTES: u64 = 1 << 48;
+
 /// The steps of the body that begins there, and the high parts of their wide values.
 fn read_steps(
     alloc: Global,
@@ -93,7 +96,7 @@ pub fn read_dump<S: Source>(alloc: Global, source: &mut S) -> Result<Dump, VcdFa
     // What is refused has the fault, the first one, or the source failed, or it gave too much.
     ensures refused { IfErr result (Stands (S.remaining source.old) (S.remaining source.new) (S.failures source.old) (S.failures source.new)) }
 {
-    let bytes = match read_all(alloc, source, 1 << 48) {
+    let bytes = match read_all(alloc, source, MOST_BYTES) {
         Ok(bytes) => bytes,
         Err(ReadAllError::Memory) => return Err(VcdFault::Memory),
         Err(ReadAllError::Failed) => return Err(VcdFault::Read),
