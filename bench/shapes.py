@@ -1,5 +1,5 @@
 #!/usr/bin/env python3
-"""Writes one dump of an unusual shape to standard output: plain, variables, nested, siblings, digits, token, steps."""
+"""Writes one dump of an unusual shape to standard output: plain, variables, nested, reopened, siblings, digits, token, steps."""
 import sys
 
 MEGABYTE = 1_000_000
@@ -31,9 +31,17 @@ def variables():
     return ''.join(out)
 
 
+def scopes_inside():
+    return ''.join(f'$scope module m{n} $end\n$var wire 1 {code(n)} s $end\n' for n in range(10_000))
+
+
 def nested():
-    scopes = ''.join(f'$scope module m{n} $end\n$var wire 1 {code(n)} s $end\n' for n in range(10_000))
-    return scopes + '$enddefinitions $end\n#0\n'
+    return scopes_inside() + '$enddefinitions $end\n#0\n'
+
+
+def reopened():
+    """The same nested scopes twice, so that each path is there twice."""
+    return scopes_inside() + '$upscope $end\n' * 10_000 + scopes_inside() + '$enddefinitions $end\n#0\n'
 
 
 def siblings():
@@ -53,4 +61,4 @@ def steps():
     return header([(1, '!', 's')]) + ''.join(f'#{t}\n' for t in range(1_000_000))
 
 
-sys.stdout.write({f.__name__: f for f in (plain, variables, nested, siblings, digits, token, steps)}[sys.argv[1]]())
+sys.stdout.write({f.__name__: f for f in (plain, variables, nested, reopened, siblings, digits, token, steps)}[sys.argv[1]]())

@@ -4,6 +4,7 @@
 use anyhow::{Result, bail};
 use cycle_window::{Clocks, Columns, Signal};
 use signals::Counted;
+use std::alloc::Global;
 use std::fs::File;
 use std::time::Instant;
 use std::{env, str};
@@ -19,7 +20,7 @@ fn changes_of(dump: &Dump) -> u64 {
 }
 
 /// The signals of all names that are text.
-fn signals_of(alloc: std::alloc::Global, names: &[Name]) -> Result<Vec<Signal<'_>>> {
+fn signals_of(alloc: Global, names: &[Name]) -> Result<Vec<Signal<'_>>> {
     let mut signals = Vec::new(alloc);
     for name in names {
         if let Ok(path) = str::from_utf8(&name.path) {
@@ -33,8 +34,7 @@ fn signals_of(alloc: std::alloc::Global, names: &[Name]) -> Result<Vec<Signal<'_
 }
 
 /// Builds the rows of all signals at the ticks of a clock, and says how many ticks there are.
-fn rows_of(rt: &HostRuntime, dump: &Dump, clock: &str) -> Result<u64> {
-    let alloc = rt.alloc();
+fn rows_of(alloc: Global, dump: &Dump, clock: &str) -> Result<u64> {
     let clocks = match Clocks::of(alloc, dump, clock) {
         Ok(clocks) => clocks,
         Err(fault) => bail!("{fault}"),
@@ -69,7 +69,7 @@ fn main(rt: HostRuntime) -> Result<()> {
         return Ok(());
     };
     let start = Instant::now(&rt)?;
-    let ticks = rows_of(&rt, &dump, clock.as_str())?;
+    let ticks = rows_of(rt.alloc(), &dump, clock.as_str())?;
     let took = start.elapsed(&rt)?;
     let micros = took.as_micros();
     println!(rt; "rows {micros} us ticks {ticks}")?;

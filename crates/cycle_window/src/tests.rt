@@ -5,7 +5,7 @@ ghost use Rattle.vcd_reader.specs.Dump.{Contents};
 ghost use Rattle.vcd_reader.specs.Held.{Holds};
 
 use crate::{Clocks, Columns, Signal, Window};
-use signals::Counted;
+use signals::{Counted, CutReader};
 use std::alloc::Global;
 use std::test::Fail;
 use vcd_reader::{Dump, VcdFault, read_dump};
@@ -214,6 +214,19 @@ fn faults_with_their_lines(rt: HostRuntime) -> Result<(), Fail> {
         ("$date $end", VcdFault::Truncated),
     ] {
         assert_eq!(rt; fault_of(alloc, header), Some(fault), "{header}");
+    }
+    Ok(())
+}
+
+/// A device that fails after so many bytes.
+#[test]
+fn failed_reads(rt: HostRuntime) -> Result<(), Fail> {
+    for good in [0, 1, 100, FRONT.len()] {
+        let mut source = Counted::new(CutReader::new(FRONT.as_bytes(), good));
+        match read_dump(rt.alloc(), &mut source) {
+            Ok(_dump) => assert!(rt; false, "{good}"),
+            Err(fault) => assert_eq!(rt; fault, VcdFault::Read, "{good}"),
+        }
     }
     Ok(())
 }

@@ -1,8 +1,6 @@
 -- Reading the header section by section.
-use Rattle.std.proofs.Common.{◌≡◌, ℕ, ◌+◌, ◌^◌, ◌<◌, true, false, cond, List, [], ◌∷◌, ◌++◌, length, get_or, take, map, append_assoc, Result, Ok, Err, refl, sym, ap, ◌∙◌, subst}
-use Rattle.std.specs.List.{list_all, flat_map}
-use Rattle.std.proofs.lemmas.List.{take_more, length-map, get_or-map, append-nil}
-use Rattle.std.proofs.lemmas.Grind.{flat_map-append}
+use Rattle.std.proofs.Common.{◌≡◌, ℕ, ◌^◌, true, false, cond, List, [], ◌∷◌, ◌++◌, Result, Ok, Err, refl, sym, ◌∙◌, subst}
+use Rattle.std.specs.List.{list_all}
 use Rattle.vcd_reader.specs.declared.fault.Fault.{Fault}
 use Rattle.vcd_reader.specs.declared.fault.Fault.TheVariants.{BadToken, UnclosedSection, Truncated}
 use Rattle.vcd_reader.specs.declared.fault.ReadError.{ReadError}
@@ -13,16 +11,6 @@ use Rattle.vcd_reader.specs.Tokens.{Token}
 use Rattle.vcd_reader.specs.Numbers.{decimal_below}
 use Rattle.vcd_reader.specs.Variables.{Declared, is_code_byte}
 use Rattle.vcd_reader.specs.Header.{Header, Head, is_end, field, close, sized, by_word, word_of, ended, outer, variable, header, closed, skipped, scope_type, scope_name, var_type, var_size, var_code, var_reference, var_more}
-
--- the path with one more scope
-pub path-more : {A : Type 0} (items : A → List ℕ) (ss : List A) (i : ℕ) (s : A) (front : List ℕ) → i < length ss → s ≡ get_or ss i s → front ≡ flat_map (λ (x : List ℕ). x ++ 46 ∷ []) (take i (map items ss))
-    → (front ++ items s) ++ 46 ∷ [] ≡ flat_map (λ (x : List ℕ). x ++ 46 ∷ []) (take (i + 1) (map items ss))
-path-more items ss i s front lt at e =
-    let long : i < length (map items ss) = rw length-map lt in
-    let item : get_or (map items ss) i [] ≡ items s = get_or-map items ss i s [] lt ∙ ap items (sym at) in
-    sym (ap (flat_map (λ (x : List ℕ). x ++ 46 ∷ [])) (take_more (map items ss) i [] long)
-    ∙ flat_map-append (λ (x : List ℕ). x ++ 46 ∷ []) (take i (map items ss)) (get_or (map items ss) i [] ∷ [])
-    ∙ rw (item, ← e, append-nil) (sym (append_assoc front (items s) (46 ∷ []))))
 
 module _ (scopes : List (List ℕ)) (vars : List Declared) (word : Token) where
   pub scope_type-field : (ts : List Token) → scope_type scopes vars word ts ≡ field word ts (λ t us. scope_name scopes vars word us)

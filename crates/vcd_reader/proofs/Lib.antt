@@ -11,3 +11,4 @@ pub mod DumpLaws
 pub mod GrammarLaws
 pub mod FoundLaws
 pub mod PackedLaws
+pub mod ScopeLaws

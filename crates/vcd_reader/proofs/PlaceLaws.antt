@@ -1,10 +1,9 @@
 -- First places of texts, and their table.
-use Rattle.std.proofs.Common.{◌≡◌, ℕ, suc, ◌+◌, ◌*◌, ◌%◌, ◌^◌, ◌<◌, Bool, true, false, cond, List, [], ◌∷◌, ◌++◌, length, get_or, take, drop, map, Option, Some, None, refl, sym, ap, ◌∙◌, arith, add-one, inl, inr}
+use Rattle.std.proofs.Common.{◌≡◌, ℕ, suc, ◌+◌, ◌^◌, ◌<◌, Bool, true, false, cond, List, [], ◌∷◌, ◌++◌, length, get_or, take, map, Option, Some, None, refl, sym, ap, ◌∙◌, arith, inl, inr}
 use Rattle.std.specs.Prelude.{is_some, nat_eq}
 use Rattle.std.specs.Option.{option_map}
 use Rattle.std.specs.HashMap as table
 use Rattle.std.specs.Str.{bytes_eq}
-use Rattle.std.proofs.Math.Seq.{drop-cons}
 use Rattle.std.proofs.lemmas.Slice.Eq.{bytes_eq-Decides}
 use Rattle.vcd_reader.specs.declared.places.Places.{Places}
 use Rattle.std.proofs.lemmas.List.{get_or-map, get_or_default, get_or_append_left, length-map, length-append, map-append, take_more}
@@ -12,13 +11,14 @@ use Rattle.std.proofs.Math.Seq.{get_or-append_seam}
 use Rattle.std.proofs.lemmas.Bool.{eq-eqb, cases_lt}
 use Rattle.std.specs.Prelude.{slice_index}
 use Rattle.vcd_reader.specs.declared.places.Part.{Part}
+use Rattle.vcd_reader.specs.declared.places.Part.TheVariants.{Path, Code}
+use Rattle.vcd_reader.specs.declared.scope.Scope.{Scope}
 use Rattle.vcd_reader.specs.declared.variable.Variable.{Variable}
-use Rattle.vcd_reader.specs.Variables.{place_of}
-use Rattle.vcd_reader.specs.Index.{key_from, key_of, text_in, texts_in, IsIndex}
-
-pub key_from-step : (n : ℕ) (ds : List ℕ) (i : ℕ) → i < length ds → key_from n (drop i ds) ≡ key_from ((n * 1099511628211 % 2 ^ 64 + get_or ds i 0) % 2 ^ 64) (drop (i + 1) ds)
-unfolding key_from
-key_from-step n ds i lt = rw (drop-cons ds i 0 lt, add-one) refl
+use Rattle.vcd_reader.specs.Variables.{path_of, place_of}
+use Rattle.vcd_reader.specs.Keys.{key_of}
+use Rattle.vcd_reader.specs.Scopes.{opened}
+use Rattle.vcd_reader.specs.Index.{place_in, own_in, text_in, texts_in, IsIndex}
+use Rattle.vcd_reader.proofs.ScopeLaws.{opened-top}
 
 at-cons : (t : List ℕ) (ts : List (List ℕ)) (text : List ℕ) (n : ℕ) (same : Bool) → (same ≡ true → t ≡ text) → (o : Option ℕ) → ((m : ℕ) → o ≡ Some m → (m < length ts) × (get_or ts m [] ≡ text))
     → cond same (Some 0) (option_map suc o) ≡ Some n → (n < length (t ∷ ts)) × (get_or (t ∷ ts) n [] ≡ text)
@@ -42,12 +42,12 @@ absent-at ts p text index none (Some n) e =
 pub absent : (ts : List (List ℕ)) (p : Places) (text : List ℕ) → IsIndex ts p → is_some (table.get nat_eq p.hints (key_of text)) ≡ false → None ≡ place_of ts text
 absent ts p text index none = sym (absent-at ts p text index none (place_of ts text) refl)
 
-pub known : (part : Part) (vs : List Variable) (p : Places) (text : List ℕ) (i first : ℕ) (v : Variable) → IsIndex (texts_in part vs) p → i < length vs → first ≡ get_or p.firsts.items i first → v ≡ get_or vs i v → bytes_eq (text_in part v) text ≡ true → Some first ≡ place_of (texts_in part vs) text
-known part vs p text i first v index lt at is same =
-    let e : text_in part v ≡ text = (bytes_eq-Decides (text_in part v) text).0 same in
-    let long : i < length (texts_in part vs) = rw length-map lt in
-    let item : get_or (texts_in part vs) i [] ≡ text = get_or-map (text_in part) vs i v [] lt ∙ ap (text_in part) (sym is) ∙ e in
-    ap (λ (n : ℕ). Some n) (at ∙ get_or_default p.firsts.items i first 0 (let long_of : length (texts_in part vs) ≡ length vs = rw length-map refl in let short : length p.firsts.items ≡ length vs = index.long ∙ long_of in omega arith)) ∙ index.first i long ∙ ap (place_of (texts_in part vs)) item
+pub known : (part : Part) (ss : List Scope) (vs : List Variable) (p : Places) (text : List ℕ) (i first : ℕ) (v : Variable) → IsIndex (texts_in part ss vs) p → i < length vs → first ≡ get_or p.firsts.items i first → v ≡ get_or vs i v → bytes_eq (text_in part ss v) text ≡ true → Some first ≡ place_of (texts_in part ss vs) text
+known part ss vs p text i first v index lt at is same =
+    let e : text_in part ss v ≡ text = (bytes_eq-Decides (text_in part ss v) text).0 same in
+    let long : i < length (texts_in part ss vs) = rw length-map lt in
+    let item : get_or (texts_in part ss vs) i [] ≡ text = get_or-map (text_in part ss) vs i v [] lt ∙ ap (text_in part ss) (sym is) ∙ e in
+    ap (λ (n : ℕ). Some n) (at ∙ get_or_default p.firsts.items i first 0 (let long_of : length (texts_in part ss vs) ≡ length vs = rw length-map refl in let short : length p.firsts.items ≡ length vs = index.long ∙ long_of in omega arith)) ∙ index.first i long ∙ ap (place_of (texts_in part ss vs)) item
 
 kept-cons : (t x : List ℕ) (ts us : List (List ℕ)) (same : Bool) (o p : Option ℕ) (n : ℕ) → ((m : ℕ) → o ≡ Some m → p ≡ Some m) → cond same (Some 0) (option_map suc o) ≡ Some n → cond same (Some 0) (option_map suc p) ≡ Some n
 kept-cons t x ts us true o p n rec e = e
@@ -75,8 +75,8 @@ place-known ts t n e = sym (place-kept ts (t ∷ []) t n (sym e))
 pub place-fresh : (ts : List (List ℕ)) (t : List ℕ) (n : ℕ) → None ≡ place_of ts t → n ≡ length ts → Some n ≡ place_of (ts ++ t ∷ []) t
 place-fresh ts t n e is = rw is (sym (place-new ts t (sym e)))
 
-pub texts-more : (part : Part) (vs : List Variable) (i : ℕ) (v : Variable) → i < length vs → v ≡ get_or vs i v → texts_in part (take (i + 1) vs) ≡ texts_in part (take i vs) ++ text_in part v ∷ []
-texts-more part vs i v lt is = ap (map (text_in part)) (take_more vs i v lt ∙ ap (λ (x : Variable). take i vs ++ x ∷ []) (sym is)) ∙ map-append (text_in part) (take i vs) (v ∷ [])
+pub texts-more : (part : Part) (ss : List Scope) (vs : List Variable) (i : ℕ) (v : Variable) → i < length vs → v ≡ get_or vs i v → texts_in part ss (take (i + 1) vs) ≡ texts_in part ss (take i vs) ++ text_in part ss v ∷ []
+texts-more part ss vs i v lt is = ap (map (text_in part ss)) (take_more vs i v lt ∙ ap (λ (x : Variable). take i vs ++ x ∷ []) (sym is)) ∙ map-append (text_in part ss) (take i vs) (v ∷ [])
 
 some-cond : (b : Bool) (n : ℕ) (o : Option ℕ) → is_some o ≡ true → is_some (cond b (Some n) o) ≡ true
 some-cond true n o h = refl
@@ -119,5 +119,10 @@ module _ (ts : List (List ℕ)) (t : List ℕ) (p q : Places) (first key place :
   pub index-more : IsIndex (ts ++ t ∷ []) q
   index-more = record { fits = omega (arith, one-more); long = rw items (omega (arith, one-more, firsts-more, index.long)); first = first-at; complete = complete-at }
 
-pub inside : (part : Part) (vs : List Variable) (text : List ℕ) (n : ℕ) → Some n ≡ place_of (texts_in part vs) text → n < length vs
-inside part vs text n e = let long : length (texts_in part vs) ≡ length vs = rw length-map refl in let r = place_of-at (texts_in part vs) text n (sym e) in omega (arith, r.0)
+pub inside : (part : Part) (ss : List Scope) (vs : List Variable) (text : List ℕ) (n : ℕ) → Some n ≡ place_of (texts_in part ss vs) text → n < length vs
+inside part ss vs text n e = let long : length (texts_in part ss vs) ≡ length vs = rw length-map refl in let r = place_of-at (texts_in part ss vs) text n (sym e) in omega (arith, r.0)
+
+-- a text from its own part
+pub text-parts : (part : Part) (ss : List Scope) (v : Variable) → path_of (opened ss (place_in part v)) (own_in part v) ≡ text_in part ss v
+text-parts Path ss v = refl
+text-parts Code ss v = ap (λ (xs : List (List ℕ)). path_of xs v.code.items) (opened-top ss)

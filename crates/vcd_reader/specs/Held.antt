@@ -10,7 +10,7 @@ use Rattle.vcd_reader.specs.Variables.{Declared, Named, code_number, is_bindable
 use Rattle.vcd_reader.specs.Dump.{Contents, dump_of, GaveDump}
 
 unfoldable pub variables_of : Dump → List Declared
-variables_of d = map declared d.variables.items
+variables_of d = map (declared d.scopes.items) d.variables.items
 
 unfoldable pub steps_in : Dump → List Step
 steps_in d = d.steps.items

@@ -1,26 +1,34 @@
 -- A table of the places of texts.
-use Rattle.std.specs.Prelude.{◌≡◌, ℕ, ◌+◌, ◌*◌, ◌%◌, ◌^◌, ◌<◌, ◌≤◌, List, [], ◌∷◌, length, map, get_or, Some, true, is_some, nat_eq, slice_index}
+use Rattle.std.specs.Prelude.{◌≡◌, ℕ, ◌^◌, ◌<◌, ◌≤◌, List, [], length, map, get_or, Some, true, is_some, nat_eq, slice_index}
 use Rattle.std.specs.HashMap as table
+use Rattle.vcd_reader.specs.declared.scope.Scope.{Scope}
 use Rattle.vcd_reader.specs.declared.variable.Variable.{Variable}
 use Rattle.vcd_reader.specs.declared.places.Part.{Part}
 use Rattle.vcd_reader.specs.declared.places.Part.TheVariants.{Path, Code}
 use Rattle.vcd_reader.specs.declared.places.Places.{Places}
-use Rattle.vcd_reader.specs.Variables.{place_of}
+use Rattle.vcd_reader.specs.Variables.{path_of, place_of}
+use Rattle.vcd_reader.specs.Keys.{key_of}
+use Rattle.vcd_reader.specs.Scopes.{opened}
 
--- a key of a text, which several texts may share
-unfoldable pub key_from : ℕ → List ℕ → ℕ
-key_from n [] = n
-key_from n (b ∷ bs) = key_from ((n * 1099511628211 % 2 ^ 64 + b) % 2 ^ 64) bs
+-- where the own part of a text stands
+abbrev pub place_in : Part → Variable → ℕ
+place_in Path v = v.scope
+place_in Code v = 0
 
-abbrev pub key_of : List ℕ → ℕ
-key_of text = key_from 0 text
+-- the own part of a text
+abbrev pub own_in : Part → Variable → List ℕ
+own_in Path v = v.name.items
+own_in Code v = v.code.items
 
-abbrev pub text_in : Part → Variable → List ℕ
-text_in Path v = v.path.items
-text_in Code v = v.code.items
+abbrev pub text_in : Part → List Scope → Variable → List ℕ
+text_in Path ss v = path_of (opened ss v.scope) v.name.items
+text_in Code ss v = v.code.items
 
-abbrev pub texts_in : Part → List Variable → List (List ℕ)
-texts_in part vs = map (text_in part) vs
+abbrev pub texts_in : Part → List Scope → List Variable → List (List ℕ)
+texts_in part ss vs = map (text_in part ss) vs
+
+abbrev pub codes_in : List Variable → List (List ℕ)
+codes_in vs = map (λ v. v.code.items) vs
 
 -- the table has the first place of each text, and a hint at the key of each
 pub record IsIndex (texts : List (List ℕ)) (p : Places) : Type 0 where

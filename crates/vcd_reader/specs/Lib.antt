@@ -6,6 +6,8 @@ pub mod Faults
 pub mod Header
 pub mod Body
 pub mod Dump
+pub mod Keys
+pub mod Scopes
 pub mod Stored
 pub mod Held
 pub mod Index

@@ -1,5 +1,5 @@
 -- What the code has read of a header, beside the definition.
-use Rattle.std.specs.Prelude.{ℕ, ◌≤◌, List, [], ◌∷◌, ◌++◌, drop, Result, Ok, slice_range}
+use Rattle.std.specs.Prelude.{◌≡◌, ℕ, ◌≤◌, List, [], ◌∷◌, ◌++◌, drop, Result, Ok, slice_range}
 use Rattle.vcd_reader.specs.declared.fault.Fault.{Fault}
 use Rattle.vcd_reader.specs.declared.span.Span.{Span}
 use Rattle.vcd_reader.specs.declared.header.Section.{Section}
@@ -7,7 +7,7 @@ use Rattle.vcd_reader.specs.declared.header.Section.TheVariants.{Ended, Opened, 
 use Rattle.vcd_reader.specs.declared.header.VarHead.{VarHead}
 use Rattle.vcd_reader.specs.Tokens.{Token, tokens}
 use Rattle.vcd_reader.specs.Variables as variables
-use Rattle.vcd_reader.specs.Stored.{declared}
+use Rattle.vcd_reader.specs.Stored.{declared_in}
 use Rattle.vcd_reader.specs.Header.{Header, Head, header, outer}
 
 abbrev pub text_at : List ℕ → Span → List ℕ
@@ -25,7 +25,7 @@ abbrev pub stated : Section → List (List ℕ) → List variables.Declared → 
 stated (Ended end) scopes vars bytes = Ok (vars, tokens_at bytes end)
 stated (Opened name end) scopes vars bytes = header (scopes ++ text_at bytes name ∷ []) vars (tokens_at bytes end)
 stated (Closed end) scopes vars bytes = header (outer scopes) vars (tokens_at bytes end)
-stated (Declared v end) scopes vars bytes = header scopes (vars ++ declared v ∷ []) (tokens_at bytes end)
+stated (Declared v end) scopes vars bytes = header scopes (vars ++ declared_in scopes v ∷ []) (tokens_at bytes end)
 stated (Skipped end) scopes vars bytes = header scopes vars (tokens_at bytes end)
 
 abbrev pub end_of : Section → ℕ
@@ -38,3 +38,8 @@ end_of (Skipped end) = end
 abbrev pub IsInside : Section → ℕ → Type 0
 IsInside (Opened name end) len = name.end ≤ len
 IsInside s len = Unit {0}
+
+-- a variable that was read has this place
+abbrev pub IsAt : ℕ → Section → Type 0
+IsAt place (Declared v end) = v.scope ≡ place
+IsAt place s = Unit {0}

@@ -1,14 +1,20 @@
 -- How variables and changes stand in memory.
 use Rattle.std.specs.Prelude.{ℕ, ◌+◌, ◌-◌, ◌*◌, ◌^◌, ◌==◌, List, map, if◌then◌else◌, slice_index}
+use Rattle.vcd_reader.specs.declared.scope.Scope.{Scope}
 use Rattle.vcd_reader.specs.declared.variable.Variable.{Variable}
 use Rattle.vcd_reader.specs.declared.step.Step.{Step}
 use Rattle.vcd_reader.specs.declared.step.Change.{Change}
 use Rattle.vcd_reader.specs.Numbers.{bits_value}
 use Rattle.vcd_reader.specs.Values.{ValueChange, Moment}
-use Rattle.vcd_reader.specs.Variables.{Declared}
+use Rattle.vcd_reader.specs.Variables.{Declared, path_of}
+use Rattle.vcd_reader.specs.Scopes.{opened}
 
-abbrev pub declared : Variable → Declared
-declared v = record { path = v.path.items; code = v.code.items; size = v.size; bindable = v.bindable }
+-- a variable inside these scopes
+abbrev pub declared_in : List (List ℕ) → Variable → Declared
+declared_in scopes v = record { path = path_of scopes v.name.items; code = v.code.items; size = v.size; bindable = v.bindable }
+
+abbrev pub declared : List Scope → Variable → Declared
+declared ss v = declared_in (opened ss v.scope) v
 
 -- a change with the number that its last 128 digits stand for, the most that a variable can hold
 pub record StoredChange : Type 0 where

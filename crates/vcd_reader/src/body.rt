@@ -1,13 +1,12 @@
 //! The times and changes of a dump.
 
-ghost use Rattle.std.specs.Prelude.{◌≡◌, ℕ, ◌<◌, ◌≤◌, ◌+◌, ◌++◌, List, map, length, drop, Ok, Err, Some, IfOk, IfSome, slice_range, Result, Option};
+ghost use Rattle.std.specs.Prelude.{◌≡◌, ℕ, ◌<◌, ◌≤◌, ◌+◌, ◌++◌, List, map, length, drop, Ok, Err, Some, IfOk, IfSome, slice_range, Result, Option, nat_lt};
 ghost use Rattle.std.specs.List.{list_all};
-ghost use Rattle.vcd_reader.specs.declared.places.Part.TheVariants.{Code};
 ghost use Rattle.vcd_reader.specs.Faults.{Gives, resumed};
 ghost use Rattle.vcd_reader.specs.Variables.{is_code_byte, place_of};
-ghost use Rattle.vcd_reader.specs.Index.{texts_in};
+ghost use Rattle.vcd_reader.specs.Index.{codes_in};
 ghost use Rattle.vcd_reader.specs.Stored.{stored_change, stored_step};
-ghost use Rattle.vcd_reader.specs.Body.{kind_of, is_lone_word, missing, body, section, steps_of};
+ghost use Rattle.vcd_reader.specs.Body.{kind_of, is_lone_word, missing, most_changes, body, section, steps_of};
 ghost use Rattle.vcd_reader.specs.Kept.{seen, kept, kept_steps, continued, code_item, scalar_item, Extends};
 ghost use Rattle.vcd_reader.specs.Sections.{tokens_at};
 
@@ -101,7 +100,7 @@ fn missing_code(code: &[u8], place: usize) -> Fault
 
 /// The change of a code to a value.
 fn change_of(codes: &Codes, code: &[u8], value: u128, place: usize) -> Result<Item, Fault>
-    ensures { result ≡ code_item (place_of (texts_in Code codes.now.variables.now) code.now) code.now value place }
+    ensures { result ≡ code_item (place_of (codes_in codes.now.variables.now) code.now) code.now value place }
 {
     match find_code(codes, code) {
         None => Err(missing_code(code, place)),
@@ -120,7 +119,7 @@ fn scalar_change(
 ) -> Result<Item, Fault>
     requires order { from < end }
     requires inside { end ≤ length bytes.now }
-    ensures { result ≡ scalar_item (texts_in Code codes.now.variables.now) (length bytes.now) (slice_range bytes.now (from + 1) end) value from }
+    ensures { result ≡ scalar_item (codes_in codes.now.variables.now) (length bytes.now) (slice_range bytes.now (from + 1) end) value from }
 {
     if from + 1 == end {
         if end == bytes.len() {
@@ -136,8 +135,8 @@ fn scalar_change(
 fn next_item(bytes: &[u8], at: usize, codes: &Codes) -> Result<Option<(Item, usize)>, Fault>
     requires { at ≤ length bytes.now }
     ensures high { IfOk result (λ r. IfSome r (λ p. (at < p.1) × (p.1 ≤ length bytes.now))) }
-    ensures item { (count now : ℕ) → kept (body (texts_in Code codes.now.variables.now) (length bytes.now) count now (tokens_at bytes.now at))
-        ≡ continued result count now (λ c n end. kept (body (texts_in Code codes.now.variables.now) (length bytes.now) c n (tokens_at bytes.now end))) }
+    ensures item { (count now : ℕ) → kept (body (codes_in codes.now.variables.now) (length bytes.now) count now (tokens_at bytes.now at))
+        ≡ continued result count now (λ c n end. kept (body (codes_in codes.now.variables.now) (length bytes.now) c n (tokens_at bytes.now end))) }
 {
     let Some((from, end)) = next_token(bytes, at) else {
         return Ok(None);
@@ -172,6 +171,13 @@ fn next_item(bytes: &[u8], at: usize, codes: &Codes) -> Result<Option<(Item, usi
     }
 }
 
+/// Whether a dump that has so many changes may have one more.
+pub(crate) fn has_room(count: u32) -> bool
+    ensures { result ≡ nat_lt count most_changes }
+{
+    count < u32::MAX
+}
+
 /// The change as it is stored; the high part of a value from 2^64 on goes into `high`.
 fn stored(high: &mut Vec<u64>, code: u32, value: u128) -> Result<Change, AllocError>
     requires { length high.old.items < 4294967295 }
@@ -201,7 +207,7 @@ pub(crate) fn read_body(
 ) -> Result<(Vec<Step>, Vec<u64>), ReadError>
     requires { start ≤ length bytes.now }
     ensures { Gives (λ r. map (stored_step r.1.items) r.0.items) result
-        (kept_steps (steps_of (body (texts_in Code codes.now.variables.now) (length bytes.now) 0 0 (tokens_at bytes.now start)))) }
+        (kept_steps (steps_of (body (codes_in codes.now.variables.now) (length bytes.now) 0 0 (tokens_at bytes.now start)))) }
 {
     let mut steps = Vec::new(alloc);
     let mut high = Vec::new(alloc);
@@ -222,7 +228,7 @@ pub(crate) fn read_body(
                 match item {
                     Item::Skipped => continue,
                     Item::Changed(code, value) => {
-                        if count == u32::MAX {
+                        if !has_room(count) {
                             return Err(ReadError::Fault(Fault::TooLarge));
                         }
                         let change = stored(&mut high, code, value)?;

@@ -1,8 +1,7 @@
 //! Finding the codes of variables.
 
 ghost use Rattle.std.specs.Prelude.{◌≡◌, ℕ, ◌<◌, ◌≤◌, length, IfOk};
-ghost use Rattle.vcd_reader.specs.declared.places.Part.TheVariants.{Code};
-ghost use Rattle.vcd_reader.specs.Index.{texts_in, IsIndex};
+ghost use Rattle.vcd_reader.specs.Index.{codes_in, IsIndex};
 ghost use Rattle.vcd_reader.specs.Packed.{AreKnown};
 
 use crate::places::Places;
@@ -23,6 +22,6 @@ pub(crate) struct Codes<'a> {
     pub(crate) places: &'a Places,
     pub(crate) pages: Vec<u32>,
     pub(crate) table: Vec<Entry>,
-    ghost index: { IsIndex (texts_in Code variables.now) places.now },
-    ghost known: { AreKnown (texts_in Code variables.now) table.items },
+    ghost index: { IsIndex (codes_in variables.now) places.now },
+    ghost known: { AreKnown (codes_in variables.now) table.items },
 }

@@ -5,17 +5,21 @@ ghost use Rattle.std.specs.List.{list_all};
 ghost use Rattle.vcd_reader.specs.Tokens.{Token};
 ghost use Rattle.vcd_reader.specs.Faults.{Gives, Fails, resumed};
 ghost use Rattle.vcd_reader.specs.Variables as variables;
-ghost use Rattle.vcd_reader.specs.Stored.{declared};
+ghost use Rattle.vcd_reader.specs.Stored.{declared, declared_in};
+ghost use Rattle.vcd_reader.specs.Scopes.{IsTree};
 ghost use Rattle.vcd_reader.specs.Header.{Header, Head, is_end, word_of, field, close, header, skipped, scope_type, var_type, var_reference, variable};
-ghost use Rattle.vcd_reader.specs.Sections.{text_at, tokens_at, head_at, stated, end_of, IsInside};
+ghost use Rattle.vcd_reader.specs.Sections.{text_at, tokens_at, head_at, stated, end_of, IsInside, IsAt};
 
 use crate::fault::{Fault, ReadError};
 use crate::name::reference_name;
 use crate::number::decimal;
+use crate::scope::Scope;
+use crate::scopes::{open_scope, outer_place};
 use crate::span::Span;
 use crate::token::next_token;
 use crate::variable::{Variable, has_digits};
-use std::alloc::{AllocError, Global};
+use std::alloc::Global;
+use std::collections::HashMap;
 
 /// What opens a section, by its word.
 #[derive(Clone, Copy, Debug, PartialEq, Eq)]
@@ -217,43 +221,32 @@ fn read_reference(
     }
 }
 
-/// The scopes and the name, joined by dots.
-fn joined_path(alloc: Global, scopes: &[Vec<u8>], name: &[u8]) -> Result<Vec<u8>, AllocError>
-    ensures { IfOk result (λ v. v.items ≡ variables.path_of (map (λ s. s.items) scopes.now) name.now) }
-{
-    let mut path = Vec::new(alloc);
-    for scope in scopes {
-        path.extend_from_slice(scope)?;
-        path.push(b'.')?;
-    }
-    path.extend_from_slice(name)?;
-    Ok(path)
-}
-
 /// The variable that a `$var` declares, and the section's end.
 fn read_variable(
     alloc: Global,
     bytes: &[u8],
     at: usize,
     word: usize,
-    scopes: &[Vec<u8>],
+    scope: u32,
 ) -> Result<(Variable, usize), ReadError>
     requires { at ≤ length bytes.now }
     ensures high { IfOk result (λ r. (at < r.1) × (r.1 ≤ length bytes.now)) }
-    ensures variable { (opener : List ℕ) (vars : List variables.Declared) → MatchResult result
-        (λ r. var_type (map (λ s. s.items) scopes.now) vars (record { text = opener; place = word }) (tokens_at bytes.now at) ≡ header (map (λ s. s.items) scopes.now) (vars ++ declared r.0 ∷ []) (tokens_at bytes.now r.1))
-        (λ e. Fails e (var_type (map (λ s. s.items) scopes.now) vars (record { text = opener; place = word }) (tokens_at bytes.now at))) }
+    ensures place { IfOk result (λ r. r.0.scope ≡ scope) }
+    ensures variable { (opener : List ℕ) (scopes : List (List ℕ)) (vars : List variables.Declared) → MatchResult result
+        (λ r. var_type scopes vars (record { text = opener; place = word }) (tokens_at bytes.now at) ≡ header scopes (vars ++ declared_in scopes r.0 ∷ []) (tokens_at bytes.now r.1))
+        (λ e. Fails e (var_type scopes vars (record { text = opener; place = word }) (tokens_at bytes.now at))) }
 {
     match read_var_head(bytes, at, word) {
         Err(fault) => Err(ReadError::Fault(fault)),
         Ok(head) => match read_reference(alloc, bytes, head.end, word) {
             Err(e) => Err(e),
             Ok((text, end)) => {
-                let path = joined_path(alloc, scopes, reference_name(&text))?;
+                let name = Vec::from_slice(alloc, reference_name(&text))?;
                 let code = Vec::from_slice(alloc, &bytes[head.code.from..head.code.end])?;
                 let bindable = has_digits(&bytes[head.kind.from..head.kind.end], head.size);
                 let variable = Variable {
-                    path,
+                    scope,
+                    name,
                     code,
                     size: head.size,
                     bindable,
@@ -271,15 +264,16 @@ fn read_section(
     bytes: &[u8],
     from: usize,
     end: usize,
-    scopes: &[Vec<u8>],
+    scope: u32,
 ) -> Result<Section, ReadError>
     requires order { from < end }
     requires inside { end ≤ length bytes.now }
     ensures high { IfOk result (λ s. (end < end_of s) × (end_of s ≤ length bytes.now)) }
     ensures name { IfOk result (λ s. IsInside s (length bytes.now)) }
-    ensures section { (vars : List variables.Declared) → MatchResult result
-        (λ s. header (map (λ v. v.items) scopes.now) vars (record { text = slice_range bytes.now from end; place = from } ∷ tokens_at bytes.now end) ≡ stated s (map (λ v. v.items) scopes.now) vars bytes.now)
-        (λ e. Fails e (header (map (λ v. v.items) scopes.now) vars (record { text = slice_range bytes.now from end; place = from } ∷ tokens_at bytes.now end))) }
+    ensures place { IfOk result (IsAt scope) }
+    ensures section { (scopes : List (List ℕ)) (vars : List variables.Declared) → MatchResult result
+        (λ s. header scopes vars (record { text = slice_range bytes.now from end; place = from } ∷ tokens_at bytes.now end) ≡ stated s scopes vars bytes.now)
+        (λ e. Fails e (header scopes vars (record { text = slice_range bytes.now from end; place = from } ∷ tokens_at bytes.now end))) }
 {
     match section_word(&bytes[from..end]) {
         Word::NoWord => Err(ReadError::Fault(Fault::BadToken(from))),
@@ -295,7 +289,7 @@ fn read_section(
             Err(fault) => Err(ReadError::Fault(fault)),
             Ok(stop) => Ok(Section::Closed(stop)),
         },
-        Word::Var => match read_variable(alloc, bytes, end, from, scopes) {
+        Word::Var => match read_variable(alloc, bytes, end, from, scope) {
             Err(e) => Err(e),
             Ok((variable, stop)) => Ok(Section::Declared(variable, stop)),
         },
@@ -306,29 +300,46 @@ fn read_section(
     }
 }
 
-/// The variables, and where the body begins.
-pub(crate) fn read_header(alloc: Global, bytes: &[u8]) -> Result<(Vec<Variable>, usize), ReadError>
-    ensures high { IfOk result (λ r. r.1 ≤ length bytes.now) }
-    ensures header { Gives (λ r. (map declared r.0.items, tokens_at bytes.now r.1)) result (header [] [] (tokens_at bytes.now 0)) }
+/// What a header declares, and where the body begins.
+#[derive(Drop)]
+pub(crate) struct Declarations {
+    pub(crate) scopes: Vec<Scope>,
+    pub(crate) variables: Vec<Variable>,
+    pub(crate) end: usize,
+}
+
+/// The declarations of the header.
+pub(crate) fn read_header(alloc: Global, bytes: &[u8]) -> Result<Declarations, ReadError>
+    ensures high { IfOk result (λ d. d.end ≤ length bytes.now) }
+    ensures tree { IfOk result (λ d. IsTree d.scopes.items) }
+    ensures header { Gives (λ d. (map (declared d.scopes.items) d.variables.items, tokens_at bytes.now d.end)) result (header [] [] (tokens_at bytes.now 0)) }
 {
     let mut variables = Vec::new(alloc);
-    let mut scopes: Vec<Vec<u8>> = Vec::new(alloc);
+    let mut scopes: Vec<Scope> = Vec::new(alloc);
+    let mut hints: HashMap<u64, u32> = HashMap::new(alloc);
+    let mut scope = 0;
     let mut at = 0;
     'sections: loop {
         let Some((from, end)) = next_token(bytes, at) else {
             return Err(ReadError::Fault(Fault::Truncated));
         };
-        match read_section(alloc, bytes, from, end, &scopes) {
+        match read_section(alloc, bytes, from, end, scope) {
             Err(e) => return Err(e),
-            Ok(Section::Ended(stop)) => return Ok((variables, stop)),
+            Ok(Section::Ended(stop)) => {
+                return Ok(Declarations {
+                    scopes,
+                    variables,
+                    end: stop,
+                });
+            }
             Ok(Section::Opened(name, stop)) => {
-                let name = Vec::from_slice(alloc, &bytes[name.from..name.end])?;
-                scopes.push(name)?;
+                let name = &bytes[name.from..name.end];
+                scope = open_scope(alloc, &mut scopes, &mut hints, scope, name)?;
                 at = stop;
                 continue;
             }
             Ok(Section::Closed(stop)) => {
-                let _ = scopes.pop();
+                scope = outer_place(&scopes, scope);
                 at = stop;
                 continue;
             }

@@ -7,6 +7,7 @@ mod dump;
 mod fault;
 mod header;
 mod item;
+mod key;
 mod laws;
 mod lookups;
 mod name;
@@ -14,8 +15,12 @@ mod number;
 mod packed;
 mod places;
 mod reader;
+mod scope;
+mod scopes;
 mod span;
 mod step;
+#[cfg(test)]
+mod tests;
 mod token;
 mod variable;
 
@@ -24,4 +29,4 @@ pub use fault::VcdFault;
 pub use laws::{digits_law, grammar_law};
 pub use reader::read_dump;
 pub use step::{Change, Step};
-pub use variable::{Name, VarId, Variable};
+pub use variable::{Name, VarId};

@@ -9,7 +9,8 @@ ghost use Rattle.vcd_reader.specs.Stored.{stored_value};
 ghost use Rattle.vcd_reader.specs.Held.{variables_of, steps_in, high_of, value_in, named, IsOf, IsChangeOf};
 
 use crate::dump::Dump;
-use crate::places::{Part, find_place};
+use crate::places::{Part, find_text};
+use crate::scopes::path_text;
 use crate::step::{Change, Step};
 use crate::variable::{Name, VarId};
 use std::alloc::{AllocError, Global};
@@ -48,7 +49,14 @@ impl Dump {
         ensures place { option_map (λ v. v.place) result ≡ variable_named (variables_of self.now) path.now }
         ensures of { IfSome result (IsOf self.now) }
     {
-        match find_place(&self.paths, &self.variables, Part::Path, path.as_bytes()) {
+        let found = find_text(
+            &self.paths,
+            &self.scopes,
+            &self.variables,
+            Part::Path,
+            path.as_bytes(),
+        );
+        match found {
             None => None,
             Some(place) => {
                 let place = place as usize;
@@ -115,7 +123,7 @@ impl Dump {
                 continue;
             }
             let variable = &self.variables[place];
-            let path = Vec::from_slice(alloc, &variable.path)?;
+            let path = path_text(alloc, &self.scopes, variable.scope, &variable.name)?;
             names.push(Name {
                 path,
                 width: variable.size,

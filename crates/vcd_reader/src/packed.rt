@@ -1,13 +1,12 @@
 //! The table of short codes.
 
 ghost use Rattle.std.specs.Prelude.{◌≡◌, ℕ, ◌<◌, ◌≤◌, List, length, IfOk};
-ghost use Rattle.vcd_reader.specs.declared.places.Part.TheVariants.{Code};
 ghost use Rattle.vcd_reader.specs.Variables.{place_of};
-ghost use Rattle.vcd_reader.specs.Index.{text_in, texts_in, IsIndex};
+ghost use Rattle.vcd_reader.specs.Index.{codes_in, IsIndex};
 ghost use Rattle.vcd_reader.specs.Packed.{unpacked, AreKnown};
 
 use crate::codes::{Codes, Entry};
-use crate::places::{Part, Places, find_place};
+use crate::places::{Part, Places, find_text};
 use crate::variable::Variable;
 use std::alloc::{AllocError, Global};
 
@@ -57,7 +56,7 @@ fn entry_place(pages: &[u32], packed: u32) -> usize {
 
 /// The number of a code.
 pub(crate) fn find_code(codes: &Codes, code: &[u8]) -> Option<u32>
-    ensures { result ≡ place_of (texts_in Code codes.now.variables.now) code.now }
+    ensures { result ≡ place_of (codes_in codes.now.variables.now) code.now }
 {
     let packed = packed_code(code);
     if packed > 0 {
@@ -69,7 +68,7 @@ pub(crate) fn find_code(codes: &Codes, code: &[u8]) -> Option<u32>
             }
         }
     }
-    find_place(codes.places, codes.variables, Part::Code, code)
+    find_text(codes.places, &[], codes.variables, Part::Code, code)
 }
 
 /// Makes a page for a packed code, where the header is large enough for one more.
@@ -120,8 +119,8 @@ fn entries_of(
     variables: &[Variable],
     places: &Places,
 ) -> Result<(Vec<u32>, Vec<Entry>), AllocError>
-    requires { IsIndex (texts_in Code variables.now) places.now }
-    ensures { IfOk result (λ r. AreKnown (texts_in Code variables.now) r.1.items) }
+    requires { IsIndex (codes_in variables.now) places.now }
+    ensures { IfOk result (λ r. AreKnown (codes_in variables.now) r.1.items) }
 {
     let mut pages = no_pages(alloc)?;
     let mut table = blank_page(alloc)?;
@@ -154,7 +153,7 @@ pub(crate) fn table_of<'a>(
     variables: &'a [Variable],
     places: &'a Places,
 ) -> Result<Codes<'a>, AllocError>
-    requires { IsIndex (texts_in Code variables.now) places.now }
+    requires { IsIndex (codes_in variables.now) places.now }
     ensures { IfOk result (λ c. c.variables.now ≡ variables.now) }
 {
     let (pages, table) = entries_of(alloc, variables, places)?;

@@ -1,26 +1,28 @@
 //! Dumps from bytes, and from devices.
 
-ghost use Rattle.std.specs.Prelude.{◌≡◌, ◌<◌, ◌≤◌, ◌^◌, map, length, IfOk, IfErr, OnOk, MatchResult};
-ghost use Rattle.vcd_reader.specs.declared.places.Part.TheVariants.{Code};
+ghost use Rattle.std.specs.Prelude.{◌≡◌, ℕ, ◌<◌, ◌≤◌, ◌^◌, List, map, length, IfOk, IfErr, OnOk, MatchResult};
 ghost use Rattle.vcd_reader.specs.Faults.{Gives, Fails};
-ghost use Rattle.vcd_reader.specs.Index.{texts_in, IsIndex};
+ghost use Rattle.vcd_reader.specs.Index.{codes_in, IsIndex};
 ghost use Rattle.vcd_reader.specs.Stored.{stored_step};
 ghost use Rattle.vcd_reader.specs.Body.{body, steps_of};
 ghost use Rattle.vcd_reader.specs.Kept.{kept_steps};
 ghost use Rattle.vcd_reader.specs.Sections.{tokens_at};
-ghost use Rattle.vcd_reader.specs.Dump.{dump_of, line_of, located, Stands};
+ghost use Rattle.vcd_reader.specs.Dump.{dump_of, line_of, located, Gave, Stands};
 ghost use Rattle.vcd_reader.specs.Held.{Parses, ReadsAs};
 
 use crate::body::read_body;
 use crate::dump::Dump;
 use crate::fault::{Fault, ReadError, VcdFault};
-use crate::header::read_header;
+use crate::header::{Declarations, read_header};
 use crate::packed::table_of;
 use crate::places::{Part, Places, places_of};
 use crate::step::Step;
 use crate::variable::Variable;
 use signals::{ReadAllError, Source, read_all};
 use std::alloc::Global;
+
+/// The most bytes of a dump.
+const MOST_BYTES: u64 = 1 << 48;
 
 /// The steps of the body that begins there, and the high parts of their wide values.
 fn read_steps(
@@ -31,9 +33,9 @@ fn read_steps(
     codes: &Places,
 ) -> Result<(Vec<Step>, Vec<u64>), ReadError>
     requires start { start ≤ length bytes.now }
-    requires index { IsIndex (texts_in Code variables.now) codes.now }
+    requires index { IsIndex (codes_in variables.now) codes.now }
     ensures { Gives (λ r. map (stored_step r.1.items) r.0.items) result
-        (kept_steps (steps_of (body (texts_in Code variables.now) (length bytes.now) 0 0 (tokens_at bytes.now start)))) }
+        (kept_steps (steps_of (body (codes_in variables.now) (length bytes.now) 0 0 (tokens_at bytes.now start)))) }
 {
     let header = table_of(alloc, variables, codes)?;
     let read = read_body(alloc, bytes, start, &header);
@@ -45,11 +47,16 @@ fn read_steps(
 fn parse(alloc: Global, bytes: &[u8]) -> Result<Dump, ReadError>
     ensures { MatchResult result (Parses bytes.now) (λ e. Fails e (dump_of bytes.now)) }
 {
-    let (variables, start) = read_header(alloc, bytes)?;
-    let paths = places_of(alloc, &variables, Part::Path)?;
-    let codes = places_of(alloc, &variables, Part::Code)?;
-    let (steps, high) = read_steps(alloc, bytes, start, &variables, &codes)?;
+    let Declarations {
+        scopes,
+        variables,
+        end,
+    } = read_header(alloc, bytes)?;
+    let paths = places_of(alloc, &scopes, &variables, Part::Path)?;
+    let codes = places_of(alloc, &scopes, &variables, Part::Code)?;
+    let (steps, high) = read_steps(alloc, bytes, end, &variables, &codes)?;
     Ok(Dump {
+        scopes,
         variables,
         paths,
         codes,
@@ -85,11 +92,13 @@ fn with_line(bytes: &[u8], fault: Fault) -> VcdFault
 pub fn read_dump<S: Source>(alloc: Global, source: &mut S) -> Result<Dump, VcdFault>
     // What is accepted is what the grammar says of all the bytes that the source had.
     ensures accepted { IfOk result (ReadsAs (S.remaining source.old) (S.remaining source.new)) }
+    // No input that is longer than a dump may be is accepted.
+    ensures bounded { IfOk result (λ _. (bytes : List ℕ) × Gave (S.remaining source.old) (S.remaining source.new) bytes × (length bytes ≤ 2 ^ 48)) }
     ensures counted { OnOk result (S.failures source.new ≡ S.failures source.old) }
     // What is refused has the fault, the first one, or the source failed, or it gave too much.
     ensures refused { IfErr result (Stands (S.remaining source.old) (S.remaining source.new) (S.failures source.old) (S.failures source.new)) }
 {
-    let bytes = match read_all(alloc, source, 1 << 48) {
+    let bytes = match read_all(alloc, source, MOST_BYTES) {
         Ok(bytes) => bytes,
         Err(ReadAllError::Memory) => return Err(VcdFault::Memory),
         Err(ReadAllError::Failed) => return Err(VcdFault::Read),

@@ -4,15 +4,16 @@ ghost use Rattle.std.specs.Prelude.{◌≡◌, ◌≤◌, true};
 ghost use Rattle.vcd_reader.specs.Variables.{can_bind, has_no_digits};
 
 /// A variable of the header.
-#[derive(Debug, Drop)]
-pub struct Variable {
-    /// The scopes that were open and the name, joined by dots.
-    pub path: Vec<u8>,
-    pub code: Vec<u8>,
+#[derive(Drop)]
+pub(crate) struct Variable {
+    /// The place inside the scopes that were open.
+    pub(crate) scope: u32,
+    pub(crate) name: Vec<u8>,
+    pub(crate) code: Vec<u8>,
     /// Bits, as declared.
-    pub size: u32,
+    pub(crate) size: u32,
     /// Whether its changes are vectors of 1 to 128 digits.
-    pub bindable: bool,
+    pub(crate) bindable: bool,
     ghost low: { bindable ≡ true → 1 ≤ size },
     ghost high: { bindable ≡ true → size ≤ 128 },
 }
@@ -26,6 +27,7 @@ pub struct VarId {
 /// A path that can be bound, with its width in bits, 1 to 128.
 #[derive(Debug, Drop)]
 pub struct Name {
+    /// The scopes and the name, joined by dots.
     pub path: Vec<u8>,
     pub width: u32,
 }

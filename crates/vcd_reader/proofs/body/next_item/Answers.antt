@@ -1,8 +1,7 @@
 use Rattle.std.proofs.Common.{◌∙◌, ℕ, List, ap, sym, length, Result}
 use Rattle.vcd_reader.specs.declared.fault.Fault.{Fault}
-use Rattle.vcd_reader.specs.declared.places.Part.TheVariants.{Code}
 use Rattle.vcd_reader.specs.declared.item.Item.{Item}
-use Rattle.vcd_reader.specs.Index.{texts_in}
+use Rattle.vcd_reader.specs.Index.{codes_in}
 use Rattle.vcd_reader.specs.Body.{body}
 use Rattle.vcd_reader.specs.Faults.{◌>>=◌}
 use Rattle.vcd_reader.specs.Kept.{kept, applied, scalar_item}
@@ -11,27 +10,27 @@ use Rattle.vcd_reader.proofs.BodyLaws.{body-scalar, body-vector, body-section, b
 use Rattle.vcd_reader.proofs.body.next_item.Goals as goal
 
 pub returns-in-Err-clause-item : goal.returns-in-Err-clause-item
-returns-in-Err-clause-item c = λ count now. body-scalar (texts_in Code c.args.codes.now.variables.now) (length c.args.bytes.now) count now _ _ c.in-Some.from (tokens_at c.args.bytes.now c.in-Some.end) c.in-Some.ensures.tokens c.in-Scalar.value c.in-Scalar.ensures
-    ∙ ap (λ (t : List ℕ). scalar_item (texts_in Code c.args.codes.now.variables.now) (length c.args.bytes.now) t c.in-Scalar.value c.in-Some.from >>= λ i. applied i count now (λ k n. kept (body (texts_in Code c.args.codes.now.variables.now) (length c.args.bytes.now) k n (tokens_at c.args.bytes.now c.in-Some.end)))) (behind c.args.bytes.now c.in-Some.from c.in-Some.end c.in-Some.ensures.some.1 c.in-Some.ensures.some.2)
-    ∙ ap (λ (r : Result Item Fault). r >>= λ i. applied i count now (λ k n. kept (body (texts_in Code c.args.codes.now.variables.now) (length c.args.bytes.now) k n (tokens_at c.args.bytes.now c.in-Some.end)))) (sym c.in-Err.ensures)
+returns-in-Err-clause-item c = λ count now. body-scalar (codes_in c.args.codes.now.variables.now) (length c.args.bytes.now) count now _ _ c.in-Some.from (tokens_at c.args.bytes.now c.in-Some.end) c.in-Some.ensures.tokens c.in-Scalar.value c.in-Scalar.ensures
+    ∙ ap (λ (t : List ℕ). scalar_item (codes_in c.args.codes.now.variables.now) (length c.args.bytes.now) t c.in-Scalar.value c.in-Some.from >>= λ i. applied i count now (λ k n. kept (body (codes_in c.args.codes.now.variables.now) (length c.args.bytes.now) k n (tokens_at c.args.bytes.now c.in-Some.end)))) (behind c.args.bytes.now c.in-Some.from c.in-Some.end c.in-Some.ensures.some.1 c.in-Some.ensures.some.2)
+    ∙ ap (λ (r : Result Item Fault). r >>= λ i. applied i count now (λ k n. kept (body (codes_in c.args.codes.now.variables.now) (length c.args.bytes.now) k n (tokens_at c.args.bytes.now c.in-Some.end)))) (sym c.in-Err.ensures)
 
 pub returns-in-Ok-clause-item : goal.returns-in-Ok-clause-item
-returns-in-Ok-clause-item c = λ count now. body-scalar (texts_in Code c.args.codes.now.variables.now) (length c.args.bytes.now) count now _ _ c.in-Some.from (tokens_at c.args.bytes.now c.in-Some.end) c.in-Some.ensures.tokens c.in-Scalar.value c.in-Scalar.ensures
-    ∙ ap (λ (t : List ℕ). scalar_item (texts_in Code c.args.codes.now.variables.now) (length c.args.bytes.now) t c.in-Scalar.value c.in-Some.from >>= λ i. applied i count now (λ k n. kept (body (texts_in Code c.args.codes.now.variables.now) (length c.args.bytes.now) k n (tokens_at c.args.bytes.now c.in-Some.end)))) (behind c.args.bytes.now c.in-Some.from c.in-Some.end c.in-Some.ensures.some.1 c.in-Some.ensures.some.2)
-    ∙ ap (λ (r : Result Item Fault). r >>= λ i. applied i count now (λ k n. kept (body (texts_in Code c.args.codes.now.variables.now) (length c.args.bytes.now) k n (tokens_at c.args.bytes.now c.in-Some.end)))) (sym c.in-Ok.ensures)
+returns-in-Ok-clause-item c = λ count now. body-scalar (codes_in c.args.codes.now.variables.now) (length c.args.bytes.now) count now _ _ c.in-Some.from (tokens_at c.args.bytes.now c.in-Some.end) c.in-Some.ensures.tokens c.in-Scalar.value c.in-Scalar.ensures
+    ∙ ap (λ (t : List ℕ). scalar_item (codes_in c.args.codes.now.variables.now) (length c.args.bytes.now) t c.in-Scalar.value c.in-Some.from >>= λ i. applied i count now (λ k n. kept (body (codes_in c.args.codes.now.variables.now) (length c.args.bytes.now) k n (tokens_at c.args.bytes.now c.in-Some.end)))) (behind c.args.bytes.now c.in-Some.from c.in-Some.end c.in-Some.ensures.some.1 c.in-Some.ensures.some.2)
+    ∙ ap (λ (r : Result Item Fault). r >>= λ i. applied i count now (λ k n. kept (body (codes_in c.args.codes.now.variables.now) (length c.args.bytes.now) k n (tokens_at c.args.bytes.now c.in-Some.end)))) (sym c.in-Ok.ensures)
 
 pub returns-in-Err-change_of-clause-item : goal.returns-in-Err-change_of-clause-item
-returns-in-Err-change_of-clause-item c = λ count now. body-vector (texts_in Code c.args.codes.now.variables.now) (length c.args.bytes.now) count now _ _ c.in-Some.from _ c.in-Some.ensures.tokens c.in-Vector.value _ c.in-Some-next_token.from (tokens_at c.args.bytes.now c.in-Some-next_token.end) c.in-Vector.ensures c.in-Some-next_token.ensures.tokens
-    ∙ ap (λ (r : Result Item Fault). r >>= λ i. applied i count now (λ k n. kept (body (texts_in Code c.args.codes.now.variables.now) (length c.args.bytes.now) k n (tokens_at c.args.bytes.now c.in-Some-next_token.end)))) (sym c.in-Err-change_of.ensures)
+returns-in-Err-change_of-clause-item c = λ count now. body-vector (codes_in c.args.codes.now.variables.now) (length c.args.bytes.now) count now _ _ c.in-Some.from _ c.in-Some.ensures.tokens c.in-Vector.value _ c.in-Some-next_token.from (tokens_at c.args.bytes.now c.in-Some-next_token.end) c.in-Vector.ensures c.in-Some-next_token.ensures.tokens
+    ∙ ap (λ (r : Result Item Fault). r >>= λ i. applied i count now (λ k n. kept (body (codes_in c.args.codes.now.variables.now) (length c.args.bytes.now) k n (tokens_at c.args.bytes.now c.in-Some-next_token.end)))) (sym c.in-Err-change_of.ensures)
 
 pub returns-in-Ok-change_of-clause-item : goal.returns-in-Ok-change_of-clause-item
-returns-in-Ok-change_of-clause-item c = λ count now. body-vector (texts_in Code c.args.codes.now.variables.now) (length c.args.bytes.now) count now _ _ c.in-Some.from _ c.in-Some.ensures.tokens c.in-Vector.value _ c.in-Some-next_token.from (tokens_at c.args.bytes.now c.in-Some-next_token.end) c.in-Vector.ensures c.in-Some-next_token.ensures.tokens
-    ∙ ap (λ (r : Result Item Fault). r >>= λ i. applied i count now (λ k n. kept (body (texts_in Code c.args.codes.now.variables.now) (length c.args.bytes.now) k n (tokens_at c.args.bytes.now c.in-Some-next_token.end)))) (sym c.in-Ok-change_of.ensures)
+returns-in-Ok-change_of-clause-item c = λ count now. body-vector (codes_in c.args.codes.now.variables.now) (length c.args.bytes.now) count now _ _ c.in-Some.from _ c.in-Some.ensures.tokens c.in-Vector.value _ c.in-Some-next_token.from (tokens_at c.args.bytes.now c.in-Some-next_token.end) c.in-Vector.ensures c.in-Some-next_token.ensures.tokens
+    ∙ ap (λ (r : Result Item Fault). r >>= λ i. applied i count now (λ k n. kept (body (codes_in c.args.codes.now.variables.now) (length c.args.bytes.now) k n (tokens_at c.args.bytes.now c.in-Some-next_token.end)))) (sym c.in-Ok-change_of.ensures)
 
 pub returns-in-Err-section_end-clause-item : goal.returns-in-Err-section_end-clause-item
-returns-in-Err-section_end-clause-item c = λ count now. body-section (texts_in Code c.args.codes.now.variables.now) (length c.args.bytes.now) count now _ _ c.in-Some.from _ c.in-Some.ensures.tokens c.in-Section.ensures
-    ∙ ap kept (c.in-Err-section_end.ensures.section (texts_in Code c.args.codes.now.variables.now) (length c.args.bytes.now) count now)
+returns-in-Err-section_end-clause-item c = λ count now. body-section (codes_in c.args.codes.now.variables.now) (length c.args.bytes.now) count now _ _ c.in-Some.from _ c.in-Some.ensures.tokens c.in-Section.ensures
+    ∙ ap kept (c.in-Err-section_end.ensures.section (codes_in c.args.codes.now.variables.now) (length c.args.bytes.now) count now)
 
 pub returns-in-Ok-section_end-clause-item : goal.returns-in-Ok-section_end-clause-item
-returns-in-Ok-section_end-clause-item c = λ count now. body-section (texts_in Code c.args.codes.now.variables.now) (length c.args.bytes.now) count now _ _ c.in-Some.from _ c.in-Some.ensures.tokens c.in-Section.ensures
-    ∙ ap kept (c.in-Ok-section_end.ensures.section (texts_in Code c.args.codes.now.variables.now) (length c.args.bytes.now) count now)
+returns-in-Ok-section_end-clause-item c = λ count now. body-section (codes_in c.args.codes.now.variables.now) (length c.args.bytes.now) count now _ _ c.in-Some.from _ c.in-Some.ensures.tokens c.in-Section.ensures
+    ∙ ap kept (c.in-Ok-section_end.ensures.section (codes_in c.args.codes.now.variables.now) (length c.args.bytes.now) count now)
