@@ -11,8 +11,6 @@ mod property;
 mod read;
 mod sequence;
 mod stop;
-#[cfg(test)]
-mod tests;
 mod tree;
 
 pub use fault::ParseFault;

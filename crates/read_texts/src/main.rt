@@ -2,6 +2,9 @@
 //! it reads that file as one text, and prints how long cutting it into tokens and reading them took.
 #![tactic(auto)]
 
+#[cfg(test)]
+mod tests;
+
 use anyhow::Result;
 use lexer::{LexFault, lex};
 use parser::{ParseFault, parse};

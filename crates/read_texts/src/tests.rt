@@ -1,11 +1,9 @@
 //! Texts, and what stands at the root of the trees that they have, worked out by hand from the grammar and from the standard's
 //! table of precedence (IEEE 1800-2017, table 11-2, and 16.9 for sequences). Texts with faults, and where those stand, are
-//! the table of the program `read_texts`.
+//! the table of this program. The tests of `parser` stand here, so that it is proved once.
 
-use crate::fault::ParseFault;
-use crate::file::parse;
-use crate::tree::{Assertion, Expr, File, Item, Property, Sequence};
 use lexer::{Token, lex};
+use parser::{Assertion, Expr, File, Item, ParseFault, Property, Sequence, parse};
 use std::alloc::Global;
 use std::test::Fail;
 
