@@ -1,0 +1,3 @@
+pub mod InLaws
+pub mod SweepLaws
+pub mod CyclicLaws

@@ -1,0 +1,4 @@
+pub mod Drafts
+pub mod Views
+pub mod Marks
+pub mod Sweeps

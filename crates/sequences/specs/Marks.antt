@@ -1,0 +1,15 @@
+-- Tests on the names that a sequence uses.
+use Rattle.std.specs.Prelude.{ℕ, List, [], ◌∷◌, Bool, false, ◌||◌, ◌==◌, slice_index_or}
+
+-- whether one of the numbers passes
+abbrev pub some_use : (ℕ → Bool) → List ℕ → Bool
+some_use test [] = false
+some_use test (p ∷ ps) = test p || some_use test ps
+
+-- a place with a mark
+abbrev pub marked : List Bool → ℕ → Bool
+marked marks p = slice_index_or marks p false
+
+-- the goal, or a place with a mark
+abbrev pub leads : List Bool → ℕ → ℕ → Bool
+leads marks goal p = (p == goal) || marked marks p
