@@ -1,10 +1,11 @@
 -- Laws that show that the definitions mean what they should.
-use Rattle.std.specs.Prelude.{◌≡◌, ℕ, ◌+◌, ◌≤◌, Bool, IsTrue, ◌↔◌}
+use Rattle.std.specs.Prelude.{◌≡◌, ℕ, ◌+◌, ◌≤◌, Bool, false, IsTrue, ◌↔◌}
 use Rattle.signals.specs.declared.verdict.Verdict.{Verdict}
 use Rattle.types.specs.declared.sequence.Boolean.{Boolean}
-use Rattle.types.specs.Segments.{Seq, Matches, is_match, longest}
+use Rattle.types.specs.Segments.{Seq, Matches, is_match, longest, IsDegenerate, AdmitsEmpty}
 use Rattle.types.specs.Attempts.{IsVerdict, verdict}
 use Rattle.types.specs.Written.{Written, kernel, weight, IsOrdered}
+use Rattle.types.specs.Emptiness.{admits_empty, takes_ticks}
 
 -- A match doesn't end before it begins.
 abbrev pub MatchesForward : Type 0
@@ -29,3 +30,15 @@ HasOneVerdict = (value : Boolean → ℕ → Bool) (off : ℕ → Bool) (r s : S
 -- No match of what is written takes more ticks than it weighs.
 abbrev pub MatchesWithinWeight : Type 0
 MatchesWithinWeight = (holds : Boolean → ℕ → Bool) (true_one : Boolean) (r : Written Boolean) (i j : ℕ) → IsOrdered r → Matches holds (kernel true_one r) i j → j ≤ i + weight r
+
+-- What is written matches an empty segment at every tick and whatever its booleans are, or nowhere: its form tells.
+abbrev pub EmptyMatchesAlike : Type 0
+EmptyMatchesAlike = (holds : Boolean → ℕ → Bool) (true_one : Boolean) (r : Written Boolean) (i : ℕ) → IsOrdered r → IsTrue (admits_empty r) ↔ Matches holds (kernel true_one r) i i
+
+-- So it admits an empty match where its form tells so.
+abbrev pub TestsEmpty : Type 0
+TestsEmpty = (true_one : Boolean) (r : Written Boolean) → IsOrdered r → IsTrue (admits_empty r) ↔ AdmitsEmpty (kernel true_one r)
+
+-- It is degenerate where its form tells that no match takes a tick.
+abbrev pub TestsDegenerate : Type 0
+TestsDegenerate = (true_one : Boolean) (r : Written Boolean) → IsOrdered r → IsDegenerate (kernel true_one r) ↔ (takes_ticks r ≡ false)

@@ -3,4 +3,6 @@ pub mod Segments
 pub mod Attempts
 pub mod Shapes
 pub mod Written
+pub mod Ordered
+pub mod Emptiness
 pub mod Laws

@@ -1,39 +1,56 @@
 -- What the trees of a suite stand for.
-use Rattle.std.specs.Prelude.{ℕ, Bool, true, false, not, ◌==◌, List, Option, Some, None, slice_index_or, []}
+use Rattle.std.specs.Prelude.{◌⊎◌, ℕ, ◌<◌, Bool, true, false, List, Option, Some, None, slice_get}
 use Rattle.types.specs.declared.sequence.Boolean.{Boolean}
-use Rattle.types.specs.declared.sequence.Boolean.TheVariants.{One, Name}
+use Rattle.types.specs.declared.sequence.Boolean.TheVariants.{One, Listed}
 use Rattle.types.specs.declared.sequence.Sequence.{Sequence}
-use Rattle.types.specs.declared.sequence.Sequence.TheVariants.{Leaf, Empty, Then', Or'}
+use Rattle.types.specs.declared.sequence.Sequence.TheVariants as form
 use Rattle.types.specs.declared.implication.Implication.{Implication}
 use Rattle.types.specs.declared.implication.Implication.TheVariants.{Overlapped, NonOverlapped}
-use Rattle.types.specs.Segments.{Seq, one, none, chop, either}
+use Rattle.types.specs.Segments.{Seq}
+use Rattle.types.specs.Written.{Written, boolean, delay, lead, repeat, or, and, throughout, kernel, weight, IsOrdered}
+use Rattle.values.specs.declared.expr.Expr.{Expr}
+use Rattle.values.specs.Terms.{Samples, is_true}
+use Rattle.values.specs.Expressions.{term_of}
 
--- the sequence that a tree stands for
+-- the sequence that a tree says, as it is written
+abbrev pub written : Sequence → Written Boolean
+written (form.Boolean b) = boolean b
+written (form.Delay' p r least most q s) = delay (written r) least most (written s)
+written (form.Lead' least most p s) = lead least most (written s)
+written (form.Repeat' p r least most) = repeat (written r) least most
+written (form.Or' p r q s) = or (written r) (written s)
+written (form.And' p r q s) = and (written r) (written s)
+written (form.Throughout' b p r) = throughout b (written r)
+
+-- the kernel that it stands for
 abbrev pub shape : Sequence → Seq Boolean
-shape (Leaf b) = one b
-shape Empty = none
-shape (Then' p r q s) = chop (shape r) (shape s)
-shape (Or' p r q s) = either (shape r) (shape s)
+shape s = kernel One (written s)
 
 -- the antecedent of an implication: R |=> S is (R ##1 1) |-> S (IEEE 1800-2017, 16.12.7)
-abbrev pub rewritten : Implication → Seq Boolean → Seq Boolean
+abbrev pub rewritten : Implication → Written Boolean → Written Boolean
 rewritten Overlapped r = r
-rewritten NonOverlapped r = chop r (one One)
+rewritten NonOverlapped r = delay r 1 1 (boolean One)
 
--- The rows of a suite's names: for each tick a list with a value for each name.
-abbrev pub Table : Type 0
-Table = List (List ℕ)
+-- It can be no side of an assertion: it weighs over 127, or the first of a range is over the second.
+abbrev pub IsUnfit : {B : Type 0} → Written B → Type 0
+IsUnfit r = (127 < weight r) ⊎ (IsOrdered r → ⊥)
 
--- the value of a name at a tick, and 0 where there is none
-abbrev pub cell : Table → ℕ → ℕ → ℕ
-cell rows tick name = slice_index_or (slice_index_or rows tick []) name 0
+-- whether an expression is true at a tick; one that isn't there is false
+abbrev pub is_true_at : Samples → Option Expr → ℕ → Bool
+is_true_at t None k = false
+is_true_at t (Some e) k = is_true t (term_of e) k
 
--- whether a boolean is true at a tick: its value isn't 0 (IEEE 1800-2017, 16.6)
-abbrev pub value_in : Table → Boolean → ℕ → Bool
-value_in rows One tick = true
-value_in rows (Name name) tick = not (cell rows tick name == 0)
+-- the expression at a place of a suite's, if there is such a place
+abbrev pub expression_at : List Expr → Option ℕ → Option Expr
+expression_at booleans None = None
+expression_at booleans (Some place) = slice_get booleans place
+
+-- Whether a boolean is true at a tick, by a suite's expressions and the places that an assertion's list has of them.
+abbrev pub value_in : List Expr → List ℕ → Samples → Boolean → ℕ → Bool
+value_in booleans places t One k = true
+value_in booleans places t (Listed i) k = is_true_at t (expression_at booleans (slice_get places i)) k
 
 -- at which ticks the disabling boolean is true, if there is one
-abbrev pub off_in : Table → Option Boolean → ℕ → Bool
-off_in rows None tick = false
-off_in rows (Some boolean) tick = value_in rows boolean tick
+abbrev pub off_in : List Expr → List ℕ → Samples → Option Boolean → ℕ → Bool
+off_in booleans places t None k = false
+off_in booleans places t (Some b) k = value_in booleans places t b k

@@ -1,6 +1,6 @@
 -- Sequences as they are written, with names written out; what they stand for, and what they weigh (IEEE 1800-2017, 16.7 and 16.9).
 use Rattle.std.specs.Prelude.{ℕ, zero, suc, ◌+◌, ◌-◌, ◌*◌, ◌≤◌}
-use Rattle.types.specs.Segments.{Seq, one, chop, fuse, either, both, during, times, longest}
+use Rattle.types.specs.Segments.{Seq, one, chop, fuse, either, both, during, times}
 
 pub data Written (B : Type 0) : Type 0 where
   boolean : (b : B) → Written B

@@ -9,10 +9,12 @@ mod sequence;
 mod suite;
 #[cfg(test)]
 mod tests;
+mod weight;
 
-pub use assertion::{Assertion, LONGEST, longest_match, short_length};
+pub use assertion::Assertion;
 pub use decision::Decision;
 pub use implication::Implication;
-pub use laws::{match_law, verdict_law, weight_law};
+pub use laws::{degenerate_law, empty_law, match_law, verdict_law, weight_law};
 pub use sequence::{Boolean, Sequence};
-pub use suite::Suite;
+pub use suite::{Signal, Suite};
+pub use weight::{HEAVIEST, weight_of};

@@ -1,23 +1,29 @@
-//! Sequences of ticks, in their kernel forms.
+//! Sequences of ticks, as they are written.
 
 /// A boolean of a sequence.
 #[derive(Clone, Copy, PartialEq, Eq, Debug)]
 pub enum Boolean {
     /// The constant 1.
     One,
-    /// A name of the suite, by its place: true where its value is not 0.
-    Name(usize),
+    /// An expression, by its place in the assertion's list.
+    Listed(usize),
 }
 
-/// A sequence (IEEE 1800-2017, 16.7 and 16.9): delays and repetitions are written out in these forms.
+/// A sequence as it is written, with names written out (IEEE 1800-2017, 16.7 and 16.9).
 #[derive(Drop)]
 pub enum Sequence {
     /// One tick at which the boolean is true.
-    Leaf(Boolean),
-    /// The empty segment.
-    Empty,
-    /// `##1`: the second directly after the first.
-    Then(Box<Sequence>, Box<Sequence>),
+    Boolean(Boolean),
+    /// `first ##[least:most] second`.
+    Delay(Box<Sequence>, u8, u8, Box<Sequence>),
+    /// `##[least:most] body`, with nothing before it.
+    Lead(u8, u8, Box<Sequence>),
+    /// `body[*least:most]`: so many matches, each directly after the one before.
+    Repeat(Box<Sequence>, u8, u8),
     /// Either of the two.
     Or(Box<Sequence>, Box<Sequence>),
+    /// Both, from the same tick; it ends where the later one ends.
+    And(Box<Sequence>, Box<Sequence>),
+    /// The boolean is true at each tick of the sequence.
+    Throughout(Boolean, Box<Sequence>),
 }

@@ -1,4 +1,4 @@
-use Rattle.std.proofs.Common.{ℕ, arith}
+use Rattle.std.proofs.Common.{arith}
 use Rattle.types.specs.declared.sequence.Boolean.{Boolean}
 use Rattle.types.specs.Written.{kernel}
 use Rattle.types.proofs.Segments.{Matches-longest}
