@@ -2,3 +2,4 @@ pub mod Drafts
 pub mod Views
 pub mod Marks
 pub mod Sweeps
+pub mod Entries

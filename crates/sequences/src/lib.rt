@@ -3,5 +3,11 @@
 
 mod cyclic;
 mod draft;
+mod entry;
+mod facts;
+mod make;
 
+pub use cyclic::is_cyclic;
 pub use draft::Draft;
+pub use entry::Entry;
+pub use facts::Facts;

@@ -1,0 +1,66 @@
+-- What is known of a sequence with its names written out.
+use Rattle.std.specs.Prelude.{◌≡◌, ℕ, ◌+◌, ◌≤◌, min, List, Bool, true, false, Option, Some, None, Box, slice_get, ◌↔◌}
+use Rattle.std.specs.declared.alloc.Global.{Global}
+use Rattle.types.specs.declared.sequence.Boolean.{Boolean}
+use Rattle.types.specs.declared.sequence.Boolean.TheVariants.{One}
+use Rattle.types.specs.declared.sequence.Sequence.{Sequence}
+use Rattle.types.specs.Segments.{Seq, Matches}
+use Rattle.types.specs.Written.{Written, kernel, weight, IsOrdered}
+use Rattle.types.specs.Emptiness.{admits_empty, takes_ticks}
+use Rattle.types.specs.Shapes.{written}
+use Rattle.sequences.specs.declared.facts.Facts.{Facts}
+use Rattle.sequences.specs.declared.entry.Entry.{Entry}
+use Rattle.sequences.specs.Drafts.{Draft, IsIn, named_within}
+
+-- Two sequences match the same segments.
+abbrev pub Alike : {B : Type 0} → (B → ℕ → Bool) → Seq B → Seq B → Type 0
+Alike holds r s = (i j : ℕ) → Matches holds r i j ↔ Matches holds s i j
+
+-- the weight, up to 128, and what its form tells of empty matches and of longer ones
+pub record IsFacts (w : Written Boolean) (f : Facts) : Type 0 where
+  pub weighs : f.weight ≡ min (weight w) 128
+  pub empty : f.empty ≡ admits_empty w
+  pub ticks : f.ticks ≡ takes_ticks w
+
+-- What is written second says the same as the first, and weighs no more.
+pub record Says (w u : Written Boolean) : Type 0 where
+  pub ordered : IsOrdered u
+  pub light : weight u ≤ weight w
+  pub alike : (holds : Boolean → ℕ → Bool) → Alike holds (kernel One w) (kernel One u)
+
+-- There is a sequence, and it says the same.
+abbrev pub HasSame : Written Boolean → Option (Box Sequence Global) → Type 0
+HasSame w None = ⊥
+HasSame w (Some s) = Says w (written s.value)
+
+-- The entry is that of what is written.
+pub record IsEntry (w : Written Boolean) (e : Entry) : Type 0 where
+  pub ordered : IsOrdered w
+  pub facts : IsFacts w e.facts
+  pub same : weight w ≤ 127 → HasSame w e.sequence
+
+-- The name of the declaration at p stands for something, of which this is the entry.
+pub record IsEntryOf (bodies : List (Draft Boolean)) (p : ℕ) (e : Entry) : Type 0 where
+  pub meant : Written Boolean
+  pub depth : ℕ
+  pub named : named_within bodies depth p ≡ Some meant
+  pub entry : IsEntry meant e
+
+-- Each entry of a table is that of the declaration at its place.
+abbrev pub IsTable : List (Draft Boolean) → List (Option Entry) → Type 0
+IsTable bodies table = (p : ℕ) (e : Entry) → slice_get table p ≡ Some (Some e) → IsEntryOf bodies p e
+
+-- whether there is an entry
+abbrev pub is_entry : Option (Option Entry) → Bool
+is_entry None = false
+is_entry (Some None) = false
+is_entry (Some (Some e)) = true
+
+abbrev pub has_entry : List (Option Entry) → ℕ → Bool
+has_entry table p = is_entry (slice_get table p)
+
+-- one of the names has no entry
+pub record LacksOne (table : List (Option Entry)) (names : List ℕ) : Type 0 where
+  pub place : ℕ
+  pub used : IsIn place names
+  pub lacking : has_entry table place ≡ false
