@@ -5,3 +5,7 @@ pub mod AlikeLaws
 pub mod ConstantLaws
 pub mod SameLaws
 pub mod EntryLaws
+pub mod SpellLaws
+pub mod LackLaws
+pub mod TableLaws
+pub mod StuckLaws

@@ -75,6 +75,10 @@ reaches_by bodies (suc more) p q = (m : ℕ) × IsIn m (uses_at bodies p) × rea
 abbrev pub IsCyclic : {B : Type 0} → List (Draft B) → ℕ → Type 0
 IsCyclic bodies p = (more : ℕ) × reaches_by bodies more p p
 
--- each name is that of a declaration
-abbrev pub AllDeclared : {B : Type 0} → List (Draft B) → Draft B → Type 0
-AllDeclared bodies d = (p : ℕ) → IsIn p (uses d) → p < length bodies
+-- one of the declarations reaches itself
+abbrev pub SomeCyclic : {B : Type 0} → List (Draft B) → Type 0
+SomeCyclic bodies = (p : ℕ) × (p < length bodies) × IsCyclic bodies p
+
+-- each name that the declaration at p uses is declared
+abbrev pub AllDeclared : {B : Type 0} → List (Draft B) → ℕ → Type 0
+AllDeclared bodies p = (q : ℕ) → IsIn q (uses_at bodies p) → q < length bodies

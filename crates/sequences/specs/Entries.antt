@@ -1,5 +1,5 @@
 -- What is known of a sequence with its names written out.
-use Rattle.std.specs.Prelude.{◌≡◌, ℕ, ◌+◌, ◌≤◌, min, List, Bool, true, false, Option, Some, None, Box, slice_get, ◌↔◌}
+use Rattle.std.specs.Prelude.{◌≡◌, ◌⊎◌, ℕ, ◌+◌, ◌≤◌, min, List, Bool, true, false, Option, Some, None, Box, slice_get, ◌↔◌}
 use Rattle.std.specs.declared.alloc.Global.{Global}
 use Rattle.types.specs.declared.sequence.Boolean.{Boolean}
 use Rattle.types.specs.declared.sequence.Boolean.TheVariants.{One}
@@ -10,7 +10,11 @@ use Rattle.types.specs.Emptiness.{admits_empty, takes_ticks}
 use Rattle.types.specs.Shapes.{written}
 use Rattle.sequences.specs.declared.facts.Facts.{Facts}
 use Rattle.sequences.specs.declared.entry.Entry.{Entry}
-use Rattle.sequences.specs.Drafts.{Draft, IsIn, named_within}
+use Rattle.sequences.specs.Drafts.{Draft, IsIn, named_within, Spells, uses_at}
+
+-- the bodies of the named sequences, in the order of their declarations
+abbrev pub Bodies : Type 0
+Bodies = List (Draft Boolean)
 
 -- Two sequences match the same segments.
 abbrev pub Alike : {B : Type 0} → (B → ℕ → Bool) → Seq B → Seq B → Type 0
@@ -40,14 +44,20 @@ pub record IsEntry (w : Written Boolean) (e : Entry) : Type 0 where
   pub same : weight w ≤ 127 → HasSame w e.sequence
 
 -- The name of the declaration at p stands for something, of which this is the entry.
-pub record IsEntryOf (bodies : List (Draft Boolean)) (p : ℕ) (e : Entry) : Type 0 where
+pub record IsEntryOf (bodies : Bodies) (p : ℕ) (e : Entry) : Type 0 where
   pub meant : Written Boolean
   pub depth : ℕ
   pub named : named_within bodies depth p ≡ Some meant
   pub entry : IsEntry meant e
 
+-- It stands for something, with the names written out, of which this is the entry.
+pub record HasEntry (bodies : Bodies) (d : Draft Boolean) (e : Entry) : Type 0 where
+  pub meant : Written Boolean
+  pub spells : Spells bodies d meant
+  pub entry : IsEntry meant e
+
 -- Each entry of a table is that of the declaration at its place.
-abbrev pub IsTable : List (Draft Boolean) → List (Option Entry) → Type 0
+abbrev pub IsTable : Bodies → List (Option Entry) → Type 0
 IsTable bodies table = (p : ℕ) (e : Entry) → slice_get table p ≡ Some (Some e) → IsEntryOf bodies p e
 
 -- whether there is an entry
@@ -64,3 +74,11 @@ pub record LacksOne (table : List (Option Entry)) (names : List ℕ) : Type 0 wh
   pub place : ℕ
   pub used : IsIn place names
   pub lacking : has_entry table place ≡ false
+
+-- each of these has an entry or is left
+abbrev pub Accounts : List (Option Entry) → List ℕ → ℕ → Type 0
+Accounts table left p = (has_entry table p ≡ true) ⊎ IsIn p left
+
+-- each of these lacks an entry of a name that it uses
+abbrev pub AllLack : Bodies → List (Option Entry) → List ℕ → Type 0
+AllLack bodies table left = (p : ℕ) → IsIn p left → LacksOne table (uses_at bodies p)

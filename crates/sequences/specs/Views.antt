@@ -1,21 +1,18 @@
 -- What the trees stand for.
-use Rattle.std.specs.Prelude.{List, map}
 use Rattle.types.specs.declared.sequence.Boolean.{Boolean}
 use Rattle.types.specs.declared.sequence.Boolean.TheVariants.{Listed}
-use Rattle.sequences.specs.declared.draft.Draft.{Draft, fold-Draft}
-use Rattle.sequences.specs.declared.draft.Draft.TheOpen.{Draft-F}
+use Rattle.sequences.specs.declared.draft.Draft.{Draft}
+use Rattle.sequences.specs.declared.draft.Draft.TheVariants as form
 use Rattle.sequences.specs.Drafts as drafts
+use Rattle.sequences.specs.Drafts.{boolean, name, delay, lead, repeat, or, and, throughout}
 
-abbrev pub draft_step : Draft-F (drafts.Draft Boolean) → drafts.Draft Boolean
-draft_step (Draft-F.Boolean p) = drafts.boolean (Listed p)
-draft_step (Draft-F.Name p) = drafts.name p
-draft_step (Draft-F.Delay r l x s) = drafts.delay r.value l x s.value
-draft_step (Draft-F.Lead l x s) = drafts.lead l x s.value
-draft_step (Draft-F.Repeat r l x) = drafts.repeat r.value l x
-draft_step (Draft-F.Or r s) = drafts.or r.value s.value
-draft_step (Draft-F.And r s) = drafts.and r.value s.value
-draft_step (Draft-F.Throughout p r) = drafts.throughout (Listed p) r.value
-
--- the sequence that a tree stands for
+-- the sequence that a tree stands for, each boolean by its place
 abbrev pub draft_of : Draft → drafts.Draft Boolean
-draft_of = fold-Draft (drafts.Draft Boolean) draft_step
+draft_of (form.Boolean p) = boolean (Listed p)
+draft_of (form.Name p) = name p
+draft_of (form.Delay' q r least extra z s) = delay (draft_of r) least extra (draft_of s)
+draft_of (form.Lead' least extra q s) = lead least extra (draft_of s)
+draft_of (form.Repeat' q r least extra) = repeat (draft_of r) least extra
+draft_of (form.Or' q r z s) = or (draft_of r) (draft_of s)
+draft_of (form.And' q r z s) = and (draft_of r) (draft_of s)
+draft_of (form.Throughout' p q r) = throughout (Listed p) (draft_of r)

@@ -6,8 +6,10 @@ mod draft;
 mod entry;
 mod facts;
 mod make;
+mod table;
 
 pub use cyclic::is_cyclic;
 pub use draft::Draft;
 pub use entry::Entry;
 pub use facts::Facts;
+pub use table::{entry_of, resolve};
