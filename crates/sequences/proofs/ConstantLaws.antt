@@ -25,7 +25,7 @@ chain_of_none : (P : ℕ → ℕ → Type 0) (count i j : ℕ) → count ≤ 0 �
 chain_of_none P zero i j le c = c
 chain_of_none P (suc count) i j le c = absurd (omega (arith, le))
 
-pub alike_empty : (holds : Boolean → ℕ → Bool) (w : Written Boolean) → IsOrdered w → weight w ≡ 0 → admits_empty w ≡ true → Alike holds (kernel One w) empty_seq
+pub alike_empty : (holds : Boolean → ℕ → Bool) (w : Written Boolean) → IsOrdered w → weight w ≡ 0 → admits_empty w ≡ true → Alike holds holds (kernel One w) empty_seq
 alike_empty holds w o z e i j =
     (λ m. (0, omega arith, omega arith, takes_nothing holds w i j o z m),
       λ m. subst (λ (k : ℕ). Matches holds (kernel One w) i k) (chain_of_none (Matches holds (one One)) m.0 i j m.2 m.3) (empty-Matches Boolean holds One w i o e))
@@ -36,7 +36,7 @@ empty_at_most holds i j m = chain_of_none (Matches holds (one One)) m.0 i j m.2 
 never_matches : (holds : Boolean → ℕ → Bool) (i j : ℕ) → Matches holds never_seq i j → ⊥
 never_matches holds i j m = omega (arith, m.1, empty_at_most holds i (m.0 + 1) m.3)
 
-pub alike_never : (holds : Boolean → ℕ → Bool) (w : Written Boolean) → IsOrdered w → weight w ≡ 0 → admits_empty w ≡ false → Alike holds (kernel One w) never_seq
+pub alike_never : (holds : Boolean → ℕ → Bool) (w : Written Boolean) → IsOrdered w → weight w ≡ 0 → admits_empty w ≡ false → Alike holds holds (kernel One w) never_seq
 alike_never holds w o z e i j =
     (λ m. absurd (not_empty (subst (λ (k : ℕ). Matches holds (kernel One w) i k) (sym (takes_nothing holds w i j o z m)) m)), λ m. absurd (never_matches holds i j m))
   where

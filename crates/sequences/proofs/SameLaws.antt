@@ -18,7 +18,7 @@ says_delay v w a b least most le x y =
     record {
       ordered = (le, x.ordered, y.ordered);
       light = omega (arith, x.light, y.light);
-      alike = λ holds. alike_one_of holds least (most - least) (after One (kernel One v) (kernel One w)) (after One (kernel One a) (kernel One b)) (alike_after holds One (kernel One v) (kernel One a) (kernel One w) (kernel One b) (x.alike holds) (y.alike holds));
+      alike = λ holds. alike_one_of holds holds least (most - least) (after One (kernel One v) (kernel One w)) (after One (kernel One a) (kernel One b)) (alike_after holds holds One One (kernel One v) (kernel One w) (kernel One a) (kernel One b) (λ k. refl) (x.alike holds) (y.alike holds));
     }
 
 pub says_lead : (w b : Written Boolean) (least most : ℕ) → least ≤ most → Says w b → Says (lead least most w) (lead least most b)
@@ -26,7 +26,7 @@ says_lead w b least most le y =
     record {
       ordered = (le, y.ordered);
       light = omega (arith, y.light);
-      alike = λ holds. alike_one_of holds least (most - least) (later One (kernel One w)) (later One (kernel One b)) (alike_later holds One (kernel One w) (kernel One b) (y.alike holds));
+      alike = λ holds. alike_one_of holds holds least (most - least) (later One (kernel One w)) (later One (kernel One b)) (alike_later holds holds One One (kernel One w) (kernel One b) (λ k. refl) (y.alike holds));
     }
 
 pub says_repeat : (w b : Written Boolean) (least most : ℕ) → least ≤ most → Says w b → Says (repeat w least most) (repeat b least most)
@@ -34,7 +34,7 @@ says_repeat w b least most le y =
     record {
       ordered = (le, y.ordered);
       light = mul-le-mul_left most y.light;
-      alike = λ holds. alike_times holds (kernel One w) (kernel One b) least most (y.alike holds);
+      alike = λ holds. alike_times holds holds (kernel One w) (kernel One b) least most (y.alike holds);
     }
 
 pub says_or : (v w a b : Written Boolean) → Says v a → Says w b → Says (or v w) (or a b)
@@ -42,7 +42,7 @@ says_or v w a b x y =
     record {
       ordered = (x.ordered, y.ordered);
       light = omega (arith, x.light, y.light);
-      alike = λ holds. alike_either holds (kernel One v) (kernel One a) (kernel One w) (kernel One b) (x.alike holds) (y.alike holds);
+      alike = λ holds. alike_either holds holds (kernel One v) (kernel One w) (kernel One a) (kernel One b) (x.alike holds) (y.alike holds);
     }
 
 lighter_product : (a b c d : ℕ) → a ≤ c → b ≤ d → (a + 1) * (b + 1) ≤ (c + 1) * (d + 1)
@@ -53,7 +53,7 @@ says_and v w a b x y =
     record {
       ordered = (x.ordered, y.ordered);
       light = lighter_product (weight a) (weight b) (weight v) (weight w) x.light y.light;
-      alike = λ holds. alike_both holds (kernel One v) (kernel One a) (kernel One w) (kernel One b) (x.alike holds) (y.alike holds);
+      alike = λ holds. alike_both holds holds (kernel One v) (kernel One w) (kernel One a) (kernel One b) (x.alike holds) (y.alike holds);
     }
 
 pub says_throughout : (b : Boolean) (v a : Written Boolean) → Says v a → Says (throughout b v) (throughout b a)
@@ -61,7 +61,7 @@ says_throughout b v a x =
     record {
       ordered = x.ordered;
       light = x.light;
-      alike = λ holds. alike_during holds b (kernel One v) (kernel One a) (x.alike holds);
+      alike = λ holds. alike_during holds holds b b (kernel One v) (kernel One a) (λ k. refl) (x.alike holds);
     }
 
 pub says_empty : (w : Written Boolean) → IsOrdered w → weight w ≡ 0 → admits_empty w ≡ true → Says w (repeat (boolean One) 0 0)

@@ -16,9 +16,9 @@ use Rattle.sequences.specs.Drafts.{Draft, IsIn, named_within, Spells, uses_at}
 abbrev pub Bodies : Type 0
 Bodies = List (Draft Boolean)
 
--- Two sequences match the same segments.
-abbrev pub Alike : {B : Type 0} → (B → ℕ → Bool) → Seq B → Seq B → Type 0
-Alike holds r s = (i j : ℕ) → Matches holds r i j ↔ Matches holds s i j
+-- Two sequences match the same segments, where h and g say which of their booleans are true.
+abbrev pub Alike : {B C : Type 0} → (B → ℕ → Bool) → (C → ℕ → Bool) → Seq B → Seq C → Type 0
+Alike h g r s = (i j : ℕ) → Matches h r i j ↔ Matches g s i j
 
 -- the weight, up to 128, and what its form tells of empty matches and of longer ones
 pub record IsFacts (w : Written Boolean) (f : Facts) : Type 0 where
@@ -30,7 +30,7 @@ pub record IsFacts (w : Written Boolean) (f : Facts) : Type 0 where
 pub record Says (w u : Written Boolean) : Type 0 where
   pub ordered : IsOrdered u
   pub light : weight u ≤ weight w
-  pub alike : (holds : Boolean → ℕ → Bool) → Alike holds (kernel One w) (kernel One u)
+  pub alike : (holds : Boolean → ℕ → Bool) → Alike holds holds (kernel One w) (kernel One u)
 
 -- There is a sequence, and it says the same.
 abbrev pub HasSame : Written Boolean → Option (Box Sequence Global) → Type 0
