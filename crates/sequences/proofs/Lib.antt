@@ -9,3 +9,4 @@ pub mod SpellLaws
 pub mod LackLaws
 pub mod TableLaws
 pub mod StuckLaws
+pub mod PlacedLaws

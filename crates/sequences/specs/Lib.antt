@@ -3,3 +3,4 @@ pub mod Views
 pub mod Marks
 pub mod Sweeps
 pub mod Entries
+pub mod Placed
