@@ -80,16 +80,16 @@ file_signals s items = flat_map (item_signals s) items
 
 -- whether a path is listed
 abbrev pub is_listed : List (List ℕ) → List ℕ → Bool
-is_listed known path = list_any (bytes_eq path) known
+is_listed known p = list_any (bytes_eq p) known
 
 -- a path behind those that are listed already, unless it is
 abbrev pub with_path : List (List ℕ) → List ℕ → List (List ℕ)
-with_path known path = if is_listed known path then known else known ++ path ∷ []
+with_path known p = if is_listed known p then known else known ++ p ∷ []
 
 -- paths behind those that are listed already, each once
 abbrev pub with_paths : List (List ℕ) → List (List ℕ) → List (List ℕ)
 with_paths known [] = known
-with_paths known (path ∷ paths) = with_paths (with_path known path) paths
+with_paths known (p ∷ ps) = with_paths (with_path known p) ps
 
 abbrev pub listed : Scope → List (List ℕ) → Tree → List (List ℕ)
 listed s known t = with_paths known (signals s t)
@@ -106,12 +106,12 @@ columns_of s items = with_paths [] (file_signals s items)
 
 -- the place of a path
 abbrev pub column_of : List (List ℕ) → List ℕ → Option ℕ
-column_of columns path = position (bytes_eq path) columns
+column_of columns p = position (bytes_eq p) columns
 
 -- whether all paths are listed
 abbrev pub all_listed : List (List ℕ) → List (List ℕ) → Bool
 all_listed known [] = true
-all_listed known (path ∷ paths) = is_listed known path && all_listed known paths
+all_listed known (p ∷ ps) = is_listed known p && all_listed known ps
 
 -- Each path that an expression reads as a signal is a column.
 abbrev pub HasColumns : Scope → List (List ℕ) → Tree → Type 0

@@ -112,7 +112,7 @@ earlier (Some a) (Some b) = Some (min a b)
 -- the least of a list
 abbrev pub least : List ℕ → Option ℕ
 least [] = None
-least (a ∷ as) = earlier (Some a) (least as)
+least (x ∷ xs) = earlier (Some x) (least xs)
 
 -- no fault of any kind
 abbrev pub IsSound : Scope → Tree → Type 0

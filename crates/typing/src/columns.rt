@@ -1,6 +1,6 @@
 //! The signals that a text reads.
 
-ghost use Rattle.std.specs.Prelude.{◌≡◌, ◌<◌, map, length, IfOk, OnOk, IfSome, Some, slice_get};
+ghost use Rattle.std.specs.Prelude.{◌≡◌, ◌<◌, ◌==◌, map, length, IfOk, OnOk, Some, slice_get};
 ghost use Rattle.parser.specs.Views.{item_of};
 ghost use Rattle.typing.specs.Views.{scope_of};
 

@@ -2,8 +2,9 @@
 
 ghost use Rattle.std.specs.Prelude.{◌≡◌, map, IfOk, OnOk, IsTrue};
 ghost use Rattle.parser.specs.Views.{item_of, path_of, tree_of};
-ghost use Rattle.typing.specs.Scopes.{is_narrow, bits_of, meaning, meaning_by, scope_for, sequence_named, place_of};
+ghost use Rattle.typing.specs.Scopes.{found, owns, is_narrow, bits_of, meaning, meaning_by, scope_for, sequence_named, place_of};
 ghost use Rattle.typing.specs.Entries.{with_entry};
+ghost use Rattle.typing.specs.Views.{names_in, entries_in, scope_of};
 
 use crate::declared::Declared;
 use crate::names::Names;
@@ -90,9 +91,6 @@ fn place_of(means: Option<Meaning>) -> Option<usize>
 }
 
 impl<'n> Scope<'n> {
-    ghost use Rattle.typing.specs.Scopes.{found, owns};
-    ghost use Rattle.typing.specs.Views.{names_in, entries_in, scope_of};
-
     /// The scope of a text over a dump.
     pub fn of(alloc: Global, names: &'n Names, items: &[Item]) -> Result<Scope<'n>, AllocError>
         ensures { IfOk result (λ s. scope_of s ≡ scope_for (map item_of items.now) (names_in names.now)) }
