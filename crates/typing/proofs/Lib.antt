@@ -1,3 +1,6 @@
-pub mod Lists
+pub mod EntryLaws
 pub mod FaultLaws
+pub mod Lists
 pub mod WidthLaws
+pub mod SeeLaws
+pub mod TreeSteps

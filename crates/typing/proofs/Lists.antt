@@ -1,5 +1,6 @@
 -- Lists that loops go over, from a place on.
-use Rattle.std.proofs.Common.{◌≡◌, ℕ, ◌+◌, ◌<◌, ◌≤◌, List, [], ◌∷◌, map, drop, length, get_or, refl, sym, ap, ◌∙◌, arith, drop-cons, add-one}
+use Rattle.std.proofs.Common.{◌≡◌, ℕ, ◌+◌, ◌<◌, ◌≤◌, List, [], ◌∷◌, map, drop, length, get_or, refl, sym, ap, ◌∙◌, arith, drop-cons, add-one, Result, Ok, Err, IfOk}
+use Rattle.std.proofs.lemmas.List.{drop_all}
 use Rattle.lexer.specs.declared.token.Token.{Token}
 use Rattle.grammar.specs.declared.bound.Range.{Range}
 use Rattle.grammar.specs.Trees as trees
@@ -16,10 +17,7 @@ at B f xs i x lt is = rw (drop-cons xs i x lt, add-one, ← is) refl
 
 -- nothing behind the last
 pub past_end : {A : Type 0} (B : Type 0) (f : A → B) (xs : List A) (i : ℕ) → length xs ≤ i → map f (drop i xs) ≡ []
-past_end B f xs i le = ap (map f) (nothing xs i le)
-  where
-    nothing : {A : Type 0} (xs : List A) (i : ℕ) → length xs ≤ i → drop i xs ≡ []
-    nothing xs i le = search (arith, ap)
+past_end B f xs i le = ap (map f) (drop_all i xs le)
 
 pub links-at : (xs : List (Token × Expr)) (i : ℕ) (x : Token × Expr) → i < length xs → x ≡ get_or xs i x →
     links_of (map link_of (drop i xs)) ≡ link x.0 (tree_of x.1) (links_of (map link_of (drop (i + 1) xs)))
@@ -48,3 +46,8 @@ others-at xs i x lt is = ap others_of (at trees.Sequence sequence_of xs i x lt i
 
 pub others-end : (xs : List Sequence) (i : ℕ) → length xs ≤ i → others_of (map sequence_of (drop i xs)) ≡ no_other
 others-end xs i le = ap others_of (past_end trees.Sequence sequence_of xs i le)
+
+-- what holds of a result's value, from what holds of it
+pub when_ok : {X E : Type 0} {P Q : X → Type 0} (r : Result X E) → ((x : X) → P x → Q x) → IfOk r P → IfOk r Q
+when_ok (Ok x) f h = f x h
+when_ok (Err e) f h = h

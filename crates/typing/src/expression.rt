@@ -143,6 +143,7 @@ fn wide_fault(sought: Sought, at: usize, width: usize) -> Option<usize>
 }
 
 /// What is seen of an expression.
+#[tactic(auto, unfolding(crate::specs::Widths::own_width, crate::specs::Faults::faults))]
 #[cycle(expressions)]
 pub(crate) fn see(
     alloc: Global,
@@ -200,6 +201,7 @@ pub(crate) fn see(
 }
 
 /// What is seen of operators with their operands behind a first one.
+#[tactic(auto, unfolding(crate::specs::Widths::own_width, crate::specs::Faults::faults))]
 #[cycle(expressions)]
 fn see_links(
     alloc: Global,
@@ -224,6 +226,7 @@ fn see_links(
 }
 
 /// What is seen of more parts of a concatenation.
+#[tactic(auto, unfolding(crate::specs::Widths::own_width, crate::specs::Faults::faults))]
 #[cycle(expressions)]
 fn see_parts(
     alloc: Global,

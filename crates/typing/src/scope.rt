@@ -54,13 +54,15 @@ fn owns_of(alloc: Global, items: &[Item]) -> Result<IndexMap<String, Declared>, 
                 let own = Own::Counter(counters, width.bits);
                 declare(alloc, &mut names, counter.name.text, Declared { own })?;
                 counters += 1;
+                continue;
             }
             Item::Declaration(declaration) => {
                 let own = Own::Sequence(sequences);
                 declare(alloc, &mut names, declaration.name.text, Declared { own })?;
                 sequences += 1;
+                continue;
             }
-            Item::Assertion(_) => {}
+            Item::Assertion(_) => continue,
         }
     }
     Ok(names)
