@@ -18,3 +18,10 @@ earlier-assoc (Some a) (Some b) (Some c) = ap Some (min-assoc a b c)
 pub least-append : (xs ys : List ℕ) → least (xs ++ ys) ≡ earlier (least xs) (least ys)
 least-append [] ys = refl
 least-append (x ∷ xs) ys = ap (earlier (Some x)) (least-append xs ys) ∙ sym (earlier-assoc (Some x) (least xs) (least ys))
+
+pub ruleset for_least = (least-append)
+
+-- no fault of a whole is none of either part
+pub no_faults-parts : (xs ys : List ℕ) → xs ++ ys ≡ [] → (xs ≡ []) × (ys ≡ [])
+no_faults-parts [] ys h = (refl, h)
+no_faults-parts (x ∷ xs) ys h = absurd cc

@@ -4,3 +4,5 @@ pub mod Lists
 pub mod WidthLaws
 pub mod SeeLaws
 pub mod TreeSteps
+pub mod ColumnLaws
+pub mod SequenceLaws

@@ -31,6 +31,7 @@ fn optional_fault(
 }
 
 /// The first fault of a clause that may be left out.
+#[tactic(auto, using(crate::proofs::FaultLaws::for_least))]
 fn clause_fault(
     alloc: Global,
     scope: &Scope,
@@ -50,6 +51,7 @@ fn clause_fault(
 }
 
 /// The first fault of a counter.
+#[tactic(auto, using(crate::proofs::FaultLaws::for_least))]
 fn counter_fault(
     alloc: Global,
     scope: &Scope,
@@ -66,6 +68,7 @@ fn counter_fault(
 }
 
 /// The first fault of an assertion.
+#[tactic(auto, using(crate::proofs::FaultLaws::for_least))]
 fn assertion_fault(
     alloc: Global,
     scope: &Scope,

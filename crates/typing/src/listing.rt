@@ -52,6 +52,7 @@ fn list_path(
 }
 
 /// Lists what an expression reads.
+#[tactic(auto, unfolding(crate::specs::Columns::signals))]
 #[cycle(expressions)]
 fn list_expression(
     alloc: Global,
@@ -84,6 +85,7 @@ fn list_expression(
 }
 
 /// Lists what the operands of a chain read.
+#[tactic(auto, unfolding(crate::specs::Columns::signals))]
 #[cycle(expressions)]
 fn list_links(
     alloc: Global,
@@ -100,6 +102,7 @@ fn list_links(
 }
 
 /// Lists what the parts of a concatenation read.
+#[tactic(auto, unfolding(crate::specs::Columns::signals))]
 #[cycle(expressions)]
 fn list_parts(
     alloc: Global,
@@ -116,6 +119,7 @@ fn list_parts(
 }
 
 /// Lists what a sequence reads.
+#[tactic(auto, unfolding(crate::specs::Columns::sequence_signals))]
 #[cycle(sequences)]
 fn list_sequence(
     alloc: Global,
@@ -149,6 +153,7 @@ fn list_sequence(
 }
 
 /// Lists what is delayed.
+#[tactic(auto, unfolding(crate::specs::Columns::sequence_signals))]
 #[cycle(sequences)]
 fn list_steps(
     alloc: Global,
@@ -165,6 +170,7 @@ fn list_steps(
 }
 
 /// Lists what more sides read.
+#[tactic(auto, unfolding(crate::specs::Columns::sequence_signals))]
 #[cycle(sequences)]
 fn list_others(
     alloc: Global,
@@ -181,6 +187,7 @@ fn list_others(
 }
 
 /// Lists what a property reads.
+#[tactic(auto, using(crate::proofs::ColumnLaws::for_listing))]
 fn list_property(
     alloc: Global,
     scope: &Scope,
@@ -193,7 +200,8 @@ fn list_property(
         Property::Plain(sequence) => list_sequence(alloc, scope, columns, sequence),
         Property::Implication(antecedent, _, consequent) => {
             list_sequence(alloc, scope, columns, antecedent)?;
-            list_sequence(alloc, scope, columns, consequent)
+            list_sequence(alloc, scope, columns, consequent)?;
+            Ok(())
         }
     }
 }
@@ -214,6 +222,7 @@ fn list_optional(
 }
 
 /// Lists what a clause reads that may be left out.
+#[tactic(auto, using(crate::proofs::ColumnLaws::for_listing))]
 fn list_clause(
     alloc: Global,
     scope: &Scope,
@@ -226,12 +235,14 @@ fn list_clause(
         None => Ok(()),
         Some(operands) => {
             list_expression(alloc, scope, columns, &operands.0)?;
-            list_expression(alloc, scope, columns, &operands.1)
+            list_expression(alloc, scope, columns, &operands.1)?;
+            Ok(())
         }
     }
 }
 
 /// Lists what a counter reads.
+#[tactic(auto, using(crate::proofs::ColumnLaws::for_listing))]
 fn list_counter(
     alloc: Global,
     scope: &Scope,
@@ -243,10 +254,12 @@ fn list_counter(
     list_optional(alloc, scope, columns, &counter.clear)?;
     list_clause(alloc, scope, columns, &counter.load)?;
     list_clause(alloc, scope, columns, &counter.add)?;
-    list_clause(alloc, scope, columns, &counter.sub)
+    list_clause(alloc, scope, columns, &counter.sub)?;
+    Ok(())
 }
 
 /// Lists what an assertion reads.
+#[tactic(auto, using(crate::proofs::ColumnLaws::for_listing))]
 fn list_assertion(
     alloc: Global,
     scope: &Scope,
@@ -256,7 +269,8 @@ fn list_assertion(
     ensures { OnOk result (columns_in columns.new ≡ with_paths (columns_in columns.old) (assertion_signals (scope_of scope.now) (assertion_of assertion.now))) }
 {
     list_optional(alloc, scope, columns, &assertion.disable)?;
-    list_property(alloc, scope, columns, &assertion.property)
+    list_property(alloc, scope, columns, &assertion.property)?;
+    Ok(())
 }
 
 /// Lists what an item reads.

@@ -30,6 +30,7 @@ fn boolean_fault(
 }
 
 /// The first fault of a sequence.
+#[tactic(auto, unfolding(crate::specs::Faults::sequence_faults))]
 #[cycle(sequences)]
 pub(crate) fn sequence_fault(
     alloc: Global,
@@ -64,6 +65,7 @@ pub(crate) fn sequence_fault(
 }
 
 /// The first fault so far, and of what is delayed.
+#[tactic(auto, unfolding(crate::specs::Faults::sequence_faults))]
 #[cycle(sequences)]
 fn steps_fault(
     alloc: Global,
@@ -83,6 +85,7 @@ fn steps_fault(
 }
 
 /// The first fault so far, and of more sides.
+#[tactic(auto, unfolding(crate::specs::Faults::sequence_faults))]
 #[cycle(sequences)]
 fn others_fault(
     alloc: Global,
@@ -102,6 +105,7 @@ fn others_fault(
 }
 
 /// The first fault of a property.
+#[tactic(auto, using(crate::proofs::FaultLaws::for_least))]
 pub(crate) fn property_fault(
     alloc: Global,
     scope: &Scope,
