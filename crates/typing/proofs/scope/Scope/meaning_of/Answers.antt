@@ -1,0 +1,23 @@
+use Rattle.std.proofs.Common.{◌≡◌, ℕ, Option, Some, None, option_map, sym, ap, ◌∙◌}
+use Rattle.typing.specs.declared.own.Own.{Own}
+use Rattle.typing.specs.declared.declared.Declared.{Declared}
+use Rattle.typing.specs.Scopes.{found, meaning_by}
+use Rattle.typing.specs.Views.{names_in, entries_in}
+use Rattle.typing.proofs.EntryLaws.{found-text}
+use Rattle.typing.proofs.scope.Scope.meaning_of.Goals as goal
+
+
+pub returns-in-Some-clause-means : goal.returns-in-Some-clause-means
+returns-in-Some-clause-means c =
+    let there = found-text (λ (d : Declared). d.own) c.args.self.now.own c.args.text.now ∙ ap (option_map (λ (d : Declared). d.own)) (sym c.in-Some.ensures.value) in
+    sym (ap (λ (o : Option Own). meaning_by o (found (names_in c.args.self.now.names.now) c.args.text.now)) there)
+
+pub returns-in-Some-width-clause-means : goal.returns-in-Some-width-clause-means
+returns-in-Some-width-clause-means c =
+    let none = found-text (λ (d : Declared). d.own) c.args.self.now.own c.args.text.now ∙ ap (option_map (λ (d : Declared). d.own)) (sym c.in_default.ensures.value) in
+    ap (meaning_by None) c.in-Some-width.ensures ∙ sym (ap (λ (o : Option Own). meaning_by o (found (names_in c.args.self.now.names.now) c.args.text.now)) none)
+
+pub returns-in-None-clause-means : goal.returns-in-None-clause-means
+returns-in-None-clause-means c =
+    let none = found-text (λ (d : Declared). d.own) c.args.self.now.own c.args.text.now ∙ ap (option_map (λ (d : Declared). d.own)) (sym c.in_default.ensures.value) in
+    ap (meaning_by None) c.in-None.ensures ∙ sym (ap (λ (o : Option Own). meaning_by o (found (names_in c.args.self.now.names.now) c.args.text.now)) none)
