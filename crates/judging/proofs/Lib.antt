@@ -1,3 +1,3 @@
 pub mod Searches
-pub mod ReachLaws
-pub mod SpanLaws
+pub mod RowLaws
+pub mod FormLaws
