@@ -1,7 +1,8 @@
 -- Tables of marks, with a row for each start: which places a sequence reaches from it. Place k is the tick that lies k behind the attempt's first.
-use Rattle.std.specs.Prelude.{◌≡◌, ℕ, ◌+◌, ◌<◌, ◌&&◌, ◌||◌, List, [], Bool, true, false, IsTrue, nat_le, length, slice_index_or}
+use Rattle.std.specs.Prelude.{◌≡◌, ℕ, ◌+◌, ◌<◌, ◌&&◌, ◌||◌, ◌-◌, List, [], Bool, true, false, Option, Some, None, IsTrue, nat_le, length, slice_index_or}
 use Rattle.types.specs.declared.sequence.Boolean.{Boolean}
 use Rattle.types.specs.declared.sequence.Boolean.TheVariants.{One, Listed}
+use Rattle.types.specs.declared.decision.Decision.{Decision}
 use Rattle.types.specs.Quantifiers.{some_in}
 use Rattle.types.specs.Segments.{sat}
 
@@ -46,3 +47,13 @@ held_at values = sat (value_at values) (length values)
 -- The rows are what the booleans are from the first tick on.
 pub record HasSeen (value : Boolean → ℕ → Bool) (first : ℕ) (values : List (List Bool)) : Type 0 where
   pub each : (b : Boolean) (k : ℕ) → k < length values → value_at values b k ≡ value b (first + k)
+
+-- at which ticks the disabling boolean was seen to be true, if there is one
+abbrev pub off_at : List (List Bool) → Option Boolean → ℕ → ℕ → Bool
+off_at values None first k = false
+off_at values (Some b) first k = value_at values b (k - first)
+
+-- the end of what an attempt sees: the ticks below the number by which it is decided, or all
+abbrev pub last_of : ℕ → Option (ℕ × Decision) → ℕ
+last_of end None = end
+last_of end (Some (n, d)) = n

@@ -25,7 +25,7 @@ pub(crate) fn ends_from(
     seen: &Seen,
     starts: &[bool],
 ) -> Result<Table, AllocError>
-    requires { length starts.now < 2 ^ 60 }
+    requires { length starts.now < 2 ^ 61 }
     ensures { IfOk result (IsRelation (is_match (held_at seen.now.values) (shape sequence.now)) starts.now) }
 {
     if !some_mark(starts, 0, starts.len()) {
@@ -71,7 +71,7 @@ fn ends_delayed(
     seen: &Seen,
     starts: &[bool],
 ) -> Result<Table, AllocError>
-    requires { length starts.now < 2 ^ 60 }
+    requires { length starts.now < 2 ^ 61 }
     ensures { IfOk result (λ v. (r : Seq Boolean) → IsRelation (is_match (held_at seen.now.values) r) starts.now fronts.now
         → IsRelation (is_match (held_at seen.now.values) (one_of least (most - least) (after One r (shape second.now)))) starts.now v) }
 {
@@ -91,7 +91,7 @@ fn ends_late(
     seen: &Seen,
     starts: &[bool],
 ) -> Result<Table, AllocError>
-    requires { length starts.now < 2 ^ 60 }
+    requires { length starts.now < 2 ^ 61 }
     ensures { IfOk result (IsRelation (is_match (held_at seen.now.values) (one_of least (most - least) (later One (shape body.now)))) starts.now) }
 {
     let here = same(alloc, true, starts)?;
@@ -111,7 +111,7 @@ fn ends_behind(
     seen: &Seen,
     starts: &[bool],
 ) -> Result<Table, AllocError>
-    requires { length starts.now < 2 ^ 60 }
+    requires { length starts.now < 2 ^ 61 }
     ensures { IfOk result (IsRelation (behind apart.now together.now (is_match (held_at seen.now.values) (shape rest.now))) starts.now) }
 {
     let begins = starts_behind(alloc, apart, together, starts)?;

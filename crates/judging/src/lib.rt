@@ -2,7 +2,12 @@
 #![tactic(auto, using(crate::proofs::Searches::searches))]
 
 mod ends;
+mod outlook;
 mod relation;
 mod row;
 mod seen;
 mod table;
+mod verdict;
+
+pub use values::Trace as Rows;
+pub use verdict::judge;

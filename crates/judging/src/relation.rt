@@ -40,7 +40,7 @@ pub(crate) fn next(
     seen: &Seen,
     starts: &[bool],
 ) -> Result<Table, AllocError>
-    requires { length starts.now < 2 ^ 60 }
+    requires { length starts.now < 2 ^ 61 }
     ensures { IfOk result (IsRelation (λ i j. (j == i + 1) && held_at seen.now.values boolean i) starts.now) }
 {
     let mut all = Table::new(alloc);
@@ -84,7 +84,7 @@ pub(crate) fn shared(
     wanted: bool,
     starts: &[bool],
 ) -> Result<Table, AllocError>
-    requires { length starts.now < 2 ^ 60 }
+    requires { length starts.now < 2 ^ 61 }
     ensures { IfOk result (IsRelation (λ i j. wanted && (nat_le i j && links front.now i (j + 1))) starts.now) }
 {
     let mut all = Table::new(alloc);

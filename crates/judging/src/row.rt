@@ -92,7 +92,7 @@ pub(crate) fn shared_row(
     wanted: bool,
     count: usize,
 ) -> Result<Vec<bool>, AllocError>
-    requires { count < 2 ^ 60 }
+    requires { count < 2 ^ 61 }
     ensures { IfOk result (λ row. IsRow (λ j. wanted && (nat_le place j && marks front.now (j + 1))) count row.items) }
 {
     let mut row = Vec::with_capacity(alloc, count)?;
