@@ -1,8 +1,8 @@
 -- What the tables of both sides say of an attempt.
-use Rattle.std.proofs.Common.{◌≡◌, inl, inr, ℕ, zero, suc, ◌+◌, ◌-◌, ◌<◌, ◌≤◌, max, Bool, true, false, not, ◌&&◌, ◌||◌, if◌then◌else◌, List, [], ◌∷◌, ◌++◌, length, Option, Some, None, get_or, refl, sym, ap, ◌∙◌, subst, arith, nat_le, length-append}
+use Rattle.std.proofs.Common.{◌≡◌, inl, inr, ℕ, zero, suc, ◌+◌, ◌-◌, ◌<◌, ◌≤◌, Bool, true, false, not, ◌&&◌, ◌||◌, if◌then◌else◌, List, [], ◌∷◌, ◌++◌, length, Option, Some, None, refl, sym, ap, ◌∙◌, arith, nat_le, length-append}
 use Rattle.std.specs.Prelude.{IsTrue, ◌==◌, slice_get}
 use Rattle.std.proofs.Math.ListN.{get_or-append}
-use Rattle.std.proofs.lemmas.Bool.{and_from, both_ways, false_from_ne_true, cases_Bool, cases_lt, eq-eqb, le-leb}
+use Rattle.std.proofs.lemmas.Bool.{and_from, false_from_ne_true, cases_lt, le-leb}
 use Rattle.types.specs.declared.sequence.Boolean.{Boolean}
 use Rattle.types.specs.declared.sequence.Boolean.TheVariants.{One, Listed}
 use Rattle.types.specs.declared.decision.Decision.{Decision}
@@ -34,8 +34,11 @@ module _ (B : Type 0) (value : B → ℕ → Bool) (n : ℕ) where
   -- the row of the first tick
   pub first_row : (r : Seq B) (count : ℕ) (starts ends : List Bool) (table : List (List Bool)) → 0 < count → IsRow (λ j. (j == 0) && true) count starts → IsRelation (is_match (sat value n) r) starts table → ends ≡ row_at table 0
       → IsRow (λ j. (j == 0) && true) count starts × ((j : ℕ) → j < count → marks ends j ≡ is_match (sat value n) r 0 j)
-  first_row r count starts ends table some start rel is = (start, λ j below.
-      ap (λ (l : List Bool). marks l j) is ∙ rel.each 0 j (start.each 0 some) (omega (arith, start.long)))
+  first_row r count starts ends table some start rel is = (
+    start,
+    λ j below.
+        ap (λ (l : List Bool). marks l j) is ∙ rel.each 0 j (start.each 0 some) (omega (arith, start.long)),
+  )
 
   module _ (r s : Seq B) (count room : ℕ) (ends obligations : List Bool) (consequents : List (List Bool)) (within : n < count) (at : (j : ℕ) → j < count → marks ends j ≡ is_match (sat value n) r 0 j) where
     pub goes_on_law : longest r < count → some_in (n + 1) count (marks ends) ≡ goes_on value r n 0
@@ -83,6 +86,7 @@ seen_more all places t first tick values new row h pushed is each = record { eac
   where
     long : length new ≡ length values + 1
     long = ap (λ (l : List (List Bool)). length l) pushed ∙ length-append values (row ∷ [])
+
     by : (b : Boolean) (k : ℕ) → k < length new → value_at new b k ≡ value_in all places t b (first + k)
     by One k below = refl
     by (Listed i) k below = elim (cases_lt k (length values)) [

@@ -1,10 +1,10 @@
 -- What is reached, form by form.
 use Rattle.std.proofs.Common.{◌≡◌, inl, inr, ℕ, zero, suc, ◌+◌, ◌-◌, ◌<◌, ◌≤◌, max, Bool, true, false, ◌&&◌, ◌||◌, List, [], length, refl, sym, subst, ap, ◌∙◌, arith, nat_le}
 use Rattle.std.specs.Prelude.{IsTrue, ◌==◌}
-use Rattle.std.proofs.lemmas.Bool.{or_cases, or_left, or_right, and_parts, and_from, both_ways, eqb-true, eq-eqb, le-leb, leb-true, cases_lt}
+use Rattle.std.proofs.lemmas.Bool.{or_cases, or_left, or_right, and_parts, and_from, both_ways, eqb-true, eq-eqb, le-leb, leb-true}
 use Rattle.types.specs.Quantifiers.{some_in, each_in}
 use Rattle.types.proofs.Quantifiers.{some_in-found, some_in-true, some_in-same, some_in-end, some_in-snoc}
-use Rattle.types.specs.Segments.{Seq, fuse, either, both, during, times, chain, Matches, is_match}
+use Rattle.types.specs.Segments.{Seq, either, both, during, times, chain, Matches, is_match}
 use Rattle.types.specs.Written.{after, later, one_of}
 use Rattle.types.proofs.Segments.{Matches-forward, is_match-Matches, Matches-is_match}
 use Rattle.types.proofs.RangeLaws.{one_of-found, one_of-matches, after-found, after-matches, later-found, later-matches}

@@ -1,5 +1,5 @@
 -- What is decided doesn't depend on where the attempt lies.
-use Rattle.std.proofs.Common.{◌≡◌, inl, inr, ℕ, zero, suc, ◌+◌, ◌-◌, ◌<◌, ◌≤◌, Bool, ◌||◌, Option, Some, None, refl, sym, subst, ◌∙◌, arith, nat_le}
+use Rattle.std.proofs.Common.{◌≡◌, inl, inr, ℕ, zero, suc, ◌+◌, ◌-◌, ◌<◌, ◌≤◌, Bool, Option, Some, None, refl, sym, subst, ◌∙◌, arith, nat_le}
 use Rattle.std.specs.Prelude.{IsTrue}
 use Rattle.std.proofs.lemmas.Bool.{or_cases, or_left, or_right, cases_lt, le-leb, leb-true}
 use Rattle.types.specs.declared.decision.Decision.{Decision}
@@ -53,11 +53,12 @@ module _ (B : Type 0) (there here : B → ℕ → Bool) (c : ℕ) where
   up same (either r s) i j k l first last h = elim h [ inl h ↦ inl (up same r i j k l first last h) | inr h ↦ inr (up same s i j k l first last h) ]
   up same (both r s) i j k l first last h =
       (c + h.0, c + h.1, up same r i (c + h.0) k h.0 first refl h.2, up same s i (c + h.1) k h.1 first refl h.3, omega (arith, h.4))
-  up same (during b r) i j k l first last h =
-      (up same r i j k l first last h.0,
-      λ m from below.
-      let e : c + (m - c) ≡ m = omega arith in
-      subst (λ n. IsTrue (there b n)) e (same b (m - c) (h.1 (m - c) (omega arith) (omega arith))))
+  up same (during b r) i j k l first last h = (
+    up same r i j k l first last h.0,
+    λ m from below.
+        let e : c + (m - c) ≡ m = omega arith in
+        subst (λ n. IsTrue (there b n)) e (same b (m - c) (h.1 (m - c) (omega arith) (omega arith))),
+  )
   up same (times r least most) i j k l first last h =
       (h.0, h.1, h.2, chain_up (Matches there r) (Matches here r) c (up same r) h.0 i j k l first last h.3)
 
@@ -70,18 +71,18 @@ module _ (B : Type 0) (value here : B → ℕ → Bool) (c n : ℕ) (same : (b :
   sat_down : (b : B) (k : ℕ) → IsTrue (sat value (c + n) b (c + k)) → IsTrue (sat here n b k)
   sat_down b k t = elim (cases_lt k n) [
     | inl lt ↦ elim (or_cases (nat_le (c + n) (c + k)) (value b (c + k)) t) [
-        | inl past ↦ absurd (omega (arith, leb-true (c + n) (c + k) past))
-        | inr seen ↦ or_right (nat_le n k) (here b k) (same b k lt ∙ seen)
-      ]
+      | inl past ↦ absurd (omega (arith, leb-true (c + n) (c + k) past))
+      | inr seen ↦ or_right (nat_le n k) (here b k) (same b k lt ∙ seen)
+    ]
     | inr ge ↦ or_left (nat_le n k) (here b k) (le-leb n k ge)
   ]
 
   sat_up : (b : B) (k : ℕ) → IsTrue (sat here n b k) → IsTrue (sat value (c + n) b (c + k))
   sat_up b k t = elim (cases_lt k n) [
     | inl lt ↦ elim (or_cases (nat_le n k) (here b k) t) [
-        | inl past ↦ absurd (omega (arith, leb-true n k past))
-        | inr seen ↦ or_right (nat_le (c + n) (c + k)) (value b (c + k)) (sym (same b k lt) ∙ seen)
-      ]
+      | inl past ↦ absurd (omega (arith, leb-true n k past))
+      | inr seen ↦ or_right (nat_le (c + n) (c + k)) (value b (c + k)) (sym (same b k lt) ∙ seen)
+    ]
     | inr ge ↦ or_left (nat_le (c + n) (c + k)) (value b (c + k)) (le-leb (c + n) (c + k) (omega arith))
   ]
 
@@ -108,27 +109,31 @@ module _ (B : Type 0) (value here : B → ℕ → Bool) (c n : ℕ) (same : (b :
   decided_down r s Failed h =
       let from : c ≤ h.0 = h.1.0 in
       (h.0 - c, end_down r h.0 h.1, λ j m. h.2 (c + j) (raise s h.0 (c + j) (h.0 - c) j (omega arith) refl m))
-  decided_down r s Held h =
-      ((h.0.0 - c, end_down r h.0.0 h.0.1),
-      λ e end.
-      let kept = h.1 (c + e) (end_up r e end) in
-      let from : c + e ≤ kept.0 = forward s (c + e) kept.0 kept.2 in
-      (kept.0 - c, omega (arith, kept.1), lower s (c + e) kept.0 e (kept.0 - c) refl (omega arith) kept.2),
-      λ j above m. h.2 (c + j) (omega arith) (raise r c (c + j) 0 j (omega arith) refl m))
+  decided_down r s Held h = (
+    (h.0.0 - c, end_down r h.0.0 h.0.1),
+    λ e end.
+        let kept = h.1 (c + e) (end_up r e end) in
+        let from : c + e ≤ kept.0 = forward s (c + e) kept.0 kept.2 in
+        (kept.0 - c, omega (arith, kept.1), lower s (c + e) kept.0 e (kept.0 - c) refl (omega arith) kept.2),
+    λ j above m. h.2 (c + j) (omega arith) (raise r c (c + j) 0 j (omega arith) refl m),
+  )
   decided_down r s Vacuously h =
       (λ e end. h.0 (c + e) (end_up r e end), λ j above m. h.1 (c + j) (omega arith) (raise r c (c + j) 0 j (omega arith) refl m))
 
   decided_up : (r s : Seq B) (d : Decision) → IsDecided here r s n 0 d → IsDecided value r s (c + n) c d
-  decided_up r s Failed h =
-      (c + h.0, end_up r h.0 h.1,
-      λ j m. h.2 (j - c) (lower s (c + h.0) j h.0 (j - c) refl (omega (arith, forward s (c + h.0) j m)) m))
-  decided_up r s Held h =
-      ((c + h.0.0, end_up r h.0.0 h.0.1),
-      λ e end.
-      let from : c ≤ e = end.0 in
-      let kept = h.1 (e - c) (end_down r e end) in
-      (c + kept.0, omega (arith, kept.1), raise s e (c + kept.0) (e - c) kept.0 (omega arith) refl kept.2),
-      λ j above m. h.2 (j - c) (omega arith) (lower r c j 0 (j - c) (omega arith) (omega arith) m))
+  decided_up r s Failed h = (
+    c + h.0,
+    end_up r h.0 h.1,
+    λ j m. h.2 (j - c) (lower s (c + h.0) j h.0 (j - c) refl (omega (arith, forward s (c + h.0) j m)) m),
+  )
+  decided_up r s Held h = (
+    (c + h.0.0, end_up r h.0.0 h.0.1),
+    λ e end.
+        let from : c ≤ e = end.0 in
+        let kept = h.1 (e - c) (end_down r e end) in
+        (c + kept.0, omega (arith, kept.1), raise s e (c + kept.0) (e - c) kept.0 (omega arith) refl kept.2),
+    λ j above m. h.2 (j - c) (omega arith) (lower r c j 0 (j - c) (omega arith) (omega arith) m),
+  )
   decided_up r s Vacuously h =
       (λ e end. h.0 (e - c) (end_down r e end), λ j above m. h.1 (j - c) (omega arith) (lower r c j 0 (j - c) (omega arith) (omega arith) m))
 

@@ -2,11 +2,15 @@
 #![tactic(auto, using(crate::proofs::Searches::searches))]
 
 mod ends;
+#[cfg(test)]
+mod form_tests;
 mod outlook;
 mod relation;
 mod row;
 mod seen;
 mod table;
+#[cfg(test)]
+mod tests;
 mod verdict;
 
 pub use values::Trace as Rows;

@@ -50,13 +50,7 @@ impl Outlook {
 }
 
 /// What stands at a tick where the antecedent ends or not, and up to which places the consequent matches from there.
-fn outlook_at(
-    ends: bool,
-    consequent: &[bool],
-    tick: usize,
-    below: usize,
-    count: usize,
-) -> Outlook
+fn outlook_at(ends: bool, consequent: &[bool], tick: usize, below: usize, count: usize) -> Outlook
     requires { below < 2 ^ 60 }
     ensures ends { result.ends ≡ ends }
     ensures broken { result.broken ≡ (ends && not (some_in tick count (marks consequent.now))) }

@@ -14,11 +14,7 @@ use std::alloc::{AllocError, Global};
 use types::Boolean;
 
 /// Each start itself, if that is asked for.
-pub(crate) fn same(
-    alloc: Global,
-    wanted: bool,
-    starts: &[bool],
-) -> Result<Table, AllocError>
+pub(crate) fn same(alloc: Global, wanted: bool, starts: &[bool]) -> Result<Table, AllocError>
     ensures { IfOk result (IsRelation (λ i j. (j == i) && wanted) starts.now) }
 {
     let mut all = Table::new(alloc);

@@ -173,7 +173,12 @@ pub(crate) fn both_row(
     for j in 0..count {
         one_ended |= is_marked(one, j);
         other_ended |= is_marked(other, j);
-        let here = is_later_end(is_marked(one, j), one_ended, is_marked(other, j), other_ended);
+        let here = is_later_end(
+            is_marked(one, j),
+            one_ended,
+            is_marked(other, j),
+            other_ended,
+        );
         row.push(here)?;
     }
     Ok(row)

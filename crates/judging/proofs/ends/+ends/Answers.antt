@@ -1,13 +1,13 @@
-use Rattle.std.proofs.Common.{◌≡◌, ◌+◌, ◌-◌, max, ℕ, List, Bool, refl, sym, ap, ◌∙◌, subst, length, arith}
+use Rattle.std.proofs.Common.{◌≡◌, ◌+◌, ◌-◌, max, ℕ, List, Bool, refl, sym, ◌∙◌, subst, arith}
 use Rattle.std.proofs.lemmas.Bool.{or_right}
 use Rattle.std.proofs.lemmas.Result.{IfOk-weaker}
 use Rattle.types.specs.declared.sequence.Boolean.{Boolean}
 use Rattle.types.specs.declared.sequence.Boolean.TheVariants.{One}
 use Rattle.types.specs.declared.sequence.Sequence.{Sequence}
-use Rattle.types.specs.Segments.{Seq, is_match}
+use Rattle.types.specs.Segments.{is_match}
 use Rattle.types.specs.Written.{one_of, after}
 use Rattle.types.specs.Shapes.{shape}
-use Rattle.judging.specs.Tables.{behind, held_at, reached_from, IsRelation}
+use Rattle.judging.specs.Tables.{held_at, IsRelation}
 use Rattle.judging.proofs.FormLaws.{no_starts, and_law, repeat_law, behind_law, delay_law, lead_law, lies_moved}
 use Rattle.judging.proofs.ends.+ends.Goals as goal
 

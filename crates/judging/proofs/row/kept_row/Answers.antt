@@ -1,5 +1,4 @@
-use Rattle.std.proofs.Common.{◌≡◌, ◌+◌, ◌&&◌, ◌∙◌, ap}
-use Rattle.types.specs.Quantifiers.{each_in}
+use Rattle.std.proofs.Common.{◌&&◌, ◌∙◌, ap}
 use Rattle.judging.specs.Tables.{marks, held_at}
 use Rattle.judging.proofs.RowLaws.{row_more, holds_on}
 use Rattle.judging.proofs.row.kept_row.Goals as goal

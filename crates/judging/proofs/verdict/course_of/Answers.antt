@@ -1,10 +1,10 @@
-use Rattle.std.proofs.Common.{◌≡◌, ℕ, ◌+◌, ◌-◌, List, Bool, []  , ◌∷◌, ◌++◌, length, length-append, ap, ◌∙◌, arith}
+use Rattle.std.proofs.Common.{◌≡◌, ℕ, ◌+◌, ◌-◌, List, Bool, [], ◌∷◌, length, length-append, ap, ◌∙◌, arith}
 use Rattle.std.specs.Prelude.{slice_get}
 use Rattle.types.specs.Attempts.{decision}
 use Rattle.types.specs.Shapes.{shape, value_in, is_true_at, expression_at}
 use Rattle.values.specs.declared.expr.Expr.{Expr}
 use Rattle.values.specs.Traces.{samples_of}
-use Rattle.judging.specs.Tables.{HasSeen, value_at}
+use Rattle.judging.specs.Tables.{HasSeen}
 use Rattle.judging.proofs.DecisionLaws.{seen_more, found_here, found_later, seen_decides}
 use Rattle.judging.proofs.verdict.course_of.Goals as goal
 

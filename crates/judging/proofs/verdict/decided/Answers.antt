@@ -1,11 +1,10 @@
-use Rattle.std.proofs.Common.{◌≡◌, ℕ, ◌+◌, ◌<◌, ◌≤◌, max, ◌&&◌, ◌||◌, not, nat_le, Bool, true, List, length, ap, ◌∙◌, subst, arith}
-use Rattle.std.specs.Prelude.{◌==◌}
+use Rattle.std.proofs.Common.{◌≡◌, ◌+◌, ◌<◌, ◌&&◌, ◌||◌, not, nat_le, Bool, List, length, ap, ◌∙◌, subst, arith}
 use Rattle.types.specs.declared.sequence.Boolean.{Boolean}
 use Rattle.types.specs.Quantifiers.{some_in, each_in}
-use Rattle.types.specs.Segments.{Seq, sat, is_match, longest}
+use Rattle.types.specs.Segments.{is_match, longest}
 use Rattle.types.specs.Attempts.{decide, decision, goes_on, has_end, is_failed, all_kept}
 use Rattle.types.specs.Shapes.{shape}
-use Rattle.judging.specs.Tables.{marks, row_at, links, value_at, held_at, IsRow, IsRelation}
+use Rattle.judging.specs.Tables.{marks, links, value_at, held_at, IsRow, IsRelation}
 use Rattle.judging.proofs.DecisionLaws.{first_row, goes_on_law, has_end_law, failed_law, kept_law}
 use Rattle.judging.proofs.verdict.decided.Goals as goal
 
