@@ -1,10 +1,10 @@
 -- Rows and tables that grow by one.
-use Rattle.std.proofs.Common.{◌≡◌, inl, inr, ℕ, zero, suc, ◌+◌, ◌<◌, ◌≤◌, Bool, true, false, ◌&&◌, ◌||◌, List, [], ◌∷◌, ◌++◌, length, get_or, refl, sym, subst, ap, ◌∙◌, arith, length-append, nat_le}
-use Rattle.std.specs.Prelude.{IsTrue}
+use Rattle.std.proofs.Common.{◌≡◌, inl, inr, ℕ, zero, suc, ◌+◌, ◌<◌, ◌≤◌, Bool, true, false, ◌&&◌, ◌||◌, List, [], ◌∷◌, ◌++◌, length, get_or, refl, sym, subst, ap, ◌∙◌, arith, length-append, nat_le, max, ◌-◌}
+use Rattle.std.specs.Prelude.{IsTrue, ◌==◌}
 use Rattle.std.proofs.Math.ListN.{get_or-append}
-use Rattle.std.proofs.lemmas.Bool.{cases_lt, both_ways, le-leb, leb-true, false_from_ne_true}
+use Rattle.std.proofs.lemmas.Bool.{cases_lt, both_ways, le-leb, leb-true, false_from_ne_true, and_parts}
 use Rattle.types.specs.Quantifiers.{some_in, each_in}
-use Rattle.types.proofs.Quantifiers.{some_in-snoc, each_in-end, each_in-snoc}
+use Rattle.types.proofs.Quantifiers.{some_in-end, some_in-snoc, each_in-end, each_in-snoc}
 use Rattle.judging.specs.Tables.{marks, row_at, links, IsRow, IsRelation}
 
 -- two tests that pass together
@@ -137,3 +137,36 @@ later_here one other j here one_before other_before one_ended other_ended one_wa
 
 pub ended_here : (row : List Bool) (j : ℕ) (before ended : Bool) → before ≡ some_in 0 j (marks row) → ended ≡ (before || marks row j) → ended ≡ some_in 0 (j + 1) (marks row)
 ended_here row j before ended was is = is ∙ ap (λ b. b || marks row j) was ∙ sym (some_in-snoc 0 j (marks row) (omega arith))
+
+-- the places behind those of a row by a number from the least up to below a gap
+abbrev pub moved_below : List Bool → ℕ → ℕ → ℕ → Bool
+moved_below front least end j = some_in least end (λ gap. nat_le gap j && marks front (j - gap))
+
+pub moved_none : (front row : List Bool) (least count : ℕ) → IsRow (λ j. (j == 0) && false) count row → IsRow (moved_below front least least) count row
+moved_none front row least count h = record {
+  long = h.long;
+  each = λ j below. h.each j below ∙ same_truth _ _
+      (λ t. absurd (both_ways _ refl (and_parts (j == 0) false t).1))
+      (λ t. absurd (both_ways _ (some_in-end least least (λ gap. nat_le gap j && marks front (j - gap)) (omega arith)) t));
+}
+
+pub moved_more : (front row new : List Bool) (least gap count : ℕ) → IsRow (moved_below front least gap) count row → least ≤ gap
+    → length new ≡ length row → ((j : ℕ) → j < length row → marks new j ≡ (marks row j || (nat_le gap j && marks front (j - gap))))
+    → IsRow (moved_below front least (gap + 1)) count new
+moved_more front row new least gap count h from long each = record {
+  long = long ∙ h.long;
+  each = λ j below.
+      let p : ℕ → Bool = λ gap. nat_le gap j && marks front (j - gap) in
+      each j (omega (arith, h.long)) ∙ ap (λ b. b || p gap) (h.each j below) ∙ sym (some_in-snoc least gap p from);
+}
+
+pub moved_all : (front row : List Bool) (least end gap count : ℕ) → IsRow (moved_below front least gap) count row → least ≤ gap → end ≤ gap → gap ≤ max end least → IsRow (moved_below front least end) count row
+moved_all front row least end gap count h from past upto = record {
+  long = h.long;
+  each = λ j below.
+      let p : ℕ → Bool = λ gap. nat_le gap j && marks front (j - gap) in
+      h.each j below ∙ elim (cases_lt least end) [
+        | inl lt ↦ let e : gap ≡ end = omega arith in ap (λ n. some_in least n p) e
+        | inr ge ↦ some_in-end least gap p (omega arith) ∙ sym (some_in-end least end p ge)
+      ];
+}

@@ -48,26 +48,18 @@ pub(crate) fn every_place(alloc: Global, count: usize) -> Result<Vec<bool>, Allo
     Ok(row)
 }
 
-/// Whether a place lies so far behind a mark.
-fn lies_behind(front: &[bool], gap: usize, place: usize) -> bool
-    ensures { result ≡ (nat_le gap place && marks front.now (place - gap)) }
+/// Marks what lies so far behind the places of the other row.
+fn merge_behind(row: &mut Vec<bool>, front: &[bool], gap: usize)
+    ensures long { length row.new.items ≡ length row.old.items }
+    ensures each { (j : ℕ) → j < length row.old.items → marks row.new.items j ≡ (marks row.old.items j || (nat_le gap j && marks front.now (j - gap))) }
 {
-    gap <= place && is_marked(front, place - gap)
-}
-
-/// Whether a place lies behind a mark by a number from the least up to below the end.
-fn is_moved(front: &[bool], least: usize, end: usize, place: usize) -> bool
-    ensures { result ≡ some_in least end (λ gap. nat_le gap place && marks front.now (place - gap)) }
-{
-    for gap in least..end {
-        if lies_behind(front, gap, place) {
-            return true;
-        }
+    let room = row.len().saturating_sub(gap);
+    for place in 0..front.len().min(room) {
+        row[gap + place] |= front[place];
     }
-    false
 }
 
-/// The places that lie so far behind those of the row.
+/// The places that lie behind those of the row by a number from the least up to below the end.
 pub(crate) fn moved_row(
     alloc: Global,
     front: &[bool],
@@ -77,9 +69,9 @@ pub(crate) fn moved_row(
 ) -> Result<Vec<bool>, AllocError>
     ensures { IfOk result (λ row. IsRow (λ j. some_in least end (λ gap. nat_le gap j && marks front.now (j - gap))) count row.items) }
 {
-    let mut row = Vec::with_capacity(alloc, count)?;
-    for j in 0..count {
-        row.push(is_moved(front, least, end, j))?;
+    let mut row = only(alloc, 0, false, count)?;
+    for gap in least..end {
+        merge_behind(&mut row, front, gap);
     }
     Ok(row)
 }
@@ -107,10 +99,8 @@ pub(crate) fn merge_from(row: &mut Vec<bool>, more: &[bool], from: usize)
     ensures long { length row.new.items ≡ length row.old.items }
     ensures each { (j : ℕ) → j < length row.old.items → marks row.new.items j ≡ (marks row.old.items j || (nat_le from j && marks more.now j)) }
 {
-    for j in from..row.len() {
-        if is_marked(more, j) {
-            row[j] = true;
-        }
+    for j in from..row.len().min(more.len()) {
+        row[j] |= more[j];
     }
 }
 

@@ -1,7 +1,10 @@
-use Rattle.std.proofs.Common.{ℕ, ◌-◌, ◌&&◌, nat_le}
-use Rattle.types.specs.Quantifiers.{some_in}
-use Rattle.judging.specs.Tables.{marks, IsRow}
+use Rattle.std.proofs.Common.{◌≤◌, max}
+use Rattle.judging.specs.Tables.{IsRow}
+use Rattle.judging.proofs.RowLaws.{moved_below}
 use Rattle.judging.proofs.row.moved_row.Given as goal
 
-abbrev pub invariant-loop-j : goal.invariant-loop-j
-invariant-loop-j l = IsRow (λ (j : ℕ). some_in l.least l.end (λ (gap : ℕ). nat_le gap j && marks l.front (j - gap))) l.j l.row.items
+abbrev pub invariant-loop-gap : goal.invariant-loop-gap
+invariant-loop-gap l = record {
+  row : IsRow (moved_below l.front l.least l.gap) l.count l.row.items;
+  upto : l.gap ≤ max l.end l.least;
+}
