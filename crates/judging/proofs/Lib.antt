@@ -1,3 +1,5 @@
 pub mod Searches
-pub mod ReachLaws
-pub mod SpanLaws
+pub mod RowLaws
+pub mod FormLaws
+pub mod ShiftLaws
+pub mod DecisionLaws

@@ -1,27 +1,59 @@
--- Tables of the ticks up to which a sequence matches, each by its distance from a first tick.
-use Rattle.std.specs.Prelude.{◌≡◌, ℕ, ◌+◌, ◌<◌, ◌&&◌, List, Bool, false, length, slice_index_or}
+-- Tables of marks, with a row for each start: which places a sequence reaches from it. Place k is the tick that lies k behind the attempt's first.
+use Rattle.std.specs.Prelude.{◌≡◌, ℕ, ◌+◌, ◌<◌, ◌&&◌, ◌||◌, ◌-◌, List, [], Bool, true, false, Option, Some, None, IsTrue, nat_le, length, slice_index_or}
+use Rattle.types.specs.declared.sequence.Boolean.{Boolean}
+use Rattle.types.specs.declared.sequence.Boolean.TheVariants.{One, Listed}
+use Rattle.types.specs.declared.decision.Decision.{Decision}
 use Rattle.types.specs.Quantifiers.{some_in}
+use Rattle.types.specs.Segments.{sat}
 
--- whether a table has a distance
+-- whether a row has a place
 abbrev pub marks : List Bool → ℕ → Bool
-marks table k = slice_index_or table k false
+marks row k = slice_index_or row k false
 
--- from one of the starts something passes up to the tick at the distance k
-abbrev pub reaches : (ℕ → ℕ → Bool) → List Bool → ℕ → ℕ → Bool
-reaches test starts first k = some_in 0 (k + 1) (λ m. marks starts m && test (first + m) (first + k))
+-- the row of a start, empty where there is none
+abbrev pub row_at : List (List Bool) → ℕ → List Bool
+row_at rows i = slice_index_or rows i []
 
--- The table marks what is reached from the starts.
-pub record IsReach (test : ℕ → ℕ → Bool) (starts : List Bool) (first : ℕ) (ends : List Bool) : Type 0 where
-  pub long : length ends ≡ length starts
-  pub each : (k : ℕ) → k < length starts → marks ends k ≡ reaches test starts first k
+-- whether a table has the place j in the row of i
+abbrev pub links : List (List Bool) → ℕ → ℕ → Bool
+links rows i j = marks (row_at rows i) j
 
--- The table marks what passes from the tick start.
-pub record IsSpan (test : ℕ → ℕ → Bool) (start count : ℕ) (ends : List Bool) : Type 0 where
-  pub long : length ends ≡ count
-  pub each : (k : ℕ) → k < count → marks ends k ≡ test start (start + k)
+-- For each marked start the table has the places that pass. Nothing is said of the rows of other starts.
+pub record IsRelation (test : ℕ → ℕ → Bool) (starts : List Bool) (rows : List (List Bool)) : Type 0 where
+  pub each : (i j : ℕ) → IsTrue (marks starts i) → j < length starts → links rows i j ≡ test i j
 
--- Behind each start at which the test passes there is a mark.
-pub record IsStep (test : ℕ → Bool) (starts ends : List Bool) : Type 0 where
-  pub long : length ends ≡ length starts
-  pub head : marks ends 0 ≡ false
-  pub each : (k : ℕ) → k + 1 < length starts → marks ends (k + 1) ≡ (marks starts k && test k)
+-- A row of so many places has those that pass.
+pub record IsRow (test : ℕ → Bool) (count : ℕ) (row : List Bool) : Type 0 where
+  pub long : length row ≡ count
+  pub each : (j : ℕ) → j < count → marks row j ≡ test j
+
+-- what the second table reaches from the places of the first, so many ticks further on at least
+abbrev pub reached_from : List (List Bool) → List (List Bool) → ℕ → ℕ → ℕ → Bool
+reached_from front rest gap i j = some_in 0 (length (row_at front i)) (λ m. marks (row_at front i) m && (nat_le (m + gap) j && links rest m j))
+
+-- What passes from a place of the one table, or behind a place of the other.
+abbrev pub behind : List (List Bool) → List (List Bool) → (ℕ → ℕ → Bool) → ℕ → ℕ → Bool
+behind moved shared test i j = some_in 0 (j + 1) (λ m. links moved i m && test m j) || some_in 0 j (λ m. links shared i m && test m j)
+
+-- a boolean's value at a place, where row k of the values is of place k
+abbrev pub value_at : List (List Bool) → Boolean → ℕ → Bool
+value_at values One k = true
+value_at values (Listed i) k = links values k i
+
+-- whether a boolean counts as true at a place, of which so many as there are rows were seen
+abbrev pub held_at : List (List Bool) → Boolean → ℕ → Bool
+held_at values = sat (value_at values) (length values)
+
+-- The rows are what the booleans are from the first tick on.
+pub record HasSeen (value : Boolean → ℕ → Bool) (first : ℕ) (values : List (List Bool)) : Type 0 where
+  pub each : (b : Boolean) (k : ℕ) → k < length values → value_at values b k ≡ value b (first + k)
+
+-- at which ticks the disabling boolean was seen to be true, if there is one
+abbrev pub off_at : List (List Bool) → Option Boolean → ℕ → ℕ → Bool
+off_at values None first k = false
+off_at values (Some b) first k = value_at values b (k - first)
+
+-- the end of what an attempt sees: the ticks below the number by which it is decided, or all
+abbrev pub last_of : ℕ → Option (ℕ × Decision) → ℕ
+last_of end None = end
+last_of end (Some (n, d)) = n

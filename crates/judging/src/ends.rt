@@ -1,55 +1,120 @@
 //! Up to where a sequence matches, by tables.
 
-ghost use Rattle.std.specs.Prelude.{◌+◌, ◌<◌, ◌^◌, IfOk, length};
-ghost use Rattle.types.specs.Segments.{is_match, sat};
-ghost use Rattle.types.specs.Shapes.{shape, value_in};
-ghost use Rattle.judging.specs.Tables.{IsReach, IsSpan};
+ghost use Rattle.std.specs.Prelude.{◌<◌, ◌-◌, ◌^◌, IfOk, length};
+ghost use Rattle.types.specs.Segments.{Seq, is_match};
+ghost use Rattle.types.specs.Written.{one_of, after, later};
+ghost use Rattle.types.specs.declared.sequence.Boolean.{Boolean};
+ghost use Rattle.types.specs.declared.sequence.Boolean.TheVariants.{One};
+ghost use Rattle.types.specs.Shapes.{shape};
+ghost use Rattle.judging.specs.Tables.{behind, held_at, IsRelation};
 
+use crate::relation::{
+    both, joined_behind, kept, merged, moved, next, repeated, same, shared, starts_behind,
+};
+use crate::row::{every_place, some_mark};
 use crate::seen::Seen;
-use crate::table::{merge, only_first, stepped};
+use crate::table::Table;
 use std::alloc::{AllocError, Global};
 use types::Sequence;
 
-/// The places up to which the sequence matches from one of the marked starts; place 0 is the tick `first`.
-///
-/// Each boolean is evaluated at most once at each place.
-pub(crate) fn ends_after(
+/// The places up to which the sequence matches from each marked start. Each part of it is run once.
+#[cycle(ends)]
+pub(crate) fn ends_from(
     alloc: Global,
     sequence: &Sequence,
     seen: &Seen,
     starts: &[bool],
-    first: usize,
-) -> Result<Vec<bool>, AllocError>
-    requires { first + length starts.now < 2 ^ 62 }
-    ensures { IfOk result (λ v. IsReach (is_match (sat (value_in seen.now.rows.now) seen.now.below) (shape sequence.now)) starts.now first v.items) }
+) -> Result<Table, AllocError>
+    requires { length starts.now < 2 ^ 61 }
+    ensures { IfOk result (IsRelation (is_match (held_at seen.now.values) (shape sequence.now)) starts.now) }
 {
+    if !some_mark(starts, 0, starts.len()) {
+        return Ok(Table::new(alloc));
+    }
     match sequence {
-        Sequence::Leaf(boolean) => stepped(alloc, *boolean, seen, starts, first),
-        Sequence::Empty => Vec::from_slice(alloc, starts),
-        Sequence::Then(front, rest) => {
-            let fronts = ends_after(alloc, front, seen, starts, first)?;
-            ends_after(alloc, rest, seen, fronts.as_slice(), first)
+        Sequence::Boolean(boolean) => next(alloc, *boolean, seen, starts),
+        Sequence::Delay(first, least, most, second) => {
+            let fronts = ends_from(alloc, first, seen, starts)?;
+            ends_delayed(alloc, &fronts, *least, *most, second, seen, starts)
+        }
+        Sequence::Lead(least, most, body) => ends_late(alloc, *least, *most, body, seen, starts),
+        Sequence::Repeat(body, least, most) => {
+            let every = every_place(alloc, starts.len())?;
+            let bodies = ends_from(alloc, body, seen, every.as_slice())?;
+            repeated(alloc, &bodies, *least, *most, starts)
         }
         Sequence::Or(one, other) => {
-            let mut all = ends_after(alloc, one, seen, starts, first)?;
-            let more = ends_after(alloc, other, seen, starts, first)?;
-            merge(&mut all, more.as_slice(), 0);
-            Ok(all)
+            let ones = ends_from(alloc, one, seen, starts)?;
+            let others = ends_from(alloc, other, seen, starts)?;
+            merged(alloc, &ones, &others, starts)
+        }
+        Sequence::And(one, other) => {
+            let ones = ends_from(alloc, one, seen, starts)?;
+            let others = ends_from(alloc, other, seen, starts)?;
+            both(alloc, &ones, &others, starts)
+        }
+        Sequence::Throughout(boolean, body) => {
+            let bodies = ends_from(alloc, body, seen, starts)?;
+            kept(alloc, &bodies, *boolean, seen, starts)
         }
     }
 }
 
-/// The table of the places behind the tick `start`, so many, up to which the sequence matches from there.
-pub(crate) fn ends_of(
+/// The places up to which the second matches a number of ticks behind the first, of which the table has the ends.
+#[cycle(ends)]
+fn ends_delayed(
     alloc: Global,
-    sequence: &Sequence,
+    fronts: &Table,
+    least: u8,
+    most: u8,
+    second: &Sequence,
     seen: &Seen,
-    start: usize,
-    count: usize,
-) -> Result<Vec<bool>, AllocError>
-    requires { start + count < 2 ^ 62 }
-    ensures { IfOk result (λ v. IsSpan (is_match (sat (value_in seen.now.rows.now) seen.now.below) (shape sequence.now)) start count v.items) }
+    starts: &[bool],
+) -> Result<Table, AllocError>
+    requires { length starts.now < 2 ^ 61 }
+    ensures { IfOk result (λ v. (r : Seq Boolean) → IsRelation (is_match (held_at seen.now.values) r) starts.now fronts.now
+        → IsRelation (is_match (held_at seen.now.values) (one_of least (most - least) (after One r (shape second.now)))) starts.now v) }
 {
-    let starts = only_first(alloc, count, true)?;
-    ends_after(alloc, sequence, seen, starts.as_slice(), start)
+    let end = least.max(most) as usize;
+    let apart = moved(alloc, fronts, least.saturating_sub(1) as usize, end, starts)?;
+    let together = shared(alloc, fronts, least == 0, starts)?;
+    ends_behind(alloc, &apart, &together, second, seen, starts)
+}
+
+/// The places up to which the body matches a number of ticks behind each start.
+#[cycle(ends)]
+fn ends_late(
+    alloc: Global,
+    least: u8,
+    most: u8,
+    body: &Sequence,
+    seen: &Seen,
+    starts: &[bool],
+) -> Result<Table, AllocError>
+    requires { length starts.now < 2 ^ 61 }
+    ensures { IfOk result (IsRelation (is_match (held_at seen.now.values) (one_of least (most - least) (later One (shape body.now)))) starts.now) }
+{
+    let here = same(alloc, true, starts)?;
+    let end = least.max(most) as usize + 1;
+    let apart = moved(alloc, &here, least as usize, end, starts)?;
+    let none = Table::new(alloc);
+    ends_behind(alloc, &apart, &none, body, seen, starts)
+}
+
+/// The places up to which the rest matches from those of the one table, or behind those of the other.
+#[cycle(ends)]
+fn ends_behind(
+    alloc: Global,
+    apart: &Table,
+    together: &Table,
+    rest: &Sequence,
+    seen: &Seen,
+    starts: &[bool],
+) -> Result<Table, AllocError>
+    requires { length starts.now < 2 ^ 61 }
+    ensures { IfOk result (IsRelation (behind apart.now together.now (is_match (held_at seen.now.values) (shape rest.now))) starts.now) }
+{
+    let begins = starts_behind(alloc, apart, together, starts)?;
+    let rests = ends_from(alloc, rest, seen, begins.as_slice())?;
+    joined_behind(alloc, apart, together, &rests, starts)
 }

@@ -1,44 +1,28 @@
 //! What stands at the ends of an attempt.
 
-ghost use Rattle.std.specs.Prelude.{◌≡◌, ◌+◌, ◌-◌, ◌<◌, ◌≤◌, ◌^◌, ◌&&◌, ◌||◌, not, IfOk, length};
+ghost use Rattle.std.specs.Prelude.{◌≡◌, ◌+◌, ◌<◌, ◌≤◌, ◌^◌, ◌&&◌, ◌||◌, not, nat_le, IfOk, length};
 ghost use Rattle.types.specs.Quantifiers.{some_in, each_in};
-ghost use Rattle.types.specs.Segments.{is_match, sat, longest};
-ghost use Rattle.types.specs.Attempts.{is_kept, is_possible, has_end, is_failed, all_kept};
-ghost use Rattle.types.specs.Shapes.{shape, value_in};
-ghost use Rattle.judging.specs.Tables.{IsSpan};
+ghost use Rattle.judging.specs.Tables.{marks, links, IsRow};
 
-use crate::ends::ends_of;
-use crate::seen::Seen;
-use crate::table::some_mark;
+use crate::row::some_mark;
+use crate::table::{Table, is_marked};
 use std::alloc::{AllocError, Global};
-use types::{Assertion, Sequence, longest_match};
 
-/// What has become of an obligation: whether the consequent matched, and whether it still may.
-#[derive(Clone, Copy)]
-pub(crate) struct Prospect {
-    pub kept: bool,
-    pub possible: bool,
-}
-
-/// The obligation at a tick.
-pub(crate) fn prospect_at(
+/// The ticks with which a match that isn't empty ends, below a bound: there an obligation begins.
+pub(crate) fn obligations_at(
     alloc: Global,
-    consequent: &Sequence,
-    seen: &Seen,
-    tick: usize,
-) -> Result<Prospect, AllocError>
-    requires short { longest (shape consequent.now) ≤ 127 }
-    requires order { tick ≤ seen.now.below }
-    requires room { seen.now.below < 2 ^ 60 }
-    ensures kept { IfOk result (λ p. p.kept ≡ is_kept (value_in seen.now.rows.now) (shape consequent.now) seen.now.below tick) }
-    ensures possible { IfOk result (λ p. p.possible ≡ is_possible (value_in seen.now.rows.now) (shape consequent.now) seen.now.below tick) }
+    ends: &[bool],
+    below: usize,
+    count: usize,
+) -> Result<Vec<bool>, AllocError>
+    requires { count < 2 ^ 61 }
+    ensures { IfOk result (λ row. IsRow (λ e. nat_le (e + 1) below && marks ends.now (e + 1)) count row.items) }
 {
-    let longest = longest_match(consequent);
-    let behind = seen.below - tick;
-    let ends = ends_of(alloc, consequent, seen, tick, longest.max(behind) + 1)?;
-    let kept = some_mark(ends.as_slice(), 0, behind + 1);
-    let possible = some_mark(ends.as_slice(), 0, longest + 1);
-    Ok(Prospect { kept, possible })
+    let mut row = Vec::with_capacity(alloc, count)?;
+    for e in 0..count {
+        row.push(e < below && is_marked(ends, e + 1))?;
+    }
+    Ok(row)
 }
 
 /// What stands at a tick, or at several: whether the antecedent ends there, whether an end has a broken obligation,
@@ -65,66 +49,41 @@ impl Outlook {
     }
 }
 
-/// What stands at a tick, where the antecedent ends there or not.
-fn outlook_at(
-    alloc: Global,
-    consequent: &Sequence,
-    seen: &Seen,
-    tick: usize,
-    ends: bool,
-) -> Result<Outlook, AllocError>
-    requires short { longest (shape consequent.now) ≤ 127 }
-    requires order { tick ≤ seen.now.below }
-    requires room { seen.now.below < 2 ^ 60 }
-    ensures ends { IfOk result (λ o. o.ends ≡ ends) }
-    ensures broken { IfOk result (λ o. o.broken ≡ (ends && not (is_possible (value_in seen.now.rows.now) (shape consequent.now) seen.now.below tick))) }
-    ensures kept { IfOk result (λ o. o.kept ≡ (not ends || is_kept (value_in seen.now.rows.now) (shape consequent.now) seen.now.below tick)) }
+/// What stands at a tick where the antecedent ends or not, and up to which places the consequent matches from there.
+fn outlook_at(ends: bool, consequent: &[bool], tick: usize, below: usize, count: usize) -> Outlook
+    requires { below < 2 ^ 60 }
+    ensures ends { result.ends ≡ ends }
+    ensures broken { result.broken ≡ (ends && not (some_in tick count (marks consequent.now))) }
+    ensures kept { result.kept ≡ (not ends || some_in tick (below + 1) (marks consequent.now)) }
 {
-    if !ends {
-        return Ok(Outlook {
-            ends,
-            broken: false,
-            kept: true,
-        });
-    }
-    let prospect = prospect_at(alloc, consequent, seen, tick)?;
-    Ok(Outlook {
+    Outlook {
         ends,
-        broken: !prospect.possible,
-        kept: prospect.kept,
-    })
+        broken: ends && !some_mark(consequent, tick, count),
+        kept: !ends || some_mark(consequent, tick, below + 1),
+    }
 }
 
-/// What stands at the ticks of an attempt, of whose antecedent the table has the ends.
-pub(crate) fn outlook_of(
-    alloc: Global,
-    assertion: &Assertion,
-    seen: &Seen,
-    start: usize,
-    ends: &[bool],
-) -> Result<Outlook, AllocError>
-    requires order { start ≤ seen.now.below }
-    requires room { seen.now.below < 2 ^ 60 }
-    requires long { seen.now.below - start < length ends.now }
-    requires span { IsSpan (is_match (sat (value_in seen.now.rows.now) seen.now.below) (shape assertion.now.antecedent)) start (length ends.now) ends.now }
-    ensures ends { IfOk result (λ o. o.ends ≡ has_end (value_in seen.now.rows.now) (shape assertion.now.antecedent) seen.now.below start) }
-    ensures broken { IfOk result (λ o. o.broken ≡ is_failed (value_in seen.now.rows.now) (shape assertion.now.antecedent) (shape assertion.now.consequent) seen.now.below start) }
-    ensures kept { IfOk result (λ o. o.kept ≡ all_kept (value_in seen.now.rows.now) (shape assertion.now.antecedent) (shape assertion.now.consequent) seen.now.below start) }
+/// What stands at the ticks of an attempt below a bound, of whose antecedent and consequent the tables have the ends.
+pub(crate) fn outlook_of(ends: &[bool], consequents: &Table, below: usize, count: usize) -> Outlook
+    requires { below < 2 ^ 60 }
+    ensures ends { result.ends ≡ some_in 0 below (λ e. marks ends.now (e + 1)) }
+    ensures broken { result.broken ≡ some_in 0 below (λ e. marks ends.now (e + 1) && not (some_in e count (links consequents.now e))) }
+    ensures kept { result.kept ≡ each_in 0 below (λ e. not (marks ends.now (e + 1)) || some_in e (below + 1) (links consequents.now e)) }
 {
     let mut all = Outlook {
         ends: false,
         broken: false,
         kept: true,
     };
-    for tick in start..seen.below {
+    for tick in 0..below {
         let here = outlook_at(
-            alloc,
-            &assertion.consequent,
-            seen,
+            is_marked(ends, tick + 1),
+            consequents.row(tick),
             tick,
-            ends[tick + 1 - start],
-        )?;
+            below,
+            count,
+        );
         all = all.and(here);
     }
-    Ok(all)
+    all
 }

@@ -1,70 +1,65 @@
-//! Tables of booleans, and how they are joined.
+//! Tables of marks.
 
-ghost use Rattle.std.specs.Prelude.{◌≡◌, ℕ, ◌+◌, ◌-◌, ◌<◌, ◌≤◌, ◌&&◌, ◌||◌, ◌==◌, ◌^◌, false, IfOk, length};
-ghost use Rattle.types.specs.Quantifiers.{some_in};
-ghost use Rattle.types.specs.Segments.{sat};
-ghost use Rattle.types.specs.Shapes.{value_in};
-ghost use Rattle.judging.specs.Tables.{marks, IsStep};
+ghost use Rattle.std.specs.Prelude.{◌≡◌, ◌<◌, ◌^◌, Bool, List, [], ◌∷◌, ◌++◌, length, map, OnOk, OnErr};
+ghost use Rattle.judging.specs.Tables.{marks, row_at};
 
-use crate::seen::Seen;
 use std::alloc::{AllocError, Global};
-use types::Boolean;
+use std::marker::Model;
 
-/// A table of so many places, of which only the first is marked, if that is asked for.
-pub(crate) fn only_first(alloc: Global, count: usize, marked: bool) -> Result<Vec<bool>, AllocError>
-    ensures long { IfOk result (λ v. length v.items ≡ count) }
-    ensures each { IfOk result (λ v. (k : ℕ) → k < count → marks v.items k ≡ ((k == 0) && marked)) }
-{
-    let mut all = Vec::with_capacity(alloc, count)?;
-    for place in 0..count {
-        all.push(place == 0 && marked)?;
-    }
-    Ok(all)
+/// For each place, in order, a row of marks.
+#[derive(Drop)]
+pub(crate) struct Table {
+    rows: Vec<Vec<bool>>,
 }
 
-/// Marks in the first table what the second marks, so many places further on.
-pub(crate) fn merge(all: &mut Vec<bool>, more: &[bool], from: usize)
-    requires { length more.now + from ≡ length all.old.items }
-    ensures long { length all.new.items ≡ length all.old.items }
-    ensures before { (k : ℕ) → k < from → marks all.new.items k ≡ marks all.old.items k }
-    ensures merged { (k : ℕ) → from ≤ k → k < length all.old.items → marks all.new.items k ≡ (marks all.old.items k || marks more.now (k - from)) }
-{
-    for place in 0..more.len() {
-        if more[place] {
-            all[from + place] = true;
+impl Model for Table {
+    ghost Value = { List (List Bool) };
+
+    ghost view = { λ r. map (λ row. row.items) r.rows.items };
+}
+
+impl Table {
+    /// No row.
+    pub fn new(alloc: Global) -> Table
+        ensures { result ≡ [] }
+    {
+        Table {
+            rows: Vec::new(alloc),
+        }
+    }
+
+    /// Adds the row of the next place.
+    pub fn push(&mut self, row: Vec<bool>) -> Result<(), AllocError>
+        ensures ok { OnOk result (self.new ≡ self.old ++ row.items ∷ []) }
+        ensures err { OnErr result (self.new ≡ self.old) }
+    {
+        self.rows.push(row)?;
+        Ok(())
+    }
+
+    /// The number of rows.
+    pub fn len(&self) -> usize
+        ensures len { result ≡ length self.now }
+        ensures small { result < 2 ^ 60 }
+    {
+        let rows = self.rows.as_slice();
+        rows.len()
+    }
+
+    /// The row of a place, empty where there is none.
+    pub fn row(&self, place: usize) -> &[bool]
+        ensures { result.now ≡ row_at self.now place }
+    {
+        match self.rows.get(place) {
+            None => &[],
+            Some(row) => row.as_slice(),
         }
     }
 }
 
-/// Behind each marked place at which the boolean holds, a mark.
-pub(crate) fn stepped(
-    alloc: Global,
-    boolean: Boolean,
-    seen: &Seen,
-    starts: &[bool],
-    first: usize,
-) -> Result<Vec<bool>, AllocError>
-    requires { first + length starts.now < 2 ^ 62 }
-    ensures { IfOk result (λ v. IsStep (λ k. sat (value_in seen.now.rows.now) seen.now.below boolean (first + k)) starts.now v.items) }
+/// Whether the row has a place.
+pub(crate) fn is_marked(row: &[bool], place: usize) -> bool
+    ensures { result ≡ marks row.now place }
 {
-    let mut ends = Vec::with_capacity(alloc, starts.len())?;
-    let mut before = false;
-    for place in 0..starts.len() {
-        ends.push(before)?;
-        before = starts[place] && seen.holds(boolean, first + place);
-    }
-    Ok(ends)
-}
-
-/// Whether the table marks a place from the first up to the end.
-pub(crate) fn some_mark(table: &[bool], from: usize, end: usize) -> bool
-    requires { end ≤ length table.now }
-    ensures { result ≡ some_in from end (marks table.now) }
-{
-    for place in from..end {
-        if table[place] {
-            return true;
-        }
-    }
-    false
+    row.get(place).copied().unwrap_or(false)
 }

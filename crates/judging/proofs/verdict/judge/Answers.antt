@@ -1,4 +1,4 @@
-use Rattle.std.proofs.Common.{◌≡◌, ◌∙◌, ◌+◌, ℕ, Bool, ap, subst}
+use Rattle.std.proofs.Common.{◌≡◌, ◌∙◌, ◌+◌, ℕ, Bool, List, length, ap, subst}
 use Rattle.std.specs.Prelude.{Option}
 use Rattle.signals.specs.declared.verdict.Verdict.{Verdict}
 use Rattle.types.specs.declared.sequence.Boolean.{Boolean}
@@ -6,17 +6,28 @@ use Rattle.types.specs.declared.decision.Decision.{Decision}
 use Rattle.types.specs.Quantifiers.{first_in}
 use Rattle.types.specs.Segments.{Seq}
 use Rattle.types.specs.Attempts.{verdict, verdict_by, decision}
+use Rattle.types.specs.Shapes.{value_in, off_in}
 use Rattle.types.proofs.Verdicts.{IsVerdict-at}
+use Rattle.values.specs.declared.expr.Expr.{Expr}
+use Rattle.values.specs.Terms.{Samples}
+use Rattle.judging.specs.Tables.{off_at, last_of, HasSeen}
+use Rattle.judging.proofs.DecisionLaws.{verdict_seen}
 use Rattle.judging.proofs.verdict.judge.Goals as goal
 
--- from the first decision of a search that goes as far as the rows
-verdict_found : (value : Boolean → ℕ → Bool) (off : ℕ → Bool) (r s : Seq Boolean) (rows end c : ℕ) (found : Option (ℕ × Decision)) (v : Verdict) → end ≡ rows
-    → found ≡ first_in (c + 1) (end + 1) (λ n. decision value r s n c) → v ≡ verdict_by off c end found → v ≡ verdict value off r s rows c
-verdict_found value off r s rows end c found v len is at =
-    subst (λ k. v ≡ verdict value off r s k c) len (at ∙ ap (verdict_by off c end) is)
+-- from the course of an attempt that goes as far as the rows
+verdict_found : (all : List Expr) (places : List ℕ) (t : Samples) (d : Option Boolean) (r s : Seq Boolean) (rows end c : ℕ) (values : List (List Bool)) (found : Option (ℕ × Decision)) (v : Verdict) → end ≡ rows
+    → HasSeen (value_in all places t) c values → c + length values ≡ last_of end found
+    → found ≡ first_in (c + 1) (end + 1) (λ n. decision (value_in all places t) r s n c) → v ≡ verdict_by (off_at values d c) c end found → v ≡ verdict (value_in all places t) (off_in all places t d) r s rows c
+verdict_found all places t d r s rows end c values found v len seen long is at =
+    subst (λ k. v ≡ verdict (value_in all places t) (off_in all places t d) r s k c) len
+    (at ∙ verdict_seen all places t c end values d found seen long ∙ ap (verdict_by (off_in all places t d) c end) is)
 
 pub returns-clause-computed : goal.returns-clause-computed
-returns-clause-computed c = verdict_found _ _ _ _ _ _ _ _ _ c.len-end.ensures.len c.in_ok-found.ensures.found c.verdict_from.ensures
+returns-clause-computed c =
+    let ensured = c.in_ok-course.ensures in
+    verdict_found _ _ _ _ _ _ _ _ _ _ _ _ c.len-end.ensures.len ensured.seen ensured.long ensured.found c.verdict_from.ensures
 
 pub returns-clause-meaning : goal.returns-clause-meaning
-returns-clause-meaning c = IsVerdict-at Boolean _ _ _ _ _ _ _ (verdict_found _ _ _ _ _ _ _ _ _ c.len-end.ensures.len c.in_ok-found.ensures.found c.verdict_from.ensures)
+returns-clause-meaning c =
+    let ensured = c.in_ok-course.ensures in
+    IsVerdict-at Boolean _ _ _ _ _ _ _ (verdict_found _ _ _ _ _ _ _ _ _ _ _ _ c.len-end.ensures.len ensured.seen ensured.long ensured.found c.verdict_from.ensures)

@@ -1,8 +1,0 @@
-use Rattle.std.proofs.Common.{◌≡◌}
-use Rattle.types.specs.Quantifiers.{some_in}
-use Rattle.judging.specs.Tables.{marks}
-use Rattle.judging.proofs.table.some_mark.Given as goal
-
--- what is left decides
-abbrev pub invariant-loop-place : goal.invariant-loop-place
-invariant-loop-place l = some_in l.place l.end (marks l.table) ≡ some_in l.from l.end (marks l.table)

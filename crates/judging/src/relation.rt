@@ -1,0 +1,255 @@
+//! Tables of what starts reach, made from others. Each row is made for one marked start.
+
+ghost use Rattle.std.specs.Prelude.{◌≡◌, ℕ, ◌+◌, ◌-◌, ◌<◌, ◌≤◌, ◌&&◌, ◌||◌, ◌==◌, ◌^◌, true, nat_le, IsTrue, IfOk, length};
+ghost use Rattle.types.specs.Quantifiers.{some_in, each_in};
+ghost use Rattle.types.specs.Segments.{chain};
+ghost use Rattle.judging.specs.Tables.{marks, links, held_at, reached_from, IsRelation};
+
+use crate::row::{
+    both_row, joined_row, kept_row, merge_from, merged_row, moved_row, only, shared_row,
+};
+use crate::seen::Seen;
+use crate::table::Table;
+use std::alloc::{AllocError, Global};
+use types::Boolean;
+
+/// Each start itself, if that is asked for.
+pub(crate) fn same(alloc: Global, wanted: bool, starts: &[bool]) -> Result<Table, AllocError>
+    ensures { IfOk result (IsRelation (λ i j. (j == i) && wanted) starts.now) }
+{
+    let mut all = Table::new(alloc);
+    for place in 0..starts.len() {
+        if !starts[place] {
+            all.push(Vec::new(alloc))?;
+            continue;
+        }
+        let row = only(alloc, place, wanted, starts.len())?;
+        all.push(row)?;
+    }
+    Ok(all)
+}
+
+/// The place behind each start at which the boolean holds.
+pub(crate) fn next(
+    alloc: Global,
+    boolean: Boolean,
+    seen: &Seen,
+    starts: &[bool],
+) -> Result<Table, AllocError>
+    requires { length starts.now < 2 ^ 61 }
+    ensures { IfOk result (IsRelation (λ i j. (j == i + 1) && held_at seen.now.values boolean i) starts.now) }
+{
+    let mut all = Table::new(alloc);
+    for place in 0..starts.len() {
+        if !starts[place] {
+            all.push(Vec::new(alloc))?;
+            continue;
+        }
+        let row = only(alloc, place + 1, seen.holds(boolean, place), starts.len())?;
+        all.push(row)?;
+    }
+    Ok(all)
+}
+
+/// The places that lie so far behind those of each start.
+pub(crate) fn moved(
+    alloc: Global,
+    front: &Table,
+    least: usize,
+    end: usize,
+    starts: &[bool],
+) -> Result<Table, AllocError>
+    ensures { IfOk result (IsRelation (λ i j. some_in least end (λ gap. nat_le gap j && links front.now i (j - gap))) starts.now) }
+{
+    let mut all = Table::new(alloc);
+    for place in 0..starts.len() {
+        if !starts[place] {
+            all.push(Vec::new(alloc))?;
+            continue;
+        }
+        let row = moved_row(alloc, front.row(place), least, end, starts.len())?;
+        all.push(row)?;
+    }
+    Ok(all)
+}
+
+/// The last ticks of what ends at the places of each start and isn't empty, if that is asked for.
+pub(crate) fn shared(
+    alloc: Global,
+    front: &Table,
+    wanted: bool,
+    starts: &[bool],
+) -> Result<Table, AllocError>
+    requires { length starts.now < 2 ^ 61 }
+    ensures { IfOk result (IsRelation (λ i j. wanted && (nat_le i j && links front.now i (j + 1))) starts.now) }
+{
+    let mut all = Table::new(alloc);
+    for place in 0..starts.len() {
+        if !starts[place] {
+            all.push(Vec::new(alloc))?;
+            continue;
+        }
+        let row = shared_row(alloc, front.row(place), place, wanted, starts.len())?;
+        all.push(row)?;
+    }
+    Ok(all)
+}
+
+/// What the second table reaches from the places of each start, so many ticks further on at least.
+pub(crate) fn joined(
+    alloc: Global,
+    front: &Table,
+    rest: &Table,
+    gap: usize,
+    starts: &[bool],
+) -> Result<Table, AllocError>
+    requires { gap ≤ 1 }
+    ensures { IfOk result (IsRelation (reached_from front.now rest.now gap) starts.now) }
+{
+    let mut all = Table::new(alloc);
+    for place in 0..starts.len() {
+        if !starts[place] {
+            all.push(Vec::new(alloc))?;
+            continue;
+        }
+        let row = joined_row(alloc, front.row(place), rest, gap, starts.len())?;
+        all.push(row)?;
+    }
+    Ok(all)
+}
+
+/// What each start reaches in one of the tables.
+pub(crate) fn merged(
+    alloc: Global,
+    one: &Table,
+    other: &Table,
+    starts: &[bool],
+) -> Result<Table, AllocError>
+    ensures { IfOk result (IsRelation (λ i j. links one.now i j || links other.now i j) starts.now) }
+{
+    let mut all = Table::new(alloc);
+    for place in 0..starts.len() {
+        if !starts[place] {
+            all.push(Vec::new(alloc))?;
+            continue;
+        }
+        let row = merged_row(alloc, one.row(place), other.row(place), starts.len())?;
+        all.push(row)?;
+    }
+    Ok(all)
+}
+
+/// Where both have ended, and one of them ends.
+pub(crate) fn both(
+    alloc: Global,
+    one: &Table,
+    other: &Table,
+    starts: &[bool],
+) -> Result<Table, AllocError>
+    ensures { IfOk result (IsRelation (λ i j. (links one.now i j && some_in 0 (j + 1) (links other.now i)) || (some_in 0 (j + 1) (links one.now i) && links other.now i j)) starts.now) }
+{
+    let mut all = Table::new(alloc);
+    for place in 0..starts.len() {
+        if !starts[place] {
+            all.push(Vec::new(alloc))?;
+            continue;
+        }
+        let row = both_row(alloc, one.row(place), other.row(place), starts.len())?;
+        all.push(row)?;
+    }
+    Ok(all)
+}
+
+/// The places of each start up to which the boolean is true.
+pub(crate) fn kept(
+    alloc: Global,
+    body: &Table,
+    boolean: Boolean,
+    seen: &Seen,
+    starts: &[bool],
+) -> Result<Table, AllocError>
+    ensures { IfOk result (IsRelation (λ i j. links body.now i j && each_in i j (held_at seen.now.values boolean)) starts.now) }
+{
+    let mut all = Table::new(alloc);
+    for place in 0..starts.len() {
+        if !starts[place] {
+            all.push(Vec::new(alloc))?;
+            continue;
+        }
+        let row = kept_row(alloc, body.row(place), boolean, seen, place, starts.len())?;
+        all.push(row)?;
+    }
+    Ok(all)
+}
+
+/// The places that some marked start reaches.
+pub(crate) fn reached(
+    alloc: Global,
+    table: &Table,
+    starts: &[bool],
+) -> Result<Vec<bool>, AllocError>
+    ensures long { IfOk result (λ v. length v.items ≡ length starts.now) }
+    ensures each { IfOk result (λ v. (i j : ℕ) → IsTrue (marks starts.now i) → j < length starts.now → IsTrue (links table.now i j) → IsTrue (marks v.items j)) }
+{
+    let mut all = only(alloc, 0, false, starts.len())?;
+    for place in 0..starts.len() {
+        if starts[place] {
+            merge_from(&mut all, table.row(place), 0);
+        }
+    }
+    Ok(all)
+}
+
+/// The places behind those of the one table, and those of the other.
+pub(crate) fn starts_behind(
+    alloc: Global,
+    moved: &Table,
+    shared: &Table,
+    starts: &[bool],
+) -> Result<Vec<bool>, AllocError>
+    ensures long { IfOk result (λ v. length v.items ≡ length starts.now) }
+    ensures moved { IfOk result (λ v. (i j : ℕ) → IsTrue (marks starts.now i) → j < length starts.now → IsTrue (links moved.now i j) → IsTrue (marks v.items j)) }
+    ensures shared { IfOk result (λ v. (i j : ℕ) → IsTrue (marks starts.now i) → j < length starts.now → IsTrue (links shared.now i j) → IsTrue (marks v.items j)) }
+{
+    let mut all = reached(alloc, moved, starts)?;
+    let more = reached(alloc, shared, starts)?;
+    merge_from(&mut all, more.as_slice(), 0);
+    Ok(all)
+}
+
+/// What a table reaches from the places of the one, and behind the places of the other.
+pub(crate) fn joined_behind(
+    alloc: Global,
+    moved: &Table,
+    shared: &Table,
+    rests: &Table,
+    starts: &[bool],
+) -> Result<Table, AllocError>
+    ensures { IfOk result (IsRelation (λ i j. reached_from moved.now rests.now 0 i j || reached_from shared.now rests.now 1 i j) starts.now) }
+{
+    let apart = joined(alloc, moved, rests, 0, starts)?;
+    let together = joined(alloc, shared, rests, 1, starts)?;
+    merged(alloc, &apart, &together, starts)
+}
+
+/// What the table reaches by so many steps, from the least number of them to the most.
+pub(crate) fn repeated(
+    alloc: Global,
+    bodies: &Table,
+    least: u8,
+    most: u8,
+    starts: &[bool],
+) -> Result<Table, AllocError>
+    ensures { IfOk result (IsRelation (λ i j. some_in least (most + 1) (λ k. chain (links bodies.now) k i j)) starts.now) }
+{
+    let mut last = same(alloc, true, starts)?;
+    let mut all = same(alloc, least == 0, starts)?;
+    for count in 0..most {
+        last = joined(alloc, &last, bodies, 0, starts)?;
+        if count + 1 < least {
+            continue;
+        }
+        all = merged(alloc, &all, &last, starts)?;
+    }
+    Ok(all)
+}

@@ -1,0 +1,202 @@
+//! Rows of marks, each made for one start.
+
+ghost use Rattle.std.specs.Prelude.{◌≡◌, ℕ, ◌+◌, ◌-◌, ◌<◌, ◌≤◌, ◌&&◌, ◌||◌, ◌==◌, ◌^◌, true, nat_le, IfOk, length};
+ghost use Rattle.types.specs.Quantifiers.{some_in, each_in};
+ghost use Rattle.judging.specs.Tables.{marks, links, held_at, IsRow};
+
+use crate::seen::Seen;
+use crate::table::{Table, is_marked};
+use std::alloc::{AllocError, Global};
+use types::Boolean;
+
+/// Whether the row has a place from the first up to the end.
+pub(crate) fn some_mark(row: &[bool], from: usize, end: usize) -> bool
+    ensures { result ≡ some_in from end (marks row.now) }
+{
+    for place in from..end {
+        if is_marked(row, place) {
+            return true;
+        }
+    }
+    false
+}
+
+/// The one place, if that is asked for.
+pub(crate) fn only(
+    alloc: Global,
+    place: usize,
+    marked: bool,
+    count: usize,
+) -> Result<Vec<bool>, AllocError>
+    ensures { IfOk result (λ row. IsRow (λ j. (j == place) && marked) count row.items) }
+{
+    let mut row = Vec::with_capacity(alloc, count)?;
+    for j in 0..count {
+        row.push(j == place && marked)?;
+    }
+    Ok(row)
+}
+
+/// All of so many places.
+pub(crate) fn every_place(alloc: Global, count: usize) -> Result<Vec<bool>, AllocError>
+    ensures { IfOk result (λ row. IsRow (λ j. true) count row.items) }
+{
+    let mut row = Vec::with_capacity(alloc, count)?;
+    for _j in 0..count {
+        row.push(true)?;
+    }
+    Ok(row)
+}
+
+/// Marks what lies so far behind the places of the other row.
+fn merge_behind(row: &mut Vec<bool>, front: &[bool], gap: usize)
+    ensures long { length row.new.items ≡ length row.old.items }
+    ensures each { (j : ℕ) → j < length row.old.items → marks row.new.items j ≡ (marks row.old.items j || (nat_le gap j && marks front.now (j - gap))) }
+{
+    let room = row.len().saturating_sub(gap);
+    for place in 0..front.len().min(room) {
+        row[gap + place] |= front[place];
+    }
+}
+
+/// The places that lie behind those of the row by a number from the least up to below the end.
+pub(crate) fn moved_row(
+    alloc: Global,
+    front: &[bool],
+    least: usize,
+    end: usize,
+    count: usize,
+) -> Result<Vec<bool>, AllocError>
+    ensures { IfOk result (λ row. IsRow (λ j. some_in least end (λ gap. nat_le gap j && marks front.now (j - gap))) count row.items) }
+{
+    let mut row = only(alloc, 0, false, count)?;
+    for gap in least..end {
+        merge_behind(&mut row, front, gap);
+    }
+    Ok(row)
+}
+
+/// The last ticks of what ends at the row's places and isn't empty, if that is asked for.
+pub(crate) fn shared_row(
+    alloc: Global,
+    front: &[bool],
+    place: usize,
+    wanted: bool,
+    count: usize,
+) -> Result<Vec<bool>, AllocError>
+    requires { count < 2 ^ 61 }
+    ensures { IfOk result (λ row. IsRow (λ j. wanted && (nat_le place j && marks front.now (j + 1))) count row.items) }
+{
+    let mut row = Vec::with_capacity(alloc, count)?;
+    for j in 0..count {
+        row.push(wanted && place <= j && is_marked(front, j + 1))?;
+    }
+    Ok(row)
+}
+
+/// Marks what the other row has from a place on.
+pub(crate) fn merge_from(row: &mut Vec<bool>, more: &[bool], from: usize)
+    ensures long { length row.new.items ≡ length row.old.items }
+    ensures each { (j : ℕ) → j < length row.old.items → marks row.new.items j ≡ (marks row.old.items j || (nat_le from j && marks more.now j)) }
+{
+    for j in from..row.len().min(more.len()) {
+        row[j] |= more[j];
+    }
+}
+
+/// The places that the table reaches from those of the row, so many ticks further on at least.
+pub(crate) fn joined_row(
+    alloc: Global,
+    front: &[bool],
+    rest: &Table,
+    gap: usize,
+    count: usize,
+) -> Result<Vec<bool>, AllocError>
+    requires { gap ≤ 1 }
+    ensures { IfOk result (λ row. IsRow (λ j. some_in 0 (length front.now) (λ m. marks front.now m && (nat_le (m + gap) j && links rest.now m j))) count row.items) }
+{
+    let mut row = only(alloc, 0, false, count)?;
+    for m in 0..front.len() {
+        if !front[m] {
+            continue;
+        }
+        merge_from(&mut row, rest.row(m), m + gap);
+    }
+    Ok(row)
+}
+
+/// The places of both rows.
+pub(crate) fn merged_row(
+    alloc: Global,
+    one: &[bool],
+    other: &[bool],
+    count: usize,
+) -> Result<Vec<bool>, AllocError>
+    ensures { IfOk result (λ row. IsRow (λ j. marks one.now j || marks other.now j) count row.items) }
+{
+    let mut row = Vec::with_capacity(alloc, count)?;
+    for j in 0..count {
+        row.push(is_marked(one, j) || is_marked(other, j))?;
+    }
+    Ok(row)
+}
+
+/// Whether the later of two ends is here, where each may have ended before.
+fn is_later_end(one: bool, one_ended: bool, other: bool, other_ended: bool) -> bool
+    ensures { result ≡ ((one && other_ended) || (one_ended && other)) }
+{
+    (one && other_ended) || (one_ended && other)
+}
+
+/// The places of one row with a place of the other there or before.
+pub(crate) fn both_row(
+    alloc: Global,
+    one: &[bool],
+    other: &[bool],
+    count: usize,
+) -> Result<Vec<bool>, AllocError>
+    ensures { IfOk result (λ row. IsRow (λ j. (marks one.now j && some_in 0 (j + 1) (marks other.now)) || (some_in 0 (j + 1) (marks one.now) && marks other.now j)) count row.items) }
+{
+    let mut row = Vec::with_capacity(alloc, count)?;
+    let mut one_ended = false;
+    let mut other_ended = false;
+    for j in 0..count {
+        one_ended |= is_marked(one, j);
+        other_ended |= is_marked(other, j);
+        let here = is_later_end(
+            is_marked(one, j),
+            one_ended,
+            is_marked(other, j),
+            other_ended,
+        );
+        row.push(here)?;
+    }
+    Ok(row)
+}
+
+/// Whether the boolean holds at a tick, or the tick lies before a place.
+fn holds_from(place: usize, boolean: Boolean, seen: &Seen, tick: usize) -> bool
+    ensures { result ≡ (nat_le (tick + 1) place || held_at seen.now.values boolean tick) }
+{
+    tick < place || seen.holds(boolean, tick)
+}
+
+/// The places of the row up to which the boolean is true at each tick from a place on.
+pub(crate) fn kept_row(
+    alloc: Global,
+    body: &[bool],
+    boolean: Boolean,
+    seen: &Seen,
+    place: usize,
+    count: usize,
+) -> Result<Vec<bool>, AllocError>
+    ensures { IfOk result (λ row. IsRow (λ j. marks body.now j && each_in place j (held_at seen.now.values boolean)) count row.items) }
+{
+    let mut row = Vec::with_capacity(alloc, count)?;
+    let mut holds = true;
+    for j in 0..count {
+        row.push(is_marked(body, j) & holds)?;
+        holds &= holds_from(place, boolean, seen, j);
+    }
+    Ok(row)
+}
