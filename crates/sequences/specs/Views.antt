@@ -1,6 +1,6 @@
 -- What the trees stand for.
 use Rattle.types.specs.declared.sequence.Boolean.{Boolean}
-use Rattle.types.specs.declared.sequence.Boolean.TheVariants.{Listed}
+use Rattle.types.specs.declared.sequence.Boolean.TheVariants.{One, Listed}
 use Rattle.sequences.specs.declared.draft.Draft.{Draft}
 use Rattle.sequences.specs.declared.draft.Draft.TheVariants as form
 use Rattle.sequences.specs.Drafts as drafts
@@ -8,6 +8,7 @@ use Rattle.sequences.specs.Drafts.{boolean, name, delay, lead, repeat, or, and, 
 
 -- the sequence that a tree stands for, each boolean by its place
 abbrev pub draft_of : Draft → drafts.Draft Boolean
+draft_of form.One = boolean One
 draft_of (form.Boolean p) = boolean (Listed p)
 draft_of (form.Name p) = name p
 draft_of (form.Delay' q r least extra z s) = delay (draft_of r) least extra (draft_of s)

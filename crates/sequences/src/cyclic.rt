@@ -14,6 +14,7 @@ fn leads_on(draft: &Draft, marks: &[bool], goal: usize) -> bool
     ensures { result ≡ some_use (leads marks.now goal) (uses (draft_of draft.now)) }
 {
     match draft {
+        Draft::One => false,
         Draft::Boolean(_) => false,
         Draft::Name(place) => *place == goal || marks.get(*place).copied().unwrap_or(false),
         Draft::Delay(first, _, _, second) => {

@@ -4,6 +4,8 @@
 /// least count, and by how many its largest is more.
 #[derive(Drop)]
 pub enum Draft {
+    /// The constant 1.
+    One,
     Boolean(usize),
     /// A named sequence, by the place of its declaration.
     Name(usize),

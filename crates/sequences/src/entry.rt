@@ -41,11 +41,11 @@ fn settled(
 }
 
 impl Entry {
-    /// Of a boolean, by its place.
-    pub(crate) fn boolean(alloc: Global, place: usize) -> Result<Entry, AllocError>
-        ensures { IfOk result (IsEntry (boolean (Listed place))) }
+    /// Of a boolean.
+    pub(crate) fn boolean(alloc: Global, which: Boolean) -> Result<Entry, AllocError>
+        ensures { IfOk result (IsEntry (boolean which)) }
     {
-        let leaf = Box::new(alloc, Sequence::Boolean(Boolean::Listed(place)))?;
+        let leaf = Box::new(alloc, Sequence::Boolean(which))?;
         Ok(Entry {
             facts: Facts::boolean(),
             sequence: Some(leaf),

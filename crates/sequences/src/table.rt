@@ -9,6 +9,7 @@ use crate::cyclic::all_places;
 use crate::draft::Draft;
 use crate::entry::Entry;
 use std::alloc::{AllocError, Global};
+use types::Boolean;
 
 /// A copy of the entry at a place.
 fn entry_at(
@@ -36,7 +37,8 @@ pub fn entry_of(
     ensures entry { IfOk result (λ o. IfSome o (λ e. (bodies : Bodies) → IsTable bodies table.now → HasEntry bodies (draft_of draft.now) e)) }
 {
     match draft {
-        Draft::Boolean(place) => Ok(Some(Entry::boolean(alloc, *place)?)),
+        Draft::One => Ok(Some(Entry::boolean(alloc, Boolean::One)?)),
+        Draft::Boolean(place) => Ok(Some(Entry::boolean(alloc, Boolean::Listed(*place))?)),
         Draft::Name(place) => entry_at(alloc, table, *place),
         Draft::Delay(first, least, extra, second) => {
             let Some(first) = entry_of(alloc, first, table)? else {

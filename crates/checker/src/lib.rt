@@ -1,0 +1,2 @@
+//! The type checker.
+#![tactic(auto)]
