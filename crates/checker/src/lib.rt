@@ -1,2 +1,6 @@
 //! The type checker.
 #![tactic(auto)]
+
+mod fault;
+
+pub use fault::TypeFault;

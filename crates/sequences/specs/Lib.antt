@@ -4,3 +4,4 @@ pub mod Marks
 pub mod Sweeps
 pub mod Entries
 pub mod Placed
+pub mod Outlines
