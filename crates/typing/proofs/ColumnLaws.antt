@@ -1,5 +1,5 @@
 -- Paths that are listed, each once.
-use Rattle.std.proofs.Common.{◌≡◌, ℕ, ◌+◌, Bool, true, false, List, [], ◌∷◌, ◌++◌, map, length, Option, Some, None, cond, if◌then◌else◌, String, string_bytes, Global, refl, sym, ap, ◌∙◌, IsTrue}
+use Rattle.std.proofs.Common.{◌≡◌, ℕ, ◌+◌, ◌<◌, arith, Bool, true, false, List, [], ◌∷◌, ◌++◌, map, length, Option, Some, None, cond, if◌then◌else◌, String, string_bytes, Global, refl, sym, ap, ◌∙◌, IsTrue}
 use Rattle.std.proofs.lemmas.List.{map-append, length-map}
 use Rattle.std.proofs.lemmas.Bool.{and_parts}
 use Rattle.std.specs.Prelude.{bytes_eq, position, ◌&&◌, ◌||◌, nat_lt, not}
@@ -7,6 +7,7 @@ use Rattle.std.specs.List.{list_any, position_or_len, prefix_len}
 use Rattle.std.specs.String.{string_eq}
 use Rattle.std.specs.Cmp.Lexicographic.{bytes_decides}
 use Rattle.std.proofs.lemmas.List.Folds.{list_any-append}
+use Rattle.std.proofs.lemmas.Bool.Decides.{nat_tests}
 use Rattle.indexmap.specs.IndexSet.{insert_key}
 use Rattle.typing.specs.Columns.{is_listed, with_path, with_paths, all_listed, column_of, columns_of, file_signals}
 use Rattle.grammar.specs.Trees.{Item}
@@ -107,3 +108,21 @@ columns-all s items = all_listed-added [] (file_signals s items)
 
 pub listed-parts : (known ps qs : List (List ℕ)) → IsTrue (all_listed known (ps ++ qs)) → IsTrue (all_listed known ps) × IsTrue (all_listed known qs)
 listed-parts known ps qs h = and_parts (all_listed known ps) (all_listed known qs) (sym (all_listed-append known ps qs) ∙ h)
+
+-- a path that is listed has a place
+place-below : (cs : List (List ℕ)) (p : List ℕ) → is_listed cs p ≡ true → position_or_len (bytes_eq p) cs < length cs
+place-below [] p h = absurd cc
+place-below (c ∷ cs) p h = by (bytes_eq p c) h (λ k. place-below cs p k)
+  where
+    by : (b : Bool) → (b || is_listed cs p) ≡ true → (is_listed cs p ≡ true → position_or_len (bytes_eq p) cs < length cs) → cond (not b) (1 + position_or_len (bytes_eq p) cs) 0 < length (c ∷ cs)
+    by true e rest = omega arith
+    by false e rest = let k = rest e in omega (arith, k)
+
+below-true : (a b : ℕ) → a < b → nat_lt a b ≡ true
+below-true a b h = grind (arith, nat_tests)
+
+pub column-there : (cs : List (List ℕ)) (p : List ℕ) → is_listed cs p ≡ true → column_of cs p ≡ None → ⊥
+column-there cs p h none =
+    let e : nat_lt (position_or_len (bytes_eq p) cs) (length cs) ≡ true = below-true (position_or_len (bytes_eq p) cs) (length cs) (place-below cs p h) in
+    let some : column_of cs p ≡ Some (position_or_len (bytes_eq p) cs) = ap (λ b. cond b (Some (position_or_len (bytes_eq p) cs)) None) e in
+    absurd cc

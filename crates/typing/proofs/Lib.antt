@@ -6,3 +6,6 @@ pub mod SeeLaws
 pub mod TreeSteps
 pub mod ColumnLaws
 pub mod SequenceLaws
+pub mod MeaningLaws
+pub mod TypedLaws
+pub mod OneMeaning

@@ -15,6 +15,8 @@ mod path;
 mod scope;
 mod sequence;
 mod terms;
+#[cfg(test)]
+mod tests;
 mod width;
 
 pub use declared::Declared;

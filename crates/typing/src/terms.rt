@@ -3,14 +3,15 @@
 ghost use Rattle.std.specs.Prelude.{◌≡◌, ◌≤◌, [], map, IfOk, IsTrue, is_some};
 ghost use Rattle.grammar.specs.ReadExpressions.{links_of, parts_of};
 ghost use Rattle.parser.specs.Views.{path_of, tree_of, link_of};
+ghost use Rattle.values.specs.declared.name.Origin.TheVariants.{Signal};
 ghost use Rattle.values.specs.Terms.{width_of};
 ghost use Rattle.values.specs.Expressions.{term_of};
 ghost use Rattle.typing.specs.declared.own.Sought.{Sought};
 ghost use Rattle.typing.specs.Scopes.{path_text, first_byte, meaning, bits_of, is_narrow};
-ghost use Rattle.typing.specs.Widths.{ticks_of, parts_width};
-ghost use Rattle.typing.specs.Faults.{IsSound, path_faults, link_faults, part_faults};
-ghost use Rattle.typing.specs.Columns.{HasColumns, column_of, all_listed, path_signals, link_signals, part_signals};
-ghost use Rattle.typing.specs.Meanings.{IsNameOf, IsRead, Means, Chains, Joins, combined, prefixed, called};
+ghost use Rattle.typing.specs.Widths.{ticks_of, parts_width, high_of, low_of};
+ghost use Rattle.typing.specs.Faults.{IsSound, has_bits, path_faults, link_faults, part_faults};
+ghost use Rattle.typing.specs.Columns.{HasColumns, column_of, is_listed, all_listed, path_signals, link_signals, part_signals};
+ghost use Rattle.typing.specs.Meanings.{IsName, IsNameOf, IsRead, Means, Chains, Joins, combined, prefixed, called};
 ghost use Rattle.typing.specs.Views.{scope_of, columns_in};
 
 use crate::columns::Columns;
@@ -73,6 +74,23 @@ fn ticks_of(ticks: Option<Bound>) -> u8
     }
 }
 
+/// A signal of the columns.
+fn signal_name(columns: &Columns, text: &str, width: u8) -> Name
+    requires some_bits { 1 ≤ width }
+    requires at_most_128 { width ≤ 128 }
+    requires listed { IsTrue (is_listed (columns_in columns.now) text.now) }
+    ensures { IsName Signal (column_of (columns_in columns.now) text.now) width result }
+{
+    match columns.column(text) {
+        Some(place) => Name {
+            origin: Origin::Signal,
+            place,
+            width,
+        },
+        None => unreachable!(),
+    }
+}
+
 /// The name that a path stands for.
 fn name_of(means: Option<Meaning>, columns: &Columns, text: &str) -> Name
     requires narrow { IsTrue (is_narrow (bits_of means)) }
@@ -81,14 +99,7 @@ fn name_of(means: Option<Meaning>, columns: &Columns, text: &str) -> Name
     ensures { IsNameOf means (column_of (columns_in columns.now) text.now) result }
 {
     match means {
-        Some(Meaning::Signal(width)) => match columns.column(text) {
-            Some(place) => Name {
-                origin: Origin::Signal,
-                place,
-                width,
-            },
-            None => unreachable!(),
-        },
+        Some(Meaning::Signal(width)) => signal_name(columns, text, width),
         Some(Meaning::Own(Own::Counter(place, width))) => Name {
             origin: Origin::Counter,
             place,
@@ -119,6 +130,20 @@ fn path_name(
     Ok(name_of(means, columns, text.as_str()))
 }
 
+/// The bits of a name that are selected.
+fn slice_of(name: Name, select: Select) -> Slice
+    requires { IsTrue (has_bits name.width select) }
+    ensures name { result.name ≡ name }
+    ensures high { result.high ≡ high_of select }
+    ensures low { result.low ≡ low_of select }
+{
+    Slice {
+        name,
+        high: select.high.value as u8,
+        low: low_of(select) as u8,
+    }
+}
+
 /// What a path with its select reads.
 fn typed_path(
     alloc: Global,
@@ -134,11 +159,7 @@ fn typed_path(
     let name = path_name(alloc, scope, columns, path)?;
     match select {
         None => Ok(values::Expr::name(name)),
-        Some(select) => Ok(values::Expr::slice(Slice {
-            name,
-            high: select.high.value as u8,
-            low: low_of(select) as u8,
-        })),
+        Some(select) => Ok(values::Expr::slice(slice_of(name, select))),
     }
 }
 
