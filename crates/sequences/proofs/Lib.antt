@@ -10,3 +10,4 @@ pub mod LackLaws
 pub mod TableLaws
 pub mod StuckLaws
 pub mod PlacedLaws
+pub mod MapLaws
