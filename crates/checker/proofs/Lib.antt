@@ -1,0 +1,2 @@
+pub mod StageLaws
+pub mod NameLaws

@@ -116,6 +116,10 @@ byte_of (Degenerate at) = at
 byte_of (Empty at) = at
 byte_of Memory = 0
 
+-- No fault of the first so many kinds stands.
+abbrev pub ClearTo : Scope → List Item → ℕ → Type 0
+ClearTo s items n = (fault : TypeFault) → Stands s items fault → n < rank fault
+
 -- No fault stands.
 abbrev pub IsFaultless : Scope → List Item → Type 0
 IsFaultless s items = (fault : TypeFault) → Stands s items fault → ⊥

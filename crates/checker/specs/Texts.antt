@@ -40,12 +40,21 @@ abbrev pub label_byte : Assertion → Option Token → ℕ
 label_byte a None = a.verb.at
 label_byte a (Some t) = t.at
 
--- The names of counters, sequences and assertions, which share one name space, with the bytes where they stand.
+-- The name that an item makes, with the byte where it stands. Counters, sequences and assertions share one name space.
+abbrev pub name_made : ℕ → Item → List ℕ × ℕ
+name_made before (counter c) = (c.name.text.now, c.name.at)
+name_made before (declaration d) = (d.name.text.now, d.name.at)
+name_made before (assertion a) = (label_text before a.label, label_byte a a.label)
+
+-- how many assertions stand before the next item
+abbrev pub assertions_after : ℕ → Item → ℕ
+assertions_after before (counter c) = before
+assertions_after before (declaration d) = before
+assertions_after before (assertion a) = before + 1
+
 abbrev pub names_from : ℕ → List Item → List (List ℕ × ℕ)
 names_from before [] = []
-names_from before (counter c ∷ items) = (c.name.text.now, c.name.at) ∷ names_from before items
-names_from before (declaration d ∷ items) = (d.name.text.now, d.name.at) ∷ names_from before items
-names_from before (assertion a ∷ items) = (label_text before a.label, label_byte a a.label) ∷ names_from (before + 1) items
+names_from before (i ∷ items) = name_made before i ∷ names_from (assertions_after before i) items
 
 abbrev pub is_among : List (List ℕ) → List ℕ → Bool
 is_among known name = list_any (bytes_eq name) known
@@ -64,14 +73,13 @@ abbrev pub differing : List ℕ → List Assertion → List ℕ
 differing clock [] = []
 differing clock (a ∷ more) = if bytes_eq (path_text a.clock) clock then differing clock more else first_byte a.clock ∷ differing clock more
 
-abbrev pub other_clocks : List Assertion → List ℕ
-other_clocks [] = []
-other_clocks (a ∷ more) = differing (path_text a.clock) more
-
 -- the clock of the first assertion
 abbrev pub clock_of : List Assertion → List ℕ
 clock_of [] = []
 clock_of (a ∷ more) = path_text a.clock
+
+abbrev pub other_clocks : List Assertion → List ℕ
+other_clocks some = differing (clock_of some) some
 
 -- the first byte of an expression, and of a sequence, but for brackets
 abbrev pub tree_byte : Tree → ℕ

@@ -1,6 +1,10 @@
 //! The type checker.
 #![tactic(auto)]
 
+mod clocks;
 mod fault;
+mod least;
+mod names;
+mod stages;
 
 pub use fault::TypeFault;

@@ -25,6 +25,7 @@ pub use fault::first_fault;
 pub use laws::meaning_law;
 pub use names::Names;
 pub use operator::{Binary, Call, Unary};
+pub use path::path_string;
 pub use own::{Meaning, Own, Sought};
 pub use scope::Scope;
 pub use terms::typed;

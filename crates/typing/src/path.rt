@@ -29,7 +29,7 @@ fn push_words(text: &mut String, words: &[Token]) -> Result<(), AllocError>
 }
 
 /// A path as it is written, its words joined by dots.
-pub(crate) fn path_string(alloc: Global, path: &Path) -> Result<String, AllocError>
+pub fn path_string(alloc: Global, path: &Path) -> Result<String, AllocError>
     ensures { IfOk result (λ s. string_bytes s ≡ path_text (path_of path.now)) }
 {
     let mut text = String::from_str(alloc, path.first.text)?;
