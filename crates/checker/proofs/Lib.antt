@@ -1,2 +1,3 @@
 pub mod StageLaws
 pub mod NameLaws
+pub mod CycleLaws

@@ -2,3 +2,4 @@ pub mod Readings
 pub mod Texts
 pub mod Faults
 pub mod Suites
+pub mod Cycles

@@ -2,6 +2,7 @@
 #![tactic(auto)]
 
 mod clocks;
+mod cycles;
 mod fault;
 mod least;
 mod names;

@@ -1,0 +1,41 @@
+//! Named sequences that reach themselves.
+
+ghost use Rattle.std.specs.Prelude.{◌≡◌, ◌<◌, ◌≤◌, ℕ, true, map, length, slice_index_or, IfOk, IfNone, IfSome, IsTrue, ◌↔◌};
+ghost use Rattle.sequences.specs.Drafts.{IsCyclic};
+ghost use Rattle.sequences.specs.Views.{draft_of};
+ghost use Rattle.checker.specs.Cycles.{IsFirstCycle, IsAtMost};
+
+use sequences::{Draft, is_cyclic};
+use std::alloc::{AllocError, Global};
+
+/// The lowest of the bytes of those declarations that reach themselves.
+pub(crate) fn first_cycle(
+    alloc: Global,
+    bodies: &[Draft],
+    bytes: &[usize],
+) -> Result<Option<usize>, AllocError>
+    requires { length bytes.now ≡ length bodies.now }
+    ensures { IfOk result (IsFirstCycle (map draft_of bodies.now) bytes.now (length bodies.now)) }
+{
+    let mut fault = None;
+    for place in 0..bodies.len() {
+        let byte = bytes[place];
+        if is_above(fault, byte) {
+            continue;
+        }
+        if is_cyclic(alloc, bodies, place)? {
+            fault = Some(byte);
+        }
+    }
+    Ok(fault)
+}
+
+/// Whether a byte is at or above the one that was found.
+fn is_above(fault: Option<usize>, byte: usize) -> bool
+    ensures { IsTrue result ↔ IsAtMost fault byte }
+{
+    match fault {
+        None => false,
+        Some(found) => found <= byte,
+    }
+}
