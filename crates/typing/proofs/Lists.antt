@@ -1,5 +1,5 @@
 -- Lists that loops go over, from a place on.
-use Rattle.std.proofs.Common.{◌≡◌, ℕ, ◌+◌, ◌<◌, ◌≤◌, List, [], ◌∷◌, map, drop, length, get_or, refl, sym, ap, ◌∙◌, arith, drop-cons, add-one, Result, Ok, Err, IfOk}
+use Rattle.std.proofs.Common.{◌≡◌, ℕ, ◌+◌, ◌<◌, ◌≤◌, List, [], ◌∷◌, map, drop, length, get_or, refl, ap, drop-cons, add-one, Result, Ok, Err, IfOk}
 use Rattle.std.proofs.lemmas.List.{drop_all}
 use Rattle.lexer.specs.declared.token.Token.{Token}
 use Rattle.grammar.specs.declared.bound.Range.{Range}

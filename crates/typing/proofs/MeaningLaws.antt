@@ -1,6 +1,5 @@
 -- What expressions mean has their own widths.
-use Rattle.std.proofs.Common.{◌≡◌, ℕ, ◌+◌, ◌-◌, max, List, Option, Some, None, refl, sym, ap, ◌∙◌, arith}
-use Rattle.lexer.specs.declared.token.Token.{Token}
+use Rattle.std.proofs.Common.{◌≡◌, ℕ, ◌+◌, ◌-◌, max, List, Option, Some, None, refl, ap, ◌∙◌}
 use Rattle.grammar.specs.declared.bound.Select.{Select}
 use Rattle.grammar.specs.Trees.{Tree, number, path, concatenation, past, call, unary, chain, choice, Links, end, link, Parts, no_part, part}
 use Rattle.values.specs.Terms as terms
@@ -18,7 +17,7 @@ use Rattle.typing.specs.declared.operator.Call.TheVariants as calls
 use Rattle.typing.specs.Scopes.{Scope, path_text, meaning, bits_of}
 use Rattle.typing.specs.Widths.{binary_of, unary_of, call_of, binary_width, unary_width, path_width_by, high_of, low_of, own_width, chain_width, parts_width}
 use Rattle.typing.specs.Columns.{column_of}
-use Rattle.typing.specs.Meanings.{combined, prefixed, called, IsNumber, IsNameOf, IsRead, Means, Chains, Joins, JoinsMore}
+use Rattle.typing.specs.Meanings.{combined, prefixed, called, IsNameOf, IsRead, Means, Chains, Joins, JoinsMore}
 
 name-width : (means : Option Meaning) (column : Option ℕ) (n : Name) → IsNameOf means column n → n.width ≡ path_width_by (bits_of means) None
 name-width None column n h = elim h [ ]
@@ -67,7 +66,7 @@ module _ (s : Scope) (cs : List (List ℕ)) where
     chains-width end a w e h m = ap width_of m ∙ h
     chains-width (link t d links) a w e h m =
         chains-width links (combined (binary_of t) a m.0) (binary_width (binary_of t) w (own_width s d)) e
-            (combined-width (binary_of t) a m.0 ∙ ap (λ n. binary_width (binary_of t) n (width_of m.0)) h ∙ ap (binary_width (binary_of t) w) (mean-width d m.0 m.1)) m.2
+        (combined-width (binary_of t) a m.0 ∙ ap (λ n. binary_width (binary_of t) n (width_of m.0)) h ∙ ap (binary_width (binary_of t) w) (mean-width d m.0 m.1)) m.2
 
     joins-width : (parts : Parts) (a : Term) (w : ℕ) (e : Term) → width_of a ≡ w → Joins s cs a parts e → width_of e ≡ parts_width s w parts
     joins-width no_part a w e h m = ap width_of m ∙ h

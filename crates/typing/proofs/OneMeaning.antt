@@ -1,5 +1,5 @@
 -- What expressions mean has one value.
-use Rattle.std.proofs.Common.{◌≡◌, ℕ, ◌+◌, ◌-◌, ◌*◌, ◌/◌, ◌%◌, ◌^◌, max, List, Option, Some, None, refl, sym, ap, ◌∙◌, arith, if◌then◌else◌}
+use Rattle.std.proofs.Common.{◌≡◌, ℕ, ◌+◌, ◌-◌, ◌*◌, ◌/◌, ◌%◌, ◌^◌, max, List, Option, Some, None, refl, sym, ap, ◌∙◌, if◌then◌else◌}
 use Rattle.std.specs.Prelude.{nat_le, ◌==◌}
 use Rattle.grammar.specs.declared.bound.Select.{Select}
 use Rattle.grammar.specs.Trees.{Tree, number, path, concatenation, past, call, unary, chain, choice, Links, end, link, Parts, no_part, part}
@@ -20,7 +20,7 @@ use Rattle.typing.specs.declared.operator.Unary.TheVariants as unaries
 use Rattle.typing.specs.declared.operator.Call.{Call}
 use Rattle.typing.specs.declared.operator.Call.TheVariants as calls
 use Rattle.typing.specs.Scopes.{Scope, path_text, meaning}
-use Rattle.typing.specs.Widths.{binary_of, unary_of, call_of, number_value, high_of, low_of, ticks_of}
+use Rattle.typing.specs.Widths.{binary_of, unary_of, call_of, ticks_of}
 use Rattle.typing.specs.Columns.{column_of}
 use Rattle.typing.specs.Meanings.{combined, prefixed, called, IsName, IsNameOf, IsRead, Means, Chains, Joins, JoinsMore}
 
@@ -153,7 +153,7 @@ module _ (x : Samples) where
       one-meaning (chain d links) e f m n = one-chain links m.0 n.0 e f (one-meaning d m.0 n.0 m.1 n.1) m.2 n.2
       one-meaning (choice c y z) e f m n =
           same-by e f (terms.choose m.0 m.1 m.2) (terms.choose n.0 n.1 n.2) m.6 n.6
-              (same-choose m.0 n.0 m.1 n.1 m.2 n.2 (one-meaning c m.0 n.0 m.3 n.3) (one-meaning y m.1 n.1 m.4 n.4) (one-meaning z m.2 n.2 m.5 n.5))
+          (same-choose m.0 n.0 m.1 n.1 m.2 n.2 (one-meaning c m.0 n.0 m.3 n.3) (one-meaning y m.1 n.1 m.4 n.4) (one-meaning z m.2 n.2 m.5 n.5))
 
       one-chain : (links : Links) (a b e f : Term) → AreSame x a b → Chains s cs a links e → Chains s cs b links f → AreSame x e f
       one-chain end a b e f h m n = same-by e f a b m n h

@@ -1,5 +1,5 @@
 -- What is seen of expressions: widths held at 129, and the least of faults.
-use Rattle.std.proofs.Common.{◌≡◌, ℕ, ◌+◌, ◌≤◌, min, max, map, drop, List, [], ◌∷◌, ◌++◌, Option, Some, None, refl, sym, ap, ◌∙◌, arith}
+use Rattle.std.proofs.Common.{◌≡◌, ℕ, ◌+◌, ◌≤◌, min, ◌++◌, Option, refl, sym, ap, ◌∙◌, arith}
 use Rattle.std.specs.Prelude.{nat_le}
 use Rattle.std.proofs.lemmas.Bool.Decides.{nat_tests}
 use Rattle.lexer.specs.declared.token.Token.{Token}
@@ -50,7 +50,7 @@ module _ (s : Scope) where
     fault-concatenation x t e parts whole wide first more all is held w one rest last =
         let width : whole ≡ min (parts_width s (own_width s e) parts) 129 = held ∙ ap (λ y. min (own_width s y) 129) is in
         let v : wide ≡ least (wide_faults k t.at (parts_width s (own_width s e) parts)) =
-            w ∙ ap (λ n. least (wide_faults k t.at n)) width ∙ ap least (wide-held k t.at (parts_width s (own_width s e) parts)) in
+        w ∙ ap (λ n. least (wide_faults k t.at n)) width ∙ ap least (wide-held k t.at (parts_width s (own_width s e) parts)) in
         let inner : more ≡ least (faults s k e ++ part_faults s k parts) = rest ∙ ap (λ o. earlier o (least (part_faults s k parts))) one ∙ sym (least-append (faults s k e) (part_faults s k parts)) in
         last ∙ ap (λ o. earlier o more) v ∙ ap (earlier (least (wide_faults k t.at (parts_width s (own_width s e) parts)))) inner
         ∙ sym (least-append (wide_faults k t.at (parts_width s (own_width s e) parts)) (faults s k e ++ part_faults s k parts))

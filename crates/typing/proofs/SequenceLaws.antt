@@ -1,5 +1,5 @@
 -- Faults and signals of sequences and items, part by part.
-use Rattle.std.proofs.Common.{◌≡◌, ℕ, List, [], ◌∷◌, ◌++◌, Option, Some, None, refl, sym, ap, ◌∙◌}
+use Rattle.std.proofs.Common.{◌≡◌, ℕ, List, ◌++◌, Option, sym, ap, ◌∙◌}
 use Rattle.lexer.specs.declared.token.Token.{Token}
 use Rattle.grammar.specs.declared.bound.Range.{Range}
 use Rattle.grammar.specs.Trees.{Tree, concatenation, chain, choice, Links, link, Parts, part, Sequence, delayed, throughout, all, either, Steps, step, Others, other}

@@ -1,6 +1,6 @@
 -- What a typed expression needs, and what it means, node by node.
-use Rattle.std.proofs.Common.{◌≡◌, ℕ, ◌+◌, ◌≤◌, ◌<◌, Bool, true, false, List, [], ◌∷◌, ◌++◌, map, length, Option, Some, None, refl, sym, ap, ◌∙◌, subst, arith, IsTrue, if◌then◌else◌}
-use Rattle.std.specs.Prelude.{nat_le, nat_lt, ◌&&◌, is_some}
+use Rattle.std.proofs.Common.{◌≡◌, ℕ, ◌+◌, ◌≤◌, ◌<◌, Bool, true, false, List, [], ◌∷◌, ◌++◌, map, length, Option, Some, None, refl, sym, ap, ◌∙◌, subst, arith, IsTrue}
+use Rattle.std.specs.Prelude.{nat_le, nat_lt, is_some}
 use Rattle.std.proofs.lemmas.Bool.{and_parts, leb-true, ltb-true}
 use Rattle.lexer.specs.declared.token.Token.{Token}
 use Rattle.grammar.specs.declared.bound.Bound.{Bound}
@@ -54,7 +54,7 @@ module _ (s : Scope) (cs : List (List ℕ)) where
       let inner = λ (k : Sought). no_faults-parts (faults s k e) (part_faults s k parts) (whole k).1 in
       let columns = listed-parts cs (signals s e) (part_signals s parts) (subst (λ (y : Tree). HasColumns s cs y) is listed) in
       let narrow : parts_width s (own_width s e) parts ≤ 128 =
-          omega (arith, leb-true (parts_width s (own_width s e) parts) 128 (unless-true (nat_le (parts_width s (own_width s e) parts) 128) t.at (whole Wide).0)) in
+      omega (arith, leb-true (parts_width s (own_width s e) parts) 128 (unless-true (nat_le (parts_width s (own_width s e) parts) 128) t.at (whole Wide).0)) in
       (record { sound = λ k. (inner k).0; listed = columns.0 }, record { sound = λ k. (inner k).1; listed = columns.1 }, narrow)
 
   pub ready-past : (x : Tree) (t : Token) (e : Tree) (n : Option Bound) → x ≡ past t e n → IsSound s x → HasColumns s cs x → IsReady e

@@ -1,9 +1,7 @@
 -- The signals that a text reads, as columns.
 use Rattle.std.specs.Prelude.{ℕ, List, [], ◌∷◌, ◌++◌, Option, Some, None, Bool, true, if◌then◌else◌, ◌&&◌, bytes_eq, position, IsTrue}
 use Rattle.std.specs.List.{flat_map, list_any}
-use Rattle.lexer.specs.declared.token.Token.{Token}
 use Rattle.grammar.specs.Trees.{Tree, number, path, concatenation, past, call, unary, chain, choice, Links, end, link, Parts, no_part, part, Sequence, boolean, repeated, late, delayed, throughout, all, either, Steps, no_step, step, Others, no_other, other, Property, plain, implication, Counter, Assertion, Item, counter, declaration, assertion}
-use Rattle.typing.specs.declared.own.Own.{Own}
 use Rattle.typing.specs.declared.own.Meaning.{Meaning}
 use Rattle.typing.specs.declared.own.Meaning.TheVariants.{Signal, Own as Declared}
 use Rattle.typing.specs.Scopes.{Scope, path_text, meaning}

@@ -1,5 +1,5 @@
 -- Lists of names with what they stand for, of which each name stands once.
-use Rattle.std.specs.Prelude.{ℕ, ◌≤◌, List, [], ◌∷◌, ◌++◌, Option, Some, None, is_some, if◌then◌else◌}
+use Rattle.std.specs.Prelude.{ℕ, ◌≤◌, List, [], ◌∷◌, ◌++◌, is_some, if◌then◌else◌}
 use Rattle.typing.specs.Scopes.{found}
 
 -- a name behind the others, unless it is there

@@ -1,9 +1,7 @@
 -- Where faults stand in expressions, sequences and items.
-use Rattle.std.specs.Prelude.{◌≡◌, ℕ, List, [], ◌∷◌, ◌++◌, Option, Some, None, Bool, min, if◌then◌else◌, nat_le, nat_lt, not, ◌&&◌, is_some}
+use Rattle.std.specs.Prelude.{◌≡◌, ℕ, List, [], ◌∷◌, ◌++◌, Option, Some, None, Bool, min, if◌then◌else◌, nat_le, nat_lt, ◌&&◌, is_some}
 use Rattle.std.specs.List.{flat_map}
-use Rattle.lexer.specs.declared.token.Token.{Token}
 use Rattle.grammar.specs.declared.bound.Select.{Select}
-use Rattle.grammar.specs.Trees as trees
 use Rattle.grammar.specs.Trees.{Tree, number, path, concatenation, past, call, unary, chain, choice, Links, end, link, Parts, no_part, part, Sequence, boolean, repeated, late, delayed, throughout, all, either, Steps, no_step, step, Others, no_other, other, Property, plain, implication, Counter, Assertion, Item, counter, declaration, assertion}
 use Rattle.typing.specs.declared.own.Sought.{Sought}
 use Rattle.typing.specs.declared.own.Sought.TheVariants.{Unknown, Wide, OutOfRange}

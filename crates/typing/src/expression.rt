@@ -130,13 +130,7 @@ fn wide_fault(sought: Sought, at: usize, width: usize) -> Option<usize>
     ensures { result ≡ least (wide_faults sought at width) }
 {
     match sought {
-        Sought::Wide => {
-            if width <= 128 {
-                None
-            } else {
-                Some(at)
-            }
-        }
+        Sought::Wide => { if width <= 128 { None } else { Some(at) } }
         Sought::Unknown => None,
         Sought::OutOfRange => None,
     }

@@ -19,8 +19,8 @@ mod terms;
 mod tests;
 mod width;
 
-pub use declared::Declared;
 pub use columns::{Columns, columns_of};
+pub use declared::Declared;
 pub use fault::first_fault;
 pub use laws::meaning_law;
 pub use names::Names;

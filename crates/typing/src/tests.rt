@@ -48,8 +48,10 @@ fn has_width(alloc: Global, text: &str, width: u8) -> Result<bool, Fail> {
     let full = format!(in alloc; "{{{text}, {rest}'d0}}")?;
     let more = rest.saturating_add(1);
     let over = format!(in alloc; "{{{text}, {more}'d0}}")?;
-    Ok(asserted(alloc, full.as_str())?[1].is_none()
-        && asserted(alloc, over.as_str())?[1] == Some(30))
+    Ok(
+        asserted(alloc, full.as_str())?[1].is_none()
+            && asserted(alloc, over.as_str())?[1] == Some(30),
+    )
 }
 
 #[test]
@@ -93,7 +95,11 @@ fn wide_concatenations(rt: HostRuntime) -> Result<(), Fail> {
         ("{v[2:9], 127'd0} == 0", None, Some(31)),
         ("{v[2:9], 128'd0} == 0", Some(30), Some(31)),
     ] {
-        assert_eq!(rt; asserted(rt.alloc(), text)?, [None, wide, outside], "{text}");
+        assert_eq!(rt;
+            asserted(rt.alloc(), text)?,
+            [None, wide, outside],
+            "{text}"
+        );
     }
     Ok(())
 }
@@ -154,14 +160,38 @@ fn widths_of_operators(rt: HostRuntime) -> Result<(), Fail> {
 #[test]
 fn names_of_the_text(rt: HostRuntime) -> Result<(), Fail> {
     for (text, expected) in [
-        ("counter v [4] add(a, 1); assert property (@(posedge c) v[4]);", [None, None, Some(55)]),
-        ("counter n [2]; counter n [8]; assert property (@(posedge c) n[2]);", [None, None, Some(60)]),
-        ("sequence n; a endsequence counter n [8]; assert property (@(posedge c) n[1]);", [Some(71), None, None]),
-        ("sequence q; a endsequence assert property (@(posedge c) q ##1 (q));", [None, None, None]),
-        ("sequence q; a endsequence assert property (@(posedge c) q && a);", [Some(56), None, None]),
-        ("assert property (@(posedge c) a); sequence q; b endsequence", [Some(46), None, None]),
-        ("counter n [2] load(a, {w, w}) sub(b, 1); assert property (@(posedge c) disable iff (d) a);", [Some(34), Some(22), None]),
-        ("r: assert property (@(posedge c) r);", [Some(33), None, None]),
+        (
+            "counter v [4] add(a, 1); assert property (@(posedge c) v[4]);",
+            [None, None, Some(55)],
+        ),
+        (
+            "counter n [2]; counter n [8]; assert property (@(posedge c) n[2]);",
+            [None, None, Some(60)],
+        ),
+        (
+            "sequence n; a endsequence counter n [8]; assert property (@(posedge c) n[1]);",
+            [Some(71), None, None],
+        ),
+        (
+            "sequence q; a endsequence assert property (@(posedge c) q ##1 (q));",
+            [None, None, None],
+        ),
+        (
+            "sequence q; a endsequence assert property (@(posedge c) q && a);",
+            [Some(56), None, None],
+        ),
+        (
+            "assert property (@(posedge c) a); sequence q; b endsequence",
+            [Some(46), None, None],
+        ),
+        (
+            "counter n [2] load(a, {w, w}) sub(b, 1); assert property (@(posedge c) disable iff (d) a);",
+            [Some(34), Some(22), None],
+        ),
+        (
+            "r: assert property (@(posedge c) r);",
+            [Some(33), None, None],
+        ),
     ] {
         assert_eq!(rt; faults(rt.alloc(), text)?, expected, "{text}");
     }
@@ -199,7 +229,13 @@ fn named(alloc: Global, text: &str) -> Result<Option<usize>, Fail> {
 #[test]
 fn sequences_by_name(rt: HostRuntime) -> Result<(), Fail> {
     let declared = "sequence p; a endsequence counter n [8]; sequence q; a endsequence";
-    for (name, place) in [("p", Some(0)), ("(q)", Some(1)), ("n", None), ("a", None), ("q[0]", None)] {
+    for (name, place) in [
+        ("p", Some(0)),
+        ("(q)", Some(1)),
+        ("n", None),
+        ("a", None),
+        ("q[0]", None),
+    ] {
         let text = format!(in rt.alloc(); "{declared} assert property (@(posedge c) {name});")?;
         assert_eq!(rt; named(rt.alloc(), text.as_str())?, place, "{text}");
     }

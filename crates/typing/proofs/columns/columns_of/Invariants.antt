@@ -1,4 +1,4 @@
-use Rattle.std.proofs.Common.{◌≡◌, [], map, drop}
+use Rattle.std.proofs.Common.{◌≡◌, map, drop}
 use Rattle.parser.specs.Views.{item_of}
 use Rattle.typing.specs.Columns.{with_paths, file_signals, columns_of}
 use Rattle.typing.specs.Views.{scope_of, columns_in}

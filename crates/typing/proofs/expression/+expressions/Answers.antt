@@ -1,8 +1,7 @@
-use Rattle.std.proofs.Common.{◌≡◌, ◌+◌, map, drop, sym, ap, ◌∙◌, arith}
+use Rattle.std.proofs.Common.{◌+◌, map, drop, arith}
 use Rattle.grammar.specs.ReadExpressions.{links_of, parts_of}
 use Rattle.parser.specs.Views.{tree_of, link_of}
 use Rattle.typing.specs.Views.{scope_of}
-use Rattle.typing.specs.Widths.{binary_of}
 use Rattle.typing.proofs.Lists.{links-at, parts-at, when_ok}
 use Rattle.typing.proofs.TreeSteps.{is-Concatenation, is-Chain, is-Choice}
 use Rattle.typing.proofs.SeeLaws.{width-concatenation, width-chain, fault-concatenation, fault-chain, fault-choice, link-step, part-step, link-fault-step, part-fault-step, small-step}
@@ -22,7 +21,7 @@ see-returns-in_ok-whole-in-Concatenation-clause-fault t c =
     let is = is-Concatenation c.args.expr.now k.token k.first k.parts c.deref.result.now c.deref-in-Concatenation.result.now k.is c.deref.ensures c.deref-in-Concatenation.ensures.value in
     let held = width-concatenation (scope_of c.args.scope.now) _ k.token _ _ c.in_ok-first-in-Concatenation.first.width _ is c.in_ok-first-in-Concatenation.ensures.width c.in_ok-whole-in-Concatenation.ensures.width in
     fault-concatenation (scope_of c.args.scope.now) c.args.sought _ k.token _ _ c.in_ok-whole-in-Concatenation.whole.width c.wide_fault-wide.result c.in_ok-first-in-Concatenation.first.fault c.in_ok-whole-in-Concatenation.whole.fault _ is held
-        c.wide_fault-wide.ensures c.in_ok-first-in-Concatenation.ensures.fault c.in_ok-whole-in-Concatenation.ensures.fault c.earlier.ensures
+    c.wide_fault-wide.ensures c.in_ok-first-in-Concatenation.ensures.fault c.in_ok-whole-in-Concatenation.ensures.fault c.earlier.ensures
 
 pub see-returns-in_ok-first-in-Chain-clause-width :
     goal.see-returns-in_ok-first-in-Chain-clause-width
@@ -43,7 +42,7 @@ see-returns-in_ok-no-in-Choice-clause-fault t c =
     let k = c.in-Choice in
     let is = is-Choice c.args.expr.now k.condition k.yes k.no c.deref-in-Choice.result.now c.deref-in-Choice-2.result.now c.deref-in-Choice-3.result.now k.is c.deref-in-Choice.ensures c.deref-in-Choice-2.ensures c.deref-in-Choice-3.ensures in
     fault-choice (scope_of c.args.scope.now) c.args.sought _ _ _ _ c.in_ok-condition-in-Choice.condition.fault c.in_ok-yes-in-Choice.yes.fault c.in_ok-no-in-Choice.no.fault _ _ is
-        c.in_ok-condition-in-Choice.ensures.fault c.in_ok-yes-in-Choice.ensures.fault c.in_ok-no-in-Choice.ensures.fault c.earlier-in-Choice.ensures c.earlier-in-Choice-2.ensures
+    c.in_ok-condition-in-Choice.ensures.fault c.in_ok-yes-in-Choice.ensures.fault c.in_ok-no-in-Choice.ensures.fault c.earlier-in-Choice.ensures c.earlier-in-Choice-2.ensures
 
 pub see_links-loop-link-preserved : goal.see_links-loop-link-preserved
 see_links-loop-link-preserved t c =

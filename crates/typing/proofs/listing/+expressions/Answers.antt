@@ -1,12 +1,10 @@
-use Rattle.std.proofs.Common.{◌≡◌, ◌+◌, map, drop, sym, ap, ◌∙◌, refl}
-use Rattle.grammar.specs.ReadExpressions.{links_of, parts_of}
-use Rattle.grammar.specs.ReadSequences.{steps_of, others_of}
-use Rattle.parser.specs.Views.{tree_of, link_of, sequence_of, step_of}
+use Rattle.std.proofs.Common.{refl}
+use Rattle.parser.specs.Views.{tree_of}
 use Rattle.typing.specs.Columns.{signals}
 use Rattle.typing.specs.Views.{scope_of, columns_in}
-use Rattle.typing.proofs.Lists.{links-at, parts-at, steps-at, others-at, when_ok}
-use Rattle.typing.proofs.TreeSteps.{is-Concatenation, is-Chain, is-Choice, is-Delayed, is-Throughout, is-And, is-Or}
-use Rattle.typing.proofs.SequenceLaws.{least-joined, least-step, listed-joined, listed-step, signals-concatenation, signals-chain, signals-choice, signals-link, signals-part, signals-delayed, signals-throughout, signals-all, signals-either, signals-step, signals-other, faults-delayed, faults-throughout, faults-all, faults-either, faults-step, faults-other}
+use Rattle.typing.proofs.Lists.{links-at, parts-at, when_ok}
+use Rattle.typing.proofs.TreeSteps.{is-Concatenation, is-Chain, is-Choice}
+use Rattle.typing.proofs.SequenceLaws.{listed-joined, listed-step, signals-concatenation, signals-chain, signals-choice, signals-link, signals-part}
 use Rattle.typing.proofs.listing.+expressions.Goals as goal
 
 pub list_expression-returns-in_ok-list_expression-in-Concatenation : goal.list_expression-returns-in_ok-list_expression-in-Concatenation
@@ -26,9 +24,9 @@ list_expression-returns-in_ok-list_expression-in-Choice-2 t c =
     let k = c.in-Choice in
     let is = is-Choice c.args.expr.now k.condition k.yes k.no c.deref-in-Choice.result.now c.deref-in-Choice-2.result.now c.deref-in-Choice-3.result.now k.is c.deref-in-Choice.ensures c.deref-in-Choice-2.ensures c.deref-in-Choice-3.ensures in
     when_ok c.list_expression-in-Choice-3.result
-        (λ r h. listed-joined _ _ _ (columns_in c.args.columns.now) (columns_in c.list_expression-in-Choice.new.columns) (columns_in c.list_expression-in-Choice-3.new.columns) (signals-choice (scope_of c.args.scope.now) _ _ _ _ is) c.in_ok-list_expression-in-Choice.ensures
-            (listed-joined (signals (scope_of c.args.scope.now) (tree_of c.deref-in-Choice-2.result.now)) (signals (scope_of c.args.scope.now) (tree_of c.deref-in-Choice-3.result.now)) _ (columns_in c.list_expression-in-Choice.new.columns) (columns_in c.list_expression-in-Choice-2.new.columns) (columns_in c.list_expression-in-Choice-3.new.columns) (record { is = refl }) c.in_ok-list_expression-in-Choice-2.ensures h))
-        c.list_expression-in-Choice-3.ensures
+    (λ r h. listed-joined _ _ _ (columns_in c.args.columns.now) (columns_in c.list_expression-in-Choice.new.columns) (columns_in c.list_expression-in-Choice-3.new.columns) (signals-choice (scope_of c.args.scope.now) _ _ _ _ is) c.in_ok-list_expression-in-Choice.ensures
+    (listed-joined (signals (scope_of c.args.scope.now) (tree_of c.deref-in-Choice-2.result.now)) (signals (scope_of c.args.scope.now) (tree_of c.deref-in-Choice-3.result.now)) _ (columns_in c.list_expression-in-Choice.new.columns) (columns_in c.list_expression-in-Choice-2.new.columns) (columns_in c.list_expression-in-Choice-3.new.columns) (record { is = refl }) c.in_ok-list_expression-in-Choice-2.ensures h))
+    c.list_expression-in-Choice-3.ensures
 
 pub list_links-loop-link-preserved : goal.list_links-loop-link-preserved
 list_links-loop-link-preserved t c =

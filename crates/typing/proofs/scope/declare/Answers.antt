@@ -1,4 +1,4 @@
-use Rattle.std.proofs.Common.{sym, ap, ◌∙◌}
+use Rattle.std.proofs.Common.{sym, ◌∙◌}
 use Rattle.typing.specs.declared.declared.Declared.{Declared}
 use Rattle.typing.proofs.EntryLaws.{entry-there, entry-new}
 use Rattle.typing.proofs.scope.declare.Goals as goal

@@ -1,8 +1,7 @@
-use Rattle.std.proofs.Common.{◌≡◌, ◌+◌, ℕ, List, [], ◌∷◌, map, drop, sym, ap, ◌∙◌, arith}
+use Rattle.std.proofs.Common.{◌≡◌, ◌+◌, ℕ, List, ◌∷◌, map, drop, sym, ap, ◌∙◌, arith}
 use Rattle.grammar.specs.Trees as trees
 use Rattle.parser.specs.declared.tree.Item.{Item}
 use Rattle.parser.specs.Views.{item_of}
-use Rattle.typing.specs.declared.own.Own.{Own}
 use Rattle.typing.specs.declared.own.Own.TheVariants.{Counter, Sequence}
 use Rattle.typing.specs.Scopes.{found, owns, owns_from}
 use Rattle.typing.specs.Views.{entries_in}
@@ -18,7 +17,7 @@ loop-item-preserved-in-Counter c =
     let rest : List trees.Item = map item_of (drop (i + 1) xs) in
     let front : map item_of (drop i xs) ≡ item_of c.item-item.result ∷ rest = at trees.Item item_of xs i c.item-item.result c.loop-item-test.true c.item-item.is in
     let begins = ap (owns_from c.loop-item.counters c.loop-item.sequences) (front ∙ ap (λ (x : Item). item_of x ∷ rest) c.in-Counter.is)
-        ∙ ap (λ (w : ℕ). (k.name.text.now, Counter c.loop-item.counters w) ∷ owns_from (c.loop-item.counters + 1) c.loop-item.sequences rest) (sym c.within-width.ensures) in
+    ∙ ap (λ (w : ℕ). (k.name.text.now, Counter c.loop-item.counters w) ∷ owns_from (c.loop-item.counters + 1) c.loop-item.sequences rest) (sym c.within-width.ensures) in
     record {
       counters = omega (arith, c.loop-item.invariant.counters);
       sequences = omega (arith, c.loop-item.invariant.sequences);
@@ -42,4 +41,4 @@ loop-item-preserved-in-Declaration c =
 pub returns : goal.returns
 returns c =
     left-end (entries_in c.loop-item.names) (owns_from c.loop-item.counters c.loop-item.sequences (map item_of (drop c.loop-item.item-index c.args.items.now))) (owns (map item_of c.args.items.now))
-        (ap (owns_from c.loop-item.counters c.loop-item.sequences) (past_end trees.Item item_of c.args.items.now c.loop-item.item-index c.loop-item-test.false)) c.loop-item.invariant.left
+    (ap (owns_from c.loop-item.counters c.loop-item.sequences) (past_end trees.Item item_of c.args.items.now c.loop-item.item-index c.loop-item-test.false)) c.loop-item.invariant.left

@@ -1,12 +1,10 @@
-use Rattle.std.proofs.Common.{◌≡◌, ◌+◌, map, drop, sym, ap, ◌∙◌}
-use Rattle.grammar.specs.ReadExpressions.{links_of, parts_of}
-use Rattle.grammar.specs.ReadSequences.{steps_of, others_of}
-use Rattle.parser.specs.Views.{tree_of, link_of, sequence_of, step_of}
+use Rattle.std.proofs.Common.{ap, ◌∙◌}
+use Rattle.parser.specs.Views.{sequence_of}
 use Rattle.typing.specs.Faults.{earlier}
-use Rattle.typing.specs.Views.{scope_of, columns_in}
-use Rattle.typing.proofs.Lists.{links-at, parts-at, steps-at, others-at, when_ok}
-use Rattle.typing.proofs.TreeSteps.{is-Concatenation, is-Chain, is-Choice, is-Delayed, is-Throughout, is-And, is-Or}
-use Rattle.typing.proofs.SequenceLaws.{least-joined, least-step, listed-joined, listed-step, signals-concatenation, signals-chain, signals-choice, signals-link, signals-part, signals-delayed, signals-throughout, signals-all, signals-either, signals-step, signals-other, faults-delayed, faults-throughout, faults-all, faults-either, faults-step, faults-other}
+use Rattle.typing.specs.Views.{scope_of}
+use Rattle.typing.proofs.Lists.{steps-at, others-at, when_ok}
+use Rattle.typing.proofs.TreeSteps.{is-Delayed, is-Throughout, is-And, is-Or}
+use Rattle.typing.proofs.SequenceLaws.{least-joined, least-step, faults-delayed, faults-throughout, faults-all, faults-either, faults-step, faults-other}
 use Rattle.typing.proofs.sequence.+sequences.Goals as goal
 
 pub sequence_fault-returns-in_ok-first-in-Delayed : goal.sequence_fault-returns-in_ok-first-in-Delayed

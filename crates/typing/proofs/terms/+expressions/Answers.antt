@@ -1,8 +1,7 @@
-use Rattle.std.proofs.Common.{◌≡◌, ◌+◌, ◌≤◌, rules, map, drop, length, sym, ap, ◌∙◌, refl}
+use Rattle.std.proofs.Common.{rules, length, sym, ap, ◌∙◌, refl}
 use Rattle.std.proofs.lemmas.Bool.{eqb-true, eqb-false}
-use Rattle.grammar.specs.ReadExpressions.{links_of, parts_of}
 use Rattle.parser.specs.declared.tree.Expr.TheViews.{the_lemmas}
-use Rattle.parser.specs.Views.{tree_of, link_of, path_of}
+use Rattle.parser.specs.Views.{tree_of}
 use Rattle.values.specs.Terms as terms
 use Rattle.values.specs.Terms.{Term}
 use Rattle.values.specs.Expressions.{term_of}
@@ -76,7 +75,7 @@ join-returns t c =
     let cs = columns_in c.args.columns.now in
     let some = eqb-false (length c.args.parts.now) 0 (sym c.is_empty.ensures ∙ c.if-is_empty.false) in
     joins-more s cs c.args.parts.now (term_of c.args.first) (term_of c.loop-part.whole) some
-        (c.loop-part.invariant.means (term_of c.loop-part.whole) (joins-end s cs _ (term_of c.loop-part.whole) (parts-end c.args.parts.now c.loop-part.part-index c.loop-part-test.false)))
+    (c.loop-part.invariant.means (term_of c.loop-part.whole) (joins-end s cs _ (term_of c.loop-part.whole) (parts-end c.args.parts.now c.loop-part.part-index c.loop-part-test.false)))
 
 pub typed-typed_path-requires-clause-sound : goal.typed-typed_path-requires-clause-sound
 typed-typed_path-requires-clause-sound t c = path-sound (scope_of c.args.scope.now) (columns_in c.args.columns.now) _ _ _ (is-Path c.args.expr.now c.in-Path.path c.in-Path.select c.in-Path.is) c.requires.sound
@@ -199,5 +198,5 @@ typed-returns-in_ok-no-in-Choice t c =
     let k = c.in-Choice in
     let is = is-Choice c.args.expr.now k.condition k.yes k.no c.deref-in-Choice.result.now c.deref-in-Choice-2.result.now c.deref-in-Choice-3.result.now k.is c.deref-in-Choice.ensures c.deref-in-Choice-2.ensures c.deref-in-Choice-3.ensures in
     when_ok c.choose.result
-        (λ e h. means-choice (scope_of c.args.scope.now) (columns_in c.args.columns.now) _ _ _ _ (term_of c.in_ok-condition-in-Choice.condition) (term_of c.in_ok-yes-in-Choice.yes) (term_of c.in_ok-no-in-Choice.no) (term_of e) is c.in_ok-condition-in-Choice.ensures c.in_ok-yes-in-Choice.ensures c.in_ok-no-in-Choice.ensures h)
-        c.choose.ensures
+    (λ e h. means-choice (scope_of c.args.scope.now) (columns_in c.args.columns.now) _ _ _ _ (term_of c.in_ok-condition-in-Choice.condition) (term_of c.in_ok-yes-in-Choice.yes) (term_of c.in_ok-no-in-Choice.no) (term_of e) is c.in_ok-condition-in-Choice.ensures c.in_ok-yes-in-Choice.ensures c.in_ok-no-in-Choice.ensures h)
+    c.choose.ensures

@@ -1,4 +1,3 @@
-use Rattle.std.proofs.Common.{sym, ap, ◌∙◌}
 use Rattle.parser.specs.Views.{path_of}
 use Rattle.typing.specs.declared.own.Sought.TheVariants.{Unknown, OutOfRange}
 use Rattle.typing.specs.Scopes.{path_text, first_byte, meaning, bits_of}
@@ -21,4 +20,4 @@ returns-in-None c =
 pub returns-in-Some : goal.returns-in-Some
 returns-in-Some c =
     read-part (meaning (scope_of c.args.scope.now) (path_of c.args.path.now)) (column_of (columns_in c.args.columns.now) (path_text (path_of c.args.path.now))) c.args.select c.in-Some.select c.in_ok-name.name c.slice_of.result _ c.in-Some.is c.in_ok-name.ensures
-        c.slice_of.ensures.name c.slice_of.ensures.high c.slice_of.ensures.low c.slice.ensures
+    c.slice_of.ensures.name c.slice_of.ensures.high c.slice_of.ensures.low c.slice.ensures

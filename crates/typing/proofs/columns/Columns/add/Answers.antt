@@ -1,4 +1,4 @@
-use Rattle.std.proofs.Common.{sym, ap, ◌∙◌}
+use Rattle.std.proofs.Common.{sym, ◌∙◌}
 use Rattle.typing.proofs.ColumnLaws.{path-there, path-new}
 use Rattle.typing.proofs.columns.Columns.add.Goals as goal
 

@@ -1,4 +1,4 @@
-use Rattle.std.proofs.Common.{sym, ap, ◌∙◌}
+use Rattle.std.proofs.Common.{sym, ◌∙◌}
 use Rattle.typing.proofs.ColumnLaws.{column-place}
 use Rattle.typing.proofs.columns.Columns.column.Goals as goal
 

@@ -1,4 +1,4 @@
-use Rattle.std.proofs.Common.{◌≡◌, ℕ, List, [], map, drop}
+use Rattle.std.proofs.Common.{◌≡◌, [], map, drop}
 use Rattle.typing.specs.Entries.{with_entries}
 use Rattle.typing.specs.Views.{names_in}
 use Rattle.typing.proofs.names.Names.of.Given as goal

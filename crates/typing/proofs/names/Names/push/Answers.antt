@@ -1,4 +1,4 @@
-use Rattle.std.proofs.Common.{sym, ap, ◌∙◌}
+use Rattle.std.proofs.Common.{sym, ◌∙◌}
 use Rattle.typing.specs.declared.width.Width.{Width}
 use Rattle.typing.proofs.EntryLaws.{entry-there, entry-new}
 use Rattle.typing.proofs.names.Names.push.Goals as goal

@@ -1,5 +1,4 @@
-use Rattle.std.proofs.Common.{sym, ap, ◌∙◌, option_map, Option, Some, None, refl, ◌≡◌}
-use Rattle.std.specs.Option.{option_copied}
+use Rattle.std.proofs.Common.{sym, ap, ◌∙◌, option_map}
 use Rattle.typing.specs.declared.width.Width.{Width}
 use Rattle.typing.proofs.EntryLaws.{found-text}
 use Rattle.typing.proofs.names.Names.width.Goals as goal

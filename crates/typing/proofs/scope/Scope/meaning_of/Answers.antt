@@ -1,11 +1,10 @@
-use Rattle.std.proofs.Common.{◌≡◌, ℕ, Option, Some, None, option_map, sym, ap, ◌∙◌}
+use Rattle.std.proofs.Common.{Option, None, option_map, sym, ap, ◌∙◌}
 use Rattle.typing.specs.declared.own.Own.{Own}
 use Rattle.typing.specs.declared.declared.Declared.{Declared}
 use Rattle.typing.specs.Scopes.{found, meaning_by}
-use Rattle.typing.specs.Views.{names_in, entries_in}
+use Rattle.typing.specs.Views.{names_in}
 use Rattle.typing.proofs.EntryLaws.{found-text}
 use Rattle.typing.proofs.scope.Scope.meaning_of.Goals as goal
-
 
 pub returns-in-Some-clause-means : goal.returns-in-Some-clause-means
 returns-in-Some-clause-means c =
