@@ -23,9 +23,10 @@ pub(crate) fn first_cycle(
         if is_above(fault, byte) {
             continue;
         }
-        if is_cyclic(alloc, bodies, place)? {
-            fault = Some(byte);
+        if !is_cyclic(alloc, bodies, place)? {
+            continue;
         }
+        fault = Some(byte);
     }
     Ok(fault)
 }
