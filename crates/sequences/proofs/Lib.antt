@@ -11,3 +11,4 @@ pub mod TableLaws
 pub mod StuckLaws
 pub mod PlacedLaws
 pub mod MapLaws
+pub mod DeclaredLaws
