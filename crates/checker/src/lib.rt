@@ -6,6 +6,7 @@ mod cycles;
 mod fault;
 mod least;
 mod names;
+mod side;
 mod stages;
 
 pub use fault::TypeFault;
