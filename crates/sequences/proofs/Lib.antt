@@ -12,3 +12,4 @@ pub mod StuckLaws
 pub mod PlacedLaws
 pub mod MapLaws
 pub mod DeclaredLaws
+pub mod AcyclicLaws
