@@ -8,5 +8,7 @@ mod least;
 mod names;
 mod side;
 mod stages;
+#[cfg(test)]
+mod tests;
 
 pub use fault::TypeFault;
