@@ -1,3 +1,4 @@
 pub mod StageLaws
 pub mod NameLaws
 pub mod CycleLaws
+pub mod ReadingLaws

@@ -3,3 +3,4 @@ pub mod Texts
 pub mod Faults
 pub mod Suites
 pub mod Cycles
+pub mod Growth
