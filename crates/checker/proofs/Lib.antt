@@ -4,3 +4,4 @@ pub mod CycleLaws
 pub mod SideLaws
 pub mod CycleStage
 pub mod SideStage
+pub mod ReadingLaws

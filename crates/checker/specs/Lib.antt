@@ -4,3 +4,4 @@ pub mod Faults
 pub mod Suites
 pub mod Cycles
 pub mod Sides
+pub mod Growth

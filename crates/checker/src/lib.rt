@@ -3,6 +3,7 @@
 
 mod clocks;
 mod cycles;
+mod drafts;
 mod fault;
 mod least;
 mod names;
