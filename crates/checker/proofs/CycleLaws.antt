@@ -18,10 +18,10 @@ cycle_none bodies bytes place (Some at) n h =
       cyclic = h.cyclic;
       byte = h.byte;
       lowest = λ p lt c.
-        elim (cases_eq p place) [
-          | inl e ↦ absurd (n (subst (λ (x : ℕ). IsCyclic bodies x) e c))
-          | inr d ↦ h.lowest p (omega (arith, lt, d)) c
-        ];
+          elim (cases_eq p place) [
+            | inl e ↦ absurd (n (subst (λ (x : ℕ). IsCyclic bodies x) e c))
+            | inr d ↦ h.lowest p (omega (arith, lt, d)) c
+          ];
     }
 
 -- a lower one was found
@@ -34,10 +34,10 @@ cycle_above bodies bytes place (Some at) n h =
       cyclic = h.cyclic;
       byte = h.byte;
       lowest = λ p lt c.
-        elim (cases_eq p place) [
-          | inl e ↦ subst (λ (x : ℕ). at ≤ get_or bytes x 0) (sym e) n
-          | inr d ↦ h.lowest p (omega (arith, lt, d)) c
-        ];
+          elim (cases_eq p place) [
+            | inl e ↦ subst (λ (x : ℕ). at ≤ get_or bytes x 0) (sym e) n
+            | inr d ↦ h.lowest p (omega (arith, lt, d)) c
+          ];
     }
 
 -- it reaches itself, and stands lower than what was found
@@ -49,10 +49,10 @@ cycle_found bodies bytes place byte None is n c h =
       cyclic = c;
       byte = is;
       lowest = λ p lt d.
-        elim (cases_eq p place) [
-          | inl e ↦ subst (λ (x : ℕ). byte ≤ get_or bytes x 0) (sym e) (omega (arith, is))
-          | inr ne ↦ absurd (h p (omega (arith, lt, ne)) d)
-        ];
+          elim (cases_eq p place) [
+            | inl e ↦ subst (λ (x : ℕ). byte ≤ get_or bytes x 0) (sym e) (omega (arith, is))
+            | inr ne ↦ absurd (h p (omega (arith, lt, ne)) d)
+          ];
     }
 cycle_found bodies bytes place byte (Some at) is n c h =
     record {
@@ -61,11 +61,11 @@ cycle_found bodies bytes place byte (Some at) is n c h =
       cyclic = c;
       byte = is;
       lowest = λ p lt d.
-        elim (cases_eq p place) [
-          | inl e ↦ subst (λ (x : ℕ). byte ≤ get_or bytes x 0) (sym e) (omega (arith, is))
-          | inr ne ↦ below (h.lowest p (omega (arith, lt, ne)) d)
-        ];
+          elim (cases_eq p place) [
+            | inl e ↦ subst (λ (x : ℕ). byte ≤ get_or bytes x 0) (sym e) (omega (arith, is))
+            | inr ne ↦ below (h.lowest p (omega (arith, lt, ne)) d)
+          ];
     }
   where
     below : {x : ℕ} → at ≤ x → byte ≤ x
-    below le = elim (cases_lt byte at) [ | inl lt ↦ omega (arith, lt, le) | inr ge ↦ absurd (n ge) ]
+    below le = elim (cases_lt byte at) [ inl lt ↦ omega (arith, lt, le) | inr ge ↦ absurd (n ge) ]

@@ -52,15 +52,15 @@ module _ (s : Scope) (items : List Item) (bodies : List (Draft Boolean)) (bytes 
   byte_at p d e =
       ap (λ (bs : List ℕ). get_or bs p 0) o.declared
       ∙ get_or_from_slice_get (map (λ (x : Declaration). x.name.at) (declarations_of items)) p d.name.at 0
-        (slice_get-map (λ (x : Declaration). x.name.at) (declarations_of items) p ∙ ap (option_map (λ (x : Declaration). x.name.at)) e)
+      (slice_get-map (λ (x : Declaration). x.name.at) (declarations_of items) p ∙ ap (option_map (λ (x : Declaration). x.name.at)) e)
 
   -- no declaration reaches itself
   pub clear_6 : ((p : ℕ) → p < length bodies → IsCyclic bodies p → ⊥) → ClearTo s items 5 → ClearTo s items 6
   clear_6 none clear =
       clear_next s items 5 clear (λ fault r h.
-        let c = of_6 s items fault r h in
-        let d = outlined c.place c.cyclic in
-        none c.place (declared_by_reach bodies d.0 c.place c.place d.1) d)
+      let c = of_6 s items fault r h in
+      let d = outlined c.place c.cyclic in
+      none c.place (declared_by_reach bodies d.0 c.place c.place d.1) d)
 
   lowest_at : (at : ℕ) → IsLowest bodies bytes (length bodies) at → CycleAt s items at
   lowest_at at low =

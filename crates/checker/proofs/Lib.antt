@@ -5,3 +5,4 @@ pub mod SideLaws
 pub mod CycleStage
 pub mod SideStage
 pub mod ReadingLaws
+pub mod DrawnLaws

@@ -56,6 +56,7 @@ module _ (s : Scope) (cs : List (List ℕ)) where
     -- What is read stays so.
     mutual
       unfolding Reads
+
       pub reads_grows : (q : Sequence) (d : Draft Boolean) → Reads s cs now q d → Reads s cs next q d
       reads_grows (boolean t) d h = boolean_grows (sequence_named s t) t d h
       reads_grows (repeated q r) d h = (h.0, reads_grows q h.0 h.1, h.2)

@@ -71,8 +71,8 @@ side_back IsSo test tells bodies (x ∷ xs) (y ∷ ys) all at i =
     elim (place_of test y ys at i) [
       | inl h ↦ (record { side = x; one = inl refl; meant = all.0.meant; spells = all.0.spells; so = (tells bodies x y all.0).0 h.0; byte = h.1 ∙ all.0.byte })
       | inr r ↦
-        (let s = side_back IsSo test tells bodies xs ys all.1 at r in
-        record { side = s.side; one = inr s.one; meant = s.meant; spells = s.spells; so = s.so; byte = s.byte })
+          (let s = side_back IsSo test tells bodies xs ys all.1 at r in
+          record { side = s.side; one = inr s.one; meant = s.meant; spells = s.spells; so = s.so; byte = s.byte })
     ]
 
 pub tells_wide : Tells (λ w. 127 < weight w) is_wide
@@ -84,7 +84,7 @@ tells_degenerate bodies x y h =
     (λ t. none-degenerate Dot dot h.meant h.ordered (sym h.ticks ∙ ticks_false t), λ so. ap not (h.ticks ∙ degenerate-none Dot dot h.meant h.ordered so))
   where
     ticks_false : not y.facts.ticks ≡ true → y.facts.ticks ≡ false
-    ticks_false t = elim (cases_Bool y.facts.ticks) [ | inl e ↦ absurd (false≢true (sym (ap not e) ∙ t)) | inr e ↦ e ]
+    ticks_false t = elim (cases_Bool y.facts.ticks) [ inl e ↦ absurd (false≢true (sym (ap not e) ∙ t)) | inr e ↦ e ]
 
 pub tells_empty : Tells (λ w. AdmitsEmpty (kernel dot w)) is_empty
 tells_empty bodies x y h =

@@ -32,25 +32,25 @@ least_with x at xs None is below e =
     record {
       stands = inl (sym same);
       lowest = λ other i.
-        elim i [
-          | inl h ↦ omega (arith, h, same)
-          | inr there ↦ absurd (nowhere xs (sym is) other there)
-        ];
+          elim i [
+            | inl h ↦ omega (arith, h, same)
+            | inr there ↦ absurd (nowhere xs (sym is) other there)
+          ];
     }
 least_with x at xs (Some y) is below e =
     let same : min x y ≡ at = cc in
     let rest = below y refl in
     record {
       stands =
-        elim (cases_lt y x) [
-          | inl lt ↦ inr (subst (λ (z : ℕ). IsIn z xs) (let h : y ≡ at = omega (arith, same, lt) in h) rest.stands)
-          | inr ge ↦ inl (omega (arith, same, ge))
-        ];
+          elim (cases_lt y x) [
+            | inl lt ↦ inr (subst (λ (z : ℕ). IsIn z xs) (let h : y ≡ at = omega (arith, same, lt) in h) rest.stands)
+            | inr ge ↦ inl (omega (arith, same, ge))
+          ];
       lowest = λ other i.
-        elim i [
-          | inl h ↦ omega (arith, h, same)
-          | inr there ↦ omega (arith, same, rest.lowest other there)
-        ];
+          elim i [
+            | inl h ↦ omega (arith, h, same)
+            | inr there ↦ omega (arith, same, rest.lowest other there)
+          ];
     }
 
 pub least_stands : (xs : List ℕ) (at : ℕ) → least xs ≡ Some at → IsLeast xs at
@@ -190,10 +190,10 @@ first_at s items n fault clear r h low =
     record {
       stands = h;
       first = λ other k.
-        elim (cases_eq (rank other) (n + 1)) [
-          | inl e ↦ inr (r ∙ sym e, low other e k)
-          | inr d ↦ inl (omega (arith, clear other k, d, r))
-        ];
+          elim (cases_eq (rank other) (n + 1)) [
+            | inl e ↦ inr (r ∙ sym e, low other e k)
+            | inr d ↦ inl (omega (arith, clear other k, d, r))
+          ];
     }
 
 pub clear_1 : (s : Scope) (items : List Item) → ClearTo s items 0 → least (file_faults s Unknown items) ≡ None → ClearTo s items 1
@@ -235,6 +235,5 @@ pub first_5 : (s : Scope) (items : List Item) (at : ℕ) → ClearTo s items 4 �
 first_5 s items at clear e =
     let l = least_stands (other_clocks (assertions_of items)) at e in
     first_at s items 4 (OtherClock at) clear (omega arith) l.stands (λ other r h. l.lowest (byte_of other) (of_5 s items other r h))
-
 
 pub ruleset for_stages = (clear_start, clear_1, clear_2, clear_3, clear_4, clear_5, first_1, first_2, first_3, first_4, first_5)

@@ -5,3 +5,4 @@ pub mod Suites
 pub mod Cycles
 pub mod Sides
 pub mod Growth
+pub mod Drawn

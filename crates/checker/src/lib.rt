@@ -1,9 +1,11 @@
 //! The type checker.
 #![tactic(auto)]
 
+mod bytes;
 mod clocks;
 mod cycles;
 mod drafts;
+mod drawn;
 mod fault;
 mod least;
 mod names;

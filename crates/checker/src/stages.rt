@@ -23,11 +23,7 @@ use typing::{Scope, Sought, first_fault};
 
 /// Looks for unknown names (Y1).
 #[tactic(auto, using(crate::proofs::StageLaws::clear_1, crate::proofs::StageLaws::first_1, crate::proofs::StageLaws::clear_start))]
-fn check_paths(
-    alloc: Global,
-    scope: &Scope,
-    items: &[Item],
-) -> Result<(), TypeFault>
+fn check_paths(alloc: Global, scope: &Scope, items: &[Item]) -> Result<(), TypeFault>
     ensures ok { IfOk result (λ _. ClearTo (scope_of scope.now) (map item_of items.now) 1) }
     ensures err { IfErr result (IsRefused (scope_of scope.now) (map item_of items.now)) }
 {
@@ -40,11 +36,7 @@ fn check_paths(
 
 /// Looks for names that are declared again (Y2).
 #[tactic(auto, using(crate::proofs::StageLaws::clear_2, crate::proofs::StageLaws::first_2))]
-fn check_names(
-    alloc: Global,
-    scope: &Scope,
-    items: &[Item],
-) -> Result<(), TypeFault>
+fn check_names(alloc: Global, scope: &Scope, items: &[Item]) -> Result<(), TypeFault>
     requires clear { ClearTo (scope_of scope.now) (map item_of items.now) 1 }
     ensures ok { IfOk result (λ _. ClearTo (scope_of scope.now) (map item_of items.now) 2) }
     ensures err { IfErr result (IsRefused (scope_of scope.now) (map item_of items.now)) }
@@ -58,11 +50,7 @@ fn check_names(
 
 /// Looks for wide concatenations (Y3).
 #[tactic(auto, using(crate::proofs::StageLaws::clear_3, crate::proofs::StageLaws::first_3))]
-fn check_concatenations(
-    alloc: Global,
-    scope: &Scope,
-    items: &[Item],
-) -> Result<(), TypeFault>
+fn check_concatenations(alloc: Global, scope: &Scope, items: &[Item]) -> Result<(), TypeFault>
     requires clear { ClearTo (scope_of scope.now) (map item_of items.now) 2 }
     ensures ok { IfOk result (λ _. ClearTo (scope_of scope.now) (map item_of items.now) 3) }
     ensures err { IfErr result (IsRefused (scope_of scope.now) (map item_of items.now)) }
@@ -76,11 +64,7 @@ fn check_concatenations(
 
 /// Looks for selects out of range (Y4).
 #[tactic(auto, using(crate::proofs::StageLaws::clear_4, crate::proofs::StageLaws::first_4))]
-fn check_selects(
-    alloc: Global,
-    scope: &Scope,
-    items: &[Item],
-) -> Result<(), TypeFault>
+fn check_selects(alloc: Global, scope: &Scope, items: &[Item]) -> Result<(), TypeFault>
     requires clear { ClearTo (scope_of scope.now) (map item_of items.now) 3 }
     ensures ok { IfOk result (λ _. ClearTo (scope_of scope.now) (map item_of items.now) 4) }
     ensures err { IfErr result (IsRefused (scope_of scope.now) (map item_of items.now)) }
@@ -94,12 +78,7 @@ fn check_selects(
 
 /// Looks for other clocks (Y7).
 #[tactic(auto, using(crate::proofs::StageLaws::clear_5, crate::proofs::StageLaws::first_5))]
-fn check_clocks(
-    alloc: Global,
-    scope: &Scope,
-    items: &[Item],
-    clock: &str,
-) -> Result<(), TypeFault>
+fn check_clocks(alloc: Global, scope: &Scope, items: &[Item], clock: &str) -> Result<(), TypeFault>
     requires clear { ClearTo (scope_of scope.now) (map item_of items.now) 4 }
     requires clock { clock.now ≡ clock_of (assertions_of (map item_of items.now)) }
     ensures ok { IfOk result (λ _. ClearTo (scope_of scope.now) (map item_of items.now) 5) }

@@ -38,11 +38,13 @@ fn accepted(rt: HostRuntime) -> Result<(), Fail> {
     let alloc = rt.alloc();
     let text = "r: assert property (@(posedge top.clk) top.a |-> top.b);";
     assert_eq!(rt; fault_of(alloc, text)?, None, "{text}");
-    let text = "r: assert property (@(posedge top.clk) top.a |-> {top.w, top.d, top.d, top.d} == 0);";
+    let text =
+        "r: assert property (@(posedge top.clk) top.a |-> {top.w, top.d, top.d, top.d} == 0);";
     assert_eq!(rt; fault_of(alloc, text)?, None, "{text}");
     let text = "r: assert property (@(posedge top.clk) top.a |-> top.d[7:0] == 0);";
     assert_eq!(rt; fault_of(alloc, text)?, None, "{text}");
-    let text = "r: assert property (@(posedge top.clk) top.a |-> top.b); t: assert property (@(posedge top . clk) top.b);";
+    let text =
+        "r: assert property (@(posedge top.clk) top.a |-> top.b); t: assert property (@(posedge top . clk) top.b);";
     assert_eq!(rt; fault_of(alloc, text)?, None, "{text}");
     Ok(())
 }
@@ -52,29 +54,85 @@ fn accepted(rt: HostRuntime) -> Result<(), Fail> {
 fn one_fault(rt: HostRuntime) -> Result<(), Fail> {
     let alloc = rt.alloc();
     let text = "r: assert property (@(posedge top.clk) top.a |-> top.x);";
-    assert_eq!(rt; fault_of(alloc, text)?, Some(TypeFault::UnknownName(49)), "{text}");
-    let text = "r: assert property (@(posedge top.clk) top.a |-> s + top.b); sequence s; top.a endsequence";
-    assert_eq!(rt; fault_of(alloc, text)?, Some(TypeFault::UnknownName(49)), "{text}");
-    let text = "sequence s; top.y endsequence r: assert property (@(posedge top.clk) top.a |-> top.b);";
-    assert_eq!(rt; fault_of(alloc, text)?, Some(TypeFault::UnknownName(12)), "{text}");
-    let text = "counter c [2] add(c == 3, top.z); r: assert property (@(posedge top.clk) top.a |-> c);";
-    assert_eq!(rt; fault_of(alloc, text)?, Some(TypeFault::UnknownName(26)), "{text}");
-    let text = "r: assert property (@(posedge top.clk) top.a |-> top.b); r: assert property (@(posedge top.clk) top.b |-> top.a);";
-    assert_eq!(rt; fault_of(alloc, text)?, Some(TypeFault::Duplicate(57)), "{text}");
-    let text = "assert property (@(posedge top.clk) top.a |-> top.b); assert_1: assert property (@(posedge top.clk) top.b |-> top.a);";
-    assert_eq!(rt; fault_of(alloc, text)?, Some(TypeFault::Duplicate(54)), "{text}");
-    let text = "assert_2: assert property (@(posedge top.clk) top.a |-> top.b); assert property (@(posedge top.clk) top.b |-> top.a);";
-    assert_eq!(rt; fault_of(alloc, text)?, Some(TypeFault::Duplicate(64)), "{text}");
-    let text = "counter c [2] ; sequence c; top.a endsequence r: assert property (@(posedge top.clk) top.a |-> top.b);";
-    assert_eq!(rt; fault_of(alloc, text)?, Some(TypeFault::Duplicate(25)), "{text}");
+    assert_eq!(rt;
+        fault_of(alloc, text)?,
+        Some(TypeFault::UnknownName(49)),
+        "{text}"
+    );
+    let text =
+        "r: assert property (@(posedge top.clk) top.a |-> s + top.b); sequence s; top.a endsequence";
+    assert_eq!(rt;
+        fault_of(alloc, text)?,
+        Some(TypeFault::UnknownName(49)),
+        "{text}"
+    );
+    let text =
+        "sequence s; top.y endsequence r: assert property (@(posedge top.clk) top.a |-> top.b);";
+    assert_eq!(rt;
+        fault_of(alloc, text)?,
+        Some(TypeFault::UnknownName(12)),
+        "{text}"
+    );
+    let text =
+        "counter c [2] add(c == 3, top.z); r: assert property (@(posedge top.clk) top.a |-> c);";
+    assert_eq!(rt;
+        fault_of(alloc, text)?,
+        Some(TypeFault::UnknownName(26)),
+        "{text}"
+    );
+    let text =
+        "r: assert property (@(posedge top.clk) top.a |-> top.b); r: assert property (@(posedge top.clk) top.b |-> top.a);";
+    assert_eq!(rt;
+        fault_of(alloc, text)?,
+        Some(TypeFault::Duplicate(57)),
+        "{text}"
+    );
+    let text =
+        "assert property (@(posedge top.clk) top.a |-> top.b); assert_1: assert property (@(posedge top.clk) top.b |-> top.a);";
+    assert_eq!(rt;
+        fault_of(alloc, text)?,
+        Some(TypeFault::Duplicate(54)),
+        "{text}"
+    );
+    let text =
+        "assert_2: assert property (@(posedge top.clk) top.a |-> top.b); assert property (@(posedge top.clk) top.b |-> top.a);";
+    assert_eq!(rt;
+        fault_of(alloc, text)?,
+        Some(TypeFault::Duplicate(64)),
+        "{text}"
+    );
+    let text =
+        "counter c [2] ; sequence c; top.a endsequence r: assert property (@(posedge top.clk) top.a |-> top.b);";
+    assert_eq!(rt;
+        fault_of(alloc, text)?,
+        Some(TypeFault::Duplicate(25)),
+        "{text}"
+    );
     let text = "r: assert property (@(posedge top.clk) top.a |-> {top.w, top.w} == 0);";
-    assert_eq!(rt; fault_of(alloc, text)?, Some(TypeFault::WiderThan128(49)), "{text}");
+    assert_eq!(rt;
+        fault_of(alloc, text)?,
+        Some(TypeFault::WiderThan128(49)),
+        "{text}"
+    );
     let text = "r: assert property (@(posedge top.clk) top.a |-> top.d[8]);";
-    assert_eq!(rt; fault_of(alloc, text)?, Some(TypeFault::SliceRange(49)), "{text}");
+    assert_eq!(rt;
+        fault_of(alloc, text)?,
+        Some(TypeFault::SliceRange(49)),
+        "{text}"
+    );
     let text = "r: assert property (@(posedge top.clk) top.a |-> top.d[1:3]);";
-    assert_eq!(rt; fault_of(alloc, text)?, Some(TypeFault::SliceRange(49)), "{text}");
-    let text = "r: assert property (@(posedge top.clk) top.a |-> top.b); t: assert property (@(posedge top . b) top.b);";
-    assert_eq!(rt; fault_of(alloc, text)?, Some(TypeFault::OtherClock(87)), "{text}");
+    assert_eq!(rt;
+        fault_of(alloc, text)?,
+        Some(TypeFault::SliceRange(49)),
+        "{text}"
+    );
+    let text =
+        "r: assert property (@(posedge top.clk) top.a |-> top.b); t: assert property (@(posedge top . b) top.b);";
+    assert_eq!(rt;
+        fault_of(alloc, text)?,
+        Some(TypeFault::OtherClock(87)),
+        "{text}"
+    );
     Ok(())
 }
 
@@ -82,13 +140,32 @@ fn one_fault(rt: HostRuntime) -> Result<(), Fail> {
 #[test]
 fn two_faults(rt: HostRuntime) -> Result<(), Fail> {
     let alloc = rt.alloc();
-    let text = "r: assert property (@(posedge top.clk) top.a |-> top.b); r: assert property (@(posedge top.clk) top.b |-> top.x);";
-    assert_eq!(rt; fault_of(alloc, text)?, Some(TypeFault::UnknownName(106)), "{text}");
-    let text = "r: assert property (@(posedge top.clk) top.a |-> {top.w, top.w} == 0); r: assert property (@(posedge top.clk) top.b |-> top.a);";
-    assert_eq!(rt; fault_of(alloc, text)?, Some(TypeFault::Duplicate(71)), "{text}");
+    let text =
+        "r: assert property (@(posedge top.clk) top.a |-> top.b); r: assert property (@(posedge top.clk) top.b |-> top.x);";
+    assert_eq!(rt;
+        fault_of(alloc, text)?,
+        Some(TypeFault::UnknownName(106)),
+        "{text}"
+    );
+    let text =
+        "r: assert property (@(posedge top.clk) top.a |-> {top.w, top.w} == 0); r: assert property (@(posedge top.clk) top.b |-> top.a);";
+    assert_eq!(rt;
+        fault_of(alloc, text)?,
+        Some(TypeFault::Duplicate(71)),
+        "{text}"
+    );
     let text = "r: assert property (@(posedge top.clk) top.d[9] |-> {top.w, top.w} == 0);";
-    assert_eq!(rt; fault_of(alloc, text)?, Some(TypeFault::WiderThan128(52)), "{text}");
-    let text = "r: assert property (@(posedge top.clk) top.a |-> top.b); t: assert property (@(posedge top.b) top.d[8]);";
-    assert_eq!(rt; fault_of(alloc, text)?, Some(TypeFault::SliceRange(94)), "{text}");
+    assert_eq!(rt;
+        fault_of(alloc, text)?,
+        Some(TypeFault::WiderThan128(52)),
+        "{text}"
+    );
+    let text =
+        "r: assert property (@(posedge top.clk) top.a |-> top.b); t: assert property (@(posedge top.b) top.d[8]);";
+    assert_eq!(rt;
+        fault_of(alloc, text)?,
+        Some(TypeFault::SliceRange(94)),
+        "{text}"
+    );
     Ok(())
 }

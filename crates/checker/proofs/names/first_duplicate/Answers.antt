@@ -25,13 +25,13 @@ loop-item-preserved-then-is_some c =
     let entries = names_in c.loop-item.known in
     let n = name_made c.loop-item.before (item_of x) in
     let there : is_some (found entries n.0) ≡ true =
-        ap (λ (t : List ℕ). is_some (found entries t)) (sym (c.as_str.ensures.value ∙ c.in_ok-made.ensures.text))
-        ∙ ap is_some (sym c.width.ensures) ∙ some_map (λ w. w.bits) c.width.result ∙ sym c.is_some.ensures ∙ c.if-is_some.true in
+    ap (λ (t : List ℕ). is_some (found entries t)) (sym (c.as_str.ensures.value ∙ c.in_ok-made.ensures.text))
+    ∙ ap is_some (sym c.width.ensures) ∙ some_map (λ w. w.bits) c.width.result ∙ sym c.is_some.ensures ∙ c.if-is_some.true in
     let next : c.earlier-fault.result ≡ earlier c.loop-item.fault (Some n.1) = c.earlier-fault.ensures ∙ ap (λ (b : ℕ). earlier c.loop-item.fault (Some b)) c.in_ok-made.ensures.at in
     record {
       place = rw c.assertions_after-before.ensures (after_most c.loop-item.before c.loop-item.item-index (item_of x) c.loop-item.invariant.place);
       rest = known_step entries n (names_from c.assertions_after-before.result rest) c.loop-item.fault c.earlier-fault.result _ there next
-        (cut_at c.loop-item.before 0 c.assertions_after-before.result entries c.loop-item.fault _ _ rest (item_of x) cut c.assertions_after-before.ensures c.loop-item.invariant.rest);
+          (cut_at c.loop-item.before 0 c.assertions_after-before.result entries c.loop-item.fault _ _ rest (item_of x) cut c.assertions_after-before.ensures c.loop-item.invariant.rest);
     }
 
 pub loop-item-preserved : goal.loop-item-preserved
@@ -42,11 +42,11 @@ loop-item-preserved c =
     let entries = names_in c.loop-item.known in
     let n = name_made c.loop-item.before (item_of x) in
     let none : is_some (found entries n.0) ≡ false =
-        ap (λ (t : List ℕ). is_some (found entries t)) (sym (c.as_str.ensures.value ∙ c.in_ok-made.ensures.text))
-        ∙ ap is_some (sym c.width.ensures) ∙ some_map (λ w. w.bits) c.width.result ∙ sym c.is_some.ensures ∙ c.if-is_some.false in
+    ap (λ (t : List ℕ). is_some (found entries t)) (sym (c.as_str.ensures.value ∙ c.in_ok-made.ensures.text))
+    ∙ ap is_some (sym c.width.ensures) ∙ some_map (λ w. w.bits) c.width.result ∙ sym c.is_some.ensures ∙ c.if-is_some.false in
     let added = c.in_ok-push.ensures.ok ∙ ap (λ (t : List ℕ). with_entry entries t 1) (c.as_str-in-loop-item.ensures.value ∙ c.in_ok-made.ensures.text) in
     record {
       place = rw c.assertions_after-before.ensures (after_most c.loop-item.before c.loop-item.item-index (item_of x) c.loop-item.invariant.place);
       rest = new_step entries (names_in c.push.new.self) n (names_from c.assertions_after-before.result rest) c.loop-item.fault _ none added
-        (cut_at c.loop-item.before 0 c.assertions_after-before.result entries c.loop-item.fault _ _ rest (item_of x) cut c.assertions_after-before.ensures c.loop-item.invariant.rest);
+          (cut_at c.loop-item.before 0 c.assertions_after-before.result entries c.loop-item.fault _ _ rest (item_of x) cut c.assertions_after-before.ensures c.loop-item.invariant.rest);
     }

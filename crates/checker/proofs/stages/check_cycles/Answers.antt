@@ -10,7 +10,7 @@ pub returns-then-has_all-clause-ok : goal.returns-then-has_all-clause-ok
 returns-then-has_all-clause-ok c = λ s items o clear.
     clear_6 s items (map draft_of c.args.bodies.now) c.args.bytes.now o
     (λ p h. entry_acyclic (map draft_of c.args.bodies.now) c.args.table.now p c.requires.entries
-      (c.has_all.ensures.all c.if-has_all.true p (omega (arith, h, c.requires.long, length-map c.args.bodies.now draft_of))))
+    (c.has_all.ensures.all c.if-has_all.true p (omega (arith, h, c.requires.long, length-map c.args.bodies.now draft_of))))
     clear
 
 pub returns-in-Ok-Some-clause-err : goal.returns-in-Ok-Some-clause-err

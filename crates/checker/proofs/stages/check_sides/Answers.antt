@@ -21,5 +21,5 @@ pub returns-clause-ok : goal.returns-clause-ok
 returns-clause-ok c = λ s items clear sides consequents.
     clear_all s items
     (clear_9 s items c.args.consequents.now consequents
-      (clear_8 s items c.args.sides.now sides (clear_7 s items c.args.sides.now sides clear (sym c.first_wide.ensures ∙ c.in_default.is)) (sym c.first_degenerate.ensures ∙ c.in_default-first_degenerate.is))
-      (sym c.first_empty.ensures ∙ c.in_default-first_empty.is))
+    (clear_8 s items c.args.sides.now sides (clear_7 s items c.args.sides.now sides clear (sym c.first_wide.ensures ∙ c.in_default.is)) (sym c.first_degenerate.ensures ∙ c.in_default-first_degenerate.is))
+    (sym c.first_empty.ensures ∙ c.in_default-first_empty.is))
