@@ -2,6 +2,7 @@
 #![tactic(auto)]
 
 mod clocks;
+mod counters;
 mod cycles;
 mod drafts;
 mod fault;
