@@ -1,5 +1,5 @@
 -- Counters of a text, one by one.
-use Rattle.std.proofs.Common.{◌≡◌, ℕ, List, [], ◌∷◌, ◌++◌, map, Option, Some, None, refl, sym, ap, ◌∙◌, subst, IsTrue}
+use Rattle.std.proofs.Common.{◌≡◌, ℕ, List, [], ◌∷◌, ◌++◌, Option, Some, sym, ap, ◌∙◌, subst, IsTrue}
 use Rattle.std.proofs.lemmas.List.{append-nil, append_assoc}
 use Rattle.grammar.specs.Trees as trees
 use Rattle.grammar.specs.Trees.{Tree, Item, counter, declaration, assertion}

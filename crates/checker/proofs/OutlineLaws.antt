@@ -1,9 +1,6 @@
 -- What is read of a sequence has its outline, and its names are those of declared sequences.
 use Rattle.std.proofs.Common.{◌≡◌, ◌⊎◌, inl, inr, ℕ, suc, ◌+◌, ◌<◌, List, [], ◌∷◌, map, length, Bool, true, false, Option, Some, None, refl, sym, ap, ◌∙◌, subst, arith}
 use Rattle.std.specs.Prelude.{cond, bytes_eq}
-use Rattle.std.specs.Map.{lookup}
-use Rattle.lexer.specs.declared.token.Token.{Token}
-use Rattle.grammar.specs.declared.bound.Select.{Select}
 use Rattle.grammar.specs.Trees.{Tree, path, Sequence, boolean, repeated, late, delayed, throughout, all, either, Steps, no_step, step, Others, no_other, other, Item, counter, declaration, assertion}
 use Rattle.values.specs.declared.expr.Expr.{Expr}
 use Rattle.types.specs.declared.sequence.Boolean.{Boolean}
@@ -29,6 +26,7 @@ module _ (s : Scope) (cs : List (List ℕ)) (e : List Expr) where
   -- What is read of a sequence has its outline.
   mutual
     unfolding Reads outline
+
     pub reads_outline : (q : Sequence) (d : Draft Boolean) → Reads s cs e q d → dotted d ≡ outline s q
     reads_outline (boolean t) d h = boolean_outline (sequence_named s t) t d h
     reads_outline (repeated q r) d h = ap dotted h.2 ∙ ap (λ (x : Draft Dot). drafts.repeat x (least_of r) (extra_of r)) (reads_outline q h.0 h.1)
@@ -72,6 +70,7 @@ module _ (s : Scope) (cs : List (List ℕ)) (e : List Expr) where
 
     mutual
       unfolding Reads
+
       pub reads_below : (q : Sequence) (d : Draft Boolean) → Reads s cs e q d → (p : ℕ) → IsIn p (uses d) → p < n
       reads_below (boolean t) d h p i = boolean_below (sequence_named s t) t d refl h p i
       reads_below (repeated q r) d h p i = reads_below q h.0 h.1 p (subst (λ (x : Draft Boolean). IsIn p (uses x)) h.2 i)
@@ -109,10 +108,10 @@ owns_below : (items : List Item) (name : List ℕ) (c k p : ℕ) → found (owns
 owns_below [] name c k p h = absurd cc
 owns_below (counter x ∷ items) name c k p h =
     entry_below (bytes_eq name x.name.text.now) (own.Counter c (width_in x.width.value)) (found (owns_from (c + 1) k items) name) p (k + length (declarations_of items))
-      (λ e. absurd (counter_no_sequence p c (width_in x.width.value) e)) (owns_below items name (c + 1) k p) h
+    (λ e. absurd (counter_no_sequence p c (width_in x.width.value) e)) (owns_below items name (c + 1) k p) h
 owns_below (declaration x ∷ items) name c k p h =
     entry_below (bytes_eq name x.name.text.now) (own.Sequence k) (found (owns_from c (k + 1) items) name) p (k + suc (length (declarations_of items)))
-      (λ e. omega (arith, same_place p k e)) (λ g. omega (arith, owns_below items name c (k + 1) p g)) h
+    (λ e. omega (arith, same_place p k e)) (λ g. omega (arith, owns_below items name c (k + 1) p g)) h
 owns_below (assertion x ∷ items) name c k p h = owns_below items name c k p h
 
 place_sequence : (o : Option Own) (width : Option ℕ) (p : ℕ) → place_of (meaning_by o width) ≡ Some p → o ≡ Some (own.Sequence p)

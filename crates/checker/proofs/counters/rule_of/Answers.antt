@@ -1,6 +1,5 @@
-use Rattle.std.proofs.Common.{◌≡◌, Some, ap, ◌∙◌, sym, refl}
+use Rattle.std.proofs.Common.{◌≡◌, Some, ap}
 use Rattle.std.specs.Prelude.{option_map}
-use Rattle.grammar.specs.Trees.{Tree}
 use Rattle.parser.specs.Views.{tree_of, pair_of}
 use Rattle.typing.specs.Views.{scope_of, columns_in}
 use Rattle.checker.proofs.CounterLaws.{ready-clause}
