@@ -6,7 +6,7 @@ use Rattle.checker.specs.Cycles.{IsLowest, IsFirstCycle, IsAtMost}
 
 -- it doesn't reach itself
 pub cycle_none : {B : Type 0} (bodies : List (Draft B)) (bytes : List ℕ) (place : ℕ) (fault : Option ℕ) → (IsCyclic bodies place → ⊥) → IsFirstCycle bodies bytes place fault → IsFirstCycle bodies bytes (place + 1) fault
-cycle_none bodies bytes place None n h p lt c =
+cycle_none bodies bytes place None n h = λ p lt c.
     elim (cases_eq p place) [
       | inl e ↦ n (subst (λ (x : ℕ). IsCyclic bodies x) e c)
       | inr d ↦ h p (omega (arith, lt, d)) c

@@ -1,6 +1,15 @@
 -- The first declaration that reaches itself, by the bytes of the declarations.
-use Rattle.std.specs.Prelude.{◌≡◌, ℕ, ◌<◌, ◌≤◌, List, length, slice_index_or, Option, Some, None}
+use Rattle.std.specs.Prelude.{◌≡◌, ℕ, ◌<◌, ◌≤◌, List, length, map, slice_index_or, Option, Some, None, false}
+use Rattle.grammar.specs.Trees.{Item}
+use Rattle.types.specs.declared.sequence.Boolean.{Boolean}
 use Rattle.sequences.specs.Drafts.{Draft, IsCyclic}
+use Rattle.sequences.specs.Outlines.{map_draft}
+use Rattle.sequences.specs.declared.entry.Entry.{Entry}
+use Rattle.sequences.specs.Entries.{has_entry}
+use Rattle.typing.specs.Scopes.{Scope}
+use Rattle.checker.specs.Readings.{dot}
+use Rattle.checker.specs.Texts.{declarations_of}
+use Rattle.checker.specs.Faults.{outlines_of}
 
 -- One of the first so many declarations reaches itself and has the byte, and none of these that does has a lower one.
 pub record IsLowest {B : Type 0} (bodies : List (Draft B)) (bytes : List ℕ) (below at : ℕ) : Type 0 where
@@ -19,3 +28,14 @@ IsFirstCycle bodies bytes below (Some at) = IsLowest bodies bytes below at
 abbrev pub IsAtMost : Option ℕ → ℕ → Type 0
 IsAtMost None byte = ⊥
 IsAtMost (Some at) byte = at ≤ byte
+
+-- Drafts of the named sequences, with the bytes where they are declared.
+pub record AreOutlined (s : Scope) (items : List Item) (bodies : List (Draft Boolean)) (bytes : List ℕ) : Type 0 where
+  pub outlines : map (map_draft (λ b. dot)) bodies ≡ outlines_of s items
+  pub declared : bytes ≡ map (λ d. d.name.at) (declarations_of items)
+
+-- a place without an entry
+pub record LacksAt (table : List (Option Entry)) : Type 0 where
+  pub place : ℕ
+  pub inside : place < length table
+  pub lacking : has_entry table place ≡ false

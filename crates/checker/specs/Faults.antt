@@ -15,6 +15,13 @@ use Rattle.checker.specs.declared.fault.TypeFault.TheVariants.{UnknownName, Dupl
 use Rattle.checker.specs.Readings.{Dot, dot, outline}
 use Rattle.checker.specs.Texts.{declarations_of, assertions_of, duplicates, other_clocks, sequence_byte, implication_by}
 
+-- where a text's names are looked up, and the text
+abbrev pub Where : Type 0
+Where = Scope
+
+abbrev pub Text : Type 0
+Text = List Item
+
 -- the outlines of the named sequences
 abbrev pub outlines_of : Scope → List Item → List (Draft Dot)
 outlines_of s items = map (λ d. outline s d.body) (declarations_of items)

@@ -3,4 +3,5 @@ pub mod Texts
 pub mod Faults
 pub mod Suites
 pub mod Cycles
+pub mod Sides
 pub mod Growth

@@ -1,11 +1,12 @@
 //! Named sequences that reach themselves.
 
-ghost use Rattle.std.specs.Prelude.{◌≡◌, ◌<◌, ◌≤◌, ℕ, true, map, length, slice_index_or, IfOk, IfNone, IfSome, IsTrue, ◌↔◌};
+ghost use Rattle.std.specs.Prelude.{◌≡◌, ◌<◌, ◌≤◌, ℕ, true, false, map, length, slice_index_or, IfOk, IfNone, IfSome, IsTrue, ◌↔◌};
 ghost use Rattle.sequences.specs.Drafts.{IsCyclic};
+ghost use Rattle.sequences.specs.Entries.{has_entry};
 ghost use Rattle.sequences.specs.Views.{draft_of};
-ghost use Rattle.checker.specs.Cycles.{IsFirstCycle, IsAtMost};
+ghost use Rattle.checker.specs.Cycles.{IsFirstCycle, IsAtMost, LacksAt};
 
-use sequences::{Draft, is_cyclic};
+use sequences::{Draft, Entry, is_cyclic};
 use std::alloc::{AllocError, Global};
 
 /// The lowest of the bytes of those declarations that reach themselves.
@@ -23,9 +24,10 @@ pub(crate) fn first_cycle(
         if is_above(fault, byte) {
             continue;
         }
-        if is_cyclic(alloc, bodies, place)? {
-            fault = Some(byte);
+        if !is_cyclic(alloc, bodies, place)? {
+            continue;
         }
+        fault = Some(byte);
     }
     Ok(fault)
 }
@@ -38,4 +40,17 @@ fn is_above(fault: Option<usize>, byte: usize) -> bool
         None => false,
         Some(found) => found <= byte,
     }
+}
+
+/// Whether each named sequence has an entry.
+pub(crate) fn has_all(table: &[Option<Entry>]) -> bool
+    ensures all { IsTrue result → (p : ℕ) → p < length table.now → has_entry table.now p ≡ true }
+    ensures some { result ≡ false → LacksAt table.now }
+{
+    for entry in table {
+        if entry.is_none() {
+            return false;
+        }
+    }
+    true
 }

@@ -8,6 +8,9 @@ mod drafts;
 mod fault;
 mod least;
 mod names;
+mod side;
 mod stages;
+#[cfg(test)]
+mod tests;
 
 pub use fault::TypeFault;

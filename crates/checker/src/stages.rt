@@ -1,15 +1,23 @@
-//! Faults of names, widths and clocks.
+//! Faults in their order.
 
-ghost use Rattle.std.specs.Prelude.{◌≡◌, map, IfOk, IfErr};
+ghost use Rattle.std.specs.Prelude.{◌≡◌, ◌<◌, ℕ, true, false, map, length, IfOk, IfErr};
 ghost use Rattle.parser.specs.Views.{item_of};
 ghost use Rattle.typing.specs.Views.{scope_of};
 ghost use Rattle.checker.specs.Texts.{assertions_of, clock_of};
-ghost use Rattle.checker.specs.Faults.{ClearTo, IsRefused};
+ghost use Rattle.checker.specs.Faults.{Where, Text, outlines_of, sides_of, consequents_of, ClearTo, IsFaultless, IsRefused};
+ghost use Rattle.checker.specs.Cycles.{AreOutlined};
+ghost use Rattle.checker.specs.Sides.{AreWeighed};
+ghost use Rattle.sequences.specs.Drafts.{SomeCyclic};
+ghost use Rattle.sequences.specs.Entries.{IsTable, has_entry};
+ghost use Rattle.sequences.specs.Views.{draft_of};
 
 use crate::clocks::first_other_clock;
+use crate::cycles::{first_cycle, has_all};
 use crate::fault::TypeFault;
 use crate::names::first_duplicate;
+use crate::side::{Side, first_degenerate, first_empty, first_wide};
 use parser::Item;
+use sequences::{Draft, Entry};
 use std::alloc::{AllocError, Global};
 use typing::{Scope, Sought, first_fault};
 
@@ -120,4 +128,48 @@ pub(crate) fn check_expressions(
     check_concatenations(alloc, scope, items)?;
     check_selects(alloc, scope, items)?;
     check_clocks(alloc, scope, items, clock)
+}
+
+/// Looks for sequences that reach themselves (Y8), where these are the entries of the named sequences.
+pub(crate) fn check_cycles(
+    alloc: Global,
+    bodies: &[Draft],
+    bytes: &[usize],
+    table: &[Option<Entry>],
+) -> Result<(), TypeFault>
+    requires bytes { length bytes.now ≡ length bodies.now }
+    requires long { length table.now ≡ length bodies.now }
+    requires entries { IsTable (map draft_of bodies.now) table.now }
+    requires cyclic { (p : ℕ) → p < length bodies.now → has_entry table.now p ≡ false → SomeCyclic (map draft_of bodies.now) }
+    ensures entries { IfOk result (λ _. (p : ℕ) → p < length bodies.now → has_entry table.now p ≡ true) }
+    ensures ok { (s : Where) (items : Text) → AreOutlined s items (map draft_of bodies.now) bytes.now → ClearTo s items 5 → IfOk result (λ _. ClearTo s items 6) }
+    ensures err { (s : Where) (items : Text) → AreOutlined s items (map draft_of bodies.now) bytes.now → ClearTo s items 5 → IfErr result (IsRefused s items) }
+{
+    if has_all(table) {
+        return Ok(());
+    }
+    match first_cycle(alloc, bodies, bytes) {
+        Ok(Some(at)) => Err(TypeFault::CyclicSequence(at)),
+        Ok(None) => Ok(()),
+        Err(AllocError) => Err(TypeFault::Memory),
+    }
+}
+
+/// Looks for faults of antecedents and consequents, Y9, Y5 and Y6, in this order.
+pub(crate) fn check_sides(sides: &[Side], consequents: &[Side]) -> Result<(), TypeFault>
+    ensures ok { (s : Where) (items : Text) → ClearTo s items 6 → AreWeighed (outlines_of s items) (sides_of s (assertions_of items)) sides.now
+        → AreWeighed (outlines_of s items) (consequents_of s (assertions_of items)) consequents.now → IfOk result (λ _. IsFaultless s items) }
+    ensures err { (s : Where) (items : Text) → ClearTo s items 6 → AreWeighed (outlines_of s items) (sides_of s (assertions_of items)) sides.now
+        → AreWeighed (outlines_of s items) (consequents_of s (assertions_of items)) consequents.now → IfErr result (IsRefused s items) }
+{
+    if let Some(at) = first_wide(sides) {
+        return Err(TypeFault::TooWide(at));
+    }
+    if let Some(at) = first_degenerate(sides) {
+        return Err(TypeFault::Degenerate(at));
+    }
+    if let Some(at) = first_empty(consequents) {
+        return Err(TypeFault::AdmitsEmpty(at));
+    }
+    Ok(())
 }

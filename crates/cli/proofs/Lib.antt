@@ -3,3 +3,4 @@ pub mod MemberLaws
 pub mod PushLaws
 pub mod SampledLaws
 pub mod RunLaws
+pub mod ColumnLaws

@@ -1,10 +1,9 @@
 -- Places and reports of statements.
 use Rattle.std.proofs.Common.{◌≡◌, ℕ, List, [], ◌∷◌, Option, Some, None, map, sym, ap, ◌∙◌, subst, refl}
-use Rattle.vcd_reader.specs.Variables.{Declared, variable_named}
+use Rattle.vcd_reader.specs.Variables.{Declared, variable_named, size_of}
 use Rattle.vcd_reader.specs.Dump.{Contents}
 use Rattle.cycle_window.specs.Bound.{Wanted, places_of, IsClock}
 use Rattle.cycle_window.specs.Ticks.{ticks_of, row_of}
-use Rattle.types.specs.Shapes.{Table}
 use Rattle.verdicts.specs.Lines.{ReportData}
 use Rattle.cli.specs.Forms.{Statement, path_text}
 use Rattle.cli.specs.Named.{Names}
@@ -33,18 +32,20 @@ places_named vs p q ps v w first second places =
     two_places ps v w (places ∙ ap (λ a. a ∷ variable_named vs q.path ∷ []) first ∙ ap (λ b. Some v ∷ b ∷ []) second)
 
 -- the report over the rows of the variables that a statement's paths name
-pub reports : (k : Contents) (s : Statement) (code w1 w2 : ℕ) (rows : Table) (r : ReportData) → IsClock k.variables (path_text s.clock) code
+pub reports : (k : Contents) (s : Statement) (code w1 w2 : ℕ) (rows : List (List ℕ)) (r : ReportData) → IsClock k.variables (path_text s.clock) code
     → Names k.variables (path_text s.antecedent) w1 → Names k.variables (path_text s.consequent) w2
     → ((v w : ℕ) → variable_named k.variables (path_text s.antecedent) ≡ Some v → variable_named k.variables (path_text s.consequent) ≡ Some w → rows ≡ map (row_of k (v ∷ w ∷ [])) (ticks_of k code))
-    → OverRows s rows r → Reports k s r
+    → OverRows s w1 w2 rows r → Reports k s r
 reports k s code w1 w2 rows r (clock, clock_named, bit, is_code) first second are over =
     let same : rows ≡ rows_of k clock first.place second.place = are first.place second.place first.named second.named ∙ ap (λ (n : ℕ). map (row_of k (first.place ∷ second.place ∷ [])) (ticks_of k n)) is_code in
+    let sized = subst (λ (n : ℕ). OverRows s n w2 rows r) first.wide over in
+    let both_sized = subst (λ (n : ℕ). OverRows s (size_of k.variables first.place) n rows r) second.wide sized in
     record {
       clock = clock;
       antecedent = first.place;
       consequent = second.place;
       bound = record { clock_named = clock_named; clock_bit = bit; antecedent_named = first.named; consequent_named = second.named };
-      over = subst (λ (t : Table). OverRows s t r) same over;
+      over = subst (λ (t : List (List ℕ)). OverRows s (size_of k.variables first.place) (size_of k.variables second.place) t r) same both_sized;
     }
 
 -- why a text's statement has no report is why the text has none

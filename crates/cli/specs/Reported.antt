@@ -3,13 +3,16 @@ use Rattle.std.specs.Prelude.{◌≡◌, ℕ, List, [], ◌∷◌, length, map, 
 use Rattle.signals.specs.declared.verdict.Verdict.{Verdict}
 use Rattle.lexer.specs.declared.token.Token.{Token}
 use Rattle.lexer.specs.Cutting.{cut_of, tokens_of}
-use Rattle.types.specs.Shapes.{Table, value_in, off_in}
+use Rattle.types.specs.Shapes.{value_in, off_in}
+use Rattle.values.specs.declared.expr.Expr.{Expr}
+use Rattle.values.specs.Tables.{column}
+use Rattle.values.specs.Counters.{counted}
 use Rattle.vcd_reader.specs.Variables.{variable_named, size_of, code_number}
 use Rattle.vcd_reader.specs.Dump.{Contents, dump_of}
 use Rattle.cycle_window.specs.Ticks.{ticks_of, row_of}
 use Rattle.verdicts.specs.Lines.{ReportData, line_of, report_of}
 use Rattle.cli.specs.Forms.{Statement, form_of, path_text, name_text}
-use Rattle.cli.specs.Stated.{antecedent_of, consequent_of}
+use Rattle.cli.specs.Stated.{antecedent_of, consequent_of, AreColumns}
 use Rattle.cli.specs.Judged.{AreVerdicts}
 
 -- the text's tokens
@@ -30,22 +33,25 @@ pub record IsBound (c : Contents) (s : Statement) (clock antecedent consequent :
   pub consequent_named : variable_named c.variables (path_text s.consequent) ≡ Some consequent
 
 -- the rows of the two names at the clock's ticks
-abbrev pub rows_of : Contents → ℕ → ℕ → ℕ → Table
+abbrev pub rows_of : Contents → ℕ → ℕ → ℕ → List (List ℕ)
 rows_of c clock antecedent consequent = map (row_of c (antecedent ∷ consequent ∷ [])) (ticks_of c (code_number c.variables clock))
 
--- The report on a statement over its rows: one line, with the verdict of the definition on the attempt at each tick.
-pub record OverRows (s : Statement) (rows : Table) (report : ReportData) : Type 0 where
+-- The report on a statement over its rows: one line, with the verdict of the definition on the attempt at each tick. The antecedent is the
+-- name of the first column, the consequent that of the second, each of so many bits; there are no counters.
+pub record OverRows (s : Statement) (first second : ℕ) (rows : List (List ℕ)) (report : ReportData) : Type 0 where
   pub verdicts : List Verdict
-  pub judged : AreVerdicts (value_in rows) (off_in rows None) (antecedent_of s) (consequent_of s) (length rows) verdicts
+  pub booleans : List Expr
+  pub columns : AreColumns first second booleans
+  pub judged : AreVerdicts (value_in booleans (0 ∷ 1 ∷ []) (counted (column rows) [])) (off_in booleans (0 ∷ 1 ∷ []) (counted (column rows) []) None) (antecedent_of s) (consequent_of s) (length rows) verdicts
   pub is : report ≡ report_of (length rows) (line_of (name_text s.label) verdicts ∷ [])
 
--- The report on a statement over the contents of a dump: over the rows of the variables that its paths name.
+-- The report on a statement over the contents of a dump: over the rows of the variables that its paths name, each of its width.
 pub record Reports (c : Contents) (s : Statement) (report : ReportData) : Type 0 where
   pub clock : ℕ
   pub antecedent : ℕ
   pub consequent : ℕ
   pub bound : IsBound c s clock antecedent consequent
-  pub over : OverRows s (rows_of c clock antecedent consequent) report
+  pub over : OverRows s (size_of c.variables antecedent) (size_of c.variables consequent) (rows_of c clock antecedent consequent) report
 
 -- The report on the bytes of a dump and the bytes of a text.
 pub record IsReport (bytes text : List ℕ) (report : ReportData) : Type 0 where

@@ -10,7 +10,7 @@ ghost use Rattle.cycle_window.specs.Ticks.{ticks_of, row_of};
 ghost use Rattle.verdicts.specs.Shown.{shown};
 ghost use Rattle.cli.specs.Forms.{Statement, path_text, first_byte};
 ghost use Rattle.cli.specs.Reported.{OverRows, Reports};
-ghost use Rattle.cli.specs.Stated.{stated, States};
+ghost use Rattle.cli.specs.Stated.{stated, States, AreColumns};
 ghost use Rattle.cli.specs.Named.{Names};
 ghost use Rattle.cli.specs.Outcomes.{HasReport, WhyNoReport, WhyUnjudged, IsAnswered, WhyRefused, run_of, totals_of};
 
@@ -26,6 +26,7 @@ use lexer::{LexFault, Token, lex};
 use signals::{Sink, Source};
 use std::alloc::{AllocError, Global};
 use types::{Assertion, Suite};
+use values::{Table, count};
 use vcd_reader::{Dump, VcdFault, read_dump};
 use verdicts::{Line, Report, ReportFault, write_report};
 
@@ -53,19 +54,41 @@ fn clocks_of(alloc: Global, dump: &Dump, path: &str) -> Result<Clocks, Fault>
 }
 
 /// The report on an assertion over its rows.
-fn report_over(
+fn report_by(
     alloc: Global,
     assertion: &Assertion,
     suite: &Suite,
     rows: &Rows,
 ) -> Result<Report, AllocError>
-    ensures { (s : Statement) → States s assertion.now → IfOk result (λ r. OverRows s rows.now (shown r)) }
+    ensures { (s : Statement) (first second : ℕ) → States s assertion.now → AreColumns first second suite.now.booleans.items → IfOk result (λ r. OverRows s first second rows.now.signals (shown r)) }
 {
     let verdicts = verdicts_of(alloc, assertion, suite, rows)?;
     let name = String::from_str(alloc, assertion.name.as_str())?;
     let mut lines = Vec::new(alloc);
     lines.push(Line::new(alloc, name, verdicts.as_slice())?)?;
-    Ok(Report::new(rows.len() as u64, lines))
+    Ok(Report::new(rows.signals.len() as u64, lines))
+}
+
+/// The report on a statement over the rows of its two names, of so many bits.
+fn report_over(
+    alloc: Global,
+    read: &Stated,
+    first: u8,
+    second: u8,
+    signals: Table,
+) -> Result<Report, AllocError>
+    requires first_low { 1 ≤ first }
+    requires first_high { first ≤ 128 }
+    requires second_low { 1 ≤ second }
+    requires second_high { second ≤ 128 }
+    ensures { IfOk result (λ r. OverRows (stated read.now) first second signals (shown r)) }
+{
+    let suite = suite_of(alloc, read, first, second)?;
+    let rows = count(alloc, signals, suite.counters.as_slice())?;
+    match suite.assertions.as_slice() {
+        [assertion] => report_by(alloc, assertion, &suite, &rows),
+        _ => unreachable!(),
+    }
 }
 
 /// The two signals of a statement at the ticks of its clock, or why there are none.
@@ -76,7 +99,7 @@ fn rows_of(
     first: Signal<'_>,
     second: Signal<'_>,
     size: usize,
-) -> Result<Rows, AllocError>
+) -> Result<Table, AllocError>
     requires some { 1 ≤ size }
     requires most { size ≤ 65536 }
     requires held { (c : Contents) × Holds dump.now c }
@@ -125,11 +148,7 @@ fn report_on(alloc: Global, dump: &Dump, read: &Stated, size: usize) -> Result<R
         Err(fault) => return Err(fault),
     };
     let rows = rows_of(alloc, dump, &clocks, first, second, size)?;
-    let suite = suite_of(alloc, read)?;
-    match suite.assertions.as_slice() {
-        [assertion] => Ok(report_over(alloc, assertion, &suite, &rows)?),
-        _ => unreachable!(),
-    }
+    Ok(report_over(alloc, read, first.width as u8, second.width as u8, rows)?)
 }
 
 /// The report on a text over a dump.

@@ -11,14 +11,16 @@ ghost use Rattle.cycle_window.specs.Held.{ticks_in, code_in, places_in, clock_in
 
 use crate::fault::TypeFault;
 use cycle_window::{Clocks, Columns, Signal, Window};
-use judging::Rows;
 use std::alloc::{AllocError, Global};
+use values::Table;
 use vcd_reader::Dump;
 
 /// The signal that a path names, at the width that the dump gives it.
 pub(crate) fn signal_of<'a>(dump: &Dump, path: &'a str, at: usize) -> Result<Signal<'a>, TypeFault>
     ensures path { IfOk result (λ s. s.path.now ≡ path.entry.now) }
     ensures named { IfOk result (λ s. Names (variables_of dump.now) path.entry.now s.width) }
+    ensures some_bits { IfOk result (λ s. 1 ≤ s.width) }
+    ensures at_most_128 { IfOk result (λ s. s.width ≤ 128) }
     ensures unnamed { IfErr result (λ e. (variable_named (variables_of dump.now) path.entry.now ≡ None) × (e ≡ UnknownName at)) }
 {
     match dump.var(path) {
@@ -31,7 +33,7 @@ pub(crate) fn signal_of<'a>(dump: &Dump, path: &'a str, at: usize) -> Result<Sig
 }
 
 /// Adds the rows of a window behind those of the clocks before it.
-fn push_rows(rows: &mut Rows, window: &Window) -> Result<(), AllocError>
+fn push_rows(alloc: Global, rows: &mut Table, window: &Window) -> Result<(), AllocError>
     requires order { first_in window.now ≤ end_in window.now }
     requires behind { length rows.old ≡ first_in window.now }
     ensures long { OnOk result (length rows.new ≡ end_in window.now) }
@@ -41,7 +43,8 @@ fn push_rows(rows: &mut Rows, window: &Window) -> Result<(), AllocError>
 {
     let (first, end) = window.bounds();
     for clock in first..end {
-        rows.push(window.row(clock))?;
+        let row = Vec::from_slice(alloc, window.row(clock))?;
+        rows.push(row)?;
     }
     Ok(())
 }
@@ -53,7 +56,7 @@ pub(crate) fn rows_through(
     clocks: &Clocks,
     columns: Columns,
     size: usize,
-) -> Result<Rows, AllocError>
+) -> Result<Table, AllocError>
     requires some { 1 ≤ size }
     requires most { size ≤ 65536 }
     requires held { (c : Contents) × Holds dump.now c }
@@ -65,10 +68,10 @@ pub(crate) fn rows_through(
     let Ok(mut window) = Window::new(size, columns) else {
         unreachable!()
     };
-    let mut rows = Rows::new(alloc);
+    let mut rows = Table::new(alloc);
     while (rows.len() as u64) < clocks.len() {
         window.slide(dump, clocks);
-        push_rows(&mut rows, &window)?;
+        push_rows(alloc, &mut rows, &window)?;
     }
     Ok(rows)
 }

@@ -1,15 +1,16 @@
 //! The suite that a text states.
 
-ghost use Rattle.std.specs.Prelude.{◌≡◌, ◌++◌, ◌∷◌, [], OnOk, IfOk, string_bytes, codes};
+ghost use Rattle.std.specs.Prelude.{◌≡◌, ◌≤◌, ◌++◌, ◌∷◌, [], OnOk, IfOk, string_bytes, codes};
 ghost use Rattle.std.specs.List.{flat_map};
 ghost use Rattle.verdicts.specs.Texts.{Grows};
 ghost use Rattle.cli.specs.Forms.{path_text, name_text};
-ghost use Rattle.cli.specs.Stated.{stated, IsSuiteOf, IsAssertionOf};
+ghost use Rattle.cli.specs.Stated.{stated, IsSuiteOf, IsAssertionOf, IsColumn, AreColumns};
 
 use crate::form::Stated;
 use lexer::Token;
 use std::alloc::{AllocError, Global};
-use types::{Assertion, Boolean, Sequence, Suite};
+use types::{Assertion, Boolean, Sequence, Signal, Suite};
+use values::{Expr, Name, Origin};
 
 /// Adds a dot and a word.
 fn push_word(text: &mut String, word: &str) -> Result<(), AllocError>
@@ -52,35 +53,78 @@ fn name_string(alloc: Global, label: Option<Token>) -> Result<String, AllocError
     }
 }
 
-/// The assertion of a text: its antecedent is the suite's first name, its consequent the second.
+/// The assertion of a text: its antecedent is the suite's first expression, its consequent the second.
 fn assertion_of(alloc: Global, read: &Stated) -> Result<Option<Assertion>, AllocError>
     ensures { IfOk result (IsAssertionOf (stated read.now)) }
 {
     Assertion::new(
         alloc,
         name_string(alloc, read.label)?,
-        Sequence::Leaf(Boolean::Name(0)),
+        Sequence::Boolean(Boolean::Listed(0)),
         read.implication,
-        Sequence::Leaf(Boolean::Name(1)),
+        Sequence::Boolean(Boolean::Listed(1)),
         None,
+        vec![in alloc; 0, 1]?,
     )
 }
 
-/// The suite of a text.
-pub(crate) fn suite_of(alloc: Global, read: &Stated) -> Result<Suite, AllocError>
-    ensures { IfOk result (IsSuiteOf (stated read.now)) }
+/// The name of the signal in a column of the rows, of so many bits.
+fn column_of(column: usize, width: u8) -> Expr
+    requires some_bits { 1 ≤ width }
+    requires at_most_128 { width ≤ 128 }
+    ensures { IsColumn column width result }
+{
+    Expr::name(Name {
+        origin: Origin::Signal,
+        place: column,
+        width,
+    })
+}
+
+/// The names of the signals in the first two columns, of so many bits.
+fn columns_of(alloc: Global, first: u8, second: u8) -> Result<Vec<Expr>, AllocError>
+    requires first_low { 1 ≤ first }
+    requires first_high { first ≤ 128 }
+    requires second_low { 1 ≤ second }
+    requires second_high { second ≤ 128 }
+    ensures { IfOk result (λ all. AreColumns first second all.items) }
+{
+    Ok(vec![in alloc; column_of(0, first), column_of(1, second)]?)
+}
+
+/// The suite of a text, of which the antecedent's name and the consequent's have so many bits.
+pub(crate) fn suite_of(
+    alloc: Global,
+    read: &Stated,
+    first: u8,
+    second: u8,
+) -> Result<Suite, AllocError>
+    requires first_low { 1 ≤ first }
+    requires first_high { first ≤ 128 }
+    requires second_low { 1 ≤ second }
+    requires second_high { second ≤ 128 }
+    ensures { IfOk result (IsSuiteOf (stated read.now) first second) }
 {
     let mut assertions = Vec::new(alloc);
     match assertion_of(alloc, read)? {
         Some(assertion) => assertions.push(assertion)?,
         None => unreachable!(),
     }
-    let mut names = Vec::new(alloc);
-    names.push(path_string(alloc, read.antecedent.as_slice())?)?;
-    names.push(path_string(alloc, read.consequent.as_slice())?)?;
+    let antecedent = path_string(alloc, read.antecedent.as_slice())?;
+    let consequent = path_string(alloc, read.consequent.as_slice())?;
+    let first_signal = Signal {
+        path: antecedent,
+        width: first,
+    };
+    let second_signal = Signal {
+        path: consequent,
+        width: second,
+    };
     Ok(Suite {
         clock: path_string(alloc, read.clock.as_slice())?,
-        names,
+        names: vec![in alloc; first_signal, second_signal]?,
+        counters: Vec::new(alloc),
+        booleans: columns_of(alloc, first, second)?,
         assertions,
     })
 }

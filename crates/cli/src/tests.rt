@@ -114,6 +114,28 @@ fn next_tick_holds(rt: HostRuntime) -> Result<(), Fail> {
     Ok(())
 }
 
+/// A number of 128 bits of which only the highest is 1.
+const HIGHEST: &str =
+    "10000000000000000000000000000000000000000000000000000000000000000000000000000000000000000000000000000000000000000000000000000000";
+
+/// A name of several bits is true where one of its bits is.
+#[test]
+fn several_bits(rt: HostRuntime) -> Result<(), Fail> {
+    let header =
+        "$var wire 1 ! clk $end $var wire 2 \" x $end $var wire 128 # y $end $enddefinitions $end";
+    let text = "assert property (@(posedge clk) x |-> y);";
+    for (x, y, want) in [
+        ("00", HIGHEST, [0, 1, 0, 0, 0]),
+        ("10", "0", [0, 0, 1, 0, 0]),
+        ("10", HIGHEST, [1, 0, 0, 0, 0]),
+    ] {
+        let dump = format!(in rt.alloc(); "{header} #0 0! b{x} \" b{y} # #5 1!")?;
+        let outcome = run(&rt, dump.as_bytes(), text, 1024, 10_000)?;
+        assert_eq!(rt; outcome.answer.ok(), Some(want), "for {x} and {y}");
+    }
+    Ok(())
+}
+
 #[test]
 fn open_at_the_end(rt: HostRuntime) -> Result<(), Fail> {
     let body = "#0\n0!\n0\"\n0#\n#5\n1!\n#6\n1\"\n#10\n0!\n#15\n1!\n";

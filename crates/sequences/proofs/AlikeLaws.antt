@@ -1,7 +1,6 @@
 -- Sequences of parts that match the same match the same.
-use Rattle.std.proofs.Common.{◌≡◌, ◌⊎◌, inl, inr, ℕ, zero, suc, ◌+◌, ◌<◌, ◌≤◌, ◌↔◌, Bool, refl, sym, ◌∙◌, arith}
-use Rattle.std.specs.Prelude.{IsTrue}
-use Rattle.types.specs.Segments.{Seq, one, none, chop, fuse, either, both, during, times, Matches, Chain}
+use Rattle.std.proofs.Common.{◌≡◌, inl, inr, ℕ, zero, suc, ◌+◌, Bool, sym, ◌∙◌}
+use Rattle.types.specs.Segments.{Seq, one, chop, fuse, either, both, during, times, Matches, Chain}
 use Rattle.types.specs.Written.{one_of, ticks, after, later}
 use Rattle.sequences.specs.Entries.{Alike}
 
@@ -23,7 +22,7 @@ module _ {B C : Type 0} (h : B → ℕ → Bool) (g : C → ℕ → Bool) where
 
   pub alike_either : (r s : Seq B) (r2 s2 : Seq C) → Alike h g r r2 → Alike h g s s2 → Alike h g (either r s) (either r2 s2)
   alike_either r s r2 s2 a b i j =
-      (λ m. elim m [ | inl x ↦ inl ((a i j).0 x) | inr y ↦ inr ((b i j).0 y) ], λ m. elim m [ | inl x ↦ inl ((a i j).1 x) | inr y ↦ inr ((b i j).1 y) ])
+      (λ m. elim m [ inl x ↦ inl ((a i j).0 x) | inr y ↦ inr ((b i j).0 y) ], λ m. elim m [ inl x ↦ inl ((a i j).1 x) | inr y ↦ inr ((b i j).1 y) ])
 
   pub alike_both : (r s : Seq B) (r2 s2 : Seq C) → Alike h g r r2 → Alike h g s s2 → Alike h g (both r s) (both r2 s2)
   alike_both r s r2 s2 a b i j =
@@ -34,9 +33,10 @@ module _ {B C : Type 0} (h : B → ℕ → Bool) (g : C → ℕ → Bool) where
       (λ m. ((a i j).0 m.0, λ k le lt. sym (same k) ∙ m.1 k le lt), λ m. ((a i j).1 m.0, λ k le lt. same k ∙ m.1 k le lt))
 
   pub alike_times : (r : Seq B) (r2 : Seq C) (least most : ℕ) → Alike h g r r2 → Alike h g (times r least most) (times r2 least most)
-  alike_times r r2 least most a i j =
-      (λ m. (m.0, m.1, m.2, chain_there (Matches h r) (Matches g r2) (λ x y. (a x y).0) m.0 i j m.3),
-        λ m. (m.0, m.1, m.2, chain_there (Matches g r2) (Matches h r) (λ x y. (a x y).1) m.0 i j m.3))
+  alike_times r r2 least most a i j = (
+    λ m. (m.0, m.1, m.2, chain_there (Matches h r) (Matches g r2) (λ x y. (a x y).0) m.0 i j m.3),
+    λ m. (m.0, m.1, m.2, chain_there (Matches g r2) (Matches h r) (λ x y. (a x y).1) m.0 i j m.3),
+  )
 
   pub alike_one_of : (first more : ℕ) (f : ℕ → Seq B) (e : ℕ → Seq C) → ((k : ℕ) → Alike h g (f k) (e k)) → Alike h g (one_of first more f) (one_of first more e)
   alike_one_of first zero f e a = a first

@@ -1,5 +1,5 @@
 -- What weighs nothing matches empty segments alone, or nothing.
-use Rattle.std.proofs.Common.{◌≡◌, ℕ, zero, suc, ◌+◌, ◌<◌, ◌≤◌, ◌↔◌, Bool, true, false, refl, sym, subst, ◌∙◌, arith}
+use Rattle.std.proofs.Common.{◌≡◌, ℕ, zero, suc, ◌+◌, ◌≤◌, Bool, true, false, sym, subst, ◌∙◌, arith}
 use Rattle.std.proofs.lemmas.Bool.{false≢true}
 use Rattle.types.specs.declared.sequence.Boolean.{Boolean}
 use Rattle.types.specs.declared.sequence.Boolean.TheVariants.{One}
@@ -26,9 +26,10 @@ chain_of_none P zero i j le c = c
 chain_of_none P (suc count) i j le c = absurd (omega (arith, le))
 
 pub alike_empty : (holds : Boolean → ℕ → Bool) (w : Written Boolean) → IsOrdered w → weight w ≡ 0 → admits_empty w ≡ true → Alike holds holds (kernel One w) empty_seq
-alike_empty holds w o z e i j =
-    (λ m. (0, omega arith, omega arith, takes_nothing holds w i j o z m),
-      λ m. subst (λ (k : ℕ). Matches holds (kernel One w) i k) (chain_of_none (Matches holds (one One)) m.0 i j m.2 m.3) (empty-Matches Boolean holds One w i o e))
+alike_empty holds w o z e i j = (
+  λ m. (0, omega arith, omega arith, takes_nothing holds w i j o z m),
+  λ m. subst (λ (k : ℕ). Matches holds (kernel One w) i k) (chain_of_none (Matches holds (one One)) m.0 i j m.2 m.3) (empty-Matches Boolean holds One w i o e),
+)
 
 empty_at_most : (holds : Boolean → ℕ → Bool) (i j : ℕ) → Matches holds empty_seq i j → i ≡ j
 empty_at_most holds i j m = chain_of_none (Matches holds (one One)) m.0 i j m.2 m.3

@@ -1,10 +1,10 @@
 -- What marks say where a sweep changes nothing.
-use Rattle.std.proofs.Common.{◌≡◌, ◌⊎◌, inl, inr, ℕ, zero, suc, ◌+◌, ◌<◌, ◌≤◌, ◌==◌, List, [], ◌∷◌, ◌++◌, Bool, true, false, ◌||◌, length, Option, Some, None, slice_get, refl, sym, ap, subst, ◌∙◌, arith}
-use Rattle.std.proofs.lemmas.Bool.{or_left, or_right, eq-eqb, cases_lt, false≢true, cases_cond}
+use Rattle.std.proofs.Common.{◌≡◌, ◌⊎◌, inl, inr, ℕ, zero, suc, ◌<◌, ◌≤◌, ◌==◌, List, Bool, true, length, Option, refl, sym, subst, ◌∙◌}
+use Rattle.std.proofs.lemmas.Bool.{or_left, or_right, eq-eqb, cases_lt, false≢true}
 use Rattle.std.proofs.lemmas.Option.{slice_get_past}
-use Rattle.sequences.specs.Drafts.{Draft, IsIn, uses_of, uses_at, reaches_by, IsCyclic}
-use Rattle.sequences.specs.Marks.{some_use, marked, leads}
-use Rattle.sequences.specs.Sweeps.{Reaches, AreSound, Covers, AreQuiet}
+use Rattle.sequences.specs.Drafts.{Draft, IsIn, uses_of, uses_at, reaches_by}
+use Rattle.sequences.specs.Marks.{marked, leads}
+use Rattle.sequences.specs.Sweeps.{Covers, AreQuiet}
 use Rattle.sequences.proofs.SweepLaws.{no_use_passes}
 
 -- what uses a name is declared

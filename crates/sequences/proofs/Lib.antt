@@ -11,3 +11,5 @@ pub mod TableLaws
 pub mod StuckLaws
 pub mod PlacedLaws
 pub mod MapLaws
+pub mod DeclaredLaws
+pub mod AcyclicLaws

@@ -1,5 +1,5 @@
 -- Sequences of parts that are placed are placed.
-use Rattle.std.proofs.Common.{◌≡◌, ℕ, ◌+◌, ◌-◌, ◌++◌, ◌||◌, List, Bool, nat_le, refl, sym, ap, ◌∙◌, subst}
+use Rattle.std.proofs.Common.{ℕ, ◌-◌, ◌++◌, ◌||◌, List, Bool, nat_le, refl, sym, ap, ◌∙◌, subst}
 use Rattle.std.proofs.lemmas.List.{append_assoc}
 use Rattle.values.specs.declared.expr.Expr.{Expr}
 use Rattle.types.specs.declared.sequence.Boolean.{Boolean}

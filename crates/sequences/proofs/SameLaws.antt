@@ -1,12 +1,11 @@
 -- What is made of parts that say the same says the same.
-use Rattle.std.proofs.Common.{◌≡◌, ℕ, zero, suc, ◌+◌, ◌-◌, ◌*◌, ◌<◌, ◌≤◌, ◌↔◌, Bool, true, false, refl, sym, ap, ◌∙◌, arith}
+use Rattle.std.proofs.Common.{◌≡◌, ℕ, ◌+◌, ◌-◌, ◌*◌, ◌≤◌, true, false, refl, arith}
 use Rattle.std.proofs.Math.Nat.{mul-le-mul_left, mul-le-mul}
 use Rattle.types.specs.declared.sequence.Boolean.{Boolean}
 use Rattle.types.specs.declared.sequence.Boolean.TheVariants.{One}
-use Rattle.types.specs.Segments.{Seq, one, times, Matches}
 use Rattle.types.specs.Written.{Written, boolean, delay, lead, repeat, or, and, throughout, kernel, weight, after, later, IsOrdered}
 use Rattle.types.specs.Emptiness.{admits_empty}
-use Rattle.sequences.specs.Entries.{Alike, Says}
+use Rattle.sequences.specs.Entries.{Says}
 use Rattle.sequences.proofs.AlikeLaws.{alike_same, alike_one_of, alike_after, alike_later, alike_times, alike_either, alike_both, alike_during}
 use Rattle.sequences.proofs.ConstantLaws.{alike_empty, alike_never}
 

@@ -1,5 +1,5 @@
 -- What is written with names written out: deeper nesting allows no less.
-use Rattle.std.proofs.Common.{◌≡◌, ℕ, zero, suc, ◌+◌, ◌-◌, ◌<◌, ◌≤◌, max, List, Option, Some, None, slice_get, refl, sym, ap, ◌∙◌, arith, subst}
+use Rattle.std.proofs.Common.{◌≡◌, ℕ, zero, suc, ◌+◌, ◌-◌, ◌≤◌, max, List, Option, Some, None, slice_get, refl, ap, arith, subst}
 use Rattle.std.specs.Prelude.{option_map, option_and_then}
 use Rattle.types.specs.Written.{Written}
 use Rattle.types.specs.Written as written
@@ -42,7 +42,7 @@ named_grows bodies zero more p = tt
 named_grows {B} bodies (suc n) more p =
     subst (λ (k : ℕ). Grows (named_within bodies (suc n) p) (named_within bodies k p)) (let e : suc (more + n) ≡ more + suc n = omega arith in e)
     (bind_grows (spelled (named_within bodies n)) (spelled (named_within bodies (more + n))) (slice_get bodies p)
-      (λ d. spelled_grows (named_within bodies n) (named_within bodies (more + n)) d (λ q. named_grows bodies n more q)))
+    (λ d. spelled_grows (named_within bodies n) (named_within bodies (more + n)) d (λ q. named_grows bodies n more q)))
 
 found_by : {A : Type 0} (a b : Option A) (x : A) → Grows a b → a ≡ Some x → b ≡ Some x
 found_by a b x g e = (subst (λ (o : Option _). Grows o b) e g)
@@ -51,7 +51,7 @@ pub spelled_deeper : {B : Type 0} (bodies : List (Draft B)) (d : Draft B) (w : W
 spelled_deeper bodies d w n m le e =
     subst (λ (k : ℕ). spelled (named_within bodies k) d ≡ Some w) (let h : (m - n) + n ≡ m = omega (arith, le) in h)
     (found_by (spelled (named_within bodies n) d) (spelled (named_within bodies ((m - n) + n)) d) w
-      (spelled_grows (named_within bodies n) (named_within bodies ((m - n) + n)) d (named_grows bodies n (m - n))) e)
+    (spelled_grows (named_within bodies n) (named_within bodies ((m - n) + n)) d (named_grows bodies n (m - n))) e)
 
 -- what two parts spell, at one depth
 pub record SpellBoth {B : Type 0} (bodies : List (Draft B)) (r s : Draft B) (v w : Written B) : Type 0 where

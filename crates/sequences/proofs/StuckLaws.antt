@@ -1,13 +1,13 @@
 -- Where each declaration without an entry uses one without an entry, one reaches itself.
-use Rattle.std.proofs.Common.{◌≡◌, ◌⊎◌, inl, inr, ℕ, zero, suc, ◌+◌, ◌<◌, ◌≤◌, List, [], ◌∷◌, Bool, true, false, length, Option, refl, sym, ap, subst, ◌∙◌, arith}
+use Rattle.std.proofs.Common.{◌≡◌, ◌⊎◌, inl, inr, ℕ, zero, suc, ◌+◌, ◌<◌, ◌≤◌, List, [], ◌∷◌, true, false, length, Option, sym, subst, ◌∙◌, arith}
 use Rattle.std.specs.List.{IsDistinct, AllByRecursion, list_any}
 use Rattle.std.proofs.lemmas.Map.Keys.{IsDistinct-cons}
 use Rattle.std.proofs.Math.Dec.{eqb}
 use Rattle.std.proofs.lemmas.Bool.{cases_Bool, or_cases, or_parts, eqb-true, false≢true}
 use Rattle.std.proofs.lemmas.Map.Steps.{length-le_from_distinct_below}
 use Rattle.sequences.specs.declared.entry.Entry.{Entry}
-use Rattle.sequences.specs.Drafts.{IsIn, uses_at, reaches_by, IsCyclic, SomeCyclic, AllDeclared}
-use Rattle.sequences.specs.Entries.{Bodies, has_entry, LacksOne, Accounts, AllLack}
+use Rattle.sequences.specs.Drafts.{IsIn, uses_at, reaches_by, SomeCyclic, AllDeclared}
+use Rattle.sequences.specs.Entries.{Bodies, has_entry, Accounts, AllLack}
 
 -- a declaration without an entry
 pub record IsStuck (bodies : Bodies) (table : List (Option Entry)) (p : ℕ) : Type 0 where
@@ -64,8 +64,8 @@ mutual
       elim (cases_Bool (list_any (eqb p) visited)) [
         | inl here ↦ came_back bodies visited p all here
         | inr apart ↦
-          (let u = step p s in
-          walk bodies table step fuel (p ∷ visited) u.0 u.2 (all_reach_on bodies visited p u.0 s.declared u.1 all)
+            (let u = step p s in
+            walk bodies table step fuel (p ∷ visited) u.0 u.2 (all_reach_on bodies visited p u.0 s.declared u.1 all)
             (IsDistinct-cons eqb p visited (none_same p visited apart) d) (omega (arith, e)))
       ]
 

@@ -1,8 +1,8 @@
 -- A sweep over places that marks those that lead on.
-use Rattle.std.proofs.Common.{◌≡◌, ◌⊎◌, inl, inr, ℕ, zero, suc, ◌+◌, ◌<◌, ◌≤◌, ◌==◌, List, [], ◌∷◌, ◌++◌, Bool, true, false, ◌||◌, length, get_or, set, length-append, append-nil, ◌≢◌, refl, sym, ap, subst, ◌∙◌, arith}
+use Rattle.std.proofs.Common.{◌≡◌, ◌⊎◌, inl, inr, ℕ, suc, ◌+◌, ◌<◌, ◌≤◌, ◌==◌, List, [], ◌∷◌, ◌++◌, Bool, true, false, length, set, length-append, append-nil, ◌≢◌, refl, sym, ap, subst, ◌∙◌, arith}
 use Rattle.std.proofs.lemmas.List.{length-set, get_or-set_same, get_or-set_other}
-use Rattle.std.proofs.lemmas.Bool.{or_cases, or_parts, eqb-true, eq-eqb, cases_eq, false≢true}
-use Rattle.sequences.specs.Drafts.{Draft, IsIn, uses_at, reaches_by}
+use Rattle.std.proofs.lemmas.Bool.{or_cases, or_parts, eqb-true, cases_eq, false≢true}
+use Rattle.sequences.specs.Drafts.{Draft, IsIn, uses_at}
 use Rattle.sequences.specs.Marks.{some_use, marked, leads}
 use Rattle.sequences.specs.Sweeps.{Reaches, AreSound, Covers, AreQuiet}
 use Rattle.sequences.proofs.InLaws.{in_front, in_back, in_either, in_last}
@@ -86,6 +86,7 @@ covered_after marks more rest still p q keeps last (inr i) = by_part (in_either 
     by_last : IsIn p rest ⊎ (p ≡ q) → Covers more (rest ++ still) p
     by_last (inl r) = inr (in_front p rest still r)
     by_last (inr e) = last e
+
     by_part : IsIn p (rest ++ q ∷ []) ⊎ IsIn p still → Covers more (rest ++ still) p
     by_part (inl f) = by_last (in_last p q rest f)
     by_part (inr s) = inr (in_back p rest still s)
@@ -105,6 +106,7 @@ mark {B} bodies goal before places marks left rest still q e h leads_on s =
   where
     shorter : length left ≡ length rest + 1
     shorter = ap length e ∙ length-append rest (q ∷ [])
+
     too_few : length rest + length still ≡ length places → ⊥
     too_few same = omega (arith, s.fewer, same, shorter)
 
@@ -123,17 +125,22 @@ keep {B} bodies goal before places marks left rest still q e quiet s =
   where
     shorter : length left ≡ length rest + 1
     shorter = ap length e ∙ length-append rest (q ∷ [])
+
     longer : length (still ++ q ∷ []) ≡ length still + 1
     longer = length-append still (q ∷ [])
+
     by_last : (p : ℕ) → IsIn p rest ⊎ (p ≡ q) → IsIn p (rest ++ (still ++ q ∷ []))
     by_last p (inl r) = in_front p rest (still ++ q ∷ []) r
     by_last p (inr same) = in_back p rest (still ++ q ∷ []) (in_back p still (q ∷ []) (inl same))
+
     by_part : (p : ℕ) → IsIn p (rest ++ q ∷ []) ⊎ IsIn p still → IsIn p (rest ++ (still ++ q ∷ []))
     by_part p (inl f) = by_last p (in_last p q rest f)
     by_part p (inr i) = in_back p rest (still ++ q ∷ []) (in_front p still (q ∷ []) i)
+
     kept : (p : ℕ) → Covers marks (left ++ still) p → Covers marks (rest ++ (still ++ q ∷ [])) p
     kept p (inl m) = inl m
     kept p (inr i) = inr (by_part p (in_either p (rest ++ q ∷ []) still (subst (λ (xs : List ℕ). IsIn p (xs ++ still)) e i)))
+
     still_quiet : (p : ℕ) → AreQuiet bodies goal marks still → IsIn p still ⊎ (p ≡ q) → some_use (leads marks goal) (uses_at bodies p) ≡ false
     still_quiet p all (inl i) = all p i
     still_quiet p all (inr same) = subst (λ (x : ℕ). some_use (leads marks goal) (uses_at bodies x) ≡ false) (sym same) quiet
@@ -153,7 +160,9 @@ skip {B} bodies goal before places marks left rest still q e past s =
   where
     shorter : length left ≡ length rest + 1
     shorter = ap length e ∙ length-append rest (q ∷ [])
+
     too_few : length rest + length still ≡ length places → ⊥
     too_few same = omega (arith, s.fewer, same, shorter)
+
     outside : (p : ℕ) → p < length before → p ≡ q → ⊥
     outside p h same = omega (arith, h, past, s.long, same)

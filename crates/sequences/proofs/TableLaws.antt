@@ -1,12 +1,12 @@
 -- A sweep over places that makes the entries of those whose names have entries.
-use Rattle.std.proofs.Common.{◌≡◌, ◌≢◌, ◌⊎◌, inl, inr, ℕ, zero, suc, ◌+◌, ◌<◌, ◌≤◌, List, [], ◌∷◌, ◌++◌, Bool, true, false, length, get_or, set, length-append, append-nil, Option, Some, None, slice_get, refl, sym, ap, subst, ◌∙◌, arith}
+use Rattle.std.proofs.Common.{◌≡◌, ◌≢◌, ◌⊎◌, inl, inr, ℕ, suc, ◌+◌, ◌<◌, ◌≤◌, List, [], ◌∷◌, ◌++◌, true, length, set, length-append, append-nil, Option, Some, slice_get, refl, sym, ap, subst, ◌∙◌, arith}
 use Rattle.std.proofs.lemmas.List.{length-set, get_or-set_same, get_or-set_other}
-use Rattle.std.proofs.lemmas.Option.{slice_get-get_or, slice_get_past, slice_get_within}
+use Rattle.std.proofs.lemmas.Option.{slice_get-get_or, slice_get_past}
 use Rattle.std.proofs.lemmas.Bool.{cases_eq, cases_lt}
 use Rattle.types.specs.declared.sequence.Boolean.{Boolean}
 use Rattle.sequences.specs.declared.entry.Entry.{Entry}
-use Rattle.sequences.specs.Drafts.{Draft, IsIn, uses_at, spelled, named_within}
-use Rattle.sequences.specs.Entries.{Bodies, IsEntry, HasEntry, IsEntryOf, IsTable, is_entry, has_entry, LacksOne, Accounts, AllLack}
+use Rattle.sequences.specs.Drafts.{Draft, IsIn, uses_at}
+use Rattle.sequences.specs.Entries.{Bodies, HasEntry, IsEntryOf, IsTable, is_entry, has_entry, LacksOne, Accounts, AllLack}
 use Rattle.sequences.proofs.InLaws.{in_front, in_back, in_either, in_last}
 
 pub record State (bodies : Bodies) (before : List (Option Entry)) (places : List ℕ) (table : List (Option Entry)) (left still : List ℕ) : Type 0 where
@@ -79,6 +79,7 @@ accounted_after table more rest still p q keeps last (inr i) = by_part (in_eithe
     by_last : IsIn p rest ⊎ (p ≡ q) → Accounts more (rest ++ still) p
     by_last (inl r) = inr (in_front p rest still r)
     by_last (inr e) = last e
+
     by_part : IsIn p (rest ++ q ∷ []) ⊎ IsIn p still → Accounts more (rest ++ still) p
     by_part (inl f) = by_last (in_last p q rest f)
     by_part (inr s) = inr (in_back p rest still s)
@@ -98,6 +99,7 @@ make bodies before places table left rest still q e cut h made s =
   where
     shorter : length left ≡ length rest + 1
     shorter = ap length cut ∙ length-append rest (q ∷ [])
+
     too_few : length rest + length still ≡ length places → ⊥
     too_few same = omega (arith, s.fewer, same, shorter)
 
@@ -116,17 +118,22 @@ keep bodies before places table left rest still q cut lacks s =
   where
     shorter : length left ≡ length rest + 1
     shorter = ap length cut ∙ length-append rest (q ∷ [])
+
     longer : length (still ++ q ∷ []) ≡ length still + 1
     longer = length-append still (q ∷ [])
+
     by_last : (p : ℕ) → IsIn p rest ⊎ (p ≡ q) → IsIn p (rest ++ (still ++ q ∷ []))
     by_last p (inl r) = in_front p rest (still ++ q ∷ []) r
     by_last p (inr same) = in_back p rest (still ++ q ∷ []) (in_back p still (q ∷ []) (inl same))
+
     by_part : (p : ℕ) → IsIn p (rest ++ q ∷ []) ⊎ IsIn p still → IsIn p (rest ++ (still ++ q ∷ []))
     by_part p (inl f) = by_last p (in_last p q rest f)
     by_part p (inr i) = in_back p rest (still ++ q ∷ []) (in_front p still (q ∷ []) i)
+
     kept : (p : ℕ) → Accounts table (left ++ still) p → Accounts table (rest ++ (still ++ q ∷ [])) p
     kept p (inl m) = inl m
     kept p (inr i) = inr (by_part p (in_either p (rest ++ q ∷ []) still (subst (λ (xs : List ℕ). IsIn p (xs ++ still)) cut i)))
+
     still_lacks : (p : ℕ) → AllLack bodies table still → IsIn p still ⊎ (p ≡ q) → LacksOne table (uses_at bodies p)
     still_lacks p all (inl i) = all p i
     still_lacks p all (inr same) = subst (λ (x : ℕ). LacksOne table (uses_at bodies x)) (sym same) lacks
@@ -146,7 +153,9 @@ skip bodies before places table left rest still q cut past s =
   where
     shorter : length left ≡ length rest + 1
     shorter = ap length cut ∙ length-append rest (q ∷ [])
+
     too_few : length rest + length still ≡ length places → ⊥
     too_few same = omega (arith, s.fewer, same, shorter)
+
     outside : (p : ℕ) → p < length before → p ≡ q → ⊥
     outside p h same = omega (arith, h, past, s.long, same)

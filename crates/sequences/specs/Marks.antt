@@ -1,5 +1,5 @@
 -- Tests on the names that a sequence uses.
-use Rattle.std.specs.Prelude.{ℕ, List, [], ◌∷◌, Bool, false, ◌||◌, ◌==◌, slice_index_or}
+use Rattle.std.specs.Prelude.{ℕ, List, [], ◌∷◌, Bool, false, ◌||◌, ◌==◌, slice_index_or, nat_lt, true, ◌&&◌}
 
 -- whether one of the numbers passes
 abbrev pub some_use : (ℕ → Bool) → List ℕ → Bool
@@ -13,3 +13,8 @@ marked marks p = slice_index_or marks p false
 -- the goal, or a place with a mark
 abbrev pub leads : List Bool → ℕ → ℕ → Bool
 leads marks goal p = (p == goal) || marked marks p
+
+-- whether each of the numbers is below the count
+abbrev pub all_below : ℕ → List ℕ → Bool
+all_below count [] = true
+all_below count (p ∷ ps) = nat_lt p count && all_below count ps

@@ -1,5 +1,4 @@
 -- Sequences with other booleans in the same places.
-use Rattle.std.specs.Prelude.{ℕ}
 use Rattle.types.specs.Written as written
 use Rattle.types.specs.Written.{Written}
 use Rattle.sequences.specs.Drafts.{Draft, boolean, name, delay, lead, repeat, or, and, throughout}

@@ -1,5 +1,5 @@
 -- Marks on declarations that reach a goal.
-use Rattle.std.specs.Prelude.{◌≡◌, ◌⊎◌, ℕ, ◌+◌, ◌<◌, List, Bool, true, false, length}
+use Rattle.std.specs.Prelude.{◌≡◌, ◌⊎◌, ℕ, List, Bool, true, false}
 use Rattle.sequences.specs.Drafts.{Draft, IsIn, uses_at, reaches_by}
 use Rattle.sequences.specs.Marks.{some_use, marked, leads}
 

@@ -2,14 +2,18 @@
 #![tactic(auto)]
 
 mod cyclic;
+mod declared;
 mod draft;
 mod entry;
 mod facts;
 mod make;
 mod places;
 mod table;
+#[cfg(test)]
+mod tests;
 
 pub use cyclic::is_cyclic;
+pub use declared::are_declared;
 pub use draft::Draft;
 pub use entry::Entry;
 pub use facts::Facts;

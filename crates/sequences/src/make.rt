@@ -81,10 +81,7 @@ pub(crate) fn delayed(
     let Some(second) = second else {
         return Ok(None);
     };
-    Ok(Some(Box::new(
-        alloc,
-        Sequence::Delay(first, least, most as u8, second),
-    )?))
+    Ok(Some(Box::new(alloc, Sequence::Delay(first, least, most as u8, second))?))
 }
 
 /// A delay with nothing before it, where the body is there and the largest count is at most 127.
@@ -103,10 +100,7 @@ pub(crate) fn led(
     let Some(body) = body else {
         return Ok(None);
     };
-    Ok(Some(Box::new(
-        alloc,
-        Sequence::Lead(least, most as u8, body),
-    )?))
+    Ok(Some(Box::new(alloc, Sequence::Lead(least, most as u8, body))?))
 }
 
 /// A repetition, where the body is there and the largest count is at most 127.
@@ -125,10 +119,7 @@ pub(crate) fn repeated(
     let Some(body) = body else {
         return Ok(None);
     };
-    Ok(Some(Box::new(
-        alloc,
-        Sequence::Repeat(body, least, most as u8),
-    )?))
+    Ok(Some(Box::new(alloc, Sequence::Repeat(body, least, most as u8))?))
 }
 
 /// Either of the two, where both are there.

@@ -43,10 +43,7 @@ pub fn placed(
         Sequence::Delay(first, least, most, second) => {
             let first = placed(alloc, first, places)?;
             let second = placed(alloc, second, places)?;
-            Ok(Box::new(
-                alloc,
-                Sequence::Delay(first, *least, *most, second),
-            )?)
+            Ok(Box::new(alloc, Sequence::Delay(first, *least, *most, second))?)
         }
         Sequence::Lead(least, most, body) => {
             let body = placed(alloc, body, places)?;

@@ -3,12 +3,10 @@ use Rattle.vcd_reader.specs.Variables.{variable_named, Declared}
 use Rattle.vcd_reader.specs.Held.{variables_of}
 use Rattle.cycle_window.specs.Bound.{IsClock}
 use Rattle.cycle_window.specs.Held.{code_in}
-use Rattle.types.specs.declared.assertion.Assertion.{Assertion}
 use Rattle.verdicts.specs.Shown.{shown}
 use Rattle.cli.specs.Forms.{path_text}
-use Rattle.cli.specs.Stated.{stated, States}
+use Rattle.cli.specs.Stated.{stated}
 use Rattle.cli.specs.Named.{Names}
-use Rattle.std.specs.Prelude.{get_or}
 use Rattle.cli.proofs.RunLaws.{reports}
 use Rattle.cli.proofs.run.report_on.Goals as goal
 
@@ -26,12 +24,11 @@ returns-clause-ok c = λ k holds.
     let clock = subst (λ (p : List ℕ). IsClock vs p (code_in c.in-Ok-clocks_of.clocks)) clock_path c.in-Ok-clocks_of.ensures.clock in
     let first = subst (λ (p : List ℕ). Names vs p c.in-Ok.signal.width) first_path c.in-Ok.ensures.named in
     let second = subst (λ (p : List ℕ). Names vs p c.in-Ok-signal_of.signal.width) second_path c.in-Ok-signal_of.ensures.named in
-    let same : c.in_ok-suite.ensures.only ≡ c.assertion-item.result = sym (c.assertion-item.is ∙ ap (λ (l : List Assertion). get_or l 0 c.assertion-item.result) (c.as_slice-6.ensures.value ∙ c.in_ok-suite.ensures.assertions)) in
-    reports k s (code_in c.in-Ok-clocks_of.clocks) c.in-Ok.signal.width c.in-Ok-signal_of.signal.width c.in_ok-rows.rows (shown c.in_ok-report_over-in-len1.field-0)
+    reports k s (code_in c.in-Ok-clocks_of.clocks) c.in-Ok.signal.width c.in-Ok-signal_of.signal.width c.in_ok-rows.rows (shown c.in_ok-report_over.field-0)
     (subst (λ (v : List Declared). IsClock v (path_text s.clock) (code_in c.in-Ok-clocks_of.clocks)) holds.variables clock)
     (subst (λ (v : List Declared). Names v (path_text s.antecedent) c.in-Ok.signal.width) holds.variables first)
     (subst (λ (v : List Declared). Names v (path_text s.consequent) c.in-Ok-signal_of.signal.width) holds.variables second)
     (λ v w one two. c.in_ok-rows.ensures k v w holds
     (ap (variable_named vs) (c.in-Ok.ensures.path ∙ first_path) ∙ ap (λ (ds : List Declared). variable_named ds (path_text s.antecedent)) holds.variables ∙ one)
     (ap (variable_named vs) (c.in-Ok-signal_of.ensures.path ∙ second_path) ∙ ap (λ (ds : List Declared). variable_named ds (path_text s.consequent)) holds.variables ∙ two))
-    (c.in_ok-report_over-in-len1.ensures s (subst (λ (a : Assertion). States s a) same c.in_ok-suite.ensures.states))
+    c.in_ok-report_over.ensures

@@ -6,8 +6,8 @@ use Rattle.cycle_window.specs.Held.{ticks_in, places_in, clock_in, columns_in, s
 use Rattle.cli.proofs.sampled.rows_through.Given as goal
 
 -- the rows of the clocks up to the window's end
-abbrev pub invariant-loop-window : goal.invariant-loop-window
-invariant-loop-window l = record {
+abbrev pub invariant-loop-alloc : goal.invariant-loop-alloc
+invariant-loop-alloc l = record {
   of : IsWindowOf l.window l.dump l.clocks;
   columns : columns_in l.window ≡ l.fn.columns;
   size : size_in l.window ≡ l.fn.size;
@@ -15,5 +15,5 @@ invariant-loop-window l = record {
   rows : (c : Contents) → Holds l.dump c → l.rows ≡ map (row_of c (places_in (columns_in l.window))) (take (end_in l.window) (ticks_of c (clock_in (columns_in l.window))));
 }
 
-abbrev pub decreases-loop-window : goal.decreases-loop-window
-decreases-loop-window l = length (ticks_in l.clocks) - length l.rows
+abbrev pub decreases-loop-alloc : goal.decreases-loop-alloc
+decreases-loop-alloc l = length (ticks_in l.clocks) - length l.rows

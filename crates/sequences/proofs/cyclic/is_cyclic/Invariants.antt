@@ -1,6 +1,4 @@
 use Rattle.std.proofs.Common.{◌≡◌, ◌<◌, ℕ, map, length}
-use Rattle.sequences.specs.Drafts.{IsIn}
-use Rattle.sequences.specs.Marks.{marked}
 use Rattle.sequences.specs.Sweeps.{AreSound, Covers}
 use Rattle.sequences.specs.Views.{draft_of}
 use Rattle.sequences.proofs.cyclic.is_cyclic.Given as goal

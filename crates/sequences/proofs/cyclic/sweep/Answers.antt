@@ -1,4 +1,4 @@
-use Rattle.std.proofs.Common.{◌≡◌, ℕ, List, subst, map, length, true, sym, ◌∙◌, arith}
+use Rattle.std.proofs.Common.{ℕ, List, subst, map, true, sym, ◌∙◌, arith}
 use Rattle.std.proofs.lemmas.List.{length-set}
 use Rattle.sequences.specs.Views.{draft_of}
 use Rattle.sequences.proofs.SweepLaws.{State, mark, keep, skip}

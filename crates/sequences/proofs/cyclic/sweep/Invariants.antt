@@ -1,4 +1,4 @@
-use Rattle.std.proofs.Common.{◌≡◌, ◌<◌, ℕ, map, length}
+use Rattle.std.proofs.Common.{◌≡◌, map, length}
 use Rattle.sequences.specs.Views.{draft_of}
 use Rattle.sequences.proofs.SweepLaws.{State}
 use Rattle.sequences.proofs.cyclic.sweep.Given as goal

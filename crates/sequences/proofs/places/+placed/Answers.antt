@@ -10,8 +10,8 @@ returns-in_ok-new-in-Delay-clause-placed t c = λ booleans more.
     let x = c.in_ok-second-in-Delay.ensures.grows in
     rw (c.in-Delay.is, c.in_ok-new-in-Delay.ensures.ok)
     (placed_delay booleans (c.placed-in-Delay.new.places.items ++ more) (written c.in-Delay.first.value) (written c.in-Delay.second.value) (written c.in_ok-first-in-Delay.first.value) (written c.in_ok-second-in-Delay.second.value) c.in-Delay.least c.in-Delay.most
-      (placed_more booleans c.placed.new.places.items c.placed-in-Delay.new.places.items more x (written c.in-Delay.first.value) (written c.in_ok-first-in-Delay.first.value) (first booleans (x.added ++ more)))
-      (second booleans more))
+    (placed_more booleans c.placed.new.places.items c.placed-in-Delay.new.places.items more x (written c.in-Delay.first.value) (written c.in_ok-first-in-Delay.first.value) (first booleans (x.added ++ more)))
+    (second booleans more))
 
 pub returns-in_ok-new-in-Or-clause-placed : goal.returns-in_ok-new-in-Or-clause-placed
 returns-in_ok-new-in-Or-clause-placed t c = λ booleans more.
@@ -20,8 +20,8 @@ returns-in_ok-new-in-Or-clause-placed t c = λ booleans more.
     let x = c.in_ok-second-in-Or.ensures.grows in
     rw (c.in-Or.is, c.in_ok-new-in-Or.ensures.ok)
     (placed_or booleans (c.placed-in-Or-2.new.places.items ++ more) (written c.in-Or.first.value) (written c.in-Or.second.value) (written c.in_ok-first-in-Or.first.value) (written c.in_ok-second-in-Or.second.value)
-      (placed_more booleans c.placed-in-Or.new.places.items c.placed-in-Or-2.new.places.items more x (written c.in-Or.first.value) (written c.in_ok-first-in-Or.first.value) (first booleans (x.added ++ more)))
-      (second booleans more))
+    (placed_more booleans c.placed-in-Or.new.places.items c.placed-in-Or-2.new.places.items more x (written c.in-Or.first.value) (written c.in_ok-first-in-Or.first.value) (first booleans (x.added ++ more)))
+    (second booleans more))
 
 pub returns-in_ok-new-in-And-clause-placed : goal.returns-in_ok-new-in-And-clause-placed
 returns-in_ok-new-in-And-clause-placed t c = λ booleans more.
@@ -30,8 +30,8 @@ returns-in_ok-new-in-And-clause-placed t c = λ booleans more.
     let x = c.in_ok-second-in-And.ensures.grows in
     rw (c.in-And.is, c.in_ok-new-in-And.ensures.ok)
     (placed_and booleans (c.placed-in-And-2.new.places.items ++ more) (written c.in-And.first.value) (written c.in-And.second.value) (written c.in_ok-first-in-And.first.value) (written c.in_ok-second-in-And.second.value)
-      (placed_more booleans c.placed-in-And.new.places.items c.placed-in-And-2.new.places.items more x (written c.in-And.first.value) (written c.in_ok-first-in-And.first.value) (first booleans (x.added ++ more)))
-      (second booleans more))
+    (placed_more booleans c.placed-in-And.new.places.items c.placed-in-And-2.new.places.items more x (written c.in-And.first.value) (written c.in_ok-first-in-And.first.value) (first booleans (x.added ++ more)))
+    (second booleans more))
 
 pub returns-in_ok-new-in-Lead-clause-placed : goal.returns-in_ok-new-in-Lead-clause-placed
 returns-in_ok-new-in-Lead-clause-placed t c = λ booleans more.
@@ -52,5 +52,5 @@ returns-in_ok-new-in-Throughout-clause-placed t c = λ booleans more.
     let x = c.in_ok-body-in-Throughout.ensures.grows in
     rw (c.in-Throughout.is, c.in_ok-new-in-Throughout.ensures.ok)
     (placed_throughout booleans (c.placed-in-Throughout.new.places.items ++ more) c.in-Throughout.boolean c.in_ok-boolean-in-Throughout.boolean (written c.in-Throughout.body.value) (written c.in_ok-body-in-Throughout.body.value)
-      (placed_boolean_more booleans c.placed_boolean-in-Throughout.new.places.items c.placed-in-Throughout.new.places.items more x c.in-Throughout.boolean c.in_ok-boolean-in-Throughout.boolean (c.in_ok-boolean-in-Throughout.ensures.placed booleans (x.added ++ more)))
-      (body booleans more))
+    (placed_boolean_more booleans c.placed_boolean-in-Throughout.new.places.items c.placed-in-Throughout.new.places.items more x c.in-Throughout.boolean c.in_ok-boolean-in-Throughout.boolean (c.in_ok-boolean-in-Throughout.ensures.placed booleans (x.added ++ more)))
+    (body booleans more))

@@ -1,6 +1,6 @@
-use Rattle.std.proofs.Common.{◌≡◌, sym, ap, ◌∙◌, refl, Some, None, slice_get, Option}
+use Rattle.std.proofs.Common.{sym, ap, ◌∙◌, Some}
 use Rattle.std.proofs.lemmas.Option.{slice_get-get_or, slice_get_past}
-use Rattle.sequences.specs.Entries.{has_entry, is_entry}
+use Rattle.sequences.specs.Entries.{is_entry}
 use Rattle.sequences.proofs.SpellLaws.{has_name}
 use Rattle.sequences.proofs.table.entry_at.Goals as goal
 

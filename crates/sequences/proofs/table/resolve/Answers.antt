@@ -1,4 +1,4 @@
-use Rattle.std.proofs.Common.{inr, ◌≡◌, ◌<◌, ℕ, map, length, sym, ◌∙◌, ap, arith, true, false}
+use Rattle.std.proofs.Common.{inr, ◌≡◌, ◌<◌, ℕ, map, length, sym, ◌∙◌, ap, arith}
 use Rattle.std.proofs.lemmas.Bool.{false≢true}
 use Rattle.std.proofs.lemmas.List.{length-map}
 use Rattle.sequences.specs.Views.{draft_of}
@@ -20,7 +20,7 @@ returns-then-len-before-clause-cyclic c = λ p h none.
     let same : length c.in_ok-left-2.left.items ≡ length c.sweeps.left.items = omega (arith, c.len.ensures, c.if-len-before.true, c.len-before.ensures, c.in_ok-left-2.left.ok, c.sweeps.left.ok) in
     stuck_is_cyclic bodies c.sweep.new.table.items
     (left_are_stuck bodies c.sweep.new.table.items c.in_ok-left-2.left.items c.requires (c.in_ok-left-2.ensures.lacking same)
-      (λ q k. let d = inside q k in c.in_ok-left-2.ensures.accounts q d (c.sweeps.invariant.accounts q d)))
+    (λ q k. let d = inside q k in c.in_ok-left-2.ensures.accounts q d (c.sweeps.invariant.accounts q d)))
     p (record { declared = rw (length-map c.args.bodies.now draft_of) h; lacking = none })
   where
     inside : (p : ℕ) → p < length (map draft_of c.args.bodies.now) → p < length c.args.bodies.now

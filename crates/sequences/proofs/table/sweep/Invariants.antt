@@ -1,4 +1,4 @@
-use Rattle.std.proofs.Common.{◌≡◌, ℕ, map, length}
+use Rattle.std.proofs.Common.{◌≡◌, map, length}
 use Rattle.sequences.specs.Views.{draft_of}
 use Rattle.sequences.proofs.TableLaws.{State}
 use Rattle.sequences.proofs.table.sweep.Given as goal

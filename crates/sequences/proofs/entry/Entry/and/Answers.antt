@@ -1,6 +1,5 @@
-use Rattle.std.proofs.Common.{◌≡◌, ℕ, ◌+◌, ◌*◌, ◌≤◌, arith}
-use Rattle.types.specs.Written.{Written, boolean, delay, lead, repeat, or, and, throughout, weight}
-use Rattle.sequences.specs.Entries.{IsEntry}
+use Rattle.std.proofs.Common.{◌+◌, arith}
+use Rattle.types.specs.Written.{and, weight}
 use Rattle.sequences.proofs.EntryLaws.{ok_map, left_factor, right_factor}
 use Rattle.sequences.proofs.entry.Entry.and.Goals as goal
 
@@ -8,8 +7,8 @@ pub returns : goal.returns
 returns c =
     ok_map c.settled.result _ _
     (λ e p v w x y.
-      p (and v w) (x.ordered, y.ordered) (c.and-facts.ensures v w x.facts y.facts)
-      (λ some most. c.in_ok-sequence.ensures v w
-        (x.same (omega (arith, left_factor (weight v + 1) (weight w + 1) 127 some most)))
-        (y.same (omega (arith, right_factor (weight v + 1) (weight w + 1) 127 some most)))))
+    p (and v w) (x.ordered, y.ordered) (c.and-facts.ensures v w x.facts y.facts)
+    (λ some most. c.in_ok-sequence.ensures v w
+    (x.same (omega (arith, left_factor (weight v + 1) (weight w + 1) 127 some most)))
+    (y.same (omega (arith, right_factor (weight v + 1) (weight w + 1) 127 some most)))))
     c.settled.ensures

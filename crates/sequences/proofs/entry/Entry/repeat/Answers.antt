@@ -1,6 +1,5 @@
-use Rattle.std.proofs.Common.{◌≡◌, ℕ, ◌+◌, ◌*◌, ◌≤◌, arith}
-use Rattle.types.specs.Written.{Written, boolean, delay, lead, repeat, or, and, throughout, weight}
-use Rattle.sequences.specs.Entries.{IsEntry}
+use Rattle.std.proofs.Common.{◌+◌, arith}
+use Rattle.types.specs.Written.{repeat, weight}
 use Rattle.sequences.proofs.EntryLaws.{ok_map, left_factor, right_factor}
 use Rattle.sequences.proofs.entry.Entry.repeat.Goals as goal
 
@@ -8,6 +7,6 @@ pub returns : goal.returns
 returns c =
     ok_map c.settled.result _ _
     (λ e p w y.
-      p (repeat w c.args.least (c.args.least + c.args.extra)) (omega arith, y.ordered) (c.repeat-facts.ensures w y.facts)
-      (λ some most. c.in_ok-sequence.ensures w (left_factor (c.args.least + c.args.extra) (weight w) 127 some most) (y.same (right_factor (c.args.least + c.args.extra) (weight w) 127 some most))))
+    p (repeat w c.args.least (c.args.least + c.args.extra)) (omega arith, y.ordered) (c.repeat-facts.ensures w y.facts)
+    (λ some most. c.in_ok-sequence.ensures w (left_factor (c.args.least + c.args.extra) (weight w) 127 some most) (y.same (right_factor (c.args.least + c.args.extra) (weight w) 127 some most))))
     c.settled.ensures

@@ -1,15 +1,12 @@
 use Rattle.types.specs.declared.sequence.Boolean.TheVariants.{Listed}
-use Rattle.sequences.proofs.SameLaws.{says_boolean}
-use Rattle.std.proofs.Common.{◌≡◌, ℕ, ◌+◌, ◌*◌, ◌≤◌, arith}
-use Rattle.types.specs.Written.{Written, boolean, delay, lead, repeat, or, and, throughout, weight}
-use Rattle.sequences.specs.Entries.{IsEntry}
-use Rattle.sequences.proofs.EntryLaws.{ok_map, left_factor, right_factor}
+use Rattle.types.specs.Written.{throughout}
+use Rattle.sequences.proofs.EntryLaws.{ok_map}
 use Rattle.sequences.proofs.entry.Entry.throughout.Goals as goal
 
 pub returns : goal.returns
 returns c =
     ok_map c.settled.result _ _
     (λ e p w y.
-      p (throughout (Listed c.args.place) w) y.ordered (record { weighs = y.facts.weighs; empty = y.facts.empty; ticks = y.facts.ticks })
-      (λ some most. c.in_ok-sequence.ensures w (y.same most)))
+    p (throughout (Listed c.args.place) w) y.ordered (record { weighs = y.facts.weighs; empty = y.facts.empty; ticks = y.facts.ticks })
+    (λ some most. c.in_ok-sequence.ensures w (y.same most)))
     c.settled.ensures
