@@ -6,3 +6,5 @@ pub mod CycleStage
 pub mod SideStage
 pub mod ReadingLaws
 pub mod DrawnLaws
+pub mod OutlineLaws
+pub mod CounterLaws

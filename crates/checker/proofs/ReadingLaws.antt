@@ -1,5 +1,5 @@
 -- What the sequences of a text say, node by node, over a list of expressions that grows.
-use Rattle.std.proofs.Common.{◌≡◌, ◌⊎◌, inl, inr, ℕ, zero, suc, ◌+◌, ◌<◌, List, [], ◌∷◌, ◌++◌, map, length, Option, Some, None, slice_get, refl, sym, ap, ◌∙◌, subst, arith, IsTrue, Result, Ok, Err, IfOk, OnOk}
+use Rattle.std.proofs.Common.{◌≡◌, ℕ, zero, suc, List, [], ◌∷◌, ◌++◌, length, Option, Some, None, slice_get, refl, sym, ap, ◌∙◌, subst, IsTrue, Result, Ok, Err, IfOk, OnOk}
 use Rattle.std.proofs.lemmas.List.{append-nil, append_assoc}
 use Rattle.grammar.specs.declared.bound.Range.{Range}
 use Rattle.grammar.specs.Trees.{Tree, Sequence, boolean, repeated, late, delayed, throughout, all, either, Steps, no_step, step, Others, no_other, other}
@@ -12,7 +12,7 @@ use Rattle.sequences.specs.Drafts as drafts
 use Rattle.sequences.specs.Drafts.{Draft}
 use Rattle.typing.specs.declared.own.Sought.{Sought}
 use Rattle.typing.specs.Scopes.{Scope, sequence_named}
-use Rattle.typing.specs.Faults.{IsSound, faults, boolean_faults, sequence_faults, step_faults, other_faults}
+use Rattle.typing.specs.Faults.{faults, boolean_faults, sequence_faults, step_faults, other_faults}
 use Rattle.typing.specs.Columns.{HasColumns, all_listed, signals, sequence_signals, step_signals, other_signals}
 use Rattle.typing.specs.Meanings.{Means}
 use Rattle.typing.proofs.FaultLaws.{no_faults-parts}

@@ -3,6 +3,7 @@
 
 mod bytes;
 mod clocks;
+mod counters;
 mod cycles;
 mod drafts;
 mod drawn;

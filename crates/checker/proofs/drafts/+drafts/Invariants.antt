@@ -1,4 +1,4 @@
-use Rattle.std.proofs.Common.{◌≡◌, [], map, drop, List, IsTrue}
+use Rattle.std.proofs.Common.{map, drop, List}
 use Rattle.grammar.specs.ReadSequences.{steps_of, others_of}
 use Rattle.parser.specs.Views.{sequence_of, step_of}
 use Rattle.values.specs.declared.expr.Expr.{Expr}
