@@ -1,5 +1,5 @@
 -- Faults of cycles, by the entries of named sequences.
-use Rattle.std.proofs.Common.{◌≡◌, ◌⊎◌, inl, inr, ℕ, ◌+◌, ◌<◌, ◌≤◌, List, [], ◌∷◌, map, length, get_or, Option, Some, None, Bool, true, false, slice_get, refl, sym, ap, subst, ◌∙◌, arith}
+use Rattle.std.proofs.Common.{◌≡◌, ℕ, ◌<◌, ◌≤◌, List, [], ◌∷◌, map, length, get_or, Option, Some, None, true, slice_get, refl, sym, ap, subst, ◌∙◌, arith}
 use Rattle.std.proofs.lemmas.Bool.{false≢true}
 use Rattle.std.proofs.lemmas.List.{length-map}
 use Rattle.std.proofs.lemmas.Option.{slice_get-map, slice_get-get_or, get_or_from_slice_get}
@@ -7,7 +7,7 @@ use Rattle.std.specs.Prelude.{option_map}
 use Rattle.grammar.specs.Trees.{Declaration, Item}
 use Rattle.types.specs.declared.sequence.Boolean.{Boolean}
 use Rattle.sequences.specs.declared.entry.Entry.{Entry}
-use Rattle.sequences.specs.Drafts.{Draft, IsCyclic, SomeCyclic}
+use Rattle.sequences.specs.Drafts.{Draft, IsCyclic}
 use Rattle.sequences.specs.Outlines.{map_draft}
 use Rattle.sequences.specs.Entries.{IsTable, has_entry, is_entry}
 use Rattle.sequences.proofs.MapLaws.{cyclic_map, map_cyclic}
@@ -19,7 +19,7 @@ use Rattle.checker.specs.declared.fault.TypeFault.{TypeFault}
 use Rattle.checker.specs.Readings.{Dot, dot}
 use Rattle.checker.specs.Texts.{declarations_of}
 use Rattle.checker.specs.Faults.{outlines_of, CycleAt, ClearTo, Stands, IsFirst, rank, byte_of}
-use Rattle.checker.specs.Cycles.{IsLowest, IsFirstCycle, AreOutlined}
+use Rattle.checker.specs.Cycles.{IsLowest, AreOutlined}
 use Rattle.checker.proofs.StageLaws.{clear_next, first_at, of_6}
 
 entry_there : (o : Option (Option Entry)) → is_entry o ≡ true → (e : Entry) × (o ≡ Some (Some e))

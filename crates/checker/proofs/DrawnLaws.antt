@@ -1,5 +1,5 @@
 -- What was read stays so when the list of expressions grows.
-use Rattle.std.proofs.Common.{◌≡◌, ℕ, List, Option, Some, None}
+use Rattle.std.proofs.Common.{ℕ, List, Option, Some, None}
 use Rattle.grammar.specs.Trees.{Tree, Property, plain, implication}
 use Rattle.values.specs.declared.expr.Expr.{Expr}
 use Rattle.types.specs.declared.sequence.Boolean.{Boolean}

@@ -1,15 +1,12 @@
 -- Faults of sides, by what is known of them.
-use Rattle.std.proofs.Common.{◌≡◌, ◌⊎◌, inl, inr, ℕ, ◌+◌, ◌<◌, ◌≤◌, min, List, [], ◌∷◌, Bool, true, false, not, nat_lt, Option, Some, None, refl, sym, ap, subst, ◌∙◌, arith}
-use Rattle.std.specs.Prelude.{if◌then◌else◌}
-use Rattle.std.proofs.lemmas.Bool.{cases_Bool, false≢true, ltb-true, lt-ltb, not-true, cases_lt}
+use Rattle.std.proofs.Common.{◌≡◌, ◌⊎◌, inl, inr, ℕ, ◌<◌, List, [], ◌∷◌, Bool, true, false, not, refl, sym, ap, subst, ◌∙◌, arith}
+use Rattle.std.proofs.lemmas.Bool.{cases_Bool, false≢true, ltb-true, lt-ltb}
 use Rattle.types.specs.Segments.{IsDegenerate, AdmitsEmpty, always}
-use Rattle.types.specs.Written.{Written, kernel, weight, IsOrdered}
-use Rattle.types.specs.Emptiness.{admits_empty, takes_ticks}
+use Rattle.types.specs.Written.{Written, kernel, weight}
 use Rattle.types.proofs.EmptinessLaws.{degenerate-none, none-degenerate, empty-Matches, Matches-empty}
 use Rattle.sequences.specs.declared.facts.Facts.{Facts}
 use Rattle.sequences.specs.Drafts.{Draft, IsIn, Spells}
 use Rattle.sequences.proofs.MapLaws.{spells_one}
-use Rattle.typing.specs.Faults.{earlier, least}
 use Rattle.checker.specs.declared.side.Side.{Side}
 use Rattle.checker.specs.Readings.{Dot, dot}
 use Rattle.checker.specs.Faults as faults

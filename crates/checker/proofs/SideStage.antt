@@ -1,5 +1,5 @@
 -- Faults of sides, in their order.
-use Rattle.std.proofs.Common.{◌≡◌, ℕ, ◌+◌, ◌<◌, ◌≤◌, List, Option, Some, None, refl, sym, arith}
+use Rattle.std.proofs.Common.{◌≡◌, ℕ, ◌<◌, ◌≤◌, List, Some, None, arith}
 use Rattle.grammar.specs.Trees.{Item}
 use Rattle.types.specs.Segments.{IsDegenerate, AdmitsEmpty}
 use Rattle.types.specs.Written.{kernel, weight}
@@ -8,9 +8,9 @@ use Rattle.typing.specs.Faults.{least}
 use Rattle.checker.specs.declared.side.Side.{Side}
 use Rattle.checker.specs.declared.fault.TypeFault.{TypeFault}
 use Rattle.checker.specs.declared.fault.TypeFault.TheVariants.{UnknownName, Duplicate, WiderThan128, SliceRange, Degenerate, AdmitsEmpty as Empty, OtherClock, CyclicSequence, TooWide, Memory}
-use Rattle.checker.specs.Readings.{Dot, dot}
+use Rattle.checker.specs.Readings.{dot}
 use Rattle.checker.specs.Texts.{assertions_of}
-use Rattle.checker.specs.Faults.{outlines_of, sides_of, consequents_of, Stands, ClearTo, IsFaultless, IsFirst, rank, byte_of}
+use Rattle.checker.specs.Faults.{outlines_of, sides_of, consequents_of, ClearTo, IsFaultless, IsFirst, rank, byte_of}
 use Rattle.checker.specs.Sides.{AreWeighed, places_where, is_wide, is_degenerate, is_empty}
 use Rattle.checker.proofs.StageLaws.{nowhere, least_stands, clear_next, first_at, of_7, of_8, of_9}
 use Rattle.checker.proofs.SideLaws.{side_there, side_back, tells_wide, tells_degenerate, tells_empty}

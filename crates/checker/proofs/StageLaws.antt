@@ -1,5 +1,5 @@
 -- Faults are looked for by their kinds, in order.
-use Rattle.std.proofs.Common.{◌≡◌, ◌⊎◌, inl, inr, ℕ, zero, suc, ◌+◌, ◌<◌, ◌≤◌, min, List, [], ◌∷◌, Option, Some, None, refl, sym, ap, subst, ◌∙◌, arith}
+use Rattle.std.proofs.Common.{◌≡◌, inl, inr, ℕ, ◌+◌, ◌≤◌, min, List, [], ◌∷◌, Option, Some, None, refl, sym, subst, ◌∙◌, arith}
 use Rattle.std.proofs.lemmas.Option.{none-some}
 use Rattle.std.proofs.lemmas.Bool.{cases_eq, cases_lt}
 use Rattle.grammar.specs.Trees.{Item}
@@ -10,7 +10,7 @@ use Rattle.typing.specs.Faults.{file_faults, earlier, least}
 use Rattle.checker.specs.declared.fault.TypeFault.{TypeFault}
 use Rattle.checker.specs.declared.fault.TypeFault.TheVariants.{UnknownName, Duplicate, WiderThan128, SliceRange, Degenerate, AdmitsEmpty as Empty, OtherClock, CyclicSequence, TooWide, Memory}
 use Rattle.checker.specs.Texts.{assertions_of, duplicates, other_clocks}
-use Rattle.checker.specs.Faults.{Stands, CycleAt, WideAt, DegenerateAt, EmptyAt, rank, byte_of, IsFaultless, IsFirst, ClearTo}
+use Rattle.checker.specs.Faults.{Stands, CycleAt, WideAt, DegenerateAt, EmptyAt, rank, byte_of, IsFirst, ClearTo}
 
 -- where a list has no least place it has no place, and each place is at least the least
 least_of_more : (x : ℕ) (o : Option ℕ) → earlier (Some x) o ≡ None → ⊥

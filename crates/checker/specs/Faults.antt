@@ -1,6 +1,6 @@
 -- Where faults of types stand in a text.
-use Rattle.std.specs.Prelude.{◌≡◌, ◌⊎◌, ℕ, ◌+◌, ◌<◌, ◌≤◌, List, [], ◌∷◌, ◌++◌, map, length, Option, Some, None, slice_get}
-use Rattle.grammar.specs.Trees.{Sequence, Property, plain, implication, Declaration, Assertion, Item}
+use Rattle.std.specs.Prelude.{◌≡◌, ◌⊎◌, ℕ, ◌<◌, ◌≤◌, List, [], ◌∷◌, ◌++◌, map, Some, slice_get}
+use Rattle.grammar.specs.Trees.{Property, plain, implication, Declaration, Assertion, Item}
 use Rattle.types.specs.Segments.{IsDegenerate, AdmitsEmpty}
 use Rattle.types.specs.Written.{Written, kernel, weight}
 use Rattle.sequences.specs.Drafts.{Draft, IsIn, Spells, IsCyclic}

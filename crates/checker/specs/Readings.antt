@@ -2,7 +2,6 @@
 use Rattle.std.specs.Prelude.{◌≡◌, ℕ, ◌-◌, List, [], ◌∷◌, Option, Some, None, slice_get}
 use Rattle.grammar.specs.declared.bound.Bound.{Bound}
 use Rattle.grammar.specs.declared.bound.Range.{Range}
-use Rattle.grammar.specs.Trees as trees
 use Rattle.grammar.specs.Trees.{Tree, Sequence, boolean, repeated, late, delayed, throughout, all, either, Steps, no_step, step, Others, no_other, other}
 use Rattle.values.specs.declared.expr.Expr.{Expr}
 use Rattle.values.specs.Expressions.{term_of}

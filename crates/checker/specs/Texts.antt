@@ -1,12 +1,12 @@
 -- The items of a text by their kinds, their names and their places.
-use Rattle.std.specs.Prelude.{ℕ, suc, ◌+◌, List, [], ◌∷◌, ◌++◌, Option, Some, None, codes, Bool, bytes_eq, if◌then◌else◌}
+use Rattle.std.specs.Prelude.{ℕ, ◌+◌, List, [], ◌∷◌, ◌++◌, Option, Some, None, codes, Bool, bytes_eq, if◌then◌else◌}
 use Rattle.std.specs.List.{list_any}
 use Rattle.std.specs.Fmt.{decimal}
 use Rattle.lexer.specs.declared.token.Token.{Token}
 use Rattle.lexer.specs.declared.token.Symbol.TheVariants as symbol
 use Rattle.lexer.specs.declared.token.Kind.{Kind}
 use Rattle.lexer.specs.declared.token.Kind.TheVariants as kinds
-use Rattle.grammar.specs.Trees.{Tree, number, path, concatenation, past, call, unary, chain, choice, Sequence, boolean, repeated, late, delayed, throughout, all, either, Property, plain, implication, Counter, Declaration, Assertion, Item, counter, declaration, assertion}
+use Rattle.grammar.specs.Trees.{Tree, number, path, concatenation, past, call, unary, chain, choice, Sequence, boolean, repeated, late, delayed, throughout, all, either, Counter, Declaration, Assertion, Item, counter, declaration, assertion}
 use Rattle.types.specs.declared.implication.Implication.{Implication}
 use Rattle.types.specs.declared.implication.Implication.TheVariants.{Overlapped, NonOverlapped}
 use Rattle.typing.specs.Scopes.{path_text, first_byte}

@@ -1,4 +1,3 @@
-use Rattle.std.proofs.Common.{◌≡◌, ◌++◌, [], sym, ap, ◌∙◌}
 use Rattle.parser.specs.Views.{sequence_of}
 use Rattle.typing.specs.Views.{scope_of, columns_in}
 use Rattle.typing.specs.Faults.{sequence_faults}

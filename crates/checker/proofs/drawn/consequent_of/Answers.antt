@@ -1,7 +1,6 @@
-use Rattle.std.proofs.Common.{◌≡◌, ◌++◌, [], sym, ap, ◌∙◌}
 use Rattle.parser.specs.Views.{sequence_of}
 use Rattle.typing.specs.Views.{scope_of, columns_in}
-use Rattle.typing.specs.Faults.{sequence_faults, property_faults}
+use Rattle.typing.specs.Faults.{sequence_faults}
 use Rattle.typing.specs.Columns.{sequence_signals}
 use Rattle.typing.proofs.FaultLaws.{no_faults-parts}
 use Rattle.typing.proofs.ColumnLaws.{listed-parts}

@@ -1,4 +1,3 @@
-use Rattle.std.proofs.Common.{◌≡◌, sym, ap, ◌∙◌}
 use Rattle.checker.proofs.drawn.disabling_of.Goals as goal
 
 pub atom-requires-clause-sound : goal.atom-requires-clause-sound

@@ -1,6 +1,5 @@
-use Rattle.std.proofs.Common.{◌≡◌, ◌++◌, [], sym, ap, ◌∙◌}
 use Rattle.std.specs.Prelude.{option_map}
-use Rattle.parser.specs.Views.{boxed_of, property_of, assertion_of}
+use Rattle.parser.specs.Views.{boxed_of, property_of}
 use Rattle.sequences.specs.Views.{draft_of}
 use Rattle.typing.specs.Views.{scope_of, columns_in}
 use Rattle.typing.specs.Faults.{optional_faults, property_faults}

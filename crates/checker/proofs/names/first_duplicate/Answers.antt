@@ -1,5 +1,5 @@
-use Rattle.std.proofs.Common.{◌≡◌, ◌+◌, ◌≤◌, ◌∷◌, ℕ, List, Option, Some, Bool, true, false, map, drop, sym, ap, ◌∙◌, subst, arith}
-use Rattle.std.specs.Prelude.{is_some, string_bytes, option_map}
+use Rattle.std.proofs.Common.{◌≡◌, ◌+◌, ◌∷◌, ℕ, List, Option, Some, true, false, map, drop, sym, ap, ◌∙◌}
+use Rattle.std.specs.Prelude.{is_some}
 use Rattle.grammar.specs.Trees as trees
 use Rattle.parser.specs.Views.{item_of}
 use Rattle.typing.specs.Scopes.{found}
@@ -7,7 +7,7 @@ use Rattle.typing.specs.Faults.{earlier, least}
 use Rattle.typing.specs.Views.{names_in}
 use Rattle.typing.specs.Entries.{with_entry}
 use Rattle.typing.proofs.Lists.{at}
-use Rattle.checker.specs.Texts.{name_made, assertions_after, names_from, repeated_names, duplicates}
+use Rattle.checker.specs.Texts.{name_made, assertions_after, names_from, repeated_names}
 use Rattle.checker.proofs.NameLaws.{texts_of, known_step, new_step, some_map, after_most}
 use Rattle.checker.proofs.names.first_duplicate.Goals as goal
 

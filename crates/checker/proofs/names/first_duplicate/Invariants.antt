@@ -1,4 +1,4 @@
-use Rattle.std.proofs.Common.{◌≡◌, ◌≤◌, ℕ, List, map, drop}
+use Rattle.std.proofs.Common.{◌≡◌, ◌≤◌, map, drop}
 use Rattle.parser.specs.Views.{item_of}
 use Rattle.typing.specs.Faults.{earlier, least}
 use Rattle.typing.specs.Views.{names_in}

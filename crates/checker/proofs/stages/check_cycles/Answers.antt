@@ -1,7 +1,6 @@
-use Rattle.std.proofs.Common.{◌≡◌, ◌<◌, ℕ, map, length, true, false, sym, ◌∙◌, arith, subst}
-use Rattle.sequences.specs.Drafts.{SomeCyclic, IsCyclic}
+use Rattle.std.proofs.Common.{◌<◌, ℕ, map, length, sym, arith, subst}
 use Rattle.sequences.specs.Views.{draft_of}
-use Rattle.checker.specs.Cycles.{IsFirstCycle, IsLowest}
+use Rattle.checker.specs.Cycles.{IsLowest}
 use Rattle.checker.proofs.CycleStage.{entry_acyclic, clear_6, first_6}
 use Rattle.checker.proofs.stages.check_cycles.Goals as goal
 use Rattle.std.proofs.lemmas.List.{length-map}

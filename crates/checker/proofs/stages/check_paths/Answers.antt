@@ -1,4 +1,4 @@
-use Rattle.std.proofs.Common.{◌≡◌, map, sym}
+use Rattle.std.proofs.Common.{map, sym}
 use Rattle.parser.specs.Views.{item_of}
 use Rattle.typing.specs.Views.{scope_of}
 use Rattle.checker.proofs.StageLaws.{clear_start, first_1}

@@ -1,7 +1,7 @@
-use Rattle.std.proofs.Common.{◌≡◌, map, sym}
+use Rattle.std.proofs.Common.{map, sym}
 use Rattle.parser.specs.Views.{item_of}
 use Rattle.typing.specs.Views.{scope_of}
-use Rattle.checker.proofs.StageLaws.{clear_start, first_4}
+use Rattle.checker.proofs.StageLaws.{first_4}
 use Rattle.checker.proofs.stages.check_selects.Goals as goal
 
 pub returns-in-Ok-Some-clause-err : goal.returns-in-Ok-Some-clause-err

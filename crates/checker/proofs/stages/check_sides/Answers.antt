@@ -1,4 +1,4 @@
-use Rattle.std.proofs.Common.{◌≡◌, sym, ◌∙◌}
+use Rattle.std.proofs.Common.{sym, ◌∙◌}
 use Rattle.checker.proofs.SideStage.{clear_7, first_7, clear_8, first_8, clear_9, first_9, clear_all}
 use Rattle.checker.proofs.stages.check_sides.Goals as goal
 
