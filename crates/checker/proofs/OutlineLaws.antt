@@ -1,18 +1,21 @@
 -- What is read of a sequence has its outline, and its names are those of declared sequences.
-use Rattle.std.proofs.Common.{◌≡◌, ◌⊎◌, inl, inr, ℕ, suc, ◌+◌, ◌<◌, List, [], ◌∷◌, map, length, Bool, true, false, Option, Some, None, refl, sym, ap, ◌∙◌, subst, arith}
+use Rattle.std.proofs.Common.{◌≡◌, ◌⊎◌, inl, inr, ℕ, zero, suc, ◌+◌, ◌<◌, List, [], ◌∷◌, map, length, Bool, true, false, Option, Some, None, refl, sym, ap, ◌∙◌, subst, arith}
 use Rattle.std.specs.Prelude.{cond, bytes_eq}
-use Rattle.grammar.specs.Trees.{Tree, path, Sequence, boolean, repeated, late, delayed, throughout, all, either, Steps, no_step, step, Others, no_other, other, Item, counter, declaration, assertion}
+use Rattle.std.proofs.lemmas.List.{length-map}
+use Rattle.grammar.specs.Trees.{Tree, path, Sequence, boolean, repeated, late, delayed, throughout, all, either, Steps, no_step, step, Others, no_other, other, Item, counter, declaration, assertion, Declaration}
 use Rattle.values.specs.declared.expr.Expr.{Expr}
 use Rattle.types.specs.declared.sequence.Boolean.{Boolean}
 use Rattle.sequences.specs.Drafts as drafts
-use Rattle.sequences.specs.Drafts.{Draft, IsIn, uses}
+use Rattle.sequences.specs.Drafts.{Draft, IsIn, uses, uses_at, AllDeclared}
 use Rattle.sequences.specs.Outlines.{map_draft}
 use Rattle.sequences.proofs.InLaws.{in_either, in_only}
 use Rattle.typing.specs.declared.own.Own.{Own}
 use Rattle.typing.specs.declared.own.Own.TheVariants as own
 use Rattle.typing.specs.Scopes.{Scope, sequence_named, place_of, meaning_by, path_text, owns_from, owns, found, scope_for, width_in}
+use Rattle.checker.specs.Growth.{Extends}
 use Rattle.checker.specs.Texts.{declarations_of}
 use Rattle.checker.specs.Readings.{least_of, extra_of, Reads, ReadsBoolean, ReadsSteps, ReadsAll, ReadsAny, AllRead, Dot, dot, outline_by, outline, outline_steps, outline_all, outline_any}
+use Rattle.checker.proofs.ReadingLaws.{reads_grows}
 
 -- a dot for each boolean
 abbrev pub dotted : Draft Boolean → Draft Dot
@@ -130,3 +133,31 @@ pub reads_declared : (items : List Item) (names : List (List ℕ × ℕ)) (s : S
     (p : ℕ) → IsIn p (uses d) → p < length (declarations_of items)
 reads_declared items names s cs e q d is h =
     reads_below s cs e (length (declarations_of items)) (λ t p g. named_below items names t p (ap (λ (x : Scope). sequence_named x t) (sym is) ∙ g)) q d h
+
+-- the same of all declared sequences
+all_long : (s : Scope) (cs : List (List ℕ)) (e : List Expr) (qs : List Sequence) (ds : List (Draft Boolean)) → AllRead s cs e qs ds → length ds ≡ length qs
+all_long s cs e [] [] h = refl
+all_long s cs e [] (d ∷ ds) h = elim h [ ]
+all_long s cs e (q ∷ qs) [] h = elim h [ ]
+all_long s cs e (q ∷ qs) (d ∷ ds) h = ap suc (all_long s cs e qs ds h.1)
+
+all_below_at : (items : List Item) (names : List (List ℕ × ℕ)) (s : Scope) (cs : List (List ℕ)) (e : List Expr) (qs : List Sequence) (ds : List (Draft Boolean)) → s ≡ scope_for items names → AllRead s cs e qs ds →
+    (p q : ℕ) → IsIn q (uses_at ds p) → q < length (declarations_of items)
+all_below_at items names s cs e [] [] is h p q i = elim i [ ]
+all_below_at items names s cs e [] (d ∷ ds) is h p q i = elim h [ ]
+all_below_at items names s cs e (x ∷ qs) [] is h p q i = elim h [ ]
+all_below_at items names s cs e (x ∷ qs) (d ∷ ds) is h zero q i = reads_declared items names s cs e x d is h.0 q i
+all_below_at items names s cs e (x ∷ qs) (d ∷ ds) is h (suc p) q i = all_below_at items names s cs e qs ds is h.1 p q i
+
+pub all_declared : (items : List Item) (names : List (List ℕ × ℕ)) (s : Scope) (cs : List (List ℕ)) (e : List Expr) (ds : List (Draft Boolean)) → s ≡ scope_for items names →
+    AllRead s cs e (map (λ (d : Declaration). d.body) (declarations_of items)) ds → (p : ℕ) → AllDeclared ds p
+all_declared items names s cs e ds is h p q i =
+    let long = all_long s cs e (map (λ (d : Declaration). d.body) (declarations_of items)) ds h in
+    omega (arith, all_below_at items names s cs e (map (λ (d : Declaration). d.body) (declarations_of items)) ds is h p q i, long, length-map (declarations_of items) (λ (d : Declaration). d.body))
+
+-- All that is read stays read while the expressions grow.
+pub all_grow_on : (s : Scope) (cs : List (List ℕ)) (now next : List Expr) (more : Extends now next) (qs : List Sequence) (ds : List (Draft Boolean)) → AllRead s cs now qs ds → AllRead s cs next qs ds
+all_grow_on s cs now next more [] [] h = h
+all_grow_on s cs now next more [] (d ∷ ds) h = elim h [ ]
+all_grow_on s cs now next more (q ∷ qs) [] h = elim h [ ]
+all_grow_on s cs now next more (q ∷ qs) (d ∷ ds) h = (reads_grows s cs now next more q d h.0, all_grow_on s cs now next more qs ds h.1)
