@@ -24,18 +24,18 @@ map_part f (Some x) h = tt
 -- where a sequence is written out, each name that it uses is
 pub named_there : {B : Type 0} (f : ℕ → Option (Written B)) (d : Draft B) (q : ℕ) → IsThere (spelled f d) → IsIn q (uses d) → IsThere (f q)
 named_there f (boolean b) q h i = elim i [ ]
-named_there f (name p) q h i = elim i [ | inl e ↦ subst (λ (x : ℕ). IsThere (f x)) (sym e) h | inr n ↦ elim n [ ] ]
+named_there f (name p) q h i = elim i [ inl e ↦ subst (λ (x : ℕ). IsThere (f x)) (sym e) h | inr n ↦ elim n [ ] ]
 named_there f (delay r least extra s) q h i =
     let parts = both_parts (λ v w. written.delay v least (least + extra) w) (spelled f r) (spelled f s) h in
-    elim (in_either q (uses r) (uses s) i) [ | inl x ↦ named_there f r q parts.0 x | inr y ↦ named_there f s q parts.1 y ]
+    elim (in_either q (uses r) (uses s) i) [ inl x ↦ named_there f r q parts.0 x | inr y ↦ named_there f s q parts.1 y ]
 named_there f (lead least extra s) q h i = named_there f s q (map_part (written.lead least (least + extra)) (spelled f s) h) i
 named_there f (repeat r least extra) q h i = named_there f r q (map_part (λ v. written.repeat v least (least + extra)) (spelled f r) h) i
 named_there f (or r s) q h i =
     let parts = both_parts written.or (spelled f r) (spelled f s) h in
-    elim (in_either q (uses r) (uses s) i) [ | inl x ↦ named_there f r q parts.0 x | inr y ↦ named_there f s q parts.1 y ]
+    elim (in_either q (uses r) (uses s) i) [ inl x ↦ named_there f r q parts.0 x | inr y ↦ named_there f s q parts.1 y ]
 named_there f (and r s) q h i =
     let parts = both_parts written.and (spelled f r) (spelled f s) h in
-    elim (in_either q (uses r) (uses s) i) [ | inl x ↦ named_there f r q parts.0 x | inr y ↦ named_there f s q parts.1 y ]
+    elim (in_either q (uses r) (uses s) i) [ inl x ↦ named_there f r q parts.0 x | inr y ↦ named_there f s q parts.1 y ]
 named_there f (throughout b r) q h i = named_there f r q (map_part (written.throughout b) (spelled f r) h) i
 
 use_there : {B : Type 0} (f : ℕ → Option (Written B)) (o : Option (Draft B)) (q : ℕ) → IsThere (option_and_then (spelled f) o) → IsIn q (uses_of o) → IsThere (f q)
