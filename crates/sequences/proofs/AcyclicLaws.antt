@@ -1,10 +1,9 @@
 -- What can be written out doesn't reach itself.
-use Rattle.std.proofs.Common.{◌≡◌, ◌⊎◌, inl, inr, ℕ, zero, suc, ◌+◌, ◌<◌, ◌≤◌, List, Option, Some, None, slice_get, refl, sym, ap, subst, ◌∙◌, arith}
+use Rattle.std.proofs.Common.{◌≡◌, inl, inr, ℕ, zero, suc, ◌+◌, ◌<◌, List, Option, Some, None, slice_get, sym, subst, arith}
 use Rattle.std.specs.Prelude.{option_map, option_and_then}
-use Rattle.std.proofs.lemmas.Option.{none-some}
 use Rattle.types.specs.Written.{Written}
 use Rattle.types.specs.Written as written
-use Rattle.sequences.specs.Drafts.{Draft, boolean, name, delay, lead, repeat, or, and, throughout, IsIn, uses, uses_of, uses_at, both_there, spelled, named_within, reaches_by, IsCyclic}
+use Rattle.sequences.specs.Drafts.{Draft, boolean, name, delay, lead, repeat, or, and, throughout, IsIn, uses, uses_of, both_there, spelled, named_within, reaches_by, IsCyclic}
 use Rattle.sequences.proofs.InLaws.{in_either}
 
 -- there is something
