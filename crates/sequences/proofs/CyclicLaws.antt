@@ -2,9 +2,10 @@
 use Rattle.std.proofs.Common.{◌≡◌, ◌⊎◌, inl, inr, ℕ, zero, suc, ◌<◌, ◌≤◌, ◌==◌, List, Bool, true, length, Option, refl, sym, subst, ◌∙◌}
 use Rattle.std.proofs.lemmas.Bool.{or_left, or_right, eq-eqb, cases_lt, false≢true}
 use Rattle.std.proofs.lemmas.Option.{slice_get_past}
-use Rattle.sequences.specs.Drafts.{Draft, IsIn, uses_of, uses_at, reaches_by}
+use Rattle.sequences.specs.Drafts.{Draft, IsIn, uses_of, uses_at, reaches_by, SomeCyclic}
 use Rattle.sequences.specs.Marks.{marked, leads}
 use Rattle.sequences.specs.Sweeps.{Covers, AreQuiet}
+use Rattle.sequences.specs.Cycles.{ReachesCycle}
 use Rattle.sequences.proofs.SweepLaws.{no_use_passes}
 
 -- what uses a name is declared
@@ -18,6 +19,10 @@ declared_by_use {B} bodies p q i = by_place (cases_lt p (length bodies))
 pub declared_by_reach : {B : Type 0} (bodies : List (Draft B)) (more p q : ℕ) → reaches_by bodies more p q → p < length bodies
 declared_by_reach bodies zero p q r = declared_by_use bodies p q r
 declared_by_reach bodies (suc more) p q r = declared_by_use bodies p r.0 r.1
+
+-- where one reaches a cycle, one of the declarations is cyclic
+pub some_cyclic : {B : Type 0} (bodies : List (Draft B)) (p : ℕ) → ReachesCycle bodies p → SomeCyclic bodies
+some_cyclic bodies p r = (r.place, declared_by_reach bodies r.cyclic.0 r.place r.place r.cyclic.1, r.cyclic)
 
 not_quiet : {B : Type 0} (bodies : List (Draft B)) (goal : ℕ) (marks : List Bool) (left : List ℕ) (p q : ℕ) →
     AreQuiet bodies goal marks left → IsIn q (uses_at bodies p) → leads marks goal q ≡ true → IsIn p left → ⊥

@@ -1,6 +1,6 @@
 -- Numbers below a count.
 use Rattle.std.proofs.Common.{◌≡◌, ◌⊎◌, inl, inr, ℕ, ◌<◌, ◌≤◌, ◌&&◌, List, [], ◌∷◌, ◌++◌, Bool, true, false, map, length, get_or, nat_lt, Option, Some, None, slice_get, refl, sym, ap, subst, ◌∙◌, arith}
-use Rattle.std.proofs.lemmas.Bool.{and_parts, ltb-true, cases_lt}
+use Rattle.std.proofs.lemmas.Bool.{and_parts, and_from, ltb-true, lt-ltb, cases_lt}
 use Rattle.std.proofs.lemmas.List.{length-map}
 use Rattle.std.proofs.lemmas.Option.{slice_get-map, slice_get-get_or, slice_get_past}
 use Rattle.std.specs.Prelude.{option_map}
@@ -28,6 +28,17 @@ below_of count (x ∷ xs) p h i =
       | inl e ↦ omega (arith, e, ltb-true x count parts.0)
       | inr there ↦ below_of count xs p parts.1 there
     ]
+
+pub all_below_of : (count : ℕ) (xs : List ℕ) → ((p : ℕ) → IsIn p xs → p < count) → all_below count xs ≡ true
+all_below_of count [] h = refl
+all_below_of count (x ∷ xs) h = and_from (nat_lt x count) (all_below count xs) (lt-ltb x count (h x (inl refl))) (all_below_of count xs (λ p i. h p (inr i)))
+
+-- where all are declared, each declaration's names are below the count of declarations
+pub each_below : (bodies : List Draft) → ((p : ℕ) → AllDeclared (map draft_of bodies) p) → (k : ℕ) (d : Draft) → k < length bodies → all_below (length bodies) (uses (draft_of (get_or bodies k d))) ≡ true
+each_below bodies all k d h = all_below_of (length bodies) (uses (draft_of (get_or bodies k d))) (λ q i. rw (length-map bodies draft_of) at (all k q (there q i)))
+  where
+    there : (q : ℕ) → IsIn q (uses (draft_of (get_or bodies k d))) → IsIn q (uses_at (map draft_of bodies) k)
+    there q i = subst (λ (o : Option (drafts.Draft Boolean)). IsIn q (uses_of o)) (sym (slice_get-map draft_of bodies k ∙ ap (option_map draft_of) (slice_get-get_or bodies k d h))) i
 
 -- where each declaration's names are below the count of declarations, all are declared
 pub all_declared : (bodies : List Draft) → ((k : ℕ) (d : Draft) → k < length bodies → all_below (length bodies) (uses (draft_of (get_or bodies k d))) ≡ true) → (p : ℕ) → AllDeclared (map draft_of bodies) p

@@ -1,12 +1,14 @@
--- Where each declaration without an entry uses one without an entry, one reaches itself.
-use Rattle.std.proofs.Common.{◌≡◌, ◌⊎◌, inl, inr, ℕ, zero, suc, ◌+◌, ◌<◌, ◌≤◌, List, [], ◌∷◌, true, false, length, Option, sym, subst, ◌∙◌, arith}
+-- Where each declaration without an entry uses one without an entry, each of them reaches one that reaches itself.
+use Rattle.std.proofs.Common.{◌≡◌, ◌⊎◌, inl, inr, ℕ, zero, suc, ◌+◌, ◌<◌, ◌≤◌, List, [], ◌∷◌, true, false, length, Option, refl, sym, subst, ◌∙◌, arith}
 use Rattle.std.specs.List.{IsDistinct, AllByRecursion, list_any}
 use Rattle.std.proofs.lemmas.Map.Keys.{IsDistinct-cons}
 use Rattle.std.proofs.Math.Dec.{eqb}
 use Rattle.std.proofs.lemmas.Bool.{cases_Bool, or_cases, or_parts, eqb-true, false≢true}
 use Rattle.std.proofs.lemmas.Map.Steps.{length-le_from_distinct_below}
 use Rattle.sequences.specs.declared.entry.Entry.{Entry}
-use Rattle.sequences.specs.Drafts.{IsIn, uses_at, reaches_by, SomeCyclic, AllDeclared}
+use Rattle.sequences.specs.Drafts.{IsIn, uses_at, reaches_by, AllDeclared}
+use Rattle.sequences.specs.Sweeps.{Reaches}
+use Rattle.sequences.specs.Cycles.{ReachesCycle}
 use Rattle.sequences.specs.Entries.{Bodies, has_entry, Accounts, AllLack}
 
 -- a declaration without an entry
@@ -49,23 +51,32 @@ too_many : (bodies : Bodies) (visited : List ℕ) (p : ℕ) → p < length bodie
 too_many bodies visited p h all d apart =
     omega (arith, length-le_from_distinct_below (p ∷ visited) (length bodies) (IsDistinct-cons eqb p visited (none_same p visited apart) d) (below_all bodies visited p h all))
 
-came_back : (bodies : Bodies) (visited : List ℕ) (p : ℕ) → AllReach bodies visited p → list_any (eqb p) visited ≡ true → SomeCyclic bodies
-came_back bodies visited p all here = let r = all p here in (p, r.0, r.1)
+-- The walk began at the place, or at one that reaches it.
+abbrev pub CameFrom : Bodies → ℕ → ℕ → Type 0
+CameFrom bodies origin p = (origin ≡ p) ⊎ Reaches bodies origin p
+
+came_on : (bodies : Bodies) (origin p q : ℕ) → CameFrom bodies origin p → IsIn q (uses_at bodies p) → CameFrom bodies origin q
+came_on bodies origin p q (inl e) u = inr (0, subst (λ (x : ℕ). IsIn q (uses_at bodies x)) (sym e) u)
+came_on bodies origin p q (inr r) u = inr (suc r.0, reaches_on bodies r.0 origin p q r.1 u)
+
+came_back : (bodies : Bodies) (visited : List ℕ) (origin p : ℕ) → CameFrom bodies origin p → AllReach bodies visited p → list_any (eqb p) visited ≡ true → ReachesCycle bodies origin
+came_back bodies visited origin p from all here = record { place = p; cyclic = (all p here).1; reached = from }
 
 mutual
   walk : (bodies : Bodies) (table : List (Option Entry)) → ((p : ℕ) → IsStuck bodies table p → StuckUse bodies table p) →
-      (fuel : ℕ) (visited : List ℕ) (p : ℕ) → IsStuck bodies table p → AllReach bodies visited p → IsDistinct eqb visited → length visited + fuel ≡ length bodies + 1 → SomeCyclic bodies
-  walk bodies table step zero visited p s all d e =
+      (fuel : ℕ) (visited : List ℕ) (origin p : ℕ) → CameFrom bodies origin p → IsStuck bodies table p → AllReach bodies visited p → IsDistinct eqb visited →
+      length visited + fuel ≡ length bodies + 1 → ReachesCycle bodies origin
+  walk bodies table step zero visited origin p from s all d e =
       elim (cases_Bool (list_any (eqb p) visited)) [
-        | inl here ↦ came_back bodies visited p all here
+        | inl here ↦ came_back bodies visited origin p from all here
         | inr apart ↦ absurd (omega (arith, e, too_many bodies visited p s.declared all d apart))
       ]
-  walk bodies table step (suc fuel) visited p s all d e =
+  walk bodies table step (suc fuel) visited origin p from s all d e =
       elim (cases_Bool (list_any (eqb p) visited)) [
-        | inl here ↦ came_back bodies visited p all here
+        | inl here ↦ came_back bodies visited origin p from all here
         | inr apart ↦
             (let u = step p s in
-            walk bodies table step fuel (p ∷ visited) u.0 u.2 (all_reach_on bodies visited p u.0 s.declared u.1 all)
+            walk bodies table step fuel (p ∷ visited) origin u.0 (came_on bodies origin p u.0 from u.1) u.2 (all_reach_on bodies visited p u.0 s.declared u.1 all)
             (IsDistinct-cons eqb p visited (none_same p visited apart) d) (omega (arith, e)))
       ]
 
@@ -73,8 +84,8 @@ nothing_twice : IsDistinct eqb []
 unfolding IsDistinct
 nothing_twice = tt
 
-pub stuck_is_cyclic : (bodies : Bodies) (table : List (Option Entry)) → ((p : ℕ) → IsStuck bodies table p → StuckUse bodies table p) → (p : ℕ) → IsStuck bodies table p → SomeCyclic bodies
-stuck_is_cyclic bodies table step p s = walk bodies table step (length bodies + 1) [] p s (λ v h. absurd (false≢true h)) nothing_twice (omega arith)
+pub stuck_reaches : (bodies : Bodies) (table : List (Option Entry)) → ((p : ℕ) → IsStuck bodies table p → StuckUse bodies table p) → (p : ℕ) → IsStuck bodies table p → ReachesCycle bodies p
+stuck_reaches bodies table step p s = walk bodies table step (length bodies + 1) [] p p (inl refl) s (λ v h. absurd (false≢true h)) nothing_twice (omega arith)
 
 -- where each place has an entry or is left, and each that is left uses one without an entry
 pub left_are_stuck : (bodies : Bodies) (table : List (Option Entry)) (left : List ℕ) → ((p : ℕ) → AllDeclared bodies p) → AllLack bodies table left →

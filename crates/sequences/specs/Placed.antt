@@ -22,7 +22,7 @@ IsPlaced booleans places w u = (t : Samples) (n : ℕ) → Alike (sat (atom_true
 abbrev pub IsPlacedBoolean : List Expr → List ℕ → Boolean → Boolean → Type 0
 IsPlacedBoolean booleans places a b = (t : Samples) (k : ℕ) → atom_true booleans t a k ≡ value_in booleans places t b k
 
--- more places behind those that were there
-pub record Extends (before after : List ℕ) : Type 0 where
-  pub added : List ℕ
+-- more behind what was there
+pub record Extends {A : Type 0} (before after : List A) : Type 0 where
+  pub added : List A
   pub is : after ≡ before ++ added

@@ -27,7 +27,7 @@ fn is_below(draft: &Draft, count: usize) -> bool
 
 /// Whether each name that a declaration uses is declared.
 pub fn are_declared(bodies: &[Draft]) -> bool
-    ensures { IsTrue result → (p : ℕ) → AllDeclared (map draft_of bodies.now) p }
+    ensures { IsTrue result ↔ ((p : ℕ) → AllDeclared (map draft_of bodies.now) p) }
 {
     for draft in bodies {
         if !is_below(draft, bodies.len()) {

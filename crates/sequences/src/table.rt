@@ -1,7 +1,8 @@
 //! The entries of named sequences.
 
 ghost use Rattle.std.specs.Prelude.{◌≡◌, ◌<◌, ◌≤◌, ◌⊎◌, ℕ, true, false, List, map, length, IfOk, OnOk, IfNone, IfSome, Some, slice_set};
-ghost use Rattle.sequences.specs.Drafts.{name, uses, uses_at, AllDeclared, SomeCyclic};
+ghost use Rattle.sequences.specs.Drafts.{name, uses, uses_at, AllDeclared};
+ghost use Rattle.sequences.specs.Cycles.{ReachesCycle};
 ghost use Rattle.sequences.specs.Views.{draft_of};
 ghost use Rattle.sequences.specs.Entries.{Bodies, HasEntry, IsEntryOf, IsTable, LacksOne, Accounts, AllLack, has_entry};
 
@@ -152,12 +153,12 @@ fn no_entries(alloc: Global, count: usize) -> Result<Vec<Option<Entry>>, AllocEr
     Ok(table)
 }
 
-/// The entries of named sequences, by the places of their declarations. Those that reach a sequence which reaches itself have none.
+/// The entries of named sequences, by the places of their declarations. Those that reach themselves, or a sequence that does, have none; all others have one.
 pub fn resolve(alloc: Global, bodies: &[Draft]) -> Result<Vec<Option<Entry>>, AllocError>
     requires { (p : ℕ) → AllDeclared (map draft_of bodies.now) p }
     ensures long { IfOk result (λ table. length table.items ≡ length bodies.now) }
     ensures entries { IfOk result (λ table. IsTable (map draft_of bodies.now) table.items) }
-    ensures cyclic { IfOk result (λ table. (p : ℕ) → p < length bodies.now → has_entry table.items p ≡ false → SomeCyclic (map draft_of bodies.now)) }
+    ensures cyclic { IfOk result (λ table. (p : ℕ) → p < length bodies.now → has_entry table.items p ≡ false → ReachesCycle (map draft_of bodies.now) p) }
 {
     let mut table = no_entries(alloc, bodies.len())?;
     let mut left = all_places(alloc, bodies.len())?;

@@ -3,7 +3,7 @@ use Rattle.std.proofs.lemmas.Bool.{false≢true}
 use Rattle.std.proofs.lemmas.List.{length-map}
 use Rattle.sequences.specs.Views.{draft_of}
 use Rattle.sequences.specs.Entries.{is_entry}
-use Rattle.sequences.proofs.StuckLaws.{stuck_is_cyclic, left_are_stuck}
+use Rattle.sequences.proofs.StuckLaws.{stuck_reaches, left_are_stuck}
 use Rattle.sequences.proofs.table.resolve.Goals as goal
 
 pub sweeps-init : goal.sweeps-init
@@ -18,7 +18,7 @@ pub returns-then-len-before-clause-cyclic : goal.returns-then-len-before-clause-
 returns-then-len-before-clause-cyclic c = λ p h none.
     let bodies = map draft_of c.args.bodies.now in
     let same : length c.in_ok-left-2.left.items ≡ length c.sweeps.left.items = omega (arith, c.len.ensures, c.if-len-before.true, c.len-before.ensures, c.in_ok-left-2.left.ok, c.sweeps.left.ok) in
-    stuck_is_cyclic bodies c.sweep.new.table.items
+    stuck_reaches bodies c.sweep.new.table.items
     (left_are_stuck bodies c.sweep.new.table.items c.in_ok-left-2.left.items c.requires (c.in_ok-left-2.ensures.lacking same)
     (λ q k. let d = inside q k in c.in_ok-left-2.ensures.accounts q d (c.sweeps.invariant.accounts q d)))
     p (record { declared = rw (length-map c.args.bodies.now draft_of) h; lacking = none })
