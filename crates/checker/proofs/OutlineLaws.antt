@@ -128,32 +128,26 @@ named_below items names (path (w ∷ []) None) p h =
     omega (arith, owns_below items (path_text (w ∷ [])) 0 0 p (place_sequence (found (owns items) (path_text (w ∷ []))) (found names (path_text (w ∷ []))) p h))
 named_below items names t p h = absurd cc
 
--- Each name that a read sequence uses is declared.
-pub reads_declared : (items : List Item) (names : List (List ℕ × ℕ)) (s : Scope) (cs : List (List ℕ)) (e : List Expr) (q : Sequence) (d : Draft Boolean) → s ≡ scope_for items names → Reads s cs e q d →
-    (p : ℕ) → IsIn p (uses d) → p < length (declarations_of items)
-reads_declared items names s cs e q d is h =
-    reads_below s cs e (length (declarations_of items)) (λ t p g. named_below items names t p (ap (λ (x : Scope). sequence_named x t) (sym is) ∙ g)) q d h
-
--- the same of all declared sequences
-all_long : (s : Scope) (cs : List (List ℕ)) (e : List Expr) (qs : List Sequence) (ds : List (Draft Boolean)) → AllRead s cs e qs ds → length ds ≡ length qs
+-- As many are read as there are.
+pub all_long : (s : Scope) (cs : List (List ℕ)) (e : List Expr) (qs : List Sequence) (ds : List (Draft Boolean)) → AllRead s cs e qs ds → length ds ≡ length qs
 all_long s cs e [] [] h = refl
 all_long s cs e [] (d ∷ ds) h = elim h [ ]
 all_long s cs e (q ∷ qs) [] h = elim h [ ]
 all_long s cs e (q ∷ qs) (d ∷ ds) h = ap suc (all_long s cs e qs ds h.1)
 
-all_below_at : (items : List Item) (names : List (List ℕ × ℕ)) (s : Scope) (cs : List (List ℕ)) (e : List Expr) (qs : List Sequence) (ds : List (Draft Boolean)) → s ≡ scope_for items names → AllRead s cs e qs ds →
-    (p q : ℕ) → IsIn q (uses_at ds p) → q < length (declarations_of items)
-all_below_at items names s cs e [] [] is h p q i = elim i [ ]
-all_below_at items names s cs e [] (d ∷ ds) is h p q i = elim h [ ]
-all_below_at items names s cs e (x ∷ qs) [] is h p q i = elim h [ ]
-all_below_at items names s cs e (x ∷ qs) (d ∷ ds) is h zero q i = reads_declared items names s cs e x d is h.0 q i
-all_below_at items names s cs e (x ∷ qs) (d ∷ ds) is h (suc p) q i = all_below_at items names s cs e qs ds is h.1 p q i
+-- Each name that one of the read sequences uses is below a bound, where the scope gives no other.
+pub all_below_at : (s : Scope) (cs : List (List ℕ)) (e : List Expr) (n : ℕ) (below : (t : Tree) (p : ℕ) → sequence_named s t ≡ Some p → p < n) (qs : List Sequence) (ds : List (Draft Boolean)) → AllRead s cs e qs ds →
+    (p q : ℕ) → IsIn q (uses_at ds p) → q < n
+all_below_at s cs e n below [] [] h p q i = elim i [ ]
+all_below_at s cs e n below [] (d ∷ ds) h p q i = elim h [ ]
+all_below_at s cs e n below (x ∷ qs) [] h p q i = elim h [ ]
+all_below_at s cs e n below (x ∷ qs) (d ∷ ds) h zero q i = reads_below s cs e n below x d h.0 q i
+all_below_at s cs e n below (x ∷ qs) (d ∷ ds) h (suc p) q i = all_below_at s cs e n below qs ds h.1 p q i
 
-pub all_declared : (items : List Item) (names : List (List ℕ × ℕ)) (s : Scope) (cs : List (List ℕ)) (e : List Expr) (ds : List (Draft Boolean)) → s ≡ scope_for items names →
-    AllRead s cs e (map (λ (d : Declaration). d.body) (declarations_of items)) ds → (p : ℕ) → AllDeclared ds p
-all_declared items names s cs e ds is h p q i =
-    let long = all_long s cs e (map (λ (d : Declaration). d.body) (declarations_of items)) ds h in
-    omega (arith, all_below_at items names s cs e (map (λ (d : Declaration). d.body) (declarations_of items)) ds is h p q i, long, length-map (declarations_of items) (λ (d : Declaration). d.body))
+-- They are declared.
+pub all_declared : (s : Scope) (cs : List (List ℕ)) (e : List Expr) (n : ℕ) (below : (t : Tree) (p : ℕ) → sequence_named s t ≡ Some p → p < n) (qs : List Sequence) (ds : List (Draft Boolean)) → length qs ≡ n → AllRead s cs e qs ds →
+    (p : ℕ) → AllDeclared ds p
+all_declared s cs e n below qs ds long h p q i = omega (arith, all_below_at s cs e n below qs ds h p q i, all_long s cs e qs ds h, long)
 
 -- All that is read stays read while the expressions grow.
 pub all_grow_on : (s : Scope) (cs : List (List ℕ)) (now next : List Expr) (more : Extends now next) (qs : List Sequence) (ds : List (Draft Boolean)) → AllRead s cs now qs ds → AllRead s cs next qs ds

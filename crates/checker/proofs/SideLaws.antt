@@ -1,6 +1,6 @@
 -- Faults of sides, by what is known of them.
-use Rattle.std.proofs.Common.{◌≡◌, ◌⊎◌, inl, inr, ℕ, ◌<◌, List, [], ◌∷◌, Bool, true, false, not, refl, sym, ap, subst, ◌∙◌, arith}
-use Rattle.std.proofs.lemmas.Bool.{cases_Bool, false≢true, ltb-true, lt-ltb}
+use Rattle.std.proofs.Common.{◌≡◌, ◌⊎◌, inl, inr, ℕ, ◌<◌, ◌≤◌, List, [], ◌∷◌, Bool, true, false, not, refl, sym, ap, subst, ◌∙◌, arith}
+use Rattle.std.proofs.lemmas.Bool.{cases_Bool, false≢true, ltb-true, ltb-false, lt-ltb}
 use Rattle.types.specs.Segments.{IsDegenerate, AdmitsEmpty, always}
 use Rattle.types.specs.Written.{Written, kernel, weight}
 use Rattle.types.proofs.EmptinessLaws.{degenerate-none, none-degenerate, empty-Matches, Matches-empty}
@@ -11,7 +11,7 @@ use Rattle.checker.specs.declared.side.Side.{Side}
 use Rattle.checker.specs.Readings.{Dot, dot}
 use Rattle.checker.specs.Faults as faults
 use Rattle.checker.specs.Faults.{IsSide, SideAt}
-use Rattle.checker.specs.Sides.{IsWeighed, AreWeighed, places_where, is_wide, is_degenerate, is_empty}
+use Rattle.checker.specs.Sides.{IsWeighed, AreWeighed, AreLight, places_where, is_wide, is_degenerate, is_empty}
 
 -- the test tells what is so of what a side says
 abbrev pub Tells : (Written Dot → Type 0) → (Facts → Bool) → Type 0
@@ -86,3 +86,15 @@ tells_degenerate bodies x y h =
 pub tells_empty : Tells (λ w. AdmitsEmpty (kernel dot w)) is_empty
 tells_empty bodies x y h =
     (λ t. empty-Matches Dot always dot h.meant 0 h.ordered (sym h.empty ∙ t), λ so. h.empty ∙ Matches-empty Dot always dot h.meant 0 h.ordered so)
+
+-- Where no side is wide, each is light.
+pub all_light : (ys : List Side) → ((at : ℕ) → IsIn at (places_where is_wide ys) → ⊥) → AreLight ys
+all_light [] none = tt
+all_light (y ∷ ys) none = (light, all_light ys (λ at i. none at (place_kept is_wide y ys at i)))
+  where
+    light : y.facts.weight ≤ 127
+    light =
+        elim (cases_Bool (is_wide y.facts)) [
+          | inl e ↦ absurd (none y.at (place_here is_wide y ys e))
+          | inr e ↦ omega (arith, ltb-false 127 y.facts.weight e)
+        ]

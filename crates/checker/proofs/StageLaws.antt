@@ -1,16 +1,18 @@
 -- Faults are looked for by their kinds, in order.
-use Rattle.std.proofs.Common.{◌≡◌, inl, inr, ℕ, ◌+◌, ◌≤◌, min, List, [], ◌∷◌, Option, Some, None, refl, sym, subst, ◌∙◌, arith}
+use Rattle.std.proofs.Common.{◌≡◌, inl, inr, ℕ, ◌+◌, ◌≤◌, min, List, [], ◌∷◌, Option, Some, None, Result, Ok, Err, IfErr, refl, sym, subst, ◌∙◌, arith}
+use Rattle.std.specs.Result.{IsErrAnd}
 use Rattle.std.proofs.lemmas.Option.{none-some}
 use Rattle.std.proofs.lemmas.Bool.{cases_eq, cases_lt}
 use Rattle.grammar.specs.Trees.{Item}
 use Rattle.sequences.specs.Drafts.{IsIn}
+use Rattle.typing.specs.declared.own.Sought.{Sought}
 use Rattle.typing.specs.declared.own.Sought.TheVariants.{Unknown, Wide, OutOfRange}
 use Rattle.typing.specs.Scopes.{Scope}
 use Rattle.typing.specs.Faults.{file_faults, earlier, least}
 use Rattle.checker.specs.declared.fault.TypeFault.{TypeFault}
 use Rattle.checker.specs.declared.fault.TypeFault.TheVariants.{UnknownName, Duplicate, WiderThan128, SliceRange, Degenerate, AdmitsEmpty as Empty, OtherClock, CyclicSequence, TooWide, Memory}
 use Rattle.checker.specs.Texts.{assertions_of, duplicates, other_clocks}
-use Rattle.checker.specs.Faults.{Stands, CycleAt, WideAt, DegenerateAt, EmptyAt, rank, byte_of, IsFirst, ClearTo}
+use Rattle.checker.specs.Faults.{Stands, CycleAt, WideAt, DegenerateAt, EmptyAt, rank, byte_of, IsFirst, IsRefused, ClearTo}
 
 -- where a list has no least place it has no place, and each place is at least the least
 least_of_more : (x : ℕ) (o : Option ℕ) → earlier (Some x) o ≡ None → ⊥
@@ -237,3 +239,22 @@ first_5 s items at clear e =
     first_at s items 4 (OtherClock at) clear (omega arith) l.stands (λ other r h. l.lowest (byte_of other) (of_5 s items other r h))
 
 pub ruleset for_stages = (clear_start, clear_1, clear_2, clear_3, clear_4, clear_5, first_1, first_2, first_3, first_4, first_5)
+
+-- Behind the first five kinds, the expressions of a text have no fault.
+nothing_in : (xs : List ℕ) → ((at : ℕ) → IsIn at xs → ⊥) → xs ≡ []
+nothing_in [] none = refl
+nothing_in (x ∷ xs) none = absurd (none x (inl refl))
+
+pub clear_sound : (s : Scope) (items : List Item) → ClearTo s items 5 → (k : Sought) → file_faults s k items ≡ []
+clear_sound s items clear Unknown = nothing_in (file_faults s Unknown items) (λ at i. omega (arith, clear (UnknownName at) i))
+clear_sound s items clear Wide = nothing_in (file_faults s Wide items) (λ at i. omega (arith, clear (WiderThan128 at) i))
+clear_sound s items clear OutOfRange = nothing_in (file_faults s OutOfRange items) (λ at i. omega (arith, clear (SliceRange at) i))
+
+-- a refusal that `?` passes on
+pub refused_memory : {X : Type 0} (s : Scope) (items : List Item) (r : Result X TypeFault) → IsErrAnd r (λ e. e ≡ Memory) → IfErr r (IsRefused s items)
+refused_memory s items (Ok x) h = elim h [ ]
+refused_memory s items (Err e) h = rw h tt
+
+pub refused_same : {X : Type 0} (s : Scope) (items : List Item) (f : TypeFault) (r : Result X TypeFault) → IsErrAnd r (λ e. e ≡ f) → IsRefused s items f → IfErr r (IsRefused s items)
+refused_same s items f (Ok x) h g = elim h [ ]
+refused_same s items f (Err e) h g = rw h g

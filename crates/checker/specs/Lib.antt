@@ -6,3 +6,6 @@ pub mod Cycles
 pub mod Sides
 pub mod Growth
 pub mod Drawn
+pub mod Resolved
+pub mod Signals
+pub mod Made

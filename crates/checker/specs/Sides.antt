@@ -1,5 +1,5 @@
 -- What is known of the sides of assertions.
-use Rattle.std.specs.Prelude.{◌≡◌, ℕ, min, List, [], ◌∷◌, Bool, nat_lt, not, if◌then◌else◌}
+use Rattle.std.specs.Prelude.{◌≡◌, ℕ, ◌≤◌, min, List, [], ◌∷◌, Bool, nat_lt, not, if◌then◌else◌}
 use Rattle.types.specs.Written.{Written, weight, IsOrdered}
 use Rattle.types.specs.Emptiness.{admits_empty, takes_ticks}
 use Rattle.sequences.specs.declared.facts.Facts.{Facts}
@@ -24,6 +24,11 @@ AreWeighed bodies [] [] = Unit {0}
 AreWeighed bodies [] (y ∷ ys) = ⊥
 AreWeighed bodies (x ∷ xs) [] = ⊥
 AreWeighed bodies (x ∷ xs) (y ∷ ys) = IsWeighed bodies x y × AreWeighed bodies xs ys
+
+-- none weighs more than 127
+abbrev pub AreLight : List Side → Type 0
+AreLight [] = Unit {0}
+AreLight (y ∷ ys) = (y.facts.weight ≤ 127) × AreLight ys
 
 -- the bytes of those that pass a test
 abbrev pub places_where : (Facts → Bool) → List Side → List ℕ

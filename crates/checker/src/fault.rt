@@ -43,6 +43,8 @@ impl From<AllocError> for TypeFault {
     ghost use Rattle.std.specs.Prelude.{◌≡◌};
     ghost use Rattle.checker.specs.declared.fault.TypeFault.TheVariants.{Memory};
 
+    ghost from_gives = { λ e r. r ≡ Memory };
+
     fn from(_error: AllocError) -> TypeFault
         ensures { result ≡ Memory }
     {

@@ -1,6 +1,8 @@
 //! The type checker.
 #![tactic(auto)]
 
+mod assertions;
+mod bodies;
 mod bytes;
 mod clocks;
 mod counters;
@@ -8,11 +10,16 @@ mod cycles;
 mod drafts;
 mod drawn;
 mod fault;
+mod known;
 mod least;
 mod names;
+mod resolved;
 mod side;
+mod sides;
 mod stages;
+mod suite;
 #[cfg(test)]
 mod tests;
 
 pub use fault::TypeFault;
+pub use suite::check;

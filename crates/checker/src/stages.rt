@@ -6,8 +6,8 @@ ghost use Rattle.typing.specs.Views.{scope_of};
 ghost use Rattle.checker.specs.Texts.{assertions_of, clock_of};
 ghost use Rattle.checker.specs.Faults.{Where, Text, outlines_of, sides_of, consequents_of, ClearTo, IsFaultless, IsRefused};
 ghost use Rattle.checker.specs.Cycles.{AreOutlined};
-ghost use Rattle.checker.specs.Sides.{AreWeighed};
-ghost use Rattle.sequences.specs.Drafts.{SomeCyclic};
+ghost use Rattle.checker.specs.Sides.{AreWeighed, AreLight};
+ghost use Rattle.sequences.specs.Cycles.{ReachesCycle};
 ghost use Rattle.sequences.specs.Entries.{IsTable, has_entry};
 ghost use Rattle.sequences.specs.Views.{draft_of};
 
@@ -119,7 +119,7 @@ pub(crate) fn check_cycles(
     requires bytes { length bytes.now ≡ length bodies.now }
     requires long { length table.now ≡ length bodies.now }
     requires entries { IsTable (map draft_of bodies.now) table.now }
-    requires cyclic { (p : ℕ) → p < length bodies.now → has_entry table.now p ≡ false → SomeCyclic (map draft_of bodies.now) }
+    requires cyclic { (p : ℕ) → p < length bodies.now → has_entry table.now p ≡ false → ReachesCycle (map draft_of bodies.now) p }
     ensures entries { IfOk result (λ _. (p : ℕ) → p < length bodies.now → has_entry table.now p ≡ true) }
     ensures ok { (s : Where) (items : Text) → AreOutlined s items (map draft_of bodies.now) bytes.now → ClearTo s items 5 → IfOk result (λ _. ClearTo s items 6) }
     ensures err { (s : Where) (items : Text) → AreOutlined s items (map draft_of bodies.now) bytes.now → ClearTo s items 5 → IfErr result (IsRefused s items) }
@@ -136,6 +136,7 @@ pub(crate) fn check_cycles(
 
 /// Looks for faults of antecedents and consequents, Y9, Y5 and Y6, in this order.
 pub(crate) fn check_sides(sides: &[Side], consequents: &[Side]) -> Result<(), TypeFault>
+    ensures light { IfOk result (λ _. AreLight sides.now) }
     ensures ok { (s : Where) (items : Text) → ClearTo s items 6 → AreWeighed (outlines_of s items) (sides_of s (assertions_of items)) sides.now
         → AreWeighed (outlines_of s items) (consequents_of s (assertions_of items)) consequents.now → IfOk result (λ _. IsFaultless s items) }
     ensures err { (s : Where) (items : Text) → ClearTo s items 6 → AreWeighed (outlines_of s items) (sides_of s (assertions_of items)) sides.now

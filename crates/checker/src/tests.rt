@@ -1,171 +1,127 @@
-//! Faults of names, widths, selects and clocks, one at a time and two in one text. Each place was counted in the text.
+//! Texts with a suite, and the borders of what has none.
 
-use crate::clocks::first_clock;
 use crate::fault::TypeFault;
-use crate::stages::check_expressions;
+use crate::suite::check;
 use lexer::lex;
 use parser::parse;
 use std::alloc::Global;
 use std::test::Fail;
-use typing::{Names, Scope};
+use types::Suite;
+use typing::Names;
 
-/// The fault of a text over a few signals, if it has one.
-fn fault_of(alloc: Global, text: &str) -> Result<Option<TypeFault>, Fail> {
+/// The suite of a text over a few signals, or its first fault.
+fn checked(alloc: Global, text: &str) -> Result<Result<Suite, TypeFault>, Fail> {
     let mut names = Names::new(alloc);
     names.push(alloc, "top.clk", 1)?;
     names.push(alloc, "top.a", 1)?;
     names.push(alloc, "top.b", 1)?;
-    names.push(alloc, "top.d", 8)?;
-    names.push(alloc, "top.w", 100)?;
     let Ok(tokens) = lex(alloc, text) else {
         return Err(Fail::new("the text is not lexed"));
     };
     let Ok(file) = parse(alloc, tokens.as_slice()) else {
         return Err(Fail::new("the text is not parsed"));
     };
-    let items = file.items.as_slice();
-    let scope = Scope::of(alloc, &names, items)?;
-    let clock = first_clock(alloc, items)?;
-    match check_expressions(alloc, &scope, items, clock.as_str()) {
-        Ok(()) => Ok(None),
-        Err(fault) => Ok(Some(fault)),
+    Ok(check(alloc, &file, &names))
+}
+
+/// Each text is accepted, or has its fault.
+fn assert_answers(rt: HostRuntime, cases: &[(&str, Option<TypeFault>)]) -> Result<(), Fail> {
+    for case in cases {
+        match checked(rt.alloc(), case.0)? {
+            Ok(_) => assert_eq!(rt; None, case.1, "{}", case.0),
+            Err(fault) => assert_eq!(rt; Some(fault), case.1, "{}", case.0),
+        }
     }
-}
-
-/// Texts without such a fault.
-#[test]
-fn accepted(rt: HostRuntime) -> Result<(), Fail> {
-    let alloc = rt.alloc();
-    let text = "r: assert property (@(posedge top.clk) top.a |-> top.b);";
-    assert_eq!(rt; fault_of(alloc, text)?, None, "{text}");
-    let text =
-        "r: assert property (@(posedge top.clk) top.a |-> {top.w, top.d, top.d, top.d} == 0);";
-    assert_eq!(rt; fault_of(alloc, text)?, None, "{text}");
-    let text = "r: assert property (@(posedge top.clk) top.a |-> top.d[7:0] == 0);";
-    assert_eq!(rt; fault_of(alloc, text)?, None, "{text}");
-    let text =
-        "r: assert property (@(posedge top.clk) top.a |-> top.b); t: assert property (@(posedge top . clk) top.b);";
-    assert_eq!(rt; fault_of(alloc, text)?, None, "{text}");
     Ok(())
 }
 
-/// One fault alone.
+/// A side may weigh 127, and no more; a part may weigh more where the whole doesn't.
 #[test]
-fn one_fault(rt: HostRuntime) -> Result<(), Fail> {
-    let alloc = rt.alloc();
-    let text = "r: assert property (@(posedge top.clk) top.a |-> top.x);";
-    assert_eq!(rt;
-        fault_of(alloc, text)?,
-        Some(TypeFault::UnknownName(49)),
-        "{text}"
-    );
-    let text =
-        "r: assert property (@(posedge top.clk) top.a |-> s + top.b); sequence s; top.a endsequence";
-    assert_eq!(rt;
-        fault_of(alloc, text)?,
-        Some(TypeFault::UnknownName(49)),
-        "{text}"
-    );
-    let text =
-        "sequence s; top.y endsequence r: assert property (@(posedge top.clk) top.a |-> top.b);";
-    assert_eq!(rt;
-        fault_of(alloc, text)?,
-        Some(TypeFault::UnknownName(12)),
-        "{text}"
-    );
-    let text =
-        "counter c [2] add(c == 3, top.z); r: assert property (@(posedge top.clk) top.a |-> c);";
-    assert_eq!(rt;
-        fault_of(alloc, text)?,
-        Some(TypeFault::UnknownName(26)),
-        "{text}"
-    );
-    let text =
-        "r: assert property (@(posedge top.clk) top.a |-> top.b); r: assert property (@(posedge top.clk) top.b |-> top.a);";
-    assert_eq!(rt;
-        fault_of(alloc, text)?,
-        Some(TypeFault::Duplicate(57)),
-        "{text}"
-    );
-    let text =
-        "assert property (@(posedge top.clk) top.a |-> top.b); assert_1: assert property (@(posedge top.clk) top.b |-> top.a);";
-    assert_eq!(rt;
-        fault_of(alloc, text)?,
-        Some(TypeFault::Duplicate(54)),
-        "{text}"
-    );
-    let text =
-        "assert_2: assert property (@(posedge top.clk) top.a |-> top.b); assert property (@(posedge top.clk) top.b |-> top.a);";
-    assert_eq!(rt;
-        fault_of(alloc, text)?,
-        Some(TypeFault::Duplicate(64)),
-        "{text}"
-    );
-    let text =
-        "counter c [2] ; sequence c; top.a endsequence r: assert property (@(posedge top.clk) top.a |-> top.b);";
-    assert_eq!(rt;
-        fault_of(alloc, text)?,
-        Some(TypeFault::Duplicate(25)),
-        "{text}"
-    );
-    let text = "r: assert property (@(posedge top.clk) top.a |-> {top.w, top.w} == 0);";
-    assert_eq!(rt;
-        fault_of(alloc, text)?,
-        Some(TypeFault::WiderThan128(49)),
-        "{text}"
-    );
-    let text = "r: assert property (@(posedge top.clk) top.a |-> top.d[8]);";
-    assert_eq!(rt;
-        fault_of(alloc, text)?,
-        Some(TypeFault::SliceRange(49)),
-        "{text}"
-    );
-    let text = "r: assert property (@(posedge top.clk) top.a |-> top.d[1:3]);";
-    assert_eq!(rt;
-        fault_of(alloc, text)?,
-        Some(TypeFault::SliceRange(49)),
-        "{text}"
-    );
-    let text =
-        "r: assert property (@(posedge top.clk) top.a |-> top.b); t: assert property (@(posedge top . b) top.b);";
-    assert_eq!(rt;
-        fault_of(alloc, text)?,
-        Some(TypeFault::OtherClock(87)),
-        "{text}"
-    );
-    Ok(())
+fn weight_limit(rt: HostRuntime) -> Result<(), Fail> {
+    let cases = [
+        (
+            "r: assert property (@(posedge top.clk) top.a |-> top.a[*63] ##1 top.a[*63]);",
+            None,
+        ),
+        (
+            "r: assert property (@(posedge top.clk) top.a |-> top.a[*64] ##1 top.a[*64]);",
+            Some(TypeFault::TooWide(49)),
+        ),
+        (
+            "r: assert property (@(posedge top.clk) top.a[*125] |=> top.b);",
+            None,
+        ),
+        (
+            "r: assert property (@(posedge top.clk) top.a[*126] |=> top.b);",
+            Some(TypeFault::TooWide(39)),
+        ),
+        (
+            "r: assert property (@(posedge top.clk) (top.a[*127] ##1 top.a[*127])[*0] or top.b |-> top.a);",
+            None,
+        ),
+    ];
+    assert_answers(rt, &cases)
 }
 
-/// Of two faults the first by kind is answered.
+/// A sequence that reaches itself is refused, used or not; one that reaches such a sequence is not the one that is named.
 #[test]
-fn two_faults(rt: HostRuntime) -> Result<(), Fail> {
-    let alloc = rt.alloc();
+fn cyclic_sequence(rt: HostRuntime) -> Result<(), Fail> {
+    let cases = [
+        (
+            "sequence s; s ##1 top.a endsequence r: assert property (@(posedge top.clk) s);",
+            Some(TypeFault::CyclicSequence(9)),
+        ),
+        (
+            "sequence t; s endsequence sequence s; top.a ##1 u endsequence sequence u; s endsequence r: assert property (@(posedge top.clk) top.a);",
+            Some(TypeFault::CyclicSequence(35)),
+        ),
+    ];
+    assert_answers(rt, &cases)
+}
+
+/// An antecedent or a consequent without a match of a tick or more, and a consequent with an empty match.
+#[test]
+fn degenerate_and_empty(rt: HostRuntime) -> Result<(), Fail> {
+    let cases = [
+        (
+            "r: assert property (@(posedge top.clk) top.a[*0] |-> top.b);",
+            Some(TypeFault::Degenerate(39)),
+        ),
+        (
+            "r: assert property (@(posedge top.clk) top.a[*0] ##0 top.b |-> top.b);",
+            Some(TypeFault::Degenerate(39)),
+        ),
+        (
+            "r: assert property (@(posedge top.clk) top.a[*0] |=> top.b);",
+            None,
+        ),
+        (
+            "r: assert property (@(posedge top.clk) top.a[*0:1] |-> top.b);",
+            None,
+        ),
+        (
+            "r: assert property (@(posedge top.clk) top.a |-> (top.b[*0:1]));",
+            Some(TypeFault::AdmitsEmpty(50)),
+        ),
+        (
+            "r: assert property (@(posedge top.clk) top.b[*0]);",
+            Some(TypeFault::Degenerate(39)),
+        ),
+    ];
+    assert_answers(rt, &cases)
+}
+
+/// Counters may read themselves and one another, and what is named may be declared later; the suite has the text's signals, counters and assertions.
+#[test]
+fn names(rt: HostRuntime) -> Result<(), Fail> {
     let text =
-        "r: assert property (@(posedge top.clk) top.a |-> top.b); r: assert property (@(posedge top.clk) top.b |-> top.x);";
-    assert_eq!(rt;
-        fault_of(alloc, text)?,
-        Some(TypeFault::UnknownName(106)),
-        "{text}"
-    );
-    let text =
-        "r: assert property (@(posedge top.clk) top.a |-> {top.w, top.w} == 0); r: assert property (@(posedge top.clk) top.b |-> top.a);";
-    assert_eq!(rt;
-        fault_of(alloc, text)?,
-        Some(TypeFault::Duplicate(71)),
-        "{text}"
-    );
-    let text = "r: assert property (@(posedge top.clk) top.d[9] |-> {top.w, top.w} == 0);";
-    assert_eq!(rt;
-        fault_of(alloc, text)?,
-        Some(TypeFault::WiderThan128(52)),
-        "{text}"
-    );
-    let text =
-        "r: assert property (@(posedge top.clk) top.a |-> top.b); t: assert property (@(posedge top.b) top.d[8]);";
-    assert_eq!(rt;
-        fault_of(alloc, text)?,
-        Some(TypeFault::SliceRange(94)),
-        "{text}"
-    );
+        "counter c [4] add(c < d, 1); counter d [8] load(c == 3, d + 1); assert property (@(posedge top.clk) s |-> c < d); sequence s; c == 2 ##1 top.a endsequence";
+    let Ok(suite) = checked(rt.alloc(), text)? else {
+        return Err(Fail::new("the text is refused"));
+    };
+    assert_eq!(rt; suite.counters.len(), 2);
+    assert_eq!(rt; suite.names.len(), 1);
+    assert_eq!(rt; suite.assertions.len(), 1);
+    assert_eq!(rt; suite.clock(), "top.clk");
     Ok(())
 }

@@ -1,6 +1,6 @@
 //! What names stand for in a text over a dump.
 
-ghost use Rattle.std.specs.Prelude.{◌≡◌, map, IfOk, OnOk, IsTrue};
+ghost use Rattle.std.specs.Prelude.{◌≡◌, map, option_map, IfOk, OnOk, IsTrue};
 ghost use Rattle.parser.specs.Views.{item_of, path_of, tree_of};
 ghost use Rattle.typing.specs.Scopes.{found, owns, is_narrow, bits_of, meaning, meaning_by, scope_for, sequence_named, place_of};
 ghost use Rattle.typing.specs.Entries.{with_entry};
@@ -125,6 +125,13 @@ impl<'n> Scope<'n> {
         }
         let text = path_string(alloc, path)?;
         Ok(self.meaning_of(text.as_str()))
+    }
+
+    /// The width of a path of the dump.
+    pub fn signal_width(&self, path: &str) -> Option<Width>
+        ensures { option_map (λ w. w.bits) result ≡ (scope_of self.now).dump path.now }
+    {
+        self.names.width(path)
     }
 
     /// The place of the named sequence that an expression is the name of, where it stands as a boolean of a sequence.

@@ -1,5 +1,6 @@
 use Rattle.std.proofs.Common.{◌<◌, ℕ, map, length, sym, arith, subst}
 use Rattle.sequences.specs.Views.{draft_of}
+use Rattle.sequences.proofs.CyclicLaws.{some_cyclic}
 use Rattle.checker.specs.Cycles.{IsLowest}
 use Rattle.checker.proofs.CycleStage.{entry_acyclic, clear_6, first_6}
 use Rattle.checker.proofs.stages.check_cycles.Goals as goal
@@ -25,7 +26,7 @@ returns-in-Ok-None-clause-entries c = λ p h. absurd (no_cycle p h)
     no_cycle : (p : ℕ) → p < length c.args.bodies.now → ⊥
     no_cycle p h =
         let lack = c.has_all.ensures.some c.if-has_all.false in
-        let some = c.requires.cyclic lack.place (omega (arith, lack.inside, c.requires.long)) lack.lacking in
+        let some = some_cyclic (map draft_of c.args.bodies.now) lack.place (c.requires.cyclic lack.place (omega (arith, lack.inside, c.requires.long)) lack.lacking) in
         let none = rw c.in-Ok-None.field-0-is at c.in-Ok-None.ensures in
         none some.0 (omega (arith, some.1, length-map c.args.bodies.now draft_of)) some.2
 
@@ -35,6 +36,6 @@ returns-in-Ok-None-clause-ok c = λ s items o clear. absurd no_cycle
     no_cycle : ⊥
     no_cycle =
         let lack = c.has_all.ensures.some c.if-has_all.false in
-        let some = c.requires.cyclic lack.place (omega (arith, lack.inside, c.requires.long)) lack.lacking in
+        let some = some_cyclic (map draft_of c.args.bodies.now) lack.place (c.requires.cyclic lack.place (omega (arith, lack.inside, c.requires.long)) lack.lacking) in
         let none = rw c.in-Ok-None.field-0-is at c.in-Ok-None.ensures in
         none some.0 (omega (arith, some.1, length-map c.args.bodies.now draft_of)) some.2

@@ -1,4 +1,7 @@
 use Rattle.std.proofs.Common.{sym, ◌∙◌}
+use Rattle.checker.specs.Sides.{places_where, is_wide}
+use Rattle.checker.proofs.StageLaws.{nowhere}
+use Rattle.checker.proofs.SideLaws.{all_light}
 use Rattle.checker.proofs.SideStage.{clear_7, first_7, clear_8, first_8, clear_9, first_9, clear_all}
 use Rattle.checker.proofs.stages.check_sides.Goals as goal
 
@@ -23,3 +26,6 @@ returns-clause-ok c = λ s items clear sides consequents.
     (clear_9 s items c.args.consequents.now consequents
     (clear_8 s items c.args.sides.now sides (clear_7 s items c.args.sides.now sides clear (sym c.first_wide.ensures ∙ c.in_default.is)) (sym c.first_degenerate.ensures ∙ c.in_default-first_degenerate.is))
     (sym c.first_empty.ensures ∙ c.in_default-first_empty.is))
+
+pub returns-clause-light : goal.returns-clause-light
+returns-clause-light c = all_light c.args.sides.now (nowhere (places_where is_wide c.args.sides.now) (sym c.first_wide.ensures ∙ c.in_default.is))
