@@ -1,6 +1,8 @@
 //! Devices that fail after so many bytes, to test with.
 
-ghost use Rattle.std.specs.Prelude.{◌≡◌, ◌≤◌, ◌+◌, Some, [], IfOk, length, vec_len};
+ghost use Rattle.std.specs.Prelude.{◌≡◌, ◌≤◌, ◌<◌, ◌+◌, ◌↔◌, Some, [], IsOk, IsErr, IfOk, OnErr, length, vec_len};
+ghost use Rattle.std.specs.Io.{ReadsAtMost, WritesAtMost};
+ghost use Rattle.std.specs.Io.KnownBytes.{ReadConsumes, WriteAppends, Keeps};
 
 use std::alloc::{AllocError, Global};
 use std::io;
@@ -29,9 +31,17 @@ impl<'a> CutReader<'a> {
 }
 
 impl Read for CutReader<'_> {
+    ghost use Rattle.signals.specs.Cut.{bytes_left, good_left};
+
     ghost remaining = { λ s. Some s.rest.now };
 
-    fn read(&mut self, buf: &mut [u8]) -> io::Result<usize> {
+    fn read(&mut self, buf: &mut [u8]) -> io::Result<usize>
+        ensures bound { ReadsAtMost result buf.new }
+        ensures bytes { ReadConsumes (Some (bytes_left self.old)) (Some (bytes_left self.new)) result buf.new }
+        ensures fails { IsErr result ↔ (good_left self.old ≡ 0) }
+        ensures good { IfOk result (λ n. good_left self.new + n ≡ good_left self.old) }
+        ensures failing { OnErr result (good_left self.new ≡ good_left self.old) }
+    {
         if self.good == 0 {
             return Err(io::Error::from(io::ErrorKind::BrokenPipe));
         }
@@ -74,9 +84,19 @@ impl CutWriter {
 }
 
 impl Write for CutWriter {
+    ghost use Rattle.signals.specs.Cut.{taken_bytes, good_room};
+
     ghost contents = { λ s. Some s.taken.items };
 
-    fn write(&mut self, buf: &[u8]) -> io::Result<usize> {
+    // Want of memory is the only other way to fail.
+    fn write(&mut self, buf: &[u8]) -> io::Result<usize>
+        ensures bound { WritesAtMost result buf.now }
+        ensures bytes { WriteAppends (Some (taken_bytes self.old)) (Some (taken_bytes self.new)) result buf.now }
+        ensures fails { good_room self.old ≡ 0 → IsErr result }
+        ensures some { IfOk result (λ n. 0 < length buf.now → 0 < n) }
+        ensures good { IfOk result (λ n. good_room self.new + n ≡ good_room self.old) }
+        ensures failing { OnErr result (good_room self.new ≡ good_room self.old) }
+    {
         if self.good == 0 {
             return Err(io::Error::from(io::ErrorKind::BrokenPipe));
         }
@@ -86,7 +106,11 @@ impl Write for CutWriter {
         Ok(n)
     }
 
-    fn flush(&mut self) -> io::Result<()> {
+    fn flush(&mut self) -> io::Result<()>
+        ensures bytes { Keeps (Some (taken_bytes self.old)) (Some (taken_bytes self.new)) }
+        ensures done { IsOk result }
+        ensures good { good_room self.new ≡ good_room self.old }
+    {
         Ok(())
     }
 }
