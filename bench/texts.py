@@ -24,7 +24,7 @@ SHAPES = {
     'before': lambda: ''.join(f'sequence s{i}; s{i - 1} ##1 s{i - 1} endsequence\n' for i in range(999, 0, -1)) + 'sequence s0; the_top_module.the_bus.signal_0 endsequence\n' +
         BEHIND.replace('top.clk', 'the_top_module.the_clock') % 's6',
     # repetitions of repetitions
-    'deep': lambda: BEHIND.replace('top.clk', 'the_top_module.the_clock') % ('(' * 50 + 'the_top_module.the_bus.signal_0' + '[*127])' * 50 + '[*0] or the_top_module.the_bus.signal_1'),
+    'deep': lambda: BEHIND.replace('top.clk', 'the_top_module.the_clock') % ('(' * 50 + 'the_top_module.the_bus.signal_0' + '[*127])' * 50 + '[*0] or the_top_module.the_bus.signal_1 |-> the_top_module.the_bus.signal_2'),
     # the paths that these read, with their widths
     'names': lambda: 'the_top_module.the_clock 1\n' + ''.join(f'the_top_module.the_bus.signal_{i} {1 + i % 64}\n' for i in range(10000)),
     'comment': lambda: '/*' + ' any words ' * 1000000 + '*/' + BEHIND % 'a',
