@@ -1,6 +1,6 @@
-pub mod Steps
-pub mod MemberLaws
+pub mod NameLaws
+pub mod SameLaws
 pub mod PushLaws
 pub mod SampledLaws
-pub mod RunLaws
-pub mod ColumnLaws
+pub mod ReportLaws
+pub mod TextLaws

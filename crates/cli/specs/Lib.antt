@@ -1,8 +1,6 @@
-pub mod Forms
-pub mod Reads
-pub mod Stated
-pub mod Judged
-pub mod Statuses
 pub mod Named
+pub mod Judged
 pub mod Reported
+pub mod Statuses
+pub mod Faults
 pub mod Outcomes

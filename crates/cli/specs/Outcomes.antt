@@ -1,13 +1,20 @@
 -- What a run over a source, a text and a sink comes to.
-use Rattle.std.specs.Prelude.{◌≡◌, ◌⊎◌, ℕ, List, [], ◌∷◌, Option, None}
+use Rattle.std.specs.Prelude.{◌≡◌, ℕ, List, [], ◌∷◌, Option, string_bytes}
 use Rattle.std.specs.Io.KnownBytes.{Appends}
 use Rattle.signals.specs.Source.{after_failure}
 use Rattle.signals.specs.Sink.{AppendsFront}
 use Rattle.lexer.specs.declared.token.Token.{Token}
-use Rattle.lexer.specs.Covering.{IsRefused}
+use Rattle.lexer.specs.declared.fault.LexFault.{LexFault}
+use Rattle.lexer.specs.Covering.{IsFaulty}
+use Rattle.grammar.specs.Trees.{Item}
+use Rattle.grammar.specs.Files.{IsFile}
+use Rattle.types.specs.declared.suite.Suite.{Suite}
+use Rattle.checker.specs.declared.fault.TypeFault.{TypeFault}
+use Rattle.checker.specs.declared.fault.TypeFault.TheVariants as types
+use Rattle.checker.specs.Faults.{IsFirst}
 use Rattle.vcd_reader.specs.declared.fault.VcdFault.{VcdFault}
-use Rattle.vcd_reader.specs.Variables.{variable_named}
 use Rattle.vcd_reader.specs.Dump.{Contents, Gave, GaveDump, Stands}
+use Rattle.cycle_window.specs.declared.fault.WindowFault.{WindowFault}
 use Rattle.cycle_window.specs.declared.fault.WindowFault.TheVariants as windows
 use Rattle.cycle_window.specs.Bound.{IsClockFault, IsBadSize}
 use Rattle.verdicts.specs.declared.line.Counts.{Counts}
@@ -16,9 +23,8 @@ use Rattle.verdicts.specs.Lines.{ReportData}
 use Rattle.verdicts.specs.Texts.{report_text}
 use Rattle.cli.specs.declared.fault.Fault.{Fault}
 use Rattle.cli.specs.declared.fault.Fault.TheVariants.{Vcd, Lex, Parse, Typing, Window, Report, Memory}
-use Rattle.cli.specs.declared.fault.TypeFault.TheVariants.{UnknownName}
-use Rattle.cli.specs.Forms.{Statement, form_of, path_text, first_byte}
-use Rattle.cli.specs.Reported.{AreTokens, IsStated, Reports, IsReport}
+use Rattle.cli.specs.Named.{scope_over}
+use Rattle.cli.specs.Reported.{AreTokens, HasItems, Says, IsReport}
 
 -- the counts of a report's last line, in its order
 abbrev pub totals_of : Counts → List ℕ
@@ -66,47 +72,45 @@ pub record IsUnwritten (r : Run) : Type 0 where
   pub held : r.held_new ≡ r.held_old
   pub counted : r.writes_new ≡ r.writes_old
 
--- the text has tokens, and they are not of the form that is read
-pub record HasNoForm (text : List ℕ) : Type 0 where
+-- the text has tokens, and no file spells them
+pub record HasNoItems (text : List ℕ) : Type 0 where
   pub tokens : List Token
   pub cut : AreTokens text tokens
-  pub none : form_of tokens ≡ None
+  pub none : (items : List Item) → IsFile items tokens → ⊥
 
--- the path names no variable that can be bound, and begins at the byte
-abbrev pub IsUnknown : Contents → List Token → ℕ → Type 0
-IsUnknown c path at = (variable_named c.variables (path_text path) ≡ None) × (at ≡ first_byte path)
+-- The text spells items, and the fault is the first of types in them.
+pub record IsMistyped (c : Contents) (text : List ℕ) (fault : TypeFault) : Type 0 where
+  pub items : List Item
+  pub spelled : HasItems text items
+  pub first : IsFirst (scope_over c.variables items) items fault
 
--- a side of the implication is unknown
-abbrev pub LacksName : Contents → Statement → ℕ → Type 0
-LacksName c s at = IsUnknown c s.antecedent at ⊎ IsUnknown c s.consequent at
+-- the text says a suite whose clock is none
+pub record HasNoClock (c : Contents) (text : List ℕ) (fault : WindowFault) : Type 0 where
+  pub suite : Suite
+  pub says : Says c text suite
+  pub why : IsClockFault c.variables (string_bytes suite.clock) fault
 
--- why a statement has no report over these contents
-abbrev pub WhyUnjudged : Contents → Statement → Fault → Type 0
-WhyUnjudged c s (Typing (UnknownName at)) = LacksName c s at
-WhyUnjudged c s (Window e) = IsClockFault c.variables (path_text s.clock) e
-WhyUnjudged c s Memory = Unit {0}
-WhyUnjudged c s _ = ⊥
+-- why a text has no items
+abbrev pub WhyNoItems : List ℕ → Fault → Type 0
+WhyNoItems text (Lex e) = IsFaulty 0 text e
+WhyNoItems text (Parse e) = HasNoItems text
+WhyNoItems text Memory = Unit {0}
+WhyNoItems text _ = ⊥
 
--- the text states something that has no report over these contents
-pub record IsUnjudged (c : Contents) (text : List ℕ) (fault : Fault) : Type 0 where
-  pub statement : Statement
-  pub stated : IsStated text statement
-  pub why : WhyUnjudged c statement fault
+-- why items say no suite
+abbrev pub WhyNotTyped : Contents → List Item → TypeFault → Type 0
+WhyNotTyped c items types.Memory = Unit {0}
+WhyNotTyped c items fault = IsFirst (scope_over c.variables items) items fault
 
 -- why a text has no report over these contents
 abbrev pub WhyNoReport : Contents → List ℕ → Fault → Type 0
-WhyNoReport c text (Lex e) = IsRefused text e
-WhyNoReport c text (Parse e) = HasNoForm text
-WhyNoReport c text (Typing e) = IsUnjudged c text (Typing e)
-WhyNoReport c text (Window e) = IsUnjudged c text (Window e)
+WhyNoReport c text (Lex e) = IsFaulty 0 text e
+WhyNoReport c text (Parse e) = HasNoItems text
+WhyNoReport c text (Typing e) = IsMistyped c text e
+WhyNoReport c text (Window windows.NoClock) = HasNoClock c text windows.NoClock
+WhyNoReport c text (Window windows.ClockWidth) = HasNoClock c text windows.ClockWidth
 WhyNoReport c text Memory = Unit {0}
 WhyNoReport c text _ = ⊥
-
--- the text has a report over these contents
-pub record HasReport (c : Contents) (text : List ℕ) (report : ReportData) : Type 0 where
-  pub statement : Statement
-  pub stated : IsStated text statement
-  pub reports : Reports c statement report
 
 -- the source gave a dump over which the text has no report, and nothing was written
 pub record IsRefusedReport (r : Run) (fault : Fault) : Type 0 where

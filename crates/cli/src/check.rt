@@ -12,7 +12,7 @@ use cycle_window::WindowFault;
 use signals::{Sink, Source};
 use std::alloc::Global;
 
-/// Judges the assertion of a text over the dump that a source gives, through windows of so many clocks, and writes the report.
+/// Judges the assertions of a text over the dump that a source gives, through windows of so many clocks, and writes the report.
 ///
 /// The answer is the report's totals: how many attempts held, were vacuous, failed, were disabled, and are open. `window` is from
 /// 1 to 65,536, and does not change what is written.
@@ -20,19 +20,19 @@ use std::alloc::Global;
 /// # Errors
 ///
 /// C3 where `window` is out of its range, before anything is read; then what is wrong with the dump (V1 to V8), with the text
-/// (L1 to L3, P1), with its paths (Y1, C1, C2), all before anything is written; G1 where the sink failed, which then holds a
-/// beginning of the report behind what it held before; and want of memory.
+/// (L1 to L3, P1 to P4, then Y1 to Y9), and with its clock (C1, C2), all before anything is written; G1 where the sink failed, which
+/// then holds a beginning of the report behind what it held before; and want of memory.
 ///
-/// IEEE 1800-2017, clauses 16.5, 16.7, 16.12.7, 16.14; IEEE 1364-2005, clause 18.2.
-pub fn check_one<S: Source, W: Sink>(
+/// IEEE 1800-2017, clauses 11, 16.5 to 16.9, 16.12 to 16.15; IEEE 1364-2005, clause 18.2.
+pub fn check_one<'a, S: Source, W: Sink>(
     alloc: Global,
     source: &mut S,
-    text: &str,
+    text: &'a str,
     window: u64,
     out: &mut W,
-) -> Result<[u64; 5], Fault>
-    ensures answered { IfOk result (IsAnswered (run_of text.now (S.remaining source.old) (S.remaining source.new) (S.failures source.old) (S.failures source.new) (W.contents out.old) (W.contents out.new) (W.failures out.old) (W.failures out.new))) }
-    ensures refused { IfErr result (WhyNotChecked window (run_of text.now (S.remaining source.old) (S.remaining source.new) (S.failures source.old) (S.failures source.new) (W.contents out.old) (W.contents out.new) (W.failures out.old) (W.failures out.new))) }
+) -> Result<[u64; 5], Fault<'a>>
+    ensures answered { IfOk result (IsAnswered (run_of text.entry.now (S.remaining source.old) (S.remaining source.new) (S.failures source.old) (S.failures source.new) (W.contents out.old) (W.contents out.new) (W.failures out.old) (W.failures out.new))) }
+    ensures refused { IfErr result (WhyNotChecked window (run_of text.entry.now (S.remaining source.old) (S.remaining source.new) (S.failures source.old) (S.failures source.new) (W.contents out.old) (W.contents out.new) (W.failures out.old) (W.failures out.new))) }
     ensures bad_size { IsBadSize window ↔ (result ≡ Err (Window BadSize)) }
 {
     if window < 1 || window > 65_536 {
@@ -46,14 +46,14 @@ pub fn check_one<S: Source, W: Sink>(
 /// # Errors
 ///
 /// Those of [`check_one`], but for C3.
-pub fn judge_one<S: Source, W: Sink>(
+pub fn judge_one<'a, S: Source, W: Sink>(
     alloc: Global,
     source: &mut S,
-    text: &str,
+    text: &'a str,
     out: &mut W,
-) -> Result<[u64; 5], Fault>
-    ensures answered { IfOk result (IsAnswered (run_of text.now (S.remaining source.old) (S.remaining source.new) (S.failures source.old) (S.failures source.new) (W.contents out.old) (W.contents out.new) (W.failures out.old) (W.failures out.new))) }
-    ensures refused { IfErr result (WhyRefused (run_of text.now (S.remaining source.old) (S.remaining source.new) (S.failures source.old) (S.failures source.new) (W.contents out.old) (W.contents out.new) (W.failures out.old) (W.failures out.new))) }
+) -> Result<[u64; 5], Fault<'a>>
+    ensures answered { IfOk result (IsAnswered (run_of text.entry.now (S.remaining source.old) (S.remaining source.new) (S.failures source.old) (S.failures source.new) (W.contents out.old) (W.contents out.new) (W.failures out.old) (W.failures out.new))) }
+    ensures refused { IfErr result (WhyRefused (run_of text.entry.now (S.remaining source.old) (S.remaining source.new) (S.failures source.old) (S.failures source.new) (W.contents out.old) (W.contents out.new) (W.failures out.old) (W.failures out.new))) }
 {
     run_through(alloc, source, text, 1024, out)
 }

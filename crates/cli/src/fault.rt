@@ -4,32 +4,21 @@ ghost use Rattle.std.specs.Prelude.{◌≡◌};
 ghost use Rattle.cli.specs.Statuses.{status_of, fault_status_of};
 
 use crate::words::WordsFault;
+use checker::TypeFault;
 use cycle_window::WindowFault;
 use lexer::LexFault;
+use parser::ParseFault;
 use std::alloc::{AllocError, Global};
 use vcd_reader::VcdFault;
 use verdicts::ReportFault;
 
-/// Why a text is not of the form that is read.
-#[derive(Clone, Copy, Debug, PartialEq, Eq)]
-pub enum ParseFault {
-    /// P1: the byte of the first token that doesn't fit.
-    Expected(usize),
-}
-
-/// Why a text states no suite over the dump.
-#[derive(Clone, Copy, Debug, PartialEq, Eq)]
-pub enum TypeFault {
-    /// Y1: the first byte of a path that names no variable of the dump that can be bound.
-    UnknownName(usize),
-}
-
 /// Why there is no report.
 #[derive(Debug, Drop)]
-pub enum Fault {
+pub enum Fault<'a> {
     Vcd(VcdFault),
     Lex(LexFault),
-    Parse(ParseFault),
+    /// It borrows the word of P2 from the text.
+    Parse(ParseFault<'a>),
     Typing(TypeFault),
     Window(WindowFault),
     Report(ReportFault),
@@ -45,13 +34,65 @@ pub enum Fault {
     Memory,
 }
 
-impl From<AllocError> for Fault {
+impl From<AllocError> for Fault<'_> {
     ghost use Rattle.cli.specs.declared.fault.Fault.TheVariants.{Memory};
 
     ghost from_gives = { λ _ e. e ≡ Memory };
 
-    fn from(_error: AllocError) -> Fault {
+    fn from(_error: AllocError) -> Self {
         Fault::Memory
+    }
+}
+
+impl From<LexFault> for Fault<'_> {
+    ghost use Rattle.cli.specs.Faults.{lex_fault};
+
+    ghost from_gives = { λ f e. e ≡ lex_fault f };
+
+    fn from(fault: LexFault) -> Self {
+        match fault {
+            LexFault::Memory => Fault::Memory,
+            other => Fault::Lex(other),
+        }
+    }
+}
+
+impl<'a> From<ParseFault<'a>> for Fault<'a> {
+    ghost use Rattle.cli.specs.Faults.{parse_fault};
+
+    ghost from_gives = { λ f e. e ≡ parse_fault f };
+
+    fn from(fault: ParseFault<'a>) -> Self {
+        match fault {
+            ParseFault::Memory => Fault::Memory,
+            other => Fault::Parse(other),
+        }
+    }
+}
+
+impl From<TypeFault> for Fault<'_> {
+    ghost use Rattle.cli.specs.Faults.{type_fault};
+
+    ghost from_gives = { λ f e. e ≡ type_fault f };
+
+    fn from(fault: TypeFault) -> Self {
+        match fault {
+            TypeFault::Memory => Fault::Memory,
+            other => Fault::Typing(other),
+        }
+    }
+}
+
+impl From<WindowFault> for Fault<'_> {
+    ghost use Rattle.cli.specs.Faults.{window_fault};
+
+    ghost from_gives = { λ f e. e ≡ window_fault f };
+
+    fn from(fault: WindowFault) -> Self {
+        match fault {
+            WindowFault::Memory => Fault::Memory,
+            other => Fault::Window(other),
+        }
     }
 }
 
@@ -70,13 +111,42 @@ fn vcd_line(alloc: Global, fault: &VcdFault) -> Result<String, AllocError> {
     }
 }
 
-/// The line that names a fault of a text.
+/// The line that names a fault of a text's tokens.
 fn lex_line(alloc: Global, fault: &LexFault) -> Result<String, AllocError> {
     match fault {
         LexFault::BadCharacter(at) => format!(in alloc; "svamon: L1 BadCharacter {at}"),
         LexFault::BadNumber(at) => format!(in alloc; "svamon: L2 BadNumber {at}"),
         LexFault::UnclosedComment(at) => format!(in alloc; "svamon: L3 UnclosedComment {at}"),
         LexFault::Memory => String::from_str(alloc, "svamon: OutOfMemory"),
+    }
+}
+
+/// The line that names a fault of a text's form.
+fn parse_line(alloc: Global, fault: &ParseFault) -> Result<String, AllocError> {
+    match fault {
+        ParseFault::Expected(_, at) => format!(in alloc; "svamon: P1 Expected {at}"),
+        ParseFault::OutsideProfile(word, at) => {
+            format!(in alloc; "svamon: P2 OutsideProfile {word} {at}")
+        }
+        ParseFault::TooDeep(at) => format!(in alloc; "svamon: P3 TooDeep {at}"),
+        ParseFault::BadBound(at) => format!(in alloc; "svamon: P4 BadBound {at}"),
+        ParseFault::Memory => String::from_str(alloc, "svamon: OutOfMemory"),
+    }
+}
+
+/// The line that names a fault of a text's names and widths.
+fn type_line(alloc: Global, fault: &TypeFault) -> Result<String, AllocError> {
+    match fault {
+        TypeFault::UnknownName(at) => format!(in alloc; "svamon: Y1 UnknownName {at}"),
+        TypeFault::Duplicate(at) => format!(in alloc; "svamon: Y2 Duplicate {at}"),
+        TypeFault::WiderThan128(at) => format!(in alloc; "svamon: Y3 WiderThan128 {at}"),
+        TypeFault::SliceRange(at) => format!(in alloc; "svamon: Y4 SliceRange {at}"),
+        TypeFault::Degenerate(at) => format!(in alloc; "svamon: Y5 Degenerate {at}"),
+        TypeFault::AdmitsEmpty(at) => format!(in alloc; "svamon: Y6 AdmitsEmpty {at}"),
+        TypeFault::OtherClock(at) => format!(in alloc; "svamon: Y7 OtherClock {at}"),
+        TypeFault::CyclicSequence(at) => format!(in alloc; "svamon: Y8 CyclicSequence {at}"),
+        TypeFault::TooWide(at) => format!(in alloc; "svamon: Y9 TooWide {at}"),
+        TypeFault::Memory => String::from_str(alloc, "svamon: OutOfMemory"),
     }
 }
 
@@ -97,10 +167,8 @@ pub fn fault_line(alloc: Global, fault: &Fault) -> Result<String, AllocError> {
     match fault {
         Fault::Vcd(fault) => vcd_line(alloc, fault),
         Fault::Lex(fault) => lex_line(alloc, fault),
-        Fault::Parse(ParseFault::Expected(at)) => format!(in alloc; "svamon: P1 Expected {at}"),
-        Fault::Typing(TypeFault::UnknownName(at)) => {
-            format!(in alloc; "svamon: Y1 UnknownName {at}")
-        }
+        Fault::Parse(fault) => parse_line(alloc, fault),
+        Fault::Typing(fault) => type_line(alloc, fault),
         Fault::Window(fault) => window_line(alloc, fault),
         Fault::Report(ReportFault::Write) => String::from_str(alloc, "svamon: G1 Write"),
         Fault::Report(ReportFault::Memory) => String::from_str(alloc, "svamon: OutOfMemory"),
@@ -132,6 +200,8 @@ fn fault_status(fault: &Fault) -> u8
         Fault::Vcd(VcdFault::Read) => 4,
         Fault::Vcd(VcdFault::Memory) => 3,
         Fault::Lex(LexFault::Memory) => 3,
+        Fault::Parse(ParseFault::Memory) => 3,
+        Fault::Typing(TypeFault::Memory) => 3,
         Fault::Window(WindowFault::Memory) => 3,
         Fault::Report(ReportFault::Write) => 4,
         Fault::Report(ReportFault::Memory) => 3,

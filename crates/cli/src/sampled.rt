@@ -1,36 +1,15 @@
-//! The rows that a statement is judged over.
+//! The rows that a suite is judged over.
 
-ghost use Rattle.std.specs.Prelude.{◌≡◌, ℕ, ◌+◌, ◌<◌, ◌≤◌, IfOk, IfErr, OnOk, Some, None, map, take, length};
-ghost use Rattle.vcd_reader.specs.Variables.{variable_named};
-ghost use Rattle.cli.specs.Named.{Names};
-ghost use Rattle.cli.specs.declared.fault.TypeFault.TheVariants.{UnknownName};
+ghost use Rattle.std.specs.Prelude.{◌≡◌, ℕ, ◌+◌, ◌<◌, ◌≤◌, IfOk, OnOk, map, take, length};
 ghost use Rattle.vcd_reader.specs.Dump.{Contents};
-ghost use Rattle.vcd_reader.specs.Held.{Holds, variables_of};
+ghost use Rattle.vcd_reader.specs.Held.{Holds};
 ghost use Rattle.cycle_window.specs.Ticks.{ticks_of, row_of};
 ghost use Rattle.cycle_window.specs.Held.{ticks_in, code_in, places_in, clock_in, columns_in, first_in, end_in, AreClocksOf, AreColumnsOf, IsOver};
 
-use crate::fault::TypeFault;
-use cycle_window::{Clocks, Columns, Signal, Window};
+use cycle_window::{Clocks, Columns, Window};
 use std::alloc::{AllocError, Global};
 use values::Table;
 use vcd_reader::Dump;
-
-/// The signal that a path names, at the width that the dump gives it.
-pub(crate) fn signal_of<'a>(dump: &Dump, path: &'a str, at: usize) -> Result<Signal<'a>, TypeFault>
-    ensures path { IfOk result (λ s. s.path.now ≡ path.entry.now) }
-    ensures named { IfOk result (λ s. Names (variables_of dump.now) path.entry.now s.width) }
-    ensures some_bits { IfOk result (λ s. 1 ≤ s.width) }
-    ensures at_most_128 { IfOk result (λ s. s.width ≤ 128) }
-    ensures unnamed { IfErr result (λ e. (variable_named (variables_of dump.now) path.entry.now ≡ None) × (e ≡ UnknownName at)) }
-{
-    match dump.var(path) {
-        None => Err(TypeFault::UnknownName(at)),
-        Some(variable) => Ok(Signal {
-            path,
-            width: dump.width(variable),
-        }),
-    }
-}
 
 /// Adds the rows of a window behind those of the clocks before it.
 fn push_rows(alloc: Global, rows: &mut Table, window: &Window) -> Result<(), AllocError>

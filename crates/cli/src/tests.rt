@@ -1,11 +1,12 @@
 //! Whole runs, against answers from outside.
 
 use crate::{
-    Fault, ParseFault, Request, TypeFault, WordsFault, check_one, fault_line, judge_one,
-    read_words, status,
+    Fault, Request, WordsFault, check_one, fault_line, judge_one, read_words, status,
 };
+use checker::TypeFault;
 use cycle_window::WindowFault;
 use lexer::LexFault;
+use parser::ParseFault;
 use signals::{Counted, CutReader, CutWriter, Sink, Source};
 use std::alloc::AllocError;
 use std::test::Fail;
@@ -26,8 +27,8 @@ const REPORT: &[u8] =
 
 /// What a run left.
 #[derive(Drop)]
-struct Outcome {
-    answer: Result<[u64; 5], Fault>,
+struct Outcome<'a> {
+    answer: Result<[u64; 5], Fault<'a>>,
     written: Vec<u8>,
     failed_reads: u64,
     failed_writes: u64,
@@ -39,13 +40,13 @@ fn taken(rt: &impl AllocGlobal, out: &CutWriter) -> Result<Vec<u8>, AllocError> 
 }
 
 /// A run over a source of bytes, into a device that takes so many.
-fn run(
+fn run<'a>(
     rt: &impl AllocGlobal,
     dump: &[u8],
-    text: &str,
+    text: &'a str,
     window: u64,
     room: usize,
-) -> Result<Outcome, AllocError> {
+) -> Result<Outcome<'a>, AllocError> {
     let mut source = Counted::new(dump);
     let mut out = Counted::new(CutWriter::new(rt.alloc(), room)?);
     let answer = check_one(rt.alloc(), &mut source, text, window, &mut out);
@@ -282,15 +283,26 @@ fn lines_and_statuses(rt: HostRuntime) -> Result<(), Fail> {
             2,
         ),
         (
-            Fault::Parse(ParseFault::Expected(9)),
+            Fault::Parse(ParseFault::Expected("a word", 9)),
             "svamon: P1 Expected 9",
             2,
         ),
         (
-            Fault::Typing(TypeFault::UnknownName(4)),
-            "svamon: Y1 UnknownName 4",
+            Fault::Parse(ParseFault::OutsideProfile("within", 9)),
+            "svamon: P2 OutsideProfile within 9",
             2,
         ),
+        (
+            Fault::Parse(ParseFault::TooDeep(9)),
+            "svamon: P3 TooDeep 9",
+            2,
+        ),
+        (
+            Fault::Parse(ParseFault::BadBound(9)),
+            "svamon: P4 BadBound 9",
+            2,
+        ),
+        (Fault::Parse(ParseFault::Memory), "svamon: OutOfMemory", 3),
         (
             Fault::Window(WindowFault::ClockWidth),
             "svamon: C2 ClockWidth",
@@ -325,6 +337,31 @@ fn lines_and_statuses(rt: HostRuntime) -> Result<(), Fail> {
     }
     assert_eq!(rt; status(&Ok([3, 2, 0, 1, 1])), 0);
     assert_eq!(rt; status(&Ok([3, 2, 1, 1, 1])), 1);
+    Ok(())
+}
+
+/// The lines of the faults of types, which stand at the byte 4.
+#[test]
+fn lines_of_types(rt: HostRuntime) -> Result<(), Fail> {
+    let alloc = rt.alloc();
+    for (fault, line) in [
+        (TypeFault::UnknownName(4), "svamon: Y1 UnknownName 4"),
+        (TypeFault::Duplicate(4), "svamon: Y2 Duplicate 4"),
+        (TypeFault::WiderThan128(4), "svamon: Y3 WiderThan128 4"),
+        (TypeFault::SliceRange(4), "svamon: Y4 SliceRange 4"),
+        (TypeFault::Degenerate(4), "svamon: Y5 Degenerate 4"),
+        (TypeFault::AdmitsEmpty(4), "svamon: Y6 AdmitsEmpty 4"),
+        (TypeFault::OtherClock(4), "svamon: Y7 OtherClock 4"),
+        (TypeFault::CyclicSequence(4), "svamon: Y8 CyclicSequence 4"),
+        (TypeFault::TooWide(4), "svamon: Y9 TooWide 4"),
+    ] {
+        let fault = Fault::Typing(fault);
+        assert_eq!(rt; fault_line(alloc, &fault)?.as_str(), line);
+        assert_eq!(rt; status(&Err(fault)), 2, "for {line}");
+    }
+    let memory = Fault::Typing(TypeFault::Memory);
+    assert_eq!(rt; fault_line(alloc, &memory)?.as_str(), "svamon: OutOfMemory");
+    assert_eq!(rt; status(&Err(memory)), 3);
     Ok(())
 }
 

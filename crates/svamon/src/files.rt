@@ -7,7 +7,7 @@ use std::io::ErrorKind;
 use std::{fs, io};
 
 /// The fault of a file that could not be opened or read.
-fn file_fault(alloc: Global, path: &str, error: io::Error) -> Fault {
+fn file_fault(alloc: Global, path: &str, error: io::Error) -> Fault<'static> {
     if error.kind() == ErrorKind::OutOfMemory {
         return Fault::Memory;
     }
@@ -18,7 +18,7 @@ fn file_fault(alloc: Global, path: &str, error: io::Error) -> Fault {
 }
 
 /// An opened file.
-pub fn open<R: Files + AllocGlobal>(rt: &R, path: &str) -> Result<R::File, Fault> {
+pub fn open<R: Files + AllocGlobal>(rt: &R, path: &str) -> Result<R::File, Fault<'static>> {
     match File::open(rt, path) {
         Ok(file) => Ok(file),
         Err(error) => Err(file_fault(rt.alloc(), path, error)),
@@ -26,7 +26,7 @@ pub fn open<R: Files + AllocGlobal>(rt: &R, path: &str) -> Result<R::File, Fault
 }
 
 /// All of a file, as text; N2 where it is no UTF-8.
-pub fn read_text<R: Files + AllocGlobal>(rt: &R, path: &str) -> Result<String, Fault> {
+pub fn read_text<R: Files + AllocGlobal>(rt: &R, path: &str) -> Result<String, Fault<'static>> {
     let bytes = match fs::read(rt, path) {
         Ok(bytes) => bytes,
         Err(error) => return Err(file_fault(rt.alloc(), path, error)),

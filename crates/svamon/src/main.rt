@@ -4,13 +4,8 @@
 mod files;
 mod serve;
 
-use cli::status;
 use std::process::ExitCode;
 
 fn main(rt: HostRuntime) -> ExitCode {
-    let outcome = serve::answer(&rt);
-    if let Err(fault) = &outcome {
-        serve::report_fault(&rt, fault);
-    }
-    ExitCode::from(status(&outcome))
+    ExitCode::from(serve::answer(&rt))
 }

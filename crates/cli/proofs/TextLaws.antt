@@ -1,0 +1,138 @@
+-- Why a text has no report.
+use Rattle.std.proofs.Common.{◌≡◌, ℕ, Bool, true, false, cond, List, [], ◌∷◌, Option, Some, None, sym, ap, ◌∙◌, subst, refl}
+use Rattle.std.specs.Prelude.{Result, Ok, Err, IfErr, IsErrAnd, string_bytes}
+use Rattle.std.specs.Option.{option_map}
+use Rattle.std.specs.Str.{is_utf8}
+use Rattle.lexer.specs.declared.token.Token.{Token}
+use Rattle.lexer.specs.declared.fault.LexFault.{LexFault}
+use Rattle.lexer.specs.declared.fault.LexFault.TheVariants as lexing
+use Rattle.lexer.specs.Covering as covering
+use Rattle.parser.specs.declared.fault.ParseFault.{ParseFault}
+use Rattle.parser.specs.declared.fault.ParseFault.TheVariants as parsing
+use Rattle.parser.specs.Faults as parser_faults
+use Rattle.grammar.specs.Trees.{Item}
+use Rattle.types.specs.declared.suite.Signal.{Signal}
+use Rattle.types.specs.declared.suite.Suite.{Suite}
+use Rattle.typing.specs.Scopes.{Scope, found, scope_for}
+use Rattle.typing.specs.Columns.{columns_of}
+use Rattle.checker.specs.declared.fault.TypeFault.{TypeFault}
+use Rattle.checker.specs.declared.fault.TypeFault.TheVariants as typing
+use Rattle.checker.specs.Faults as faults
+use Rattle.checker.specs.Faults.{IsFirst, IsFaultless}
+use Rattle.checker.specs.Suites.{AreSignals, IsSuite}
+use Rattle.vcd_reader.specs.Variables.{Declared, variable_named, size_of}
+use Rattle.vcd_reader.specs.Dump.{Contents}
+use Rattle.cycle_window.specs.declared.fault.WindowFault.{WindowFault}
+use Rattle.cycle_window.specs.declared.fault.WindowFault.TheVariants as windows
+use Rattle.cycle_window.specs.Bound.{IsClockFault}
+use Rattle.cli.specs.declared.fault.Fault.{Fault}
+use Rattle.cli.specs.declared.fault.Fault.TheVariants.{Vcd, Lex, Parse, Typing, Window, Report, NoAssertion, NotText, Words, File, Memory}
+use Rattle.cli.specs.Named.{width_named, scope_over, AreNamed}
+use Rattle.cli.specs.Faults.{lex_fault, parse_fault, type_fault, window_fault}
+use Rattle.cli.specs.Reported.{AreTokens, HasItems, IsTyped, Says}
+use Rattle.cli.specs.Outcomes.{HasNoItems, IsMistyped, WhyNoItems, WhyNotTyped, WhyNoReport}
+
+-- why a text has no tokens, or no items
+pub unlexed : (text : List ℕ) (e : LexFault) → covering.IsRefused text e → WhyNoItems text (lex_fault e)
+unlexed text (lexing.BadCharacter at) h = h
+unlexed text (lexing.BadNumber at) h = h
+unlexed text (lexing.UnclosedComment at) h = h
+unlexed text lexing.Memory h = tt
+
+no_items : (text : List ℕ) (tokens : List Token) (e : ParseFault) → AreTokens text tokens → (e ≡ parsing.Memory → ⊥) → parser_faults.IsRefused tokens e → HasNoItems text
+no_items text tokens e cut other h = record { tokens = tokens; cut = cut; none = h other }
+
+pub unparsed : (text : List ℕ) (tokens : List Token) (e : ParseFault) → AreTokens text tokens → parser_faults.IsRefused tokens e → WhyNoItems text (parse_fault e)
+unparsed text tokens (parsing.Expected what at) cut h = no_items text tokens (parsing.Expected what at) cut (λ e. cc) h
+unparsed text tokens (parsing.OutsideProfile word at) cut h = no_items text tokens (parsing.OutsideProfile word at) cut (λ e. cc) h
+unparsed text tokens (parsing.TooDeep at) cut h = no_items text tokens (parsing.TooDeep at) cut (λ e. cc) h
+unparsed text tokens (parsing.BadBound at) cut h = no_items text tokens (parsing.BadBound at) cut (λ e. cc) h
+unparsed text tokens parsing.Memory cut h = tt
+
+-- the same scope, under both spellings
+pub scope_is : (vs : List Declared) (names : List (List ℕ × ℕ)) (items : List Item) → found names ≡ width_named vs → scope_for items names ≡ scope_over vs items
+scope_is vs names items e = ap (λ (dump : List ℕ → Option ℕ). let s : Scope = record { own = (scope_over vs items).own; dump = dump } in s) e
+
+pub why_not_typed : (c : Contents) (vs : List Declared) (names : List (List ℕ × ℕ)) (items : List Item) (e : TypeFault) → vs ≡ c.variables → found names ≡ width_named vs
+    → faults.IsRefused (scope_for items names) items e → WhyNotTyped c items e
+why_not_typed c vs names items e same dump h = by e moved
+  where
+    moved : faults.IsRefused (scope_over c.variables items) items e
+    moved = subst (λ (ds : List Declared). faults.IsRefused (scope_over ds items) items e) same (subst (λ (s : Scope). faults.IsRefused s items e) (scope_is vs names items dump) h)
+
+    by : (f : TypeFault) → faults.IsRefused (scope_over c.variables items) items f → WhyNotTyped c items f
+    by (typing.UnknownName at) k = k
+    by (typing.Duplicate at) k = k
+    by (typing.WiderThan128 at) k = k
+    by (typing.SliceRange at) k = k
+    by (typing.Degenerate at) k = k
+    by (typing.AdmitsEmpty at) k = k
+    by (typing.OtherClock at) k = k
+    by (typing.CyclicSequence at) k = k
+    by (typing.TooWide at) k = k
+    by typing.Memory k = tt
+
+pub is_typed : (c : Contents) (vs : List Declared) (names : List (List ℕ × ℕ)) (items : List Item) (suite : Suite) → vs ≡ c.variables → found names ≡ width_named vs
+    → IsFaultless (scope_for items names) items → IsSuite (scope_for items names) items suite → IsTyped c items suite
+is_typed c vs names items suite same dump clear is =
+    let e : scope_for items names ≡ scope_over c.variables items = scope_is vs names items dump ∙ ap (λ (ds : List Declared). scope_over ds items) same in
+    record { faultless = subst (λ (s : Scope). IsFaultless s items) e clear; says = subst (λ (s : Scope). IsSuite s items suite) e is }
+
+-- a suite's signals are variables of the dump
+text_named : (u : Bool) (o : Option ℕ) (w : ℕ) → cond u o None ≡ Some w → o ≡ Some w
+text_named true o w e = e
+text_named false o w e = absurd cc
+
+named_all : (vs : List Declared) (items : List Item) (paths : List (List ℕ)) (signals : List Signal) → AreSignals (scope_over vs items) paths signals → AreNamed vs signals
+named_all vs items [] [] h = tt
+named_all vs items [] (x ∷ xs) h = elim h [ ]
+named_all vs items (p ∷ ps) [] h = elim h [ ]
+named_all vs items (p ∷ ps) (x ∷ xs) h =
+    let at : width_named vs (string_bytes x.path) ≡ Some x.width = ap (width_named vs) h.0 ∙ h.1 in
+    (text_named (is_utf8 (string_bytes x.path)) (option_map (size_of vs) (variable_named vs (string_bytes x.path))) x.width at, named_all vs items ps xs h.2)
+
+pub are_named : (c : Contents) (vs : List Declared) (items : List Item) (suite : Suite) → vs ≡ c.variables → IsTyped c items suite → AreNamed vs suite.names.items
+are_named c vs items suite same typed =
+    subst (λ (ds : List Declared). AreNamed ds suite.names.items) (sym same) (named_all c.variables items (columns_of (scope_over c.variables items) items) suite.names.items typed.says.signals)
+
+-- each refusal as one of the text
+pub without_items : (c : Contents) (text : List ℕ) (e : Fault) → WhyNoItems text e → WhyNoReport c text e
+without_items c text (Vcd e) h = elim h [ ]
+without_items c text (Lex e) h = h
+without_items c text (Parse e) h = h
+without_items c text (Typing e) h = elim h [ ]
+without_items c text (Window e) h = elim h [ ]
+without_items c text (Report e) h = elim h [ ]
+without_items c text (NoAssertion n) h = elim h [ ]
+without_items c text (NotText n) h = elim h [ ]
+without_items c text (Words e) h = elim h [ ]
+without_items c text (File n) h = elim h [ ]
+without_items c text Memory h = tt
+
+mistyped : (c : Contents) (text : List ℕ) (items : List Item) (e : TypeFault) → HasItems text items → IsFirst (scope_over c.variables items) items e → IsMistyped c text e
+mistyped c text items e has first = record { items = items; spelled = has; first = first }
+
+pub untyped : (c : Contents) (text : List ℕ) (items : List Item) (e : TypeFault) → HasItems text items → WhyNotTyped c items e → WhyNoReport c text (type_fault e)
+untyped c text items (typing.UnknownName at) has h = mistyped c text items (typing.UnknownName at) has h
+untyped c text items (typing.Duplicate at) has h = mistyped c text items (typing.Duplicate at) has h
+untyped c text items (typing.WiderThan128 at) has h = mistyped c text items (typing.WiderThan128 at) has h
+untyped c text items (typing.SliceRange at) has h = mistyped c text items (typing.SliceRange at) has h
+untyped c text items (typing.Degenerate at) has h = mistyped c text items (typing.Degenerate at) has h
+untyped c text items (typing.AdmitsEmpty at) has h = mistyped c text items (typing.AdmitsEmpty at) has h
+untyped c text items (typing.OtherClock at) has h = mistyped c text items (typing.OtherClock at) has h
+untyped c text items (typing.CyclicSequence at) has h = mistyped c text items (typing.CyclicSequence at) has h
+untyped c text items (typing.TooWide at) has h = mistyped c text items (typing.TooWide at) has h
+untyped c text items typing.Memory has h = tt
+
+pub unclocked : (c : Contents) (text : List ℕ) (suite : Suite) (e : WindowFault) → Says c text suite → IsClockFault c.variables (string_bytes suite.clock) e → WhyNoReport c text (window_fault e)
+unclocked c text suite windows.NoClock says h = record { suite = suite; says = says; why = h }
+unclocked c text suite windows.ClockWidth says h = record { suite = suite; says = says; why = h }
+unclocked c text suite windows.BadSize says h = elim h [ ]
+unclocked c text suite (windows.NoSignal p) says h = elim h [ ]
+unclocked c text suite (windows.SignalWidth p) says h = elim h [ ]
+unclocked c text suite windows.Memory says h = tt
+
+-- what an error that is known says
+pub err_is : {X : Type 0} (r : Result X Fault) (e : Fault) (Why : Fault → Type 0) → IsErrAnd r (λ f. f ≡ e) → Why e → IfErr r Why
+err_is (Ok x) e Why h why = tt
+err_is (Err f) e Why h why = subst Why (sym h) why

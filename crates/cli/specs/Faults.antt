@@ -1,0 +1,27 @@
+-- The faults of the layers below as faults of a run: want of memory is one fault, wherever it came up.
+use Rattle.lexer.specs.declared.fault.LexFault.{LexFault}
+use Rattle.lexer.specs.declared.fault.LexFault.TheVariants as lexing
+use Rattle.parser.specs.declared.fault.ParseFault.{ParseFault}
+use Rattle.parser.specs.declared.fault.ParseFault.TheVariants as parsing
+use Rattle.checker.specs.declared.fault.TypeFault.{TypeFault}
+use Rattle.checker.specs.declared.fault.TypeFault.TheVariants as typing
+use Rattle.cycle_window.specs.declared.fault.WindowFault.{WindowFault}
+use Rattle.cycle_window.specs.declared.fault.WindowFault.TheVariants as windows
+use Rattle.cli.specs.declared.fault.Fault.{Fault}
+use Rattle.cli.specs.declared.fault.Fault.TheVariants.{Lex, Parse, Typing, Window, Memory}
+
+abbrev pub lex_fault : LexFault → Fault
+lex_fault lexing.Memory = Memory
+lex_fault e = Lex e
+
+abbrev pub parse_fault : ParseFault → Fault
+parse_fault parsing.Memory = Memory
+parse_fault e = Parse e
+
+abbrev pub type_fault : TypeFault → Fault
+type_fault typing.Memory = Memory
+type_fault e = Typing e
+
+abbrev pub window_fault : WindowFault → Fault
+window_fault windows.Memory = Memory
+window_fault e = Window e

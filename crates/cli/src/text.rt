@@ -1,0 +1,38 @@
+//! What a text says over a dump.
+
+ghost use Rattle.std.specs.Prelude.{IfOk, IfErr};
+ghost use Rattle.parser.specs.Views.{items_of};
+ghost use Rattle.vcd_reader.specs.Dump.{Contents};
+ghost use Rattle.vcd_reader.specs.Held.{Holds};
+ghost use Rattle.cli.specs.Reported.{HasItems, IsTyped};
+ghost use Rattle.cli.specs.Outcomes.{WhyNoItems, WhyNotTyped};
+
+use crate::fault::Fault;
+use crate::names::names_of;
+use checker::{TypeFault, check};
+use lexer::lex;
+use parser::{File, parse};
+use std::alloc::Global;
+use types::Suite;
+use vcd_reader::Dump;
+
+/// The items of a text.
+pub(crate) fn file_of<'a>(alloc: Global, text: &'a str) -> Result<File<'a>, Fault<'a>>
+    ensures ok { IfOk result (λ f. HasItems text.entry.now (items_of f)) }
+    ensures err { IfErr result (WhyNoItems text.entry.now) }
+{
+    let tokens = lex(alloc, text)?;
+    Ok(parse(alloc, tokens.as_slice())?)
+}
+
+/// The suite of a text's items over a dump.
+pub(crate) fn suite_of(alloc: Global, dump: &Dump, file: &File) -> Result<Suite, TypeFault>
+    ensures ok { (c : Contents) → Holds dump.now c → IfOk result (IsTyped c (items_of file.now)) }
+    ensures err { (c : Contents) → Holds dump.now c → IfErr result (WhyNotTyped c (items_of file.now)) }
+{
+    let names = match names_of(alloc, dump) {
+        Ok(names) => names,
+        Err(_) => return Err(TypeFault::Memory),
+    };
+    check(alloc, file, &names)
+}
