@@ -32,6 +32,7 @@ allocations:
 	cd crates/svamon && rm -f out/svamon && { rt run -- help; test -x out/svamon; }
 	scripts/fail_alloc examples/fails_at_its_tick/dump.vcd examples/fails_at_its_tick/assertion.sva
 	scripts/fail_alloc examples/one_then_down/dump.vcd examples/one_then_down/assertion.sva
+	scripts/fail_alloc examples/whole_profile/dump.vcd examples/whole_profile/assertion.sva judge
 
 install:
 	cd crates/svamon && rm -f out/svamon && { rt run -- help; test -x out/svamon; }

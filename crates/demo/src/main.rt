@@ -1,4 +1,4 @@
-//! Prints the report of each example: its assertion, judged over its dump.
+//! Prints the report of each example: its assertions, judged over its dump.
 #![tactic(auto)]
 
 use cli::{check_one, fault_line, status};
@@ -10,14 +10,15 @@ use std::process::ExitCode;
 use std::{env, fs, io};
 
 /// The examples, by the names of their directories.
-const EXAMPLES: [&str; 4] = [
+const EXAMPLES: [&str; 5] = [
     "fails_at_its_tick",
     "one_then_down",
     "push_needs_a_request",
     "full_is_popped",
+    "whole_profile",
 ];
 
-/// Prints an example's assertion, the report on it, and the status that svamon gives for it.
+/// Prints an example's text, the report on it, and the status that svamon gives for it.
 fn show<R: Files + Print + AllocGlobal>(rt: &R, folder: &str, name: &str) -> io::Result<()> {
     let path = format!(in rt.alloc(); "{folder}/{name}/assertion.sva")?;
     let text = fs::read_to_string(rt, path.as_str())?;
