@@ -10,12 +10,17 @@ use std::process::ExitCode;
 use std::{env, fs, io};
 
 /// The examples, by the names of their directories.
-const EXAMPLES: [&str; 5] = [
+const EXAMPLES: [&str; 10] = [
     "fails_at_its_tick",
     "one_then_down",
     "push_needs_a_request",
     "full_is_popped",
     "whole_profile",
+    "handshake",
+    "pipeline",
+    "outstanding",
+    "reset",
+    "fifo_arb",
 ];
 
 /// Prints an example's text, the report on it, and the status that svamon gives for it.
