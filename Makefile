@@ -5,7 +5,7 @@ CLOCK ?= tb.clk
 help:
 	@echo 'make demo             proves and builds svamon, and shows its reports on examples/'
 	@echo 'make test             the gate: proves everything from nothing, and runs edits, tests and programs'
-	@echo 'make bench            times reading against the plain C baseline, on dumps of 50 and 200 MB made from DUMP (clock CLOCK), and on odd shapes; and reading texts'
+	@echo 'make bench            times reading against the plain C baseline, on dumps of 50 and 200 MB made from DUMP (clock CLOCK), and on odd shapes; reading and checking texts; and judging'
 	@echo 'make allocations      refuses each allocation of svamon in turn'
 	@echo 'make install PREFIX=  proves and builds svamon, and puts it into PREFIX/bin (PREFIX is $(PREFIX))'
 
@@ -27,6 +27,10 @@ bench:
 	bench/shapes
 	cd crates/read_texts && rt run > /dev/null || test -x out/read_texts
 	bench/texts
+	cd crates/read_suites && rt run > /dev/null || test -x out/read_suites
+	bench/suites
+	cd crates/svamon && rm -f out/svamon && { rt run -- help; test -x out/svamon; }
+	bench/judge
 
 allocations:
 	cd crates/svamon && rm -f out/svamon && { rt run -- help; test -x out/svamon; }

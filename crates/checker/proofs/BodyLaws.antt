@@ -8,7 +8,7 @@ use Rattle.sequences.specs.declared.draft.Draft.{Draft as Tree}
 use Rattle.sequences.specs.Drafts.{Draft}
 use Rattle.sequences.specs.Views.{draft_of}
 use Rattle.typing.specs.Scopes.{Scope}
-use Rattle.checker.specs.Growth.{Extends}
+use Rattle.sequences.specs.Placed.{Extends}
 use Rattle.checker.specs.Readings.{Dot, outline, Reads, AllRead}
 use Rattle.checker.specs.Texts.{declarations_of}
 use Rattle.checker.specs.Faults.{outlines_of}

@@ -6,7 +6,7 @@ use Rattle.types.specs.declared.sequence.Boolean.{Boolean}
 use Rattle.types.specs.declared.sequence.Boolean.TheVariants.{Listed}
 use Rattle.sequences.specs.Drafts.{Draft}
 use Rattle.typing.specs.Scopes.{Scope}
-use Rattle.checker.specs.Growth.{Extends}
+use Rattle.sequences.specs.Placed.{Extends}
 use Rattle.checker.specs.Suites.{ReadsAntecedent, ReadsConsequent}
 use Rattle.checker.specs.Drawn.{IsDisabledBy, IsDrawn}
 use Rattle.checker.specs.declared.drawn.Drawn.{Drawn}

@@ -12,7 +12,7 @@ use Rattle.sequences.proofs.InLaws.{in_either, in_only}
 use Rattle.typing.specs.declared.own.Own.{Own}
 use Rattle.typing.specs.declared.own.Own.TheVariants as own
 use Rattle.typing.specs.Scopes.{Scope, sequence_named, place_of, meaning_by, path_text, owns_from, owns, found, scope_for, width_in}
-use Rattle.checker.specs.Growth.{Extends}
+use Rattle.sequences.specs.Placed.{Extends}
 use Rattle.checker.specs.Texts.{declarations_of}
 use Rattle.checker.specs.Readings.{least_of, extra_of, Reads, ReadsBoolean, ReadsSteps, ReadsAll, ReadsAny, AllRead, Dot, dot, outline_by, outline, outline_steps, outline_all, outline_any}
 use Rattle.checker.proofs.ReadingLaws.{reads_grows}

@@ -18,7 +18,7 @@ use Rattle.typing.specs.Meanings.{Means}
 use Rattle.typing.proofs.FaultLaws.{no_faults-parts}
 use Rattle.typing.proofs.ColumnLaws.{listed-parts}
 use Rattle.typing.proofs.TypedLaws.{IsReady}
-use Rattle.checker.specs.Growth.{Extends}
+use Rattle.sequences.specs.Placed.{Extends}
 use Rattle.checker.specs.Readings.{least_of, extra_of, IsAtom, ReadsBoolean, Reads, ReadsSteps, ReadsAll, ReadsAny}
 
 -- what stood in a list stands in a longer one

@@ -10,7 +10,7 @@ use Rattle.types.specs.declared.sequence.Boolean.{Boolean}
 use Rattle.sequences.specs.Drafts.{Draft, IsIn, uses}
 use Rattle.typing.specs.Scopes.{Scope, sequence_named}
 use Rattle.checker.specs.declared.resolved.Resolved.{Resolved}
-use Rattle.checker.specs.Growth.{Extends}
+use Rattle.sequences.specs.Placed.{Extends}
 use Rattle.checker.specs.Texts.{implication_by}
 use Rattle.checker.specs.Suites.{before_by, ReadsAntecedent, ReadsConsequent}
 use Rattle.checker.specs.Resolved.{IsResolved, AreResolved}

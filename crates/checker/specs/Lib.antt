@@ -4,7 +4,6 @@ pub mod Faults
 pub mod Suites
 pub mod Cycles
 pub mod Sides
-pub mod Growth
 pub mod Drawn
 pub mod Resolved
 pub mod Signals

@@ -7,7 +7,7 @@ ghost use Rattle.typing.specs.declared.own.Sought.{Sought};
 ghost use Rattle.typing.specs.Faults.{file_faults};
 ghost use Rattle.typing.specs.Columns.{all_listed, file_signals};
 ghost use Rattle.typing.specs.Views.{scope_of, columns_in};
-ghost use Rattle.checker.specs.Growth.{Extends};
+ghost use Rattle.sequences.specs.Placed.{Extends};
 ghost use Rattle.checker.specs.Readings.{AllRead};
 ghost use Rattle.checker.specs.Texts.{declarations_of};
 

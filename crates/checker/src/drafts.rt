@@ -12,7 +12,7 @@ ghost use Rattle.typing.specs.Faults.{IsSound, boolean_faults, sequence_faults, 
 ghost use Rattle.typing.specs.Columns.{HasColumns, all_listed, sequence_signals, step_signals, other_signals};
 ghost use Rattle.typing.specs.Views.{scope_of, columns_in};
 ghost use Rattle.checker.specs.Readings.{least_of, extra_of, IsAtom, ReadsBoolean, Reads, ReadsSteps, ReadsAll, ReadsAny};
-ghost use Rattle.checker.specs.Growth.{Extends};
+ghost use Rattle.sequences.specs.Placed.{Extends};
 
 use grammar::Range;
 use parser::{Expr, Sequence};

@@ -7,7 +7,7 @@ ghost use Rattle.typing.specs.declared.own.Sought.{Sought};
 ghost use Rattle.typing.specs.Columns.{all_listed, property_signals, optional_signals, assertion_signals};
 ghost use Rattle.typing.specs.Faults.{property_faults, optional_faults, assertion_faults};
 ghost use Rattle.typing.specs.Views.{scope_of, columns_in};
-ghost use Rattle.checker.specs.Growth.{Extends};
+ghost use Rattle.sequences.specs.Placed.{Extends};
 ghost use Rattle.checker.specs.Texts.{implication_by};
 ghost use Rattle.checker.specs.Suites.{before_by, ReadsAntecedent, ReadsConsequent};
 ghost use Rattle.checker.specs.Drawn.{antecedent_byte, consequent_byte, IsDisabledBy, IsDrawn};

@@ -11,7 +11,7 @@ ghost use Rattle.typing.specs.Scopes.{sequence_named};
 ghost use Rattle.typing.specs.Columns.{all_listed, assertion_signals, file_signals};
 ghost use Rattle.typing.specs.Faults.{assertion_faults, file_faults};
 ghost use Rattle.typing.specs.Views.{scope_of, columns_in};
-ghost use Rattle.checker.specs.Growth.{Extends};
+ghost use Rattle.sequences.specs.Placed.{Extends};
 ghost use Rattle.checker.specs.Texts.{assertions_of};
 ghost use Rattle.checker.specs.Resolved.{IsResolved, AreResolved};
 

@@ -9,7 +9,7 @@ ghost use Rattle.typing.specs.Scopes.{sequence_named, scope_for};
 ghost use Rattle.typing.specs.Columns.{all_listed, file_signals};
 ghost use Rattle.typing.specs.Faults.{file_faults};
 ghost use Rattle.typing.specs.Views.{scope_of, columns_in, names_in};
-ghost use Rattle.checker.specs.Growth.{Extends};
+ghost use Rattle.sequences.specs.Placed.{Extends};
 ghost use Rattle.checker.specs.Texts.{declarations_of, assertions_of, clock_of};
 ghost use Rattle.checker.specs.Faults.{Where, Text, outlines_of, sides_of, consequents_of, ClearTo, IsFaultless, IsRefused};
 ghost use Rattle.checker.specs.Sides.{AreWeighed, AreLight};

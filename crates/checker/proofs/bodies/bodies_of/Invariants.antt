@@ -2,7 +2,7 @@ use Rattle.std.proofs.Common.{map, drop}
 use Rattle.parser.specs.Views.{item_of}
 use Rattle.sequences.specs.Views.{draft_of}
 use Rattle.typing.specs.Views.{scope_of, columns_in}
-use Rattle.checker.specs.Growth.{Extends}
+use Rattle.sequences.specs.Placed.{Extends}
 use Rattle.checker.specs.Readings.{AllRead}
 use Rattle.checker.specs.Texts.{declarations_of}
 use Rattle.checker.proofs.CounterLaws.{AreReadyItems}

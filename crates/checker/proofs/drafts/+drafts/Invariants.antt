@@ -7,7 +7,7 @@ use Rattle.sequences.specs.Drafts.{Draft}
 use Rattle.sequences.specs.Views.{draft_of}
 use Rattle.typing.specs.Views.{scope_of, columns_in}
 use Rattle.checker.specs.Readings.{ReadsSteps, ReadsAll, ReadsAny}
-use Rattle.checker.specs.Growth.{Extends}
+use Rattle.sequences.specs.Placed.{Extends}
 use Rattle.checker.proofs.ReadingLaws.{AreReadySteps, AreReadyOthers}
 use Rattle.checker.proofs.drafts.+drafts.Given as goal
 

@@ -2,7 +2,7 @@ use Rattle.std.proofs.Common.{map, drop, List}
 use Rattle.parser.specs.Views.{item_of}
 use Rattle.sequences.specs.Entries.{Bodies, IsTable}
 use Rattle.typing.specs.Views.{scope_of, columns_in}
-use Rattle.checker.specs.Growth.{Extends}
+use Rattle.sequences.specs.Placed.{Extends}
 use Rattle.checker.specs.Texts.{assertions_of}
 use Rattle.checker.specs.Resolved.{AreResolved}
 use Rattle.checker.proofs.CounterLaws.{AreReadyItems}
