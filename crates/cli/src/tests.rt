@@ -1,8 +1,6 @@
 //! Whole runs, against answers from outside.
 
-use crate::{
-    Fault, Request, WordsFault, check_one, fault_line, judge_one, read_words, status,
-};
+use crate::{Fault, Request, WordsFault, check_one, fault_line, judge_one, read_words, status};
 use checker::TypeFault;
 use cycle_window::WindowFault;
 use lexer::LexFault;
@@ -325,7 +323,10 @@ fn lines_of_forms(rt: HostRuntime) -> Result<(), Fail> {
     let alloc = rt.alloc();
     for (fault, line) in [
         (ParseFault::Expected("a word", 9), "svamon: P1 Expected 9"),
-        (ParseFault::OutsideProfile("within", 9), "svamon: P2 OutsideProfile within 9"),
+        (
+            ParseFault::OutsideProfile("within", 9),
+            "svamon: P2 OutsideProfile within 9",
+        ),
         (ParseFault::TooDeep(9), "svamon: P3 TooDeep 9"),
         (ParseFault::BadBound(9), "svamon: P4 BadBound 9"),
     ] {
