@@ -75,7 +75,9 @@ fn report(
 ) -> Result<String, AllocError> {
     let alloc = rt.alloc();
     let [holds, vacuous, failed, disabled, open] = counts;
-    let counted = format!(in alloc; "holds {holds} vacuous {vacuous} fails {failed} disabled {disabled} open {open}")?;
+    let counted = format!(in alloc;
+        "holds {holds} vacuous {vacuous} fails {failed} disabled {disabled} open {open}"
+    )?;
     format!(in alloc; "svamon 1\nclocks {ticks}\nmonitor r {counted}\n{fails}total {counted}\n")
 }
 
@@ -84,7 +86,14 @@ fn next_tick_holds(rt: HostRuntime) -> Result<(), Fail> {
     for (property, ticks, x, y, counts, fails) in [
         ("x |=> y", 2, "1 0", "0 1", [1, 1, 0, 0, 0], ""),
         ("x |=> y", 2, "0 1", "0 0", [0, 1, 0, 0, 1], ""),
-        ("x |-> y", 1, "1", "0", [0, 0, 1, 0, 0], "fail r start 0 clock 0\n"),
+        (
+            "x |-> y",
+            1,
+            "1",
+            "0",
+            [0, 0, 1, 0, 0],
+            "fail r start 0 clock 0\n",
+        ),
         ("x |=> y", 0, "x", "x", [0, 0, 0, 0, 0], ""),
     ] {
         let all = [("x", 1, x), ("y", 1, y)];
@@ -99,7 +108,13 @@ fn next_tick_holds(rt: HostRuntime) -> Result<(), Fail> {
 fn delay_range_shared(rt: HostRuntime) -> Result<(), Fail> {
     for (ticks, a, b, counts, fails) in [
         (5, "1 1 0 0 0", "0 0 0 1 0", [2, 3, 0, 0, 0], ""),
-        (4, "1 1 1 1", "0 0 0 0", [0, 0, 1, 0, 3], "fail r start 0 clock 3\n"),
+        (
+            4,
+            "1 1 1 1",
+            "0 0 0 0",
+            [0, 0, 1, 0, 3],
+            "fail r start 0 clock 3\n",
+        ),
         (1, "1", "0", [0, 0, 0, 0, 1], ""),
     ] {
         let all = [("a", 1, a), ("b", 1, b)];
@@ -112,7 +127,11 @@ fn delay_range_shared(rt: HostRuntime) -> Result<(), Fail> {
 
 #[test]
 fn several_ends(rt: HostRuntime) -> Result<(), Fail> {
-    let all = [("a", 1, "1 1 1 0"), ("c", 1, "0 1 1 1"), ("d", 1, "1 1 0 1")];
+    let all = [
+        ("a", 1, "1 1 1 0"),
+        ("c", 1, "0 1 1 1"),
+        ("d", 1, "1 1 0 1"),
+    ];
     let written = asserted(&rt, "", "(a[*1:3] ##1 c) |-> d", 4, all.as_slice())?;
     let fails = "fail r start 0 clock 2\nfail r start 1 clock 2\n";
     let want = report(&rt, 4, [1, 1, 2, 0, 0], fails)?;
@@ -169,7 +188,11 @@ fn disabled(rt: HostRuntime) -> Result<(), Fail> {
         let property = format!(in rt.alloc(); "disable iff (x) {property}")?;
         let written = asserted(&rt, "", property.as_str(), 3, all.as_slice())?;
         let want = report(&rt, 3, counts, "")?;
-        assert_eq!(rt; written.as_str(), want.as_str(), "{property} over {a}, {b}, {x}");
+        assert_eq!(rt;
+            written.as_str(),
+            want.as_str(),
+            "{property} over {a}, {b}, {x}"
+        );
     }
     Ok(())
 }
@@ -177,7 +200,11 @@ fn disabled(rt: HostRuntime) -> Result<(), Fail> {
 #[test]
 fn past_before_first_tick(rt: HostRuntime) -> Result<(), Fail> {
     for (property, counts, fails) in [
-        ("$past(v,2) == 0", [2, 0, 1, 0, 0], "fail r start 2 clock 2\n"),
+        (
+            "$past(v,2) == 0",
+            [2, 0, 1, 0, 0],
+            "fail r start 2 clock 2\n",
+        ),
         ("$past(!v) == 0", [3, 0, 0, 0, 0], ""),
         ("$rose(v)", [2, 0, 1, 0, 0], "fail r start 1 clock 1\n"),
     ] {
@@ -194,8 +221,16 @@ fn context_widths(rt: HostRuntime) -> Result<(), Fail> {
     for (property, counts, fails) in [
         ("8'hFF + 8'h01 == 9'h100", [1, 0, 0, 0, 0], ""),
         ("8'hFF + 8'h01 == 8'h00", [1, 0, 0, 0, 0], ""),
-        ("8'hFF + 8'h01 == 0", [0, 0, 1, 0, 0], "fail r start 0 clock 0\n"),
-        ("{8'hFF + 8'h01} == 9'h100", [0, 0, 1, 0, 0], "fail r start 0 clock 0\n"),
+        (
+            "8'hFF + 8'h01 == 0",
+            [0, 0, 1, 0, 0],
+            "fail r start 0 clock 0\n",
+        ),
+        (
+            "{8'hFF + 8'h01} == 9'h100",
+            [0, 0, 1, 0, 0],
+            "fail r start 0 clock 0\n",
+        ),
         ("1 - 2 < 0", [0, 0, 1, 0, 0], "fail r start 0 clock 0\n"),
     ] {
         let all = [("a", 1, "0")];
@@ -214,8 +249,18 @@ fn saturating_counter(rt: HostRuntime) -> Result<(), Fail> {
     for (items, property, counts, fails) in [
         (add, "c == (n < 3 ? n : 3)", [6, 0, 0, 0, 0], ""),
         (both, "c == (n < 3 ? n : 3)", [6, 0, 0, 0, 0], ""),
-        (add, "c == n", [4, 0, 2, 0, 0], "fail r start 4 clock 4\nfail r start 5 clock 5\n"),
-        (add, "1 |=> $past(c) == c", [2, 0, 3, 0, 1], "fail r start 0 clock 1\nfail r start 1 clock 2\nfail r start 2 clock 3\n"),
+        (
+            add,
+            "c == n",
+            [4, 0, 2, 0, 0],
+            "fail r start 4 clock 4\nfail r start 5 clock 5\n",
+        ),
+        (
+            add,
+            "1 |=> $past(c) == c",
+            [2, 0, 3, 0, 1],
+            "fail r start 0 clock 1\nfail r start 1 clock 2\nfail r start 2 clock 3\n",
+        ),
     ] {
         let all = [("n", 3, "0 1 10 11 100 101")];
         let written = asserted(&rt, items, property, 6, all.as_slice())?;
@@ -270,8 +315,14 @@ fn and_of_lengths(rt: HostRuntime) -> Result<(), Fail> {
 #[test]
 fn cyclic_sequence(rt: HostRuntime) -> Result<(), Fail> {
     for (items, line) in [
-        ("sequence s; s ##1 a; endsequence\n", "svamon: Y8 CyclicSequence 9"),
-        ("sequence t; a; endsequence sequence s; t or s; endsequence\n", "svamon: Y8 CyclicSequence 36"),
+        (
+            "sequence s; s ##1 a; endsequence\n",
+            "svamon: Y8 CyclicSequence 9",
+        ),
+        (
+            "sequence t; a; endsequence sequence s; t or s; endsequence\n",
+            "svamon: Y8 CyclicSequence 36",
+        ),
     ] {
         assert_eq!(rt; refused(&rt, items, "s")?.as_str(), line, "{items}");
     }
@@ -285,20 +336,73 @@ fn empty_parts(rt: HostRuntime) -> Result<(), Fail> {
     let second = "fail r start 1 clock 1\n";
     for (property, a, b, c, counts, fails) in [
         ("a[*0:1] ##1 b", "1 0", "0 1", "0 0", [2, 0, 0, 0, 0], ""),
-        ("a[*0:1] ##0 b", "1 0", "1 1", "0 0", [1, 0, 1, 0, 0], second),
+        (
+            "a[*0:1] ##0 b",
+            "1 0",
+            "1 1",
+            "0 0",
+            [1, 0, 1, 0, 0],
+            second,
+        ),
         ("a ##0 b[*0:1]", "1 1", "0 1", "0 0", [1, 0, 1, 0, 0], first),
-        ("a ##1 b[*0:1]", "1 0", "0 0", "0 0", [1, 0, 1, 0, 0], second),
-        ("(b throughout a[*0:1]) ##1 c", "1 0", "0 0", "0 1", [1, 0, 1, 0, 0], first),
-        ("a[*0:1] and b", "0 0", "1 0", "0 0", [1, 0, 1, 0, 0], second),
-        ("(a[*0] and b[*0]) ##1 c", "0 0", "0 0", "0 1", [1, 0, 1, 0, 0], first),
-        ("(a[*0] or b) ##1 c", "0 0", "0 0", "0 1", [1, 0, 1, 0, 0], first),
-        ("(a[*0:1])[*2] ##1 c", "0 0", "0 0", "0 1", [1, 0, 1, 0, 0], first),
+        (
+            "a ##1 b[*0:1]",
+            "1 0",
+            "0 0",
+            "0 0",
+            [1, 0, 1, 0, 0],
+            second,
+        ),
+        (
+            "(b throughout a[*0:1]) ##1 c",
+            "1 0",
+            "0 0",
+            "0 1",
+            [1, 0, 1, 0, 0],
+            first,
+        ),
+        (
+            "a[*0:1] and b",
+            "0 0",
+            "1 0",
+            "0 0",
+            [1, 0, 1, 0, 0],
+            second,
+        ),
+        (
+            "(a[*0] and b[*0]) ##1 c",
+            "0 0",
+            "0 0",
+            "0 1",
+            [1, 0, 1, 0, 0],
+            first,
+        ),
+        (
+            "(a[*0] or b) ##1 c",
+            "0 0",
+            "0 0",
+            "0 1",
+            [1, 0, 1, 0, 0],
+            first,
+        ),
+        (
+            "(a[*0:1])[*2] ##1 c",
+            "0 0",
+            "0 0",
+            "0 1",
+            [1, 0, 1, 0, 0],
+            first,
+        ),
         ("a[*0] ##1 b", "0 0", "1 0", "0 0", [1, 0, 1, 0, 0], second),
     ] {
         let all = [("a", 1, a), ("b", 1, b), ("c", 1, c)];
         let written = asserted(&rt, "", property, 2, all.as_slice())?;
         let want = report(&rt, 2, counts, fails)?;
-        assert_eq!(rt; written.as_str(), want.as_str(), "{property} over {a}, {b}, {c}");
+        assert_eq!(rt;
+            written.as_str(),
+            want.as_str(),
+            "{property} over {a}, {b}, {c}"
+        );
     }
     Ok(())
 }
@@ -333,14 +437,26 @@ fn refused_texts(rt: HostRuntime) -> Result<(), Fail> {
         ("", "a within b", "svamon: P2 OutsideProfile within 37"),
         ("", "a |-> ##[3:1] b", "svamon: P4 BadBound 46"),
         ("", "z |-> b", "svamon: Y1 UnknownName 35"),
-        ("counter n [2];\ncounter n [2];\n", "a", "svamon: Y2 Duplicate 23"),
+        (
+            "counter n [2];\ncounter n [2];\n",
+            "a",
+            "svamon: Y2 Duplicate 23",
+        ),
         ("", "{a, 128'd0} == 0", "svamon: Y3 WiderThan128 35"),
         ("", "a[1]", "svamon: Y4 SliceRange 35"),
-        ("assert property (@(posedge a) a);\n", "a", "svamon: Y7 OtherClock 64"),
+        (
+            "assert property (@(posedge a) a);\n",
+            "a",
+            "svamon: Y7 OtherClock 64",
+        ),
         ("", "a[*64] ##1 a[*64] ##1 z", "svamon: Y1 UnknownName 57"),
         ("", "`z", "svamon: L1 BadCharacter 35"),
     ] {
-        assert_eq!(rt; refused(&rt, items, property)?.as_str(), line, "{items}{property}");
+        assert_eq!(rt;
+            refused(&rt, items, property)?.as_str(),
+            line,
+            "{items}{property}"
+        );
     }
     Ok(())
 }
@@ -353,8 +469,14 @@ fn refused_clocks(rt: HostRuntime) -> Result<(), Fail> {
     for (text, line) in [
         ("assert property (@(posedge c) v);", "svamon: C1 NoClock"),
         ("assert property (@(posedge v) v);", "svamon: C2 ClockWidth"),
-        ("assert property (@(posedge c) w);", "svamon: Y1 UnknownName 30"),
-        ("assert property (@(posedge v) v[*0]);", "svamon: Y5 Degenerate 30"),
+        (
+            "assert property (@(posedge c) w);",
+            "svamon: Y1 UnknownName 30",
+        ),
+        (
+            "assert property (@(posedge v) v[*0]);",
+            "svamon: Y5 Degenerate 30",
+        ),
     ] {
         assert_eq!(rt; judged(&rt, dump.as_str(), text)?.as_str(), line, "{text}");
     }

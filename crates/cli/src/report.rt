@@ -32,10 +32,7 @@ fn report_over(alloc: Global, suite: &Suite, signals: Table) -> Result<Report, A
 }
 
 /// The signals of a suite, as they are bound.
-fn signals_of<'s>(
-    alloc: Global,
-    names: &'s [types::Signal],
-) -> Result<Vec<Signal<'s>>, AllocError>
+fn signals_of<'s>(alloc: Global, names: &'s [types::Signal]) -> Result<Vec<Signal<'s>>, AllocError>
     ensures { IfOk result (λ ss. map wanted ss.items ≡ map wanted_of names.entry.now) }
 {
     let mut signals = Vec::with_capacity(alloc, names.len())?;

@@ -1,8 +1,6 @@
 //! Whole runs, against answers from outside.
 
-use crate::{
-    Fault, Request, WordsFault, check_one, fault_line, judge_one, read_words, status,
-};
+use crate::{Fault, Request, WordsFault, check_one, fault_line, judge_one, read_words, status};
 use checker::TypeFault;
 use cycle_window::WindowFault;
 use lexer::LexFault;
@@ -283,27 +281,6 @@ fn lines_and_statuses(rt: HostRuntime) -> Result<(), Fail> {
             2,
         ),
         (
-            Fault::Parse(ParseFault::Expected("a word", 9)),
-            "svamon: P1 Expected 9",
-            2,
-        ),
-        (
-            Fault::Parse(ParseFault::OutsideProfile("within", 9)),
-            "svamon: P2 OutsideProfile within 9",
-            2,
-        ),
-        (
-            Fault::Parse(ParseFault::TooDeep(9)),
-            "svamon: P3 TooDeep 9",
-            2,
-        ),
-        (
-            Fault::Parse(ParseFault::BadBound(9)),
-            "svamon: P4 BadBound 9",
-            2,
-        ),
-        (Fault::Parse(ParseFault::Memory), "svamon: OutOfMemory", 3),
-        (
             Fault::Window(WindowFault::ClockWidth),
             "svamon: C2 ClockWidth",
             2,
@@ -337,6 +314,29 @@ fn lines_and_statuses(rt: HostRuntime) -> Result<(), Fail> {
     }
     assert_eq!(rt; status(&Ok([3, 2, 0, 1, 1])), 0);
     assert_eq!(rt; status(&Ok([3, 2, 1, 1, 1])), 1);
+    Ok(())
+}
+
+/// The lines of the faults of a text's form, which stand at the byte 9.
+#[test]
+fn lines_of_forms(rt: HostRuntime) -> Result<(), Fail> {
+    let alloc = rt.alloc();
+    for (fault, line) in [
+        (ParseFault::Expected("a word", 9), "svamon: P1 Expected 9"),
+        (
+            ParseFault::OutsideProfile("within", 9),
+            "svamon: P2 OutsideProfile within 9",
+        ),
+        (ParseFault::TooDeep(9), "svamon: P3 TooDeep 9"),
+        (ParseFault::BadBound(9), "svamon: P4 BadBound 9"),
+    ] {
+        let fault = Fault::Parse(fault);
+        assert_eq!(rt; fault_line(alloc, &fault)?.as_str(), line);
+        assert_eq!(rt; status(&Err(fault)), 2, "for {line}");
+    }
+    let memory = Fault::Parse(ParseFault::Memory);
+    assert_eq!(rt; fault_line(alloc, &memory)?.as_str(), "svamon: OutOfMemory");
+    assert_eq!(rt; status(&Err(memory)), 3);
     Ok(())
 }
 
