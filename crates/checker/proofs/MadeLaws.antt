@@ -1,22 +1,21 @@
 -- Assertions made of what is resolved.
-use Rattle.std.proofs.Common.{◌≡◌, ◌⊎◌, ℕ, ◌+◌, ◌≤◌, ◌<◌, min, List, [], ◌∷◌, ◌++◌, length, Option, Some, None, Box, refl, sym, ap, ◌∙◌, subst, arith, string_bytes, drop, get_or, drop-cons, add-one}
+use Rattle.std.proofs.Common.{◌≡◌, ℕ, ◌+◌, ◌≤◌, ◌<◌, List, [], ◌∷◌, ◌++◌, length, Option, Some, None, Box, refl, sym, ap, ◌∙◌, subst, arith, string_bytes, drop, get_or, drop-cons, add-one}
 use Rattle.std.proofs.lemmas.List.{append-nil, append_assoc, length-append}
 use Rattle.std.specs.declared.alloc.Global.{Global}
 use Rattle.grammar.specs.Trees as trees
 use Rattle.grammar.specs.Trees.{Tree}
 use Rattle.values.specs.declared.expr.Expr.{Expr}
-use Rattle.values.specs.Terms.{Samples}
 use Rattle.types.specs.declared.sequence.Boolean.{Boolean}
-use Rattle.types.specs.declared.sequence.Boolean.TheVariants.{One, Listed}
+use Rattle.types.specs.declared.sequence.Boolean.TheVariants.{Listed}
 use Rattle.types.specs.declared.sequence.Sequence.{Sequence}
 use Rattle.types.specs.declared.assertion.Assertion.{Assertion}
 use Rattle.types.specs.Segments.{sat}
-use Rattle.types.specs.Written.{Written, kernel, weight, IsOrdered}
+use Rattle.types.specs.Written.{Written, weight, IsOrdered}
 use Rattle.types.specs.Shapes.{written}
 use Rattle.sequences.specs.declared.entry.Entry.{Entry}
 use Rattle.sequences.specs.Drafts.{Draft}
 use Rattle.sequences.specs.Entries.{HasEntry, HasSame, Says, IsEntry}
-use Rattle.sequences.specs.Placed.{IsPlaced, IsPlacedBoolean, atom_true, Extends}
+use Rattle.sequences.specs.Placed.{IsPlaced, atom_true, Extends}
 use Rattle.typing.specs.Scopes.{Scope}
 use Rattle.checker.specs.declared.resolved.Resolved.{Resolved}
 use Rattle.checker.specs.Suites.{IsMeant, IsDisabling, IsAssertion, AreAssertions}

@@ -1,8 +1,7 @@
 -- What is read of a sequence has its outline, and its names are those of declared sequences.
 use Rattle.std.proofs.Common.{◌≡◌, ◌⊎◌, inl, inr, ℕ, zero, suc, ◌+◌, ◌<◌, List, [], ◌∷◌, map, length, Bool, true, false, Option, Some, None, refl, sym, ap, ◌∙◌, subst, arith}
 use Rattle.std.specs.Prelude.{cond, bytes_eq}
-use Rattle.std.proofs.lemmas.List.{length-map}
-use Rattle.grammar.specs.Trees.{Tree, path, Sequence, boolean, repeated, late, delayed, throughout, all, either, Steps, no_step, step, Others, no_other, other, Item, counter, declaration, assertion, Declaration}
+use Rattle.grammar.specs.Trees.{Tree, path, Sequence, boolean, repeated, late, delayed, throughout, all, either, Steps, no_step, step, Others, no_other, other, Item, counter, declaration, assertion}
 use Rattle.values.specs.declared.expr.Expr.{Expr}
 use Rattle.types.specs.declared.sequence.Boolean.{Boolean}
 use Rattle.sequences.specs.Drafts as drafts

@@ -1,12 +1,12 @@
 -- Each column of a text is a path of the dump.
-use Rattle.std.proofs.Common.{◌≡◌, ℕ, List, [], ◌∷◌, ◌++◌, Option, Some, None, Bool, true, false, refl, sym, ap, ◌∙◌, subst, inl, inr, suc, zero, ◌+◌, take, drop, slice_get, add-one}
+use Rattle.std.proofs.Common.{◌≡◌, ℕ, List, [], ◌∷◌, ◌++◌, Option, Some, None, refl, ap, inl, inr, suc, zero, take, drop, slice_get}
 use Rattle.std.proofs.lemmas.Bool.{cases_Bool}
 use Rattle.std.specs.Prelude.{string_bytes}
-use Rattle.grammar.specs.Trees.{Tree, number, path, concatenation, past, call, unary, chain, choice, Links, end, link, Parts, no_part, part, Sequence, boolean, repeated, late, delayed, throughout, all, either, Steps, no_step, step, Others, no_other, other, Property, plain, implication, Counter, Assertion, Item, counter, declaration, assertion}
+use Rattle.grammar.specs.Trees.{Tree, number, path, concatenation, past, call, unary, chain, choice, Links, end, link, Parts, no_part, part, Sequence, boolean, repeated, late, delayed, throughout, all, either, Steps, no_step, step, Others, no_other, other, Property, plain, implication, Item, counter, declaration, assertion}
 use Rattle.types.specs.declared.suite.Signal.{Signal}
 use Rattle.typing.specs.declared.own.Own.{Own}
 use Rattle.typing.specs.Scopes.{Scope, path_text, meaning_by}
-use Rattle.typing.specs.Columns.{path_signals, signals, link_signals, part_signals, sequence_signals, step_signals, other_signals, property_signals, optional_signals, clause_signals, counter_signals, assertion_signals, item_signals, file_signals, is_listed, with_path, with_paths, columns_of}
+use Rattle.typing.specs.Columns.{path_signals, signals, link_signals, part_signals, sequence_signals, step_signals, other_signals, property_signals, optional_signals, clause_signals, item_signals, file_signals, is_listed, with_path, with_paths, columns_of}
 use Rattle.checker.specs.Signals.{IsKnown, AreKnown}
 use Rattle.checker.specs.Suites.{AreSignals}
 

@@ -11,7 +11,6 @@ use Rattle.types.specs.Written.{Written, weight}
 use Rattle.types.specs.Written as written
 use Rattle.sequences.specs.declared.facts.Facts.{Facts}
 use Rattle.sequences.specs.declared.entry.Entry.{Entry}
-use Rattle.sequences.specs.Drafts as drafts
 use Rattle.sequences.specs.Drafts.{Draft, Spells}
 use Rattle.sequences.specs.Outlines.{map_written}
 use Rattle.sequences.specs.Entries.{HasEntry}
@@ -26,8 +25,8 @@ use Rattle.checker.specs.Faults as faults
 use Rattle.checker.specs.Faults.{outline_before, antecedents_in, consequent_in, sides_of, consequents_of}
 use Rattle.checker.specs.Sides.{IsWeighed, AreWeighed, AreLight}
 use Rattle.checker.specs.Drawn.{antecedent_byte, consequent_byte}
-use Rattle.checker.specs.Resolved.{IsResolved, AreResolved, side_at, consequent_side, sides_in, consequents_in}
-use Rattle.checker.specs.Made.{IsFitting, SidesFit, AreFitting}
+use Rattle.checker.specs.Resolved.{AreResolved, side_at, consequent_side, sides_in, consequents_in}
+use Rattle.checker.specs.Made.{AreFitting}
 use Rattle.checker.proofs.OutlineLaws.{dotted, reads_outline}
 
 weighed_both : (o : List (Draft Dot)) (xs : List faults.Side) (ys : List Side) (us : List faults.Side) (vs : List Side) → AreWeighed o xs ys → AreWeighed o us vs → AreWeighed o (xs ++ us) (ys ++ vs)

@@ -25,11 +25,14 @@ fn checked(alloc: Global, text: &str) -> Result<Result<Suite, TypeFault>, Fail> 
 }
 
 /// Each text is accepted, or has its fault.
-fn assert_answers(rt: HostRuntime, cases: &[(&str, Option<TypeFault>)]) -> Result<(), Fail> {
+fn assert_answers(alloc: Global, cases: &[(&str, Option<TypeFault>)]) -> Result<(), Fail> {
     for case in cases {
-        match checked(rt.alloc(), case.0)? {
-            Ok(_) => assert_eq!(rt; None, case.1, "{}", case.0),
-            Err(fault) => assert_eq!(rt; Some(fault), case.1, "{}", case.0),
+        let fault = match checked(alloc, case.0)? {
+            Ok(_) => None,
+            Err(fault) => Some(fault),
+        };
+        if fault != case.1 {
+            return Err(Fail::new("a text has another answer than it should"));
         }
     }
     Ok(())
@@ -60,7 +63,7 @@ fn weight_limit(rt: HostRuntime) -> Result<(), Fail> {
             None,
         ),
     ];
-    assert_answers(rt, &cases)
+    assert_answers(rt.alloc(), &cases)
 }
 
 /// A sequence that reaches itself is refused, used or not; one that reaches such a sequence is not the one that is named.
@@ -76,7 +79,7 @@ fn cyclic_sequence(rt: HostRuntime) -> Result<(), Fail> {
             Some(TypeFault::CyclicSequence(35)),
         ),
     ];
-    assert_answers(rt, &cases)
+    assert_answers(rt.alloc(), &cases)
 }
 
 /// An antecedent or a consequent without a match of a tick or more, and a consequent with an empty match.
@@ -108,7 +111,7 @@ fn degenerate_and_empty(rt: HostRuntime) -> Result<(), Fail> {
             Some(TypeFault::Degenerate(39)),
         ),
     ];
-    assert_answers(rt, &cases)
+    assert_answers(rt.alloc(), &cases)
 }
 
 /// Counters may read themselves and one another, and what is named may be declared later; the suite has the text's signals, counters and assertions.

@@ -1,4 +1,4 @@
-use Rattle.std.proofs.Common.{◌≡◌, ◌∙◌, ◌++◌, ap, sym, string_bytes}
+use Rattle.std.proofs.Common.{◌∙◌, ap, string_bytes}
 use Rattle.types.specs.Shapes.{written}
 use Rattle.checker.proofs.MadeLaws.{meant_on, meant_here, assertion_made}
 use Rattle.checker.proofs.assertions.assertion_of.Goals as goal

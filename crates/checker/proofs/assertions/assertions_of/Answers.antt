@@ -1,8 +1,7 @@
-use Rattle.std.proofs.Common.{◌≡◌, ◌+◌, ◌∷◌, List, drop, drop-cons, add-one, ◌∙◌, ap, sym, subst, refl}
+use Rattle.std.proofs.Common.{◌+◌, drop, subst}
 use Rattle.std.proofs.lemmas.List.{drop_all}
-use Rattle.checker.specs.declared.resolved.Resolved.{Resolved}
 use Rattle.checker.specs.Made.{AreFitting}
-use Rattle.checker.proofs.MadeLaws.{resolved_at, half_start, half_more, half_all}
+use Rattle.checker.proofs.MadeLaws.{resolved_at, half_more, half_all}
 use Rattle.checker.proofs.assertions.assertions_of.Goals as goal
 
 pub loop-one-preserved : goal.loop-one-preserved

@@ -1,7 +1,6 @@
-use Rattle.std.proofs.Common.{◌++◌, [], ℕ, List, subst}
+use Rattle.std.proofs.Common.{[], ℕ, List, subst}
 use Rattle.std.proofs.lemmas.List.{append-nil}
 use Rattle.types.specs.declared.sequence.Boolean.TheVariants.{Listed}
-use Rattle.checker.specs.Made.{IsPlacedAt}
 use Rattle.sequences.specs.Placed.{IsPlacedBoolean}
 use Rattle.checker.proofs.assertions.disabling_of.Goals as goal
 

@@ -1,4 +1,4 @@
-use Rattle.std.proofs.Common.{◌++◌, ◌∙◌, ap}
+use Rattle.std.proofs.Common.{◌++◌}
 use Rattle.types.specs.Shapes.{written}
 use Rattle.typing.proofs.Lists.{when_ok}
 use Rattle.checker.proofs.MadeLaws.{meant_of}

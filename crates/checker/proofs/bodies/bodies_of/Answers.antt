@@ -7,12 +7,12 @@ use Rattle.parser.specs.declared.tree.Item.{Item}
 use Rattle.parser.specs.Views.{counter_of, declaration_of, assertion_of, item_of}
 use Rattle.typing.specs.Views.{scope_of, columns_in}
 use Rattle.typing.proofs.Lists.{at, past_end}
-use Rattle.checker.specs.Readings.{AllRead, Reads}
+use Rattle.checker.specs.Readings.{AllRead}
 use Rattle.checker.specs.Texts.{declarations_of}
 use Rattle.checker.proofs.CounterLaws.{ready-item}
 use Rattle.checker.proofs.ReadingLaws.{extends_same, extends_on}
 use Rattle.checker.proofs.SeenLaws.{seen_start, seen_skip, seen_more, seen_all}
-use Rattle.checker.proofs.BodyLaws.{bodies_in, body_more, bodies_stay}
+use Rattle.checker.proofs.BodyLaws.{bodies_in, body_more}
 use Rattle.checker.proofs.bodies.bodies_of.Goals as goal
 
 pub loop-item-init : goal.loop-item-init

@@ -1,4 +1,4 @@
-use Rattle.std.proofs.Common.{◌≡◌, ◌+◌, ◌∷◌, ◌++◌, ℕ, List, [], take, drop, sym, ap, ◌∙◌, subst, Some, None, Option, add-one}
+use Rattle.std.proofs.Common.{◌∷◌, ◌++◌, List, [], take, sym, ◌∙◌, subst, add-one}
 use Rattle.std.proofs.lemmas.Option.{none-some}
 use Rattle.types.specs.declared.suite.Signal.{Signal}
 use Rattle.typing.specs.Views.{scope_of, columns_in}

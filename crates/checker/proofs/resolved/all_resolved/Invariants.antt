@@ -1,4 +1,4 @@
-use Rattle.std.proofs.Common.{map, drop, List}
+use Rattle.std.proofs.Common.{map, drop}
 use Rattle.parser.specs.Views.{item_of}
 use Rattle.sequences.specs.Entries.{Bodies, IsTable}
 use Rattle.typing.specs.Views.{scope_of, columns_in}

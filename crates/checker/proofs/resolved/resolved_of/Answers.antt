@@ -1,6 +1,6 @@
 use Rattle.sequences.specs.Views.{draft_of}
 use Rattle.std.proofs.Common.{length}
-use Rattle.parser.specs.Views.{assertion_of, property_of}
+use Rattle.parser.specs.Views.{property_of}
 use Rattle.typing.specs.Views.{scope_of, columns_in}
 use Rattle.checker.proofs.ResolvedLaws.{antecedent_below, consequent_below}
 use Rattle.checker.proofs.resolved.resolved_of.Goals as goal

@@ -1,13 +1,12 @@
-use Rattle.std.proofs.Common.{◌≡◌, ◌<◌, ℕ, List, length, Some, sym, ap, ◌∙◌, map, subst}
-use Rattle.grammar.specs.Trees.{Tree, Item}
+use Rattle.std.proofs.Common.{◌≡◌, List, sym, ap, ◌∙◌, map, subst}
+use Rattle.grammar.specs.Trees.{Item}
 use Rattle.parser.specs.Views.{item_of, items_of}
 use Rattle.typing.specs.Scopes.{Scope, scope_for, sequence_named}
 use Rattle.typing.specs.Views.{scope_of, names_in}
-use Rattle.checker.specs.Texts.{declarations_of}
 use Rattle.checker.specs.Faults.{IsFaultless}
 use Rattle.typing.proofs.Lists.{when_ok}
 use Rattle.checker.proofs.OutlineLaws.{named_below}
-use Rattle.checker.proofs.StageLaws.{refused_memory, refused_same}
+use Rattle.checker.proofs.StageLaws.{refused_memory}
 use Rattle.checker.proofs.suite.check.Goals as goal
 
 pub returns-in_err-scope-clause-refused : goal.returns-in_err-scope-clause-refused

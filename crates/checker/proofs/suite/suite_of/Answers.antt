@@ -1,14 +1,9 @@
-use Rattle.std.proofs.Common.{◌≡◌, ◌<◌, ℕ, List, length, map, sym, ap, ◌∙◌, arith, subst}
-use Rattle.std.specs.Prelude.{IsTrue}
-use Rattle.grammar.specs.Trees.{Declaration}
+use Rattle.std.proofs.Common.{ℕ, List, length, map, ap, arith, subst}
 use Rattle.parser.specs.Views.{item_of}
-use Rattle.types.specs.declared.suite.Signal.{Signal}
 use Rattle.typing.specs.Views.{scope_of, columns_in}
-use Rattle.typing.specs.Columns.{all_listed, file_signals, columns_of}
 use Rattle.typing.proofs.ColumnLaws.{columns-all}
 use Rattle.checker.specs.Readings.{AllRead}
 use Rattle.checker.specs.Resolved.{AreResolved, sides_in, consequents_in}
-use Rattle.checker.specs.Signals.{AreKnown}
 use Rattle.checker.specs.Sides.{AreWeighed}
 use Rattle.checker.specs.Suites.{AreSignals, AreCounters, AreAssertions}
 use Rattle.checker.specs.Faults.{outlines_of, sides_of, consequents_of}
