@@ -1,13 +1,13 @@
 -- The rows and the report of a suite.
-use Rattle.std.proofs.Common.{◌≡◌, ℕ, ◌==◌, Bool, true, List, [], ◌∷◌, Option, Some, None, map, cond, refl, sym, ap, ◌∙◌, subst}
+use Rattle.std.proofs.Common.{◌≡◌, ℕ, Bool, List, [], ◌∷◌, Option, Some, None, map, cond, refl, sym, ap, ◌∙◌, subst}
 use Rattle.std.specs.Prelude.{string_bytes}
 use Rattle.std.specs.Option.{option_map}
 use Rattle.std.proofs.lemmas.Bool.{eq-eqb}
 use Rattle.types.specs.declared.suite.Signal.{Signal}
 use Rattle.types.specs.declared.suite.Suite.{Suite}
-use Rattle.vcd_reader.specs.Variables.{Declared, variable_named, size_of, code_number}
+use Rattle.vcd_reader.specs.Variables.{Declared, variable_named, size_of}
 use Rattle.vcd_reader.specs.Dump.{Contents}
-use Rattle.cycle_window.specs.Bound.{Wanted, Misfit, misfit, Refused, or_refused, first_refused, places_of, IsClock, IsSignalFault}
+use Rattle.cycle_window.specs.Bound.{Wanted, Misfit, misfit, or_refused, first_refused, places_of, IsClock, IsSignalFault}
 use Rattle.cycle_window.specs.declared.fault.WindowFault.{WindowFault}
 use Rattle.cycle_window.specs.declared.fault.WindowFault.TheVariants as windows
 use Rattle.cycle_window.specs.Ticks.{ticks_of, row_of}

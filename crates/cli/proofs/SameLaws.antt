@@ -1,5 +1,5 @@
 -- Verdicts rest on nothing behind the last tick.
-use Rattle.std.proofs.Common.{◌≡◌, ◌⊎◌, inl, inr, ℕ, ◌+◌, ◌<◌, ◌≤◌, Bool, true, false, ◌||◌, List, [], ◌∷◌, ◌++◌, Option, Some, None, refl, sym, ap, subst, arith}
+use Rattle.std.proofs.Common.{◌≡◌, inl, inr, ℕ, ◌+◌, ◌<◌, ◌≤◌, Bool, true, false, ◌||◌, List, [], ◌∷◌, ◌++◌, Option, Some, None, refl, sym, subst, arith}
 use Rattle.std.specs.Prelude.{nat_le, slice_get, IsTrue}
 use Rattle.std.proofs.lemmas.Bool.{leb-false}
 use Rattle.std.proofs.Math.Path.{fun_ext}
@@ -14,7 +14,7 @@ use Rattle.types.specs.Segments.{Seq, sat, Matches}
 use Rattle.types.specs.Attempts.{IsDecided, IsFirstDecided, IsUndecided, IsFirstOff, IsNeverOff, IsVerdict}
 use Rattle.types.specs.Shapes.{shape, is_true_at, expression_at, value_in, off_in}
 use Rattle.values.specs.declared.expr.Expr.{Expr}
-use Rattle.values.specs.Terms.{Term, Samples, width_of, is_true}
+use Rattle.values.specs.Terms.{Samples, width_of}
 use Rattle.values.specs.Expressions.{term_of}
 use Rattle.values.specs.Laws.{AgreeTo}
 use Rattle.values.proofs.Causality.{same_value}

@@ -4,7 +4,6 @@ use Rattle.std.specs.Io.KnownBytes.{Appends}
 use Rattle.signals.specs.Source.{after_failure}
 use Rattle.signals.specs.Sink.{AppendsFront}
 use Rattle.lexer.specs.declared.token.Token.{Token}
-use Rattle.lexer.specs.declared.fault.LexFault.{LexFault}
 use Rattle.lexer.specs.Covering.{IsFaulty}
 use Rattle.grammar.specs.Trees.{Item}
 use Rattle.grammar.specs.Files.{IsFile}

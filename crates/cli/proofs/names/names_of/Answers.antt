@@ -1,10 +1,10 @@
-use Rattle.std.proofs.Common.{◌≡◌, ◌∙◌, ℕ, suc, ◌+◌, ◌∷◌, List, map, drop, sym, ap, add-one, arith, drop-cons}
+use Rattle.std.proofs.Common.{◌≡◌, ◌∙◌, ℕ, suc, ◌+◌, ◌∷◌, List, map, drop, sym, ap, add-one, drop-cons}
 use Rattle.typing.specs.Views.{names_in}
 use Rattle.vcd_reader.specs.declared.variable.Name.{Name}
 use Rattle.vcd_reader.specs.Variables.{Named}
 use Rattle.vcd_reader.specs.Held.{variables_of}
 use Rattle.cli.specs.Named.{width_named, with_named}
-use Rattle.cli.proofs.NameLaws.{name_init, name_step, name_end, listed_paths}
+use Rattle.cli.proofs.NameLaws.{name_init, name_step, listed_paths}
 use Rattle.cli.proofs.names.names_of.Goals as goal
 
 pub loop-name-init : goal.loop-name-init

@@ -1,8 +1,7 @@
-use Rattle.std.proofs.Common.{◌≡◌, ◌∙◌, ℕ, List, None, map, ap, sym}
+use Rattle.std.proofs.Common.{◌≡◌, ◌∙◌, ℕ, List, None, map, ap}
 use Rattle.std.proofs.lemmas.Result.{IfOk-weaker}
-use Rattle.types.specs.declared.suite.Signal.{Signal}
 use Rattle.vcd_reader.specs.Held.{variables_of}
-use Rattle.cycle_window.specs.Bound.{Wanted, first_refused}
+use Rattle.cycle_window.specs.Bound.{first_refused}
 use Rattle.cycle_window.specs.Held.{code_in, places_in}
 use Rattle.cycle_window.specs.Signals.{wanted}
 use Rattle.cycle_window.specs.Ticks.{ticks_of, row_of}

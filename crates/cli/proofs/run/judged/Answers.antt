@@ -1,4 +1,3 @@
-use Rattle.std.proofs.Common.{◌≡◌}
 use Rattle.parser.specs.Views.{items_of}
 use Rattle.vcd_reader.specs.Held.{variables_of}
 use Rattle.cli.specs.Faults.{window_fault}

@@ -1,4 +1,4 @@
-use Rattle.std.proofs.Common.{◌≡◌, ◌∙◌, Ok, map, sym, ap}
+use Rattle.std.proofs.Common.{◌∙◌, Ok, map, sym, ap}
 use Rattle.lexer.specs.Cutting.{cut_of}
 use Rattle.cli.specs.Faults.{parse_fault}
 use Rattle.cli.specs.Reported.{AreTokens}
