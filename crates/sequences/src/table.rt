@@ -153,7 +153,7 @@ fn no_entries(alloc: Global, count: usize) -> Result<Vec<Option<Entry>>, AllocEr
     Ok(table)
 }
 
-/// The entries of named sequences, by the places of their declarations. Those that reach themselves, or a sequence that does, have none; all others have one.
+/// The entries of named sequences, by the places of their declarations. Only those that reach themselves, or a sequence that does, have none.
 pub fn resolve(alloc: Global, bodies: &[Draft]) -> Result<Vec<Option<Entry>>, AllocError>
     requires { (p : ℕ) → AllDeclared (map draft_of bodies.now) p }
     ensures long { IfOk result (λ table. length table.items ≡ length bodies.now) }
