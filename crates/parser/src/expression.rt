@@ -366,24 +366,14 @@ fn finish_expression<'t, 'a>(
     let Some((question, arms)) = operator(rest, 10) else {
         return Ok((condition, rest));
     };
+    let condition = Box::new(alloc, condition)?;
     let inner = deeper(depth, question)?;
-    let (yes, rest) = match read_expression(alloc, arms, inner) {
-        Ok(read) => read,
-        Err(stop) => return Err(stop),
-    };
+    let (yes, rest) = read_expression(alloc, arms, inner)?;
+    let yes = Box::new(alloc, yes)?;
     let (_, rest) = expect(rest, Terminal::Colon)?;
-    let (no, rest) = match read_expression(alloc, rest, inner) {
-        Ok(read) => read,
-        Err(stop) => return Err(stop),
-    };
-    Ok((
-        Expr::Choice(
-            Box::new(alloc, condition)?,
-            Box::new(alloc, yes)?,
-            Box::new(alloc, no)?,
-        ),
-        rest,
-    ))
+    let (no, rest) = read_expression(alloc, rest, inner)?;
+    let no = Box::new(alloc, no)?;
+    Ok((Expr::Choice(condition, yes, no), rest))
 }
 
 /// An expression, in a box.
