@@ -7,6 +7,7 @@ help:
 	@echo 'make test             the gate: proves everything from nothing, and runs edits, tests and programs'
 	@echo 'make bench            times reading against the plain C baseline, on dumps of 50 and 200 MB made from DUMP (clock CLOCK), and on odd shapes; reading and checking texts; and judging'
 	@echo 'make allocations      refuses each allocation of svamon in turn'
+	@echo 'make random           compares svamon with an independent judge on random dumps and texts'
 	@echo 'make install PREFIX=  proves and builds svamon, and puts it into PREFIX/bin (PREFIX is $(PREFIX))'
 
 demo:
@@ -38,9 +39,13 @@ allocations:
 	scripts/fail_alloc examples/one_then_down/dump.vcd examples/one_then_down/assertion.sva
 	scripts/fail_alloc examples/whole_profile/dump.vcd examples/whole_profile/assertion.sva judge
 
+random:
+	cd crates/svamon && rm -f out/svamon && { rt run -- help; test -x out/svamon; }
+	cd crates/svamon/out && ../../../scripts/random_judge.py ./svamon 1000 1
+
 install:
 	cd crates/svamon && rm -f out/svamon && { rt run -- help; test -x out/svamon; }
 	install -d $(PREFIX)/bin
 	install crates/svamon/out/svamon $(PREFIX)/bin/svamon
 
-.PHONY: help demo test bench allocations install
+.PHONY: help demo test bench allocations random install
