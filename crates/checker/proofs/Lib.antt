@@ -14,3 +14,8 @@ pub mod ResolvedLaws
 pub mod SignalLaws
 pub mod WeighLaws
 pub mod MadeLaws
+pub mod AttemptLaws
+pub mod PairLaws
+pub mod SpelledLaws
+pub mod CountLaws
+pub mod SameLaws
