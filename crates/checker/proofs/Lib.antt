@@ -19,3 +19,7 @@ pub mod PairLaws
 pub mod SpelledLaws
 pub mod CountLaws
 pub mod SameLaws
+pub mod BareTrees
+pub mod BareFiles
+pub mod BareReadings
+pub mod BareSuites
