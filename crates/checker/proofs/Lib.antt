@@ -14,3 +14,12 @@ pub mod ResolvedLaws
 pub mod SignalLaws
 pub mod WeighLaws
 pub mod MadeLaws
+pub mod AttemptLaws
+pub mod PairLaws
+pub mod SpelledLaws
+pub mod CountLaws
+pub mod SameLaws
+pub mod BareTrees
+pub mod BareFiles
+pub mod BareReadings
+pub mod BareSuites

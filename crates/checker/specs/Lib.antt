@@ -8,3 +8,5 @@ pub mod Drawn
 pub mod Resolved
 pub mod Signals
 pub mod Made
+pub mod Same
+pub mod Laws

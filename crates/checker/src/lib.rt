@@ -11,6 +11,7 @@ mod drafts;
 mod drawn;
 mod fault;
 mod known;
+mod laws;
 mod least;
 mod names;
 mod resolved;
@@ -22,4 +23,5 @@ mod suite;
 mod tests;
 
 pub use fault::TypeFault;
+pub use laws::suites_law;
 pub use suite::check;

@@ -4,3 +4,5 @@ pub mod PushLaws
 pub mod SampledLaws
 pub mod ReportLaws
 pub mod TextLaws
+pub mod ItemLaws
+pub mod OneReport

@@ -29,7 +29,7 @@ back : (ps : List ℕ) → map or_zero (map (λ (v : ℕ). Some v) ps) ≡ ps
 back [] = refl
 back (p ∷ ps) = ap (λ l. p ∷ l) (back ps)
 
-same_places : (ps qs : List ℕ) → map (λ (v : ℕ). Some v) ps ≡ map (λ (v : ℕ). Some v) qs → ps ≡ qs
+pub same_places : (ps qs : List ℕ) → map (λ (v : ℕ). Some v) ps ≡ map (λ (v : ℕ). Some v) qs → ps ≡ qs
 same_places ps qs e = sym (back ps) ∙ ap (map or_zero) e ∙ back qs
 
 -- a variable, if there is one of some size

@@ -3,6 +3,7 @@
 
 mod check;
 mod fault;
+mod laws;
 mod lines;
 mod names;
 #[cfg(test)]
@@ -17,4 +18,5 @@ mod words;
 
 pub use check::{check_one, judge_one};
 pub use fault::{Fault, fault_line, status};
+pub use laws::report_law;
 pub use words::{Request, WordsFault, read_words};
