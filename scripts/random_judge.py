@@ -2,7 +2,7 @@
 """Compares svamon with an independent judge on random dumps and texts: scripts/random_judge.py SVAMON [CASES [SEED]]
 
 SVAMON is the program. Each case is a dump of some signals over some clocks and a text with counters, named sequences and assertions of all
-forms of the profile. The values of expressions and counters are those of reference_values.py, the verdicts those of judge_examples.py, which
+forms of the profile; in one case of eight sides may be degenerate, admit an empty match or weigh too much, and then the refusal is compared. The values of expressions and counters are those of reference_values.py, the verdicts those of judge_examples.py, which
 tries all matches; nothing is taken from svamon. Zeros of the dump are written as 0, x or z, some changes stand in the step of the edge, and
 brackets stand in the text only where the grammar asks for them. It stops at the first case whose report or status differs, and leaves its
 files in the working folder.
@@ -16,6 +16,7 @@ import judge_examples as judge
 import reference_values as values
 
 HEAVIEST = 127
+MARK = '`'
 draw = values.draw
 
 
@@ -120,15 +121,38 @@ def written(tree, loosest=5):
     return text if LOOSENESS[kind] <= loosest else '(%s)' % text
 
 
-def side(names, bodies, trace, room, is_consequent):
-    """A sequence that may be a side of an assertion: not over its weight, and, with every boolean true, with a match of a tick or more."""
+def fault_of(tree, bodies, trace, kind, is_consequent):
+    """What is wrong with a side, as its rank and line. The antecedent of |=> is judged as it is rewritten."""
+    is_rewritten = kind == '|=>' and not is_consequent
+    if weight(tree, bodies) + 2 * is_rewritten > HEAVIEST:
+        return 0, 'Y9 TooWide'
+    plain = matcher(tree, bodies, trace)
+    ends = (judge.following(plain) if is_rewritten else plain)(0, 0)
+    if max(ends, default=0) == 0:
+        return 1, 'Y5 Degenerate'
+    if is_consequent and 0 in ends:
+        return 2, 'Y6 AdmitsEmpty'
+    return None
+
+
+def side(names, bodies, trace, kind, is_consequent, is_wild):
+    """A sequence for a side of an assertion, and what is wrong with it; something is only where the case is wild."""
+    is_faulty = is_wild and draw.randrange(2) == 0
     while True:
         tree = sequence(names, len(bodies), draw.choice([0, 1, 1, 2, 3]))
-        if weight(tree, bodies) > room:
-            continue
-        ends = matcher(tree, bodies, trace)(0, 0)
-        if max(ends, default=0) > 0 and not (is_consequent and 0 in ends):
-            return tree
+        if weight(tree, bodies) <= 4 * HEAVIEST:
+            fault = fault_of(tree, bodies, trace, kind, is_consequent)
+            if bool(fault) == is_faulty:
+                return tree, fault
+
+
+def refusal(text, faults):
+    """The first fault of the sides, which are marked in the text, and the text without the marks."""
+    marks = [found.start() - count for count, found in enumerate(re.finditer(MARK, text))]
+    text = text.replace(MARK, '')
+    places = [at + len(re.match('[( ]*', text[at:]).group()) for at in marks]
+    standing = sorted((fault[0], at, fault[1]) for fault, at in zip(faults, places) if fault)
+    return text, 'svamon: %s %d\n' % (standing[0][2], standing[0][1]) if standing else ''
 
 
 def declared_sequences(names, trace):
@@ -186,7 +210,7 @@ def path(found):
 
 
 def case():
-    """A dump, a text and its report."""
+    """A dump, a text, its report or its refusal, and the status."""
     values.TICKS = draw.choice([1, 2, 5, 12, 20])
     signals = [('signal', draw.choice([1, 1, 1, 2, 3, 8]), place) for place in range(draw.randint(1, 5))]
     rows = []
@@ -203,46 +227,50 @@ def case():
     bodies = declared_sequences(names, trace)
     lines = [counter_text(place, bits, clauses) for place, (bits, clauses) in enumerate(counters)]
     lines += ['sequence n%d; %s endsequence' % (place, written(tree)) for place, tree in enumerate(bodies)]
-    assertions = []
+    assertions, faults, is_wild = [], [], draw.randrange(8) == 0
     for place in range(draw.randint(1, 4)):
         off = values.expression(names, 1) if draw.randrange(3) == 0 else None
         kind = draw.choice(['|->', '|=>', ''])
-        antecedent = side(names, bodies, trace, HEAVIEST - 2, False) if kind else None
-        consequent = side(names, bodies, trace, HEAVIEST, True)
+        antecedent, fault = side(names, bodies, trace, kind, False, is_wild) if kind else (None, None)
+        faults += [fault] if kind else []
+        consequent, fault = side(names, bodies, trace, kind, True, is_wild)
+        faults.append(fault)
         first = matcher(antecedent, bodies, trace) if kind else judge.TRUE
         label = 'a%d' % place if draw.randrange(3) else 'assert_%d' % (place + 1)
         assertions.append((label, judge.following(first) if kind == '|=>' else first, matcher(consequent, bodies, trace),
                            truth(off, trace) if off else judge.NEVER))
         lines.append('%sassert property (@(posedge tb.clk) %s%s%s);' % (
             '' if label[1] == 's' else label + ': ', 'disable iff (%s) ' % values.text(off) if off else '',
-            '%s %s ' % (written(antecedent), kind) if kind else '', written(consequent)))
+            '%s%s %s ' % (MARK, written(antecedent), kind) if kind else '', MARK + written(consequent)))
     others = [line for line in lines if 'assert property' not in line]
     draw.shuffle(others)
     text = '\n'.join(others + [line for line in lines if 'assert property' in line]) + '\n'
-    report, fails = judge.report(len(rows), assertions)
-    return dump_of(signals, rows), re.sub(r"\bs(\d+)\b", path, text), report, 1 if fails else 0
+    text, refused = refusal(re.sub(r'\bs(\d+)\b', path, text), faults)
+    report, fails = ('', 0) if refused else judge.report(len(rows), assertions)
+    return dump_of(signals, rows), text, report, refused, 2 if refused else 1 if fails else 0
 
 
 def main():
     program, cases = sys.argv[1], int(sys.argv[2]) if len(sys.argv) > 2 else 200
     draw.seed(int(sys.argv[3]) if len(sys.argv) > 3 else 1)
-    attempts = 0
+    attempts = refusals = 0
     for number in range(cases):
-        dump, text, report, status = case()
+        dump, text, report, refused, status = case()
         dump_file, text_file, report_file = (pathlib.Path('random_judge.' + end) for end in ('vcd', 'sva', 'report'))
         dump_file.write_text(dump)
         text_file.write_text(text)
         report_file.write_text(report)
         for command in (['check'], ['check', '--window', '3'], ['judge']):
             ran = subprocess.run([program, *command, '--vcd', str(dump_file), '--sva', str(text_file)], capture_output=True, text=True)
-            if ran.stdout != report or ran.returncode != status:
-                print('case %d differs (%s): status %d, not %d; %s' % (number, ' '.join(command), ran.returncode, status, ran.stderr.strip()))
-                print(text + '--- svamon\n' + ran.stdout + '--- by the definition\n' + report)
+            if (ran.stdout, ran.stderr, ran.returncode) != (report, refused, status):
+                print('case %d differs (%s): status %d, not %d' % (number, ' '.join(command), ran.returncode, status))
+                print(text + '--- svamon\n' + ran.stdout + ran.stderr + '--- by the definition\n' + report + refused)
                 return 1
+        refusals += status == 2
         attempts += sum(int(word) for line in report.splitlines() if line.startswith('total') for word in line.split()[2::2])
     for made in (dump_file, text_file, report_file):
         made.unlink()
-    print('%d cases, %d attempts: all the same' % (cases, attempts))
+    print('%d cases, %d of them refused, %d attempts: all the same' % (cases, refusals, attempts))
     return 0
 
 
