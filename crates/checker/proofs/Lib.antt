@@ -19,7 +19,8 @@ pub mod PairLaws
 pub mod SpelledLaws
 pub mod CountLaws
 pub mod SameLaws
-pub mod BareTrees
-pub mod BareFiles
-pub mod BareReadings
-pub mod BareSuites
+pub mod MovedTrees
+pub mod MovedFiles
+pub mod MovedReadings
+pub mod MovedSuites
+pub mod MovedFaults

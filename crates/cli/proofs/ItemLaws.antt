@@ -1,7 +1,6 @@
--- A text spells one list of items.
-use Rattle.std.proofs.Common.{◌≡◌, ℕ, List, [], ◌∷◌, map, Option, Some, Result, Ok, refl, sym, ap, ◌∙◌, subst}
+-- A text spells one list of items, but for where their tokens lie.
+use Rattle.std.proofs.Common.{◌≡◌, ℕ, List, [], ◌∷◌, map, Option, Some, Result, Ok, sym, ap, ◌∙◌, subst}
 use Rattle.lexer.specs.declared.token.Token.{Token}
-use Rattle.lexer.specs.Cutting.{Cut, cut_of, tokens_of}
 use Rattle.grammar.specs.Trees.{Item}
 use Rattle.grammar.specs.Files.{IsFile}
 use Rattle.grammar.specs.ReadFiles.{items}
@@ -9,25 +8,17 @@ use Rattle.grammar.proofs.FilesComplete.{file-read}
 use Rattle.types.specs.declared.suite.Suite.{Suite}
 use Rattle.typing.specs.declared.own.Own.{Own}
 use Rattle.typing.specs.Scopes.{Scope, found}
+use Rattle.checker.specs.declared.fault.TypeFault.{TypeFault}
+use Rattle.checker.specs.Faults.{Stands}
 use Rattle.checker.specs.Suites.{IsSuite}
-use Rattle.checker.proofs.BareTrees.{bare, bare_item}
-use Rattle.checker.proofs.BareFiles.{file-bare}
-use Rattle.checker.proofs.BareSuites.{owns-bare, suite-bare}
+use Rattle.checker.proofs.MovedTrees.{moved_item}
+use Rattle.checker.proofs.MovedFiles.{file-moved}
+use Rattle.checker.proofs.MovedSuites.{owns-moved, suite-moved}
+use Rattle.checker.proofs.MovedFaults.{stands-moved}
 use Rattle.vcd_reader.specs.Variables.{Declared}
 use Rattle.cli.specs.Named.{width_named, scope_over}
-use Rattle.cli.specs.Reported.{HasItems}
-
--- tokens are known by their kinds, places and texts, but for where they lie in memory
-token_of : Cut → Token
-token_of c = record { kind = c.kind; at = c.at; text = record { ref_ptr = (0, 0); now = c.text } }
-
-cuts-bare : (ts : List Token) → map bare ts ≡ map token_of (map cut_of ts)
-unfolding token_of
-cuts-bare [] = refl
-cuts-bare (t ∷ ts) = ap (λ (us : List Token). bare t ∷ us) (cuts-bare ts)
-
-same_tokens : (ts us : List Token) → map cut_of ts ≡ map cut_of us → map bare ts ≡ map bare us
-same_tokens ts us e = cuts-bare ts ∙ ap (map token_of) e ∙ sym (cuts-bare us)
+use Rattle.cli.specs.Reported.{AreTokens, HasItems}
+use Rattle.cli.proofs.TokenLaws.{lies_in, moved_tokens}
 
 pub same_ok : {A E : Type 0} (x y : A) (r : Result A E) → r ≡ Ok x → r ≡ Ok y → x ≡ y
 same_ok x y r h k = cc
@@ -45,16 +36,30 @@ one_file xs ys tokens h k =
     let second = file-read ys tokens k in
     same_read (items tokens) xs ys (first.last ∷ []) (second.last ∷ []) first.read second.read
 
--- So a text spells one list of items, but for where they lie.
-pub same_items : (text : List ℕ) (xs ys : List Item) → HasItems text xs → HasItems text ys → map bare_item xs ≡ map bare_item ys
-same_items text xs ys h k =
-    let cuts = same_ok (map cut_of h.tokens) (map cut_of k.tokens) (tokens_of text) h.cut k.cut in
-    let first : IsFile (map bare_item xs) (map bare k.tokens) = subst (λ (ts : List Token). IsFile (map bare_item xs) ts) (same_tokens h.tokens k.tokens cuts) (file-bare xs h.tokens h.spelled) in
-    one_file (map bare_item xs) (map bare_item ys) (map bare k.tokens) first (file-bare ys k.tokens k.spelled)
+-- What tokens of a text spell, its other tokens spell, moved.
+pub file_of : (text : List ℕ) (xs : List Item) (ts : List Token) → HasItems text xs → AreTokens text ts → IsFile (map (moved_item (lies_in ts)) xs) ts
+file_of text xs ts h k =
+    let lies = lies_in ts in
+    subst (λ (us : List Token). IsFile (map (moved_item lies) xs) us) (moved_tokens text h.tokens ts h.cut k) (file-moved lies xs h.tokens h.spelled)
 
--- A suite of the items is one of those without where they lie.
-scope-bare : (vs : List Declared) (xs : List Item) → scope_over vs xs ≡ scope_over vs (map bare_item xs)
-scope-bare vs xs = ap (λ (os : List (List ℕ × Own)). record { own = found os; dump = width_named vs }) (sym (owns-bare 0 0 xs))
+-- So items of a text are any others of it, moved.
+pub moved_items : (text : List ℕ) (xs ys : List Item) (h : HasItems text xs) (k : HasItems text ys) → map (moved_item (lies_in k.tokens)) xs ≡ ys
+moved_items text xs ys h k = one_file (map (moved_item (lies_in k.tokens)) xs) ys k.tokens (file_of text xs k.tokens h k.cut) k.spelled
 
-pub suite_over-bare : (vs : List Declared) (xs : List Item) (suite : Suite) → IsSuite (scope_over vs xs) xs suite → IsSuite (scope_over vs (map bare_item xs)) (map bare_item xs) suite
-suite_over-bare vs xs suite h = subst (λ (s : Scope). IsSuite s (map bare_item xs) suite) (scope-bare vs xs) (suite-bare (scope_over vs xs) xs suite h)
+-- Moved, they have the same scope, say the same suites and have the same faults.
+module _ (lies : ℕ → ℕ × ℕ) (vs : List Declared) where
+  scope-moved : (xs : List Item) → scope_over vs xs ≡ scope_over vs (map (moved_item lies) xs)
+  scope-moved xs = ap (λ (os : List (List ℕ × Own)). record { own = found os; dump = width_named vs }) (sym (owns-moved lies 0 0 xs))
+
+  suite_over-moved : (xs : List Item) (suite : Suite) → IsSuite (scope_over vs xs) xs suite → IsSuite (scope_over vs (map (moved_item lies) xs)) (map (moved_item lies) xs) suite
+  suite_over-moved xs suite h = subst (λ (s : Scope). IsSuite s (map (moved_item lies) xs) suite) (scope-moved xs) (suite-moved lies (scope_over vs xs) xs suite h)
+
+  stands_over-moved : (xs : List Item) (fault : TypeFault) → Stands (scope_over vs xs) xs fault → Stands (scope_over vs (map (moved_item lies) xs)) (map (moved_item lies) xs) fault
+  stands_over-moved xs fault h = subst (λ (s : Scope). Stands s (map (moved_item lies) xs) fault) (scope-moved xs) (stands-moved lies (scope_over vs xs) xs fault h)
+
+-- And so do any others of the text.
+pub other_suite : (vs : List Declared) (text : List ℕ) (xs ys : List Item) (suite : Suite) → HasItems text xs → HasItems text ys → IsSuite (scope_over vs xs) xs suite → IsSuite (scope_over vs ys) ys suite
+other_suite vs text xs ys suite h k is = subst (λ (zs : List Item). IsSuite (scope_over vs zs) zs suite) (moved_items text xs ys h k) (suite_over-moved (lies_in k.tokens) vs xs suite is)
+
+pub other_stands : (vs : List Declared) (text : List ℕ) (xs ys : List Item) (fault : TypeFault) → HasItems text xs → HasItems text ys → Stands (scope_over vs xs) xs fault → Stands (scope_over vs ys) ys fault
+other_stands vs text xs ys fault h k stands = subst (λ (zs : List Item). Stands (scope_over vs zs) zs fault) (moved_items text xs ys h k) (stands_over-moved (lies_in k.tokens) vs xs fault stands)

@@ -6,3 +6,6 @@ pub mod ReportLaws
 pub mod TextLaws
 pub mod ItemLaws
 pub mod OneReport
+pub mod TokenLaws
+pub mod LexLaws
+pub mod Unrefused

@@ -6,7 +6,6 @@ use Rattle.std.proofs.Math.Path.{fun_ext}
 use Rattle.std.proofs.lemmas.List.{ext_get_or}
 use Rattle.signals.specs.declared.verdict.Verdict.{Verdict}
 use Rattle.signals.specs.declared.verdict.Verdict.TheVariants as outcome
-use Rattle.grammar.specs.Trees.{Item}
 use Rattle.values.specs.declared.expr.Expr.{Expr}
 use Rattle.values.specs.Terms.{Samples}
 use Rattle.values.specs.Tables.{column}
@@ -17,7 +16,6 @@ use Rattle.types.specs.declared.suite.Signal.{Signal}
 use Rattle.types.specs.declared.suite.Suite.{Suite}
 use Rattle.types.specs.Shapes.{shape, value_in, off_in}
 use Rattle.types.proofs.Verdicts.{IsVerdict-only}
-use Rattle.checker.specs.Suites.{IsSuite}
 use Rattle.checker.specs.Same.{IsVerdictOn, AreAlike, SaySame}
 use Rattle.checker.proofs.SameLaws.{say_same}
 use Rattle.vcd_reader.specs.Variables.{Declared, variable_named}
@@ -26,8 +24,7 @@ use Rattle.verdicts.specs.Lines.{LineData, ReportData, line_of, report_of}
 use Rattle.cli.specs.Named.{scope_over}
 use Rattle.cli.specs.Judged.{AreVerdictsOn, AreLines}
 use Rattle.cli.specs.Reported.{Says, IsBound, rows_of, OverRows, Reports, HasReport, IsReport}
-use Rattle.checker.proofs.BareTrees.{bare_item}
-use Rattle.cli.proofs.ItemLaws.{same_items, same_ok, suite_over-bare}
+use Rattle.cli.proofs.ItemLaws.{same_ok, other_suite}
 use Rattle.cli.proofs.ReportLaws.{named_by, same_places}
 
 -- an attempt has one verdict
@@ -92,12 +89,10 @@ same_reports c one other r q same h k =
     same_over one other (rows_of c k.clock k.signals) r q same (subst (λ (t : List (List ℕ)). OverRows one t r) rows h.over) k.over
 
 -- A text says one suite over a dump, and so has one report.
-same_suites : (c : Contents) (text : List ℕ) (one other : Suite) → Says c text one → Says c text other → SaySame one other
+pub same_suites : (c : Contents) (text : List ℕ) (one other : Suite) → Says c text one → Says c text other → SaySame one other
 same_suites c text one other h k =
-    let vs = c.variables in
-    let ys = map bare_item k.items in
-    let first : IsSuite (scope_over vs ys) ys one = subst (λ (zs : List Item). IsSuite (scope_over vs zs) zs one) (same_items text h.items k.items h.spelled k.spelled) (suite_over-bare vs h.items one h.typed.says) in
-    say_same (scope_over vs ys) ys one other first (suite_over-bare vs k.items other k.typed.says)
+    let first = other_suite c.variables text h.items k.items one h.spelled k.spelled h.typed.says in
+    say_same (scope_over c.variables k.items) k.items one other first k.typed.says
 
 pub same_report : (bytes text : List ℕ) (one other : ReportData) → IsReport bytes text one → IsReport bytes text other → one ≡ other
 same_report bytes text one other h k =

@@ -18,5 +18,5 @@ mod words;
 
 pub use check::{check_one, judge_one};
 pub use fault::{Fault, fault_line, status};
-pub use laws::report_law;
+pub use laws::{refusal_law, report_law};
 pub use words::{Request, WordsFault, read_words};
