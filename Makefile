@@ -1,17 +1,19 @@
 PREFIX ?= /usr/local
 DUMP ?= crates/read_traces/data/fifo_arb_bug1.vcd
 CLOCK ?= tb.clk
+CASES ?= 1000
+SEED ?= 1
 
 help:
 	@echo 'make demo             proves and builds svamon, and shows its reports on examples/'
 	@echo 'make test             the gate: proves everything from nothing, and runs edits, tests and programs'
 	@echo 'make bench            times reading against the plain C baseline, on dumps of 50 and 200 MB made from DUMP (clock CLOCK), and on odd shapes; reading and checking texts; and judging'
 	@echo 'make allocations      refuses each allocation of svamon in turn'
-	@echo 'make random           compares svamon with an independent judge on random dumps and texts'
+	@echo 'make random           compares svamon with an independent judge on CASES random dumps and texts (SEED)'
 	@echo 'make install PREFIX=  proves and builds svamon, and puts it into PREFIX/bin (PREFIX is $(PREFIX))'
 
 demo:
-	@echo 'Proving and building svamon and the crates below it: some minutes the first time, seconds after that.'
+	@echo 'Proving and building svamon and the crates below it: most of an hour the first time, seconds after that.'
 	@date '+started  %H:%M:%S'
 	@cd crates/demo && rt check
 	@date '+proved   %H:%M:%S'
@@ -41,7 +43,7 @@ allocations:
 
 random:
 	cd crates/svamon && rm -f out/svamon && { rt run -- help; test -x out/svamon; }
-	cd crates/svamon/out && ../../../scripts/random_judge.py ./svamon 1000 1
+	cd crates/svamon/out && ../../../scripts/random_judge.py ./svamon $(CASES) $(SEED)
 
 install:
 	cd crates/svamon && rm -f out/svamon && { rt run -- help; test -x out/svamon; }

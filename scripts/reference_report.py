@@ -2,7 +2,7 @@
 """An independent reading of a dump and one assertion of the form  [NAME:] assert property (@(posedge path) path |-> path);
 
 It shares nothing with svamon: it keeps every value of every clock edge and looks at each attempt from the words of the
-standard. It writes the report that svamon must write; the expected reports in examples/ were made by it.
+standard. It writes the report that svamon must write. judge_examples.py does the same for whole texts; reference_counts.py takes the reader from here.
 
     scripts/reference_report.py DUMP ASSERTION > REPORT
 """

@@ -6,7 +6,7 @@ use signals::Counted;
 use std::alloc::AllocError;
 use std::env::Env;
 use std::fs::Files;
-use std::io::{Eprint, Print};
+use std::io::{Eprint, ErrorKind, Print};
 use std::{env, io};
 
 /// Writes the line of a fault to standard error; it is lost where that can't be written.
@@ -62,11 +62,19 @@ fn serve<R: Files + Print + Eprint + AllocGlobal>(rt: &R, request: &Request) -> 
 }
 
 /// The words of the command line, the program's name first.
-fn words_of<R: Env + AllocGlobal>(rt: &R) -> Result<Vec<String>, Fault<'static>> {
-    match env::args(rt) {
-        Ok(words) => Ok(words.collect(rt.alloc())?),
-        Err(_) => Err(Fault::Memory),
+fn words_of<R: Env + AllocGlobal>(rt: &R) -> io::Result<Vec<String>> {
+    Ok(env::args(rt)?.collect(rt.alloc())?)
+}
+
+/// Refuses words that can't be had, and answers the status: one that is no text as clap does, or else want of memory.
+fn refuse_words<R: Eprint + AllocGlobal>(rt: &R, error: &io::Error) -> u8 {
+    if error.kind() == ErrorKind::InvalidData {
+        let _ = eprintln!(rt;
+            "error: invalid UTF-8 was detected in one or more arguments\n\nFor more information, try '--help'."
+        );
+        return 2;
     }
+    shown_status(rt, &Err(Fault::Memory))
 }
 
 /// The words as slices.
@@ -79,9 +87,8 @@ fn slices_of<'a, R: AllocGlobal>(rt: &R, words: &'a [String]) -> Result<Vec<&'a 
 }
 
 /// What the words of the command line ask for.
-fn request_of<R: Env + AllocGlobal>(rt: &R) -> Result<Request, Fault<'static>> {
-    let words = words_of(rt)?;
-    let slices = slices_of(rt, words.as_slice())?;
+fn request_of<R: AllocGlobal>(rt: &R, words: &[String]) -> Result<Request, Fault<'static>> {
+    let slices = slices_of(rt, words)?;
     match read_words(rt.alloc(), slices.as_slice()) {
         Ok(request) => Ok(request),
         Err(fault) => Err(Fault::Words(fault)),
@@ -90,7 +97,11 @@ fn request_of<R: Env + AllocGlobal>(rt: &R) -> Result<Request, Fault<'static>> {
 
 /// Does what the words of the command line ask for, and answers the status that a shell sees.
 pub fn answer<R: Files + Env + Print + Eprint + AllocGlobal>(rt: &R) -> u8 {
-    match request_of(rt) {
+    let words = match words_of(rt) {
+        Ok(words) => words,
+        Err(error) => return refuse_words(rt, &error),
+    };
+    match request_of(rt, words.as_slice()) {
         Ok(request) => serve(rt, &request),
         Err(fault) => shown_status(rt, &Err(fault)),
     }
