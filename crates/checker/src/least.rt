@@ -3,7 +3,7 @@
 ghost use Rattle.std.specs.Prelude.{◌≡◌};
 ghost use Rattle.typing.specs.Faults.{earlier};
 
-/// The smaller of two places that there are.
+/// The smaller of two places, or the only one that is there.
 pub(crate) fn earlier(first: Option<usize>, second: Option<usize>) -> Option<usize>
     ensures { result ≡ earlier first second }
 {

@@ -83,6 +83,7 @@ pub struct Assertion<'a> {
     pub property: Property<'a>,
 }
 
+/// An item of a file: a counter, a named sequence or an assertion.
 #[derive(Drop)]
 pub enum Item<'a> {
     Counter(Counter<'a>),

@@ -24,7 +24,7 @@ pub(crate) struct Seen {
     pub(crate) fault: Option<usize>,
 }
 
-/// The smaller of two places that there are.
+/// The smaller of two places, or the only one that is there.
 pub(crate) fn earlier(first: Option<usize>, second: Option<usize>) -> Option<usize>
     ensures { result ≡ earlier first second }
 {

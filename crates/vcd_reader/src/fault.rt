@@ -18,6 +18,7 @@ pub enum Fault {
     TooLarge,
 }
 
+/// Why bytes are no dump: want of memory, or their first fault.
 #[derive(Debug, Drop)]
 pub enum ReadError {
     Memory,
