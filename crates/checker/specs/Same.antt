@@ -20,7 +20,7 @@ pub record AreAlike (booleans others : List Expr) (a b : Assertion) : Type 0 whe
   pub name : string_bytes a.name ≡ string_bytes b.name
   pub verdicts : (read : Samples) (ticks clock : ℕ) (verdict : Verdict) → IsVerdictOn booleans read ticks a clock verdict ↔ IsVerdictOn others read ticks b clock verdict
 
--- Two suites have one clock and the same signals, over each rows of these the same counts, and in one order assertions that are alike.
+-- Two suites have one clock and the same signals, over any rows of these the same counts, and in one order assertions that are alike.
 pub record SaySame (one other : Suite) : Type 0 where
   pub clock : string_bytes one.clock ≡ string_bytes other.clock
   pub paths : map (λ s. string_bytes s.path) one.names.items ≡ map (λ s. string_bytes s.path) other.names.items
