@@ -157,8 +157,8 @@ def loose(tree):
 
 
 def plain(tree, loosest=11):
-    looseness, text = loose(tree)
-    return text if looseness <= loosest and draw.randrange(8) else '(%s)' % text
+    level, text = loose(tree)
+    return text if level <= loosest and draw.randrange(8) else '(%s)' % text
 
 
 # sequences as one writes them

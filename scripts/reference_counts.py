@@ -1,9 +1,9 @@
 #!/usr/bin/env python3
 """Counts what is in dumps, by the independent reader of reference_report.py: the paths that can be bound, the steps with the
 one at time 0, the changes, and the ticks of a clock; and says values of some paths at the first two ticks, the middle one and
-the last. It writes the stored output of crates/read_traces, from the traces.txt there, whose lines are DUMP CLOCK PATH...
+the last. It writes the stored output of crates/oracle_dumps, from the traces.txt there, whose lines are DUMP CLOCK PATH...
 
-    cd crates/read_traces/data && ../../../scripts/reference_counts.py traces.txt > ../stdout
+    cd crates/oracle_dumps/data && ../../../scripts/reference_counts.py traces.txt > ../stdout
 """
 import re
 import sys

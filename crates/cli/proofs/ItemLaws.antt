@@ -5,16 +5,16 @@ use Rattle.grammar.specs.Trees.{Item}
 use Rattle.grammar.specs.Files.{IsFile}
 use Rattle.grammar.specs.ReadFiles.{items}
 use Rattle.grammar.proofs.FilesComplete.{file-read}
-use Rattle.types.specs.declared.suite.Suite.{Suite}
-use Rattle.typing.specs.declared.own.Own.{Own}
-use Rattle.typing.specs.Scopes.{Scope, found}
-use Rattle.checker.specs.declared.fault.TypeFault.{TypeFault}
-use Rattle.checker.specs.Faults.{Stands}
-use Rattle.checker.specs.Suites.{IsSuite}
-use Rattle.checker.proofs.MovedTrees.{moved_item}
-use Rattle.checker.proofs.MovedFiles.{file-moved}
-use Rattle.checker.proofs.MovedSuites.{owns-moved, suite-moved}
-use Rattle.checker.proofs.MovedFaults.{stands-moved}
+use Rattle.assertions.specs.declared.suite.Suite.{Suite}
+use Rattle.types_expressions.specs.declared.own.Own.{Own}
+use Rattle.types_expressions.specs.Scopes.{Scope, found}
+use Rattle.types.specs.declared.fault.TypeFault.{TypeFault}
+use Rattle.types.specs.Faults.{Stands}
+use Rattle.types.specs.Suites.{IsSuite}
+use Rattle.types.proofs.MovedTrees.{moved_item}
+use Rattle.types.proofs.MovedFiles.{file-moved}
+use Rattle.types.proofs.MovedSuites.{owns-moved, suite-moved}
+use Rattle.types.proofs.MovedFaults.{stands-moved}
 use Rattle.vcd_reader.specs.Variables.{Declared}
 use Rattle.cli.specs.Named.{width_named, scope_over}
 use Rattle.cli.specs.Reported.{AreTokens, HasItems}

@@ -1,8 +1,9 @@
 pub mod NameLaws
-pub mod SameLaws
+pub mod LineLaws
 pub mod PushLaws
 pub mod SampledLaws
 pub mod ReportLaws
+pub mod RunLaws
 pub mod TextLaws
 pub mod ItemLaws
 pub mod OneReport

@@ -8,9 +8,9 @@ use Rattle.std.proofs.lemmas.Str.{IsUtf8-from_is_utf8, is_utf8-from_IsUtf8}
 use Rattle.std.specs.Cmp.Lexicographic.{bytes_decides}
 use Rattle.std.proofs.lemmas.List.{length-map}
 use Rattle.std.proofs.lemmas.Bool.{eq-eqb}
-use Rattle.typing.specs.Scopes.{found}
-use Rattle.typing.specs.Entries.{with_entry}
-use Rattle.typing.proofs.EntryLaws.{first_of, found-with_entry}
+use Rattle.types_expressions.specs.Scopes.{found}
+use Rattle.types_expressions.specs.Entries.{with_entry}
+use Rattle.types_expressions.proofs.EntryLaws.{first_of, found-with_entry}
 use Rattle.vcd_reader.specs.declared.variable.Name.{Name}
 use Rattle.vcd_reader.specs.Held.{named}
 use Rattle.vcd_reader.specs.Variables.{Declared, Named, no_variable, variable_at_place, place_of, paths_of, is_bindable, size_of, variable_named, if_bindable, is_place, names_from, names_of}

@@ -6,18 +6,19 @@ use Rattle.std.proofs.Math.Path.{fun_ext}
 use Rattle.std.proofs.lemmas.List.{ext_get_or}
 use Rattle.signals.specs.declared.verdict.Verdict.{Verdict}
 use Rattle.signals.specs.declared.verdict.Verdict.TheVariants as outcome
-use Rattle.values.specs.declared.expr.Expr.{Expr}
-use Rattle.values.specs.Terms.{Samples}
-use Rattle.values.specs.Tables.{column}
-use Rattle.values.specs.Counters.{counted, counter_at}
-use Rattle.types.specs.declared.sequence.Boolean.{Boolean}
-use Rattle.types.specs.declared.assertion.Assertion.{Assertion}
-use Rattle.types.specs.declared.suite.Signal.{Signal}
-use Rattle.types.specs.declared.suite.Suite.{Suite}
-use Rattle.types.specs.Shapes.{shape, value_in, off_in}
-use Rattle.types.proofs.Verdicts.{IsVerdict-only}
-use Rattle.checker.specs.Same.{IsVerdictOn, AreAlike, SaySame}
-use Rattle.checker.proofs.SameLaws.{say_same}
+use Rattle.expressions.specs.declared.expr.Expr.{Expr}
+use Rattle.expressions.specs.Terms.{Samples}
+use Rattle.expressions.specs.Tables.{column}
+use Rattle.expressions.specs.Counters.{counted, counter_at}
+use Rattle.assertions.specs.declared.sequence.Boolean.{Boolean}
+use Rattle.assertions.specs.declared.assertion.Assertion.{Assertion}
+use Rattle.assertions.specs.declared.signal.Signal.{Signal}
+use Rattle.assertions.specs.declared.suite.Suite.{Suite}
+use Rattle.assertions.specs.Shapes.{shape, value_in, off_in}
+use Rattle.assertions.proofs.Verdicts.{IsVerdict-only}
+use Rattle.assertions.specs.Verdicts.{IsVerdictOn}
+use Rattle.types.specs.Same.{AreAlike, SaySame}
+use Rattle.types.proofs.SameLaws.{say_same}
 use Rattle.vcd_reader.specs.Variables.{Declared, variable_named}
 use Rattle.vcd_reader.specs.Dump.{Contents, dump_of}
 use Rattle.verdicts.specs.Lines.{LineData, ReportData, line_of, report_of}

@@ -3,8 +3,8 @@ use Rattle.std.proofs.Common.{◌≡◌, ℕ, Bool, List, [], ◌∷◌, Option,
 use Rattle.std.specs.Prelude.{string_bytes}
 use Rattle.std.specs.Option.{option_map}
 use Rattle.std.proofs.lemmas.Bool.{eq-eqb}
-use Rattle.types.specs.declared.suite.Signal.{Signal}
-use Rattle.types.specs.declared.suite.Suite.{Suite}
+use Rattle.assertions.specs.declared.signal.Signal.{Signal}
+use Rattle.assertions.specs.declared.suite.Suite.{Suite}
 use Rattle.vcd_reader.specs.Variables.{Declared, variable_named, size_of}
 use Rattle.vcd_reader.specs.Dump.{Contents}
 use Rattle.cycle_window.specs.Bound.{Wanted, Misfit, misfit, or_refused, first_refused, places_of, IsClock, IsSignalFault}

@@ -11,15 +11,15 @@ use Rattle.parser.specs.declared.fault.ParseFault.{ParseFault}
 use Rattle.parser.specs.declared.fault.ParseFault.TheVariants as parsing
 use Rattle.parser.specs.Faults as parser_faults
 use Rattle.grammar.specs.Trees.{Item}
-use Rattle.types.specs.declared.suite.Signal.{Signal}
-use Rattle.types.specs.declared.suite.Suite.{Suite}
-use Rattle.typing.specs.Scopes.{Scope, found, scope_for}
-use Rattle.typing.specs.Columns.{columns_of}
-use Rattle.checker.specs.declared.fault.TypeFault.{TypeFault}
-use Rattle.checker.specs.declared.fault.TypeFault.TheVariants as typing
-use Rattle.checker.specs.Faults as faults
-use Rattle.checker.specs.Faults.{IsFirst, IsFaultless}
-use Rattle.checker.specs.Suites.{AreSignals, IsSuite}
+use Rattle.assertions.specs.declared.signal.Signal.{Signal}
+use Rattle.assertions.specs.declared.suite.Suite.{Suite}
+use Rattle.types_expressions.specs.Scopes.{Scope, found, scope_for}
+use Rattle.types_expressions.specs.Columns.{columns_of}
+use Rattle.types.specs.declared.fault.TypeFault.{TypeFault}
+use Rattle.types.specs.declared.fault.TypeFault.TheVariants as types
+use Rattle.types.specs.Faults as faults
+use Rattle.types.specs.Faults.{IsFirst, IsFaultless}
+use Rattle.types.specs.Suites.{AreSignals, IsSuite}
 use Rattle.vcd_reader.specs.Variables.{Declared, variable_named, size_of}
 use Rattle.vcd_reader.specs.Dump.{Contents}
 use Rattle.cycle_window.specs.declared.fault.WindowFault.{WindowFault}
@@ -61,16 +61,16 @@ why_not_typed c vs names items e same dump h = by e moved
     moved = subst (λ (ds : List Declared). faults.IsRefused (scope_over ds items) items e) same (subst (λ (s : Scope). faults.IsRefused s items e) (scope_is vs names items dump) h)
 
     by : (f : TypeFault) → faults.IsRefused (scope_over c.variables items) items f → WhyNotTyped c items f
-    by (typing.UnknownName at) k = k
-    by (typing.Duplicate at) k = k
-    by (typing.WiderThan128 at) k = k
-    by (typing.SliceRange at) k = k
-    by (typing.Degenerate at) k = k
-    by (typing.AdmitsEmpty at) k = k
-    by (typing.OtherClock at) k = k
-    by (typing.CyclicSequence at) k = k
-    by (typing.TooWide at) k = k
-    by typing.Memory k = tt
+    by (types.UnknownName at) k = k
+    by (types.Duplicate at) k = k
+    by (types.WiderThan128 at) k = k
+    by (types.SliceRange at) k = k
+    by (types.Degenerate at) k = k
+    by (types.AdmitsEmpty at) k = k
+    by (types.OtherClock at) k = k
+    by (types.CyclicSequence at) k = k
+    by (types.TooWide at) k = k
+    by types.Memory k = tt
 
 pub is_typed : (c : Contents) (vs : List Declared) (names : List (List ℕ × ℕ)) (items : List Item) (suite : Suite) → vs ≡ c.variables → found names ≡ width_named vs
     → IsFaultless (scope_for items names) items → IsSuite (scope_for items names) items suite → IsTyped c items suite
@@ -95,11 +95,26 @@ pub are_named : (c : Contents) (vs : List Declared) (items : List Item) (suite :
 are_named c vs items suite same typed =
     subst (λ (ds : List Declared). AreNamed ds suite.names.items) (sym same) (named_all c.variables items (columns_of (scope_over c.variables items) items) suite.names.items typed.says.signals)
 
+-- a fault of the text's form
+form_kept : (c : Contents) (text : List ℕ) (e : ParseFault) → WhyNoItems text (Parse e) → WhyNoReport c text (Parse e)
+form_kept c text (parsing.Expected what at) h = h
+form_kept c text (parsing.OutsideProfile word at) h = h
+form_kept c text (parsing.TooDeep at) h = h
+form_kept c text (parsing.BadBound at) h = h
+form_kept c text parsing.Memory h = h
+
+pub itemless : (c : Contents) (text : List ℕ) (e : ParseFault) → WhyNoReport c text (Parse e) → HasNoItems text
+itemless c text (parsing.Expected what at) h = h
+itemless c text (parsing.OutsideProfile word at) h = h
+itemless c text (parsing.TooDeep at) h = h
+itemless c text (parsing.BadBound at) h = h
+itemless c text parsing.Memory h = absurd h
+
 -- each refusal as one of the text
 pub without_items : (c : Contents) (text : List ℕ) (e : Fault) → WhyNoItems text e → WhyNoReport c text e
 without_items c text (Vcd e) h = elim h [ ]
 without_items c text (Lex e) h = h
-without_items c text (Parse e) h = h
+without_items c text (Parse e) h = form_kept c text e h
 without_items c text (Typing e) h = elim h [ ]
 without_items c text (Window e) h = elim h [ ]
 without_items c text (Report e) h = elim h [ ]
@@ -113,16 +128,16 @@ mistyped : (c : Contents) (text : List ℕ) (items : List Item) (e : TypeFault) 
 mistyped c text items e has first = record { items = items; spelled = has; first = first }
 
 pub untyped : (c : Contents) (text : List ℕ) (items : List Item) (e : TypeFault) → HasItems text items → WhyNotTyped c items e → WhyNoReport c text (type_fault e)
-untyped c text items (typing.UnknownName at) has h = mistyped c text items (typing.UnknownName at) has h
-untyped c text items (typing.Duplicate at) has h = mistyped c text items (typing.Duplicate at) has h
-untyped c text items (typing.WiderThan128 at) has h = mistyped c text items (typing.WiderThan128 at) has h
-untyped c text items (typing.SliceRange at) has h = mistyped c text items (typing.SliceRange at) has h
-untyped c text items (typing.Degenerate at) has h = mistyped c text items (typing.Degenerate at) has h
-untyped c text items (typing.AdmitsEmpty at) has h = mistyped c text items (typing.AdmitsEmpty at) has h
-untyped c text items (typing.OtherClock at) has h = mistyped c text items (typing.OtherClock at) has h
-untyped c text items (typing.CyclicSequence at) has h = mistyped c text items (typing.CyclicSequence at) has h
-untyped c text items (typing.TooWide at) has h = mistyped c text items (typing.TooWide at) has h
-untyped c text items typing.Memory has h = tt
+untyped c text items (types.UnknownName at) has h = mistyped c text items (types.UnknownName at) has h
+untyped c text items (types.Duplicate at) has h = mistyped c text items (types.Duplicate at) has h
+untyped c text items (types.WiderThan128 at) has h = mistyped c text items (types.WiderThan128 at) has h
+untyped c text items (types.SliceRange at) has h = mistyped c text items (types.SliceRange at) has h
+untyped c text items (types.Degenerate at) has h = mistyped c text items (types.Degenerate at) has h
+untyped c text items (types.AdmitsEmpty at) has h = mistyped c text items (types.AdmitsEmpty at) has h
+untyped c text items (types.OtherClock at) has h = mistyped c text items (types.OtherClock at) has h
+untyped c text items (types.CyclicSequence at) has h = mistyped c text items (types.CyclicSequence at) has h
+untyped c text items (types.TooWide at) has h = mistyped c text items (types.TooWide at) has h
+untyped c text items types.Memory has h = tt
 
 pub unclocked : (c : Contents) (text : List ℕ) (suite : Suite) (e : WindowFault) → Says c text suite → IsClockFault c.variables (string_bytes suite.clock) e → WhyNoReport c text (window_fault e)
 unclocked c text suite windows.NoClock says h = record { suite = suite; says = says; why = h }

@@ -6,7 +6,7 @@ use Rattle.lexer.specs.declared.token.Token.{Token}
 use Rattle.lexer.specs.Cutting.{Cut, cut_of}
 use Rattle.lexer.specs.Covering.{IsCut, at_end, over_gap, over_token}
 use Rattle.lexer.proofs.CoveringLaws.{tokens_of-covered}
-use Rattle.checker.proofs.MovedTrees.{moved}
+use Rattle.types.proofs.MovedTrees.{moved}
 use Rattle.cli.specs.Reported.{AreTokens}
 
 -- where the text of the first token at a byte lies

@@ -1,9 +1,9 @@
 -- A text that has a report is refused by nothing but want of memory.
 use Rattle.std.proofs.Common.{◌≡◌, ℕ, List, Option, Some, None, refl, ap, ◌∙◌, map, string_bytes}
 use Rattle.std.specs.Prelude.{if◌then◌else◌, ◌==◌}
-use Rattle.types.specs.declared.suite.Suite.{Suite}
-use Rattle.checker.specs.declared.fault.TypeFault.{TypeFault}
-use Rattle.checker.proofs.MovedTrees.{moved_item}
+use Rattle.assertions.specs.declared.suite.Suite.{Suite}
+use Rattle.types.specs.declared.fault.TypeFault.{TypeFault}
+use Rattle.types.proofs.MovedTrees.{moved_item}
 use Rattle.vcd_reader.specs.Variables.{variable_named}
 use Rattle.vcd_reader.specs.Dump.{Contents}
 use Rattle.cycle_window.specs.declared.fault.WindowFault.{WindowFault}
@@ -12,6 +12,7 @@ use Rattle.cycle_window.specs.Bound.{Misfit, Missing, OtherWidth, misfit}
 use Rattle.verdicts.specs.Lines.{ReportData}
 use Rattle.cli.specs.declared.fault.Fault.{Fault}
 use Rattle.cli.specs.declared.fault.Fault.TheVariants.{Vcd, Lex, Parse, Typing, Window, Report, NoAssertion, NotText, Words, File, Memory}
+use Rattle.cli.proofs.TextLaws.{itemless}
 use Rattle.cli.specs.Reported.{Says, IsBound, HasReport}
 use Rattle.cli.specs.Outcomes.{HasNoItems, IsMistyped, WhyNoReport}
 use Rattle.cli.proofs.TokenLaws.{lies_in}
@@ -50,7 +51,7 @@ not_clockless c text report windows.Memory h k = k
 pub unrefused : (c : Contents) (text : List ℕ) (report : ReportData) (fault : Fault) → HasReport c text report → WhyNoReport c text fault → fault ≡ Memory
 unrefused c text report (Vcd e) h k = absurd k
 unrefused c text report (Lex e) h k = absurd (tokens_faultless text h.says.spelled.tokens e h.says.spelled.cut k)
-unrefused c text report (Parse e) h k = absurd (not_itemless c text h.suite h.says k)
+unrefused c text report (Parse e) h k = absurd (not_itemless c text h.suite h.says (itemless c text e k))
 unrefused c text report (Typing e) h k = absurd (not_mistyped c text h.suite e h.says k)
 unrefused c text report (Window e) h k = absurd (not_clockless c text report e h k)
 unrefused c text report (Report e) h k = absurd k

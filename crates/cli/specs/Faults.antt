@@ -1,14 +1,20 @@
 -- The faults of the layers below as faults of a run: want of memory is one fault, wherever it came up.
+use Rattle.vcd_reader.specs.declared.fault.VcdFault.{VcdFault}
+use Rattle.vcd_reader.specs.declared.fault.VcdFault.TheVariants as dumps
 use Rattle.lexer.specs.declared.fault.LexFault.{LexFault}
 use Rattle.lexer.specs.declared.fault.LexFault.TheVariants as lexing
 use Rattle.parser.specs.declared.fault.ParseFault.{ParseFault}
 use Rattle.parser.specs.declared.fault.ParseFault.TheVariants as parsing
-use Rattle.checker.specs.declared.fault.TypeFault.{TypeFault}
-use Rattle.checker.specs.declared.fault.TypeFault.TheVariants as typing
+use Rattle.types.specs.declared.fault.TypeFault.{TypeFault}
+use Rattle.types.specs.declared.fault.TypeFault.TheVariants as types
 use Rattle.cycle_window.specs.declared.fault.WindowFault.{WindowFault}
 use Rattle.cycle_window.specs.declared.fault.WindowFault.TheVariants as windows
 use Rattle.cli.specs.declared.fault.Fault.{Fault}
-use Rattle.cli.specs.declared.fault.Fault.TheVariants.{Lex, Parse, Typing, Window, Memory}
+use Rattle.cli.specs.declared.fault.Fault.TheVariants.{Vcd, Lex, Parse, Typing, Window, Memory}
+
+abbrev pub vcd_fault : VcdFault → Fault
+vcd_fault dumps.Memory = Memory
+vcd_fault e = Vcd e
 
 abbrev pub lex_fault : LexFault → Fault
 lex_fault lexing.Memory = Memory
@@ -19,7 +25,7 @@ parse_fault parsing.Memory = Memory
 parse_fault e = Parse e
 
 abbrev pub type_fault : TypeFault → Fault
-type_fault typing.Memory = Memory
+type_fault types.Memory = Memory
 type_fault e = Typing e
 
 abbrev pub window_fault : WindowFault → Fault

@@ -3,9 +3,9 @@ use Rattle.std.specs.Prelude.{◌≡◌, ℕ, List, [], ◌∷◌, Option, Some,
 use Rattle.std.specs.Option.{option_map}
 use Rattle.std.specs.Str.{is_utf8}
 use Rattle.grammar.specs.Trees.{Item}
-use Rattle.types.specs.declared.suite.Signal.{Signal}
-use Rattle.typing.specs.Scopes.{Scope, found, owns}
-use Rattle.typing.specs.Entries.{with_entry}
+use Rattle.assertions.specs.declared.signal.Signal.{Signal}
+use Rattle.types_expressions.specs.Scopes.{Scope, found, owns}
+use Rattle.types_expressions.specs.Entries.{with_entry}
 use Rattle.vcd_reader.specs.Variables.{Declared, variable_named, size_of}
 use Rattle.cycle_window.specs.Bound.{Wanted}
 

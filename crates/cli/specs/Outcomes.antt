@@ -7,11 +7,13 @@ use Rattle.lexer.specs.declared.token.Token.{Token}
 use Rattle.lexer.specs.Covering.{IsFaulty}
 use Rattle.grammar.specs.Trees.{Item}
 use Rattle.grammar.specs.Files.{IsFile}
-use Rattle.types.specs.declared.suite.Suite.{Suite}
-use Rattle.checker.specs.declared.fault.TypeFault.{TypeFault}
-use Rattle.checker.specs.declared.fault.TypeFault.TheVariants as types
-use Rattle.checker.specs.Faults.{IsFirst}
+use Rattle.assertions.specs.declared.suite.Suite.{Suite}
+use Rattle.parser.specs.declared.fault.ParseFault.TheVariants as parsing
+use Rattle.types.specs.declared.fault.TypeFault.{TypeFault}
+use Rattle.types.specs.declared.fault.TypeFault.TheVariants as types
+use Rattle.types.specs.Faults.{IsFirst}
 use Rattle.vcd_reader.specs.declared.fault.VcdFault.{VcdFault}
+use Rattle.vcd_reader.specs.declared.fault.VcdFault.TheVariants as dumps
 use Rattle.vcd_reader.specs.Dump.{Contents, Gave, GaveDump, Stands}
 use Rattle.cycle_window.specs.declared.fault.WindowFault.{WindowFault}
 use Rattle.cycle_window.specs.declared.fault.WindowFault.TheVariants as windows
@@ -92,6 +94,7 @@ pub record HasNoClock (c : Contents) (text : List ℕ) (fault : WindowFault) : T
 -- why a text has no items
 abbrev pub WhyNoItems : List ℕ → Fault → Type 0
 WhyNoItems text (Lex e) = IsFaulty 0 text e
+WhyNoItems text (Parse parsing.Memory) = ⊥
 WhyNoItems text (Parse e) = HasNoItems text
 WhyNoItems text Memory = Unit {0}
 WhyNoItems text _ = ⊥
@@ -104,6 +107,7 @@ WhyNotTyped c items fault = IsFirst (scope_over c.variables items) items fault
 -- why a text has no report over these contents
 abbrev pub WhyNoReport : Contents → List ℕ → Fault → Type 0
 WhyNoReport c text (Lex e) = IsFaulty 0 text e
+WhyNoReport c text (Parse parsing.Memory) = ⊥
 WhyNoReport c text (Parse e) = HasNoItems text
 WhyNoReport c text (Typing e) = IsMistyped c text e
 WhyNoReport c text (Window windows.NoClock) = HasNoClock c text windows.NoClock
@@ -134,16 +138,23 @@ pub record IsUnread (r : Run) (fault : VcdFault) : Type 0 where
   pub stands : Stands r.given_old r.given_new r.reads_old r.reads_new fault
   pub unwritten : IsUnwritten r
 
+-- memory ran out: no call failed, and nothing was written
+pub record IsOutOfMemory (r : Run) : Type 0 where
+  pub reads : r.reads_new ≡ r.reads_old
+  pub unwritten : IsUnwritten r
+
 -- why there is no report, or not all of it
 abbrev pub WhyRefused : Run → Fault → Type 0
+WhyRefused r (Vcd dumps.Memory) = ⊥
 WhyRefused r (Vcd e) = IsUnread r e
 WhyRefused r (Report reports.Write) = IsCutShort r
 WhyRefused r (Report reports.Memory) = ⊥
 WhyRefused r (Lex e) = IsRefusedReport r (Lex e)
+WhyRefused r (Parse parsing.Memory) = ⊥
 WhyRefused r (Parse e) = IsRefusedReport r (Parse e)
 WhyRefused r (Typing e) = IsRefusedReport r (Typing e)
 WhyRefused r (Window e) = IsRefusedReport r (Window e)
-WhyRefused r Memory = IsUnwritten r
+WhyRefused r Memory = IsOutOfMemory r
 WhyRefused r _ = ⊥
 
 -- the window's size is out of range, and nothing was read or written

@@ -1,20 +1,18 @@
 -- The report on a dump and a text, by the definitions alone.
-use Rattle.std.specs.Prelude.{◌≡◌, ℕ, List, length, map, Some, Ok, string_bytes}
+use Rattle.std.specs.Prelude.{◌≡◌, ℕ, ◌≤◌, List, length, map, Some, Ok, string_bytes}
 use Rattle.lexer.specs.declared.token.Token.{Token}
 use Rattle.lexer.specs.Cutting.{cut_of, tokens_of}
 use Rattle.grammar.specs.Trees.{Item}
 use Rattle.grammar.specs.Files.{IsFile}
-use Rattle.types.specs.declared.suite.Suite.{Suite}
-use Rattle.checker.specs.Faults.{IsFaultless}
-use Rattle.checker.specs.Suites.{IsSuite}
-use Rattle.values.specs.Tables.{column}
-use Rattle.values.specs.Counters.{counted}
+use Rattle.assertions.specs.declared.suite.Suite.{Suite}
+use Rattle.types.specs.Faults.{IsFaultless}
+use Rattle.types.specs.Suites.{IsSuite}
 use Rattle.vcd_reader.specs.Variables.{variable_named, size_of, code_number}
-use Rattle.vcd_reader.specs.Dump.{Contents, dump_of}
+use Rattle.vcd_reader.specs.Dump.{Contents, dump_of, most_bytes}
 use Rattle.cycle_window.specs.Ticks.{ticks_of, row_of}
 use Rattle.verdicts.specs.Lines.{LineData, ReportData, report_of}
 use Rattle.cli.specs.Named.{scope_over}
-use Rattle.cli.specs.Judged.{AreLines}
+use Rattle.cli.specs.Judged.{AreLinesOver}
 
 -- the text's tokens
 abbrev pub AreTokens : List ℕ → List Token → Type 0
@@ -51,7 +49,7 @@ rows_of c clock signals = map (row_of c signals) (ticks_of c (code_number c.vari
 -- rows and what the suite's counters count over them.
 pub record OverRows (suite : Suite) (rows : List (List ℕ)) (report : ReportData) : Type 0 where
   pub lines : List LineData
-  pub judged : AreLines suite.booleans.items (counted (column rows) suite.counters.items) (length rows) suite.assertions.items lines
+  pub judged : AreLinesOver suite rows suite.assertions.items lines
   pub is : report ≡ report_of (length rows) lines
 
 -- The report on a suite over the contents of a dump.
@@ -69,6 +67,7 @@ pub record HasReport (c : Contents) (text : List ℕ) (report : ReportData) : Ty
 
 -- The report on the bytes of a dump and the bytes of a text.
 pub record IsReport (bytes text : List ℕ) (report : ReportData) : Type 0 where
+  pub few : length bytes ≤ most_bytes
   pub contents : Contents
   pub dump : dump_of bytes ≡ Ok contents
   pub has : HasReport contents text report

@@ -2,11 +2,11 @@
 use Rattle.std.specs.Prelude.{ℕ, ◌==◌, List, Result, Ok, Err, if◌then◌else◌, slice_index}
 use Rattle.lexer.specs.declared.fault.LexFault.TheVariants as lexing
 use Rattle.parser.specs.declared.fault.ParseFault.TheVariants as parsing
-use Rattle.checker.specs.declared.fault.TypeFault.TheVariants as typing
+use Rattle.types.specs.declared.fault.TypeFault.TheVariants as types
 use Rattle.vcd_reader.specs.declared.fault.VcdFault.TheVariants as dumps
 use Rattle.cycle_window.specs.declared.fault.WindowFault.TheVariants as windows
 use Rattle.verdicts.specs.declared.write.ReportFault.TheVariants as reports
-use Rattle.cli.specs.declared.words.WordsFault.TheVariants as words
+use Rattle.command_line.specs.declared.fault.WordsFault.TheVariants as words
 use Rattle.cli.specs.declared.fault.Fault.{Fault}
 use Rattle.cli.specs.declared.fault.Fault.TheVariants.{Vcd, Lex, Parse, Typing, Window, Report, Words, File, Memory}
 
@@ -16,7 +16,7 @@ fault_status_of (Vcd dumps.Read) = 4
 fault_status_of (Vcd dumps.Memory) = 3
 fault_status_of (Lex lexing.Memory) = 3
 fault_status_of (Parse parsing.Memory) = 3
-fault_status_of (Typing typing.Memory) = 3
+fault_status_of (Typing types.Memory) = 3
 fault_status_of (Window windows.Memory) = 3
 fault_status_of (Report reports.Write) = 4
 fault_status_of (Report reports.Memory) = 3

@@ -3,12 +3,12 @@
 ghost use Rattle.std.specs.Prelude.{◌≡◌};
 ghost use Rattle.cli.specs.Statuses.{status_of, fault_status_of};
 
-use crate::words::WordsFault;
-use checker::TypeFault;
+use command_line::WordsFault;
 use cycle_window::WindowFault;
 use lexer::LexFault;
 use parser::ParseFault;
 use std::alloc::{AllocError, Global};
+use types::TypeFault;
 use vcd_reader::VcdFault;
 use verdicts::ReportFault;
 
@@ -41,6 +41,19 @@ impl From<AllocError> for Fault<'_> {
 
     fn from(_error: AllocError) -> Self {
         Fault::Memory
+    }
+}
+
+impl From<VcdFault> for Fault<'_> {
+    ghost use Rattle.cli.specs.Faults.{vcd_fault};
+
+    ghost from_gives = { λ f e. e ≡ vcd_fault f };
+
+    fn from(fault: VcdFault) -> Self {
+        match fault {
+            VcdFault::Memory => Fault::Memory,
+            other => Fault::Vcd(other),
+        }
     }
 }
 
@@ -162,7 +175,28 @@ fn window_line(alloc: Global, fault: &WindowFault) -> Result<String, AllocError>
     }
 }
 
+/// Adds a character of a path: what would end or move the line is escaped, as `\n`.
+fn push_escaped(line: &mut String, character: char) -> Result<(), AllocError> {
+    if !character.is_control() {
+        return line.push(character);
+    }
+    for escaped in character.escape_default() {
+        line.push(escaped)?;
+    }
+    Ok(())
+}
+
+/// The line that names a fault of a file, with its path in one line.
+fn path_line(alloc: Global, what: &str, path: &str) -> Result<String, AllocError> {
+    let mut line = String::from_str(alloc, what)?;
+    for character in path.chars() {
+        push_escaped(&mut line, character)?;
+    }
+    Ok(line)
+}
+
 /// The line that names a fault, without its line feed; for words it is the text that explains them.
+/// In a path, control characters are escaped, so that it is one line.
 pub fn fault_line(alloc: Global, fault: &Fault) -> Result<String, AllocError> {
     match fault {
         Fault::Vcd(fault) => vcd_line(alloc, fault),
@@ -173,10 +207,13 @@ pub fn fault_line(alloc: Global, fault: &Fault) -> Result<String, AllocError> {
         Fault::Report(ReportFault::Write) => String::from_str(alloc, "svamon: G1 Write"),
         Fault::Report(ReportFault::Memory) => String::from_str(alloc, "svamon: OutOfMemory"),
         Fault::NoAssertion(name) => format!(in alloc; "svamon: N1 NoAssertion {name}"),
-        Fault::NotText(path) => format!(in alloc; "svamon: N2 NotText {path}"),
-        Fault::Words(WordsFault::Words(text)) => format!(in alloc; "{text}"),
+        Fault::NotText(path) => path_line(alloc, "svamon: N2 NotText ", path.as_str()),
+        Fault::Words(WordsFault::Words(text)) => {
+            let text = format!(in alloc; "{text}")?;
+            String::from_str(alloc, text.as_str().trim_end())
+        }
         Fault::Words(WordsFault::OutOfMemory) => String::from_str(alloc, "svamon: OutOfMemory"),
-        Fault::File(path) => format!(in alloc; "svamon: file {path}"),
+        Fault::File(path) => path_line(alloc, "svamon: file ", path.as_str()),
         Fault::Memory => String::from_str(alloc, "svamon: OutOfMemory"),
     }
 }

@@ -1,14 +1,14 @@
 //! The lines of a report: the verdicts on all attempts of all assertions.
 
-ghost use Rattle.std.specs.Prelude.{IfOk, length, map};
-ghost use Rattle.values.specs.Traces.{samples_of};
+ghost use Rattle.std.specs.Prelude.{IfOk, map};
+ghost use Rattle.expressions.specs.Rows.{HasCounts};
 ghost use Rattle.verdicts.specs.Lines.{line};
-ghost use Rattle.cli.specs.Judged.{AreVerdictsOn, IsLine, AreLines};
+ghost use Rattle.cli.specs.Judged.{AreVerdictsOver, IsLineOver, AreLinesOver};
 
+use assertions::{Assertion, Suite};
 use judging::{Rows, judge};
 use signals::Verdict;
 use std::alloc::{AllocError, Global};
-use types::{Assertion, Suite};
 use verdicts::Line;
 
 /// The verdict on the attempt at each tick, in order.
@@ -18,12 +18,13 @@ fn verdicts_of(
     suite: &Suite,
     rows: &Rows,
 ) -> Result<Vec<Verdict>, AllocError>
-    ensures { IfOk result (λ v. AreVerdictsOn suite.now.booleans.items (samples_of rows.now) (length rows.now.signals) assertion.now v.items) }
+    requires { HasCounts suite.now.counters.items rows.now }
+    ensures { IfOk result (λ v. AreVerdictsOver suite.now rows.now.signals assertion.now v.items) }
 {
     let ticks = rows.signals.len();
     let mut verdicts = Vec::with_capacity(alloc, ticks)?;
-    for clock in 0..ticks {
-        verdicts.push(judge(alloc, assertion, suite, rows, clock)?)?;
+    for tick in 0..ticks {
+        verdicts.push(judge(alloc, assertion, suite, rows, tick)?)?;
     }
     Ok(verdicts)
 }
@@ -35,7 +36,8 @@ fn line_of(
     suite: &Suite,
     rows: &Rows,
 ) -> Result<Line, AllocError>
-    ensures { IfOk result (λ l. IsLine suite.now.booleans.items (samples_of rows.now) (length rows.now.signals) assertion.now (line l)) }
+    requires { HasCounts suite.now.counters.items rows.now }
+    ensures { IfOk result (λ l. IsLineOver suite.now rows.now.signals assertion.now (line l)) }
 {
     let verdicts = verdicts_of(alloc, assertion, suite, rows)?;
     let name = String::from_str(alloc, assertion.name.as_str())?;
@@ -44,7 +46,9 @@ fn line_of(
 
 /// The lines of all assertions, in the order of the text.
 pub(crate) fn lines_of(alloc: Global, suite: &Suite, rows: &Rows) -> Result<Vec<Line>, AllocError>
-    ensures { IfOk result (λ ls. AreLines suite.now.booleans.items (samples_of rows.now) (length rows.now.signals) suite.now.assertions.items (map line ls.items)) }
+    requires { HasCounts suite.now.counters.items rows.now }
+    ensures { IfOk result (λ ls. AreLinesOver suite.now rows.now.signals suite.now.assertions.items
+        (map line ls.items)) }
 {
     let mut lines = Vec::new(alloc);
     for assertion in &suite.assertions {

@@ -1,14 +1,14 @@
 //! The paths of a dump.
 
 ghost use Rattle.std.specs.Prelude.{◌≡◌, IfOk, OnOk};
-ghost use Rattle.typing.specs.Scopes.{found};
-ghost use Rattle.typing.specs.Views.{names_in};
+ghost use Rattle.types_expressions.specs.Scopes.{found};
+ghost use Rattle.types_expressions.specs.Views.{names_in};
 ghost use Rattle.vcd_reader.specs.Held.{variables_of};
 ghost use Rattle.cli.specs.Named.{width_named, with_named};
 
 use std::alloc::{AllocError, Global};
 use std::str;
-use typing::Names;
+use types_expressions::Names;
 use vcd_reader::Dump;
 
 /// Adds a path with the width of the variable that it names, if it is text and names one.

@@ -15,10 +15,10 @@ ghost use Rattle.cli.specs.Reported.{OverRows, Reports};
 
 use crate::lines::lines_of;
 use crate::sampled::rows_through;
+use assertions::Suite;
 use cycle_window::{Clocks, Columns, Signal, WindowFault};
+use expressions::{Table, count};
 use std::alloc::{AllocError, Global};
-use types::Suite;
-use values::{Table, count};
 use vcd_reader::Dump;
 use verdicts::Report;
 
@@ -32,7 +32,10 @@ fn report_over(alloc: Global, suite: &Suite, signals: Table) -> Result<Report, A
 }
 
 /// The signals of a suite, as they are bound.
-fn signals_of<'s>(alloc: Global, names: &'s [types::Signal]) -> Result<Vec<Signal<'s>>, AllocError>
+fn signals_of<'s>(
+    alloc: Global,
+    names: &'s [assertions::Signal],
+) -> Result<Vec<Signal<'s>>, AllocError>
     ensures { IfOk result (λ ss. map wanted ss.items ≡ map wanted_of names.entry.now) }
 {
     let mut signals = Vec::with_capacity(alloc, names.len())?;
@@ -65,7 +68,6 @@ fn rows_of(
 ) -> Result<Table, AllocError>
     requires some { 1 ≤ size }
     requires most { size ≤ 65536 }
-    requires held { (c : Contents) × Holds dump.now c }
     requires clocks { AreClocksOf dump.now clocks.now }
     requires named { AreNamed (variables_of dump.now) suite.now.names.items }
     ensures { (c : Contents) (signals : List ℕ) → Holds dump.now c → map (λ s. variable_named (variables_of dump.now) (string_bytes s.path)) suite.now.names.items ≡ map (λ v. Some v) signals
@@ -87,7 +89,6 @@ pub(crate) fn report_on(
 ) -> Result<Report, WindowFault>
     requires some { 1 ≤ size }
     requires most { size ≤ 65536 }
-    requires held { (c : Contents) × Holds dump.now c }
     requires named { AreNamed (variables_of dump.now) suite.now.names.items }
     ensures ok { (c : Contents) → Holds dump.now c → IfOk result (λ r. Reports c suite.now (shown r)) }
     ensures err { (c : Contents) → Holds dump.now c → IfErr result (IsClockFault c.variables (string_bytes suite.now.clock)) }

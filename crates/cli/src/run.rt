@@ -12,7 +12,7 @@ use crate::report::report_on;
 use crate::text::{file_of, suite_of};
 use signals::{Sink, Source};
 use std::alloc::Global;
-use vcd_reader::{Dump, VcdFault, read_dump};
+use vcd_reader::{Dump, read_dump};
 use verdicts::{Report, ReportFault, write_report};
 
 /// The report on a text over a dump.
@@ -58,11 +58,7 @@ pub(crate) fn run_through<'a, S: Source, W: Sink>(
     ensures answered { IfOk result (IsAnswered (run_of text.entry.now (S.remaining source.old) (S.remaining source.new) (S.failures source.old) (S.failures source.new) (W.contents out.old) (W.contents out.new) (W.failures out.old) (W.failures out.new))) }
     ensures refused { IfErr result (WhyRefused (run_of text.entry.now (S.remaining source.old) (S.remaining source.new) (S.failures source.old) (S.failures source.new) (W.contents out.old) (W.contents out.new) (W.failures out.old) (W.failures out.new))) }
 {
-    let dump = match read_dump(alloc, source) {
-        Ok(dump) => dump,
-        Err(VcdFault::Memory) => return Err(Fault::Memory),
-        Err(fault) => return Err(Fault::Vcd(fault)),
-    };
+    let dump = read_dump(alloc, source)?;
     let report = match judged(alloc, &dump, text, size) {
         Ok(report) => report,
         Err(fault) => return Err(fault),

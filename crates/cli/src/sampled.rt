@@ -7,8 +7,8 @@ ghost use Rattle.cycle_window.specs.Ticks.{ticks_of, row_of};
 ghost use Rattle.cycle_window.specs.Held.{ticks_in, code_in, places_in, clock_in, columns_in, first_in, end_in, AreClocksOf, AreColumnsOf, IsOver};
 
 use cycle_window::{Clocks, Columns, Window};
+use expressions::Table;
 use std::alloc::{AllocError, Global};
-use values::Table;
 use vcd_reader::Dump;
 
 /// Adds the rows of a window behind those of the clocks before it.
@@ -38,7 +38,6 @@ pub(crate) fn rows_through(
 ) -> Result<Table, AllocError>
     requires some { 1 ≤ size }
     requires most { size ≤ 65536 }
-    requires held { (c : Contents) × Holds dump.now c }
     requires clocks { AreClocksOf dump.now clocks.now }
     requires clock { clock_in columns ≡ code_in clocks.now }
     requires columns { (c : Contents) → Holds dump.now c → AreColumnsOf columns c }

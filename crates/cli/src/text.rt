@@ -9,11 +9,11 @@ ghost use Rattle.cli.specs.Outcomes.{WhyNoItems, WhyNotTyped};
 
 use crate::fault::Fault;
 use crate::names::names_of;
-use checker::{TypeFault, check};
+use assertions::Suite;
 use lexer::lex;
 use parser::{File, parse};
 use std::alloc::Global;
-use types::Suite;
+use types::{TypeFault, check};
 use vcd_reader::Dump;
 
 /// The items of a text.

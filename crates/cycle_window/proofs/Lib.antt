@@ -2,4 +2,3 @@ pub mod LastLaws
 pub mod TickLaws
 pub mod HeldLaws
 pub mod BoundLaws
-pub mod WindowLaws

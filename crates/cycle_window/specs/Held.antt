@@ -57,8 +57,6 @@ pub record IsWindowOf (w : Window) (d : Dump) (k : Clocks) : Type 0 where
   pub same_clock : code_in k ≡ clock_in (columns_in w)
   pub clocks : AreClocksOf d k
   pub over : (c : Contents) → Holds d c → IsOver w c
-  -- the dump says something, as every dump that was read
-  pub held : (c : Contents) × Holds d c
 
 -- all changes of the steps before the step k, as they are stored
 unfoldable pub changes_to : List Step → ℕ → List Change

@@ -14,6 +14,3 @@ pub use columns::{Columns, Signal};
 pub use fault::WindowFault;
 pub use laws::ticks_law;
 pub use window::Window;
-
-#[cfg(test)]
-mod tests;

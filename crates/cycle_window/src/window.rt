@@ -67,13 +67,15 @@ impl Window {
         self.end = end;
     }
 
-    /// The values at a clock of the window, one for each signal.
-    pub fn row(&self, clock: u64) -> &[u128]
-        requires low { first_in self.now ≤ clock }
-        requires high { clock < end_in self.now }
-        ensures { (c : Contents) → IsOver self.now c → result.now ≡ row_of c (places_in (columns_in self.now)) (slice_index (ticks_of c (clock_in (columns_in self.now))) clock) }
+    /// The values at a tick of the window, one for each signal.
+    pub fn row(&self, tick: u64) -> &[u128]
+        requires low { first_in self.now ≤ tick }
+        requires high { tick < end_in self.now }
+        ensures { (c : Contents) → IsOver self.now c → result.now ≡ row_of c
+            (places_in (columns_in self.now))
+            (slice_index (ticks_of c (clock_in (columns_in self.now))) tick) }
     {
-        &self.columns.rows[clock as usize]
+        &self.columns.rows[tick as usize]
     }
 
     /// The window's clocks: from the first up to the second, which is not in it.

@@ -12,13 +12,13 @@ use Rattle.grammar.specs.declared.terminal.Terminal.TheVariants as words
 use Rattle.grammar.specs.declared.terminal.Terminal.TheVariants.{OpenRound, CloseRound, CloseBrace, OpenSquare, CloseSquare, Comma, Colon, Dot}
 use Rattle.grammar.specs.Terminals.{terminal, names, is, is_name}
 use Rattle.grammar.specs.Bounds.{index, bound_within}
-use Rattle.grammar.specs.Marks.{mark, mark_of_terminal, looseness, next_looseness, so_loose}
+use Rattle.grammar.specs.Marks.{mark, mark_of_terminal, precedence, next_precedence, has_precedence}
 use Rattle.grammar.specs.Trees.{Tree, number, path, concatenation, past, call, unary, chain, choice, Links, end, link, Parts, no_part, part}
 use Rattle.grammar.specs.Expressions.{AreMembers, no_member, member, IsPath, name, IsSelected, whole, bit, bits, IsTicks, one_tick, some_ticks, Operand, is_number, is_path, is_concatenation, in_brackets, is_past, is_call, is_unary, is_tighter, is_chain, Follows, no_more, one_more, AreParts, no_parts, one_part, Spells, is_operand, is_choice}
 use Rattle.grammar.specs.Readers.{◌>>=◌, Reader, lead, expect, pick, optional, many, each}
 use Rattle.grammar.specs.ReadExpressions.{name_of, word_of, members, path_words, select, Inner, links_of, parts_of, named, bracketed, concatenated, passed, called, prefixing, prefixed_with, links, joined, climb, level, choice_with, expr_with, readers}
 use Rattle.grammar.proofs.TerminalLaws.{true-is}
-use Rattle.grammar.proofs.ReaderLaws.{bind-assoc, lead-true, lead-false, lead-nil, expect-is, expect-not, expect-loose, pick-is, optional-none, optional-is, many-none, many-more, loose-Dot, loose-OpenSquare, loose-Comma, loose-Colon, loose-CloseRound, loose-CloseBrace}
+use Rattle.grammar.proofs.ReaderLaws.{bind-assoc, lead-true, lead-false, lead-nil, expect-is, expect-not, expect-precedence, pick-is, optional-none, optional-is, many-none, many-more, precedence-Dot, precedence-OpenSquare, precedence-Comma, precedence-Colon, precedence-CloseRound, precedence-CloseBrace}
 
 abbrev pub base : ℕ → Reader Tree
 base d = prefixed_with (readers d)
@@ -48,18 +48,18 @@ unfolding level
 expr-is inner b ts = sym (bind-assoc (b ts) (λ (p : Tree × List Token). climb b 9 p.0 p.1) (λ (p : Tree × List Token). choice_with inner.expr p.0 p.1))
 
 -- operators
-lead-loose : (k : ℕ) (ts : List Token) → (next_looseness ts ≡ k → ⊥) → lead (so_loose k) ts ≡ None
-unfolding so_loose
-lead-loose k [] h = lead-nil (so_loose k)
-lead-loose k (t ∷ ts) h = lead-false (so_loose k) t ts (ne_eqb (looseness t) k h)
+lead-precedence : (k : ℕ) (ts : List Token) → (next_precedence ts ≡ k → ⊥) → lead (has_precedence k) ts ≡ None
+unfolding has_precedence
+lead-precedence k [] h = lead-nil (has_precedence k)
+lead-precedence k (t ∷ ts) h = lead-false (has_precedence k) t ts (ne_eqb (precedence t) k h)
 
-choice-none : (inner : Reader Tree) (c : Tree) (ts : List Token) → 10 < next_looseness ts → choice_with inner c ts ≡ Some (c, ts)
+choice-none : (inner : Reader Tree) (c : Tree) (ts : List Token) → 10 < next_precedence ts → choice_with inner c ts ≡ Some (c, ts)
 unfolding choice_with
-choice-none inner c ts h = rw (lead-loose 10 ts (λ e. omega arith)) refl
+choice-none inner c ts h = rw (lead-precedence 10 ts (λ e. omega arith)) refl
 
-choice-some : (inner : Reader Tree) (t u : Token) (c a b : Tree) (us vs rest : List Token) → looseness t ≡ 10 → terminal u ≡ Colon → inner us ≡ Some (a, u ∷ vs) → inner vs ≡ Some (b, rest) → choice_with inner c (t ∷ us) ≡ Some (choice c a b, rest)
-unfolding choice_with so_loose
-choice-some inner t u c a b us vs rest h k p q = rw (lead-true (so_loose 10) t us (eq-eqb (looseness t) 10 h), p, expect-is Colon u vs k, q) refl
+choice-some : (inner : Reader Tree) (t u : Token) (c a b : Tree) (us vs rest : List Token) → precedence t ≡ 10 → terminal u ≡ Colon → inner us ≡ Some (a, u ∷ vs) → inner vs ≡ Some (b, rest) → choice_with inner c (t ∷ us) ≡ Some (choice c a b, rest)
+unfolding choice_with has_precedence
+choice-some inner t u c a b us vs rest h k p q = rw (lead-true (has_precedence 10) t us (eq-eqb (precedence t) 10 h), p, expect-is Colon u vs k, q) refl
 
 -- ghost lists as lists
 pub list_of : Links → List (Token × Tree)
@@ -113,21 +113,21 @@ pub members-read : {more ts rest : List Token} → AreMembers more ts rest → e
 unfolding members each
 members-read {ts = ts} m h = members-many m (length ts) (omega arith) h
 
-no_dot : (ts : List Token) → 0 < next_looseness ts → expect Dot ts ≡ None
-no_dot ts h = expect-loose Dot 0 loose-Dot ts (λ e. omega arith)
+no_dot : (ts : List Token) → 0 < next_precedence ts → expect Dot ts ≡ None
+no_dot ts h = expect-precedence Dot 0 precedence-Dot ts (λ e. omega arith)
 
-pub path-read : {words ts rest : List Token} → IsPath words ts rest → 0 < next_looseness rest → path_words ts ≡ Some (words, rest)
+pub path-read : {words ts rest : List Token} → IsPath words ts rest → 0 < next_precedence rest → path_words ts ≡ Some (words, rest)
 unfolding path_words name_of
 path-read (name {t = t} {more = more} {ts = ts} {rest = rest} n m) le = rw (pick-is name_of t t ts (rw n refl), members-read m (no_dot rest le)) refl
 
-selected-no_dot : {d : ℕ} {s : Option Select} {ts rest : List Token} → IsSelected d s ts rest → 0 < next_looseness rest → expect Dot ts ≡ None
+selected-no_dot : {d : ℕ} {s : Option Select} {ts rest : List Token} → IsSelected d s ts rest → 0 < next_precedence rest → expect Dot ts ≡ None
 selected-no_dot (whole {ts = ts}) le = no_dot ts le
 selected-no_dot (bit {left = left} {n = n} {right = right} {rest = rest} o i c) le = expect-not Dot left (n ∷ right ∷ rest) (λ e. absurd cc)
 selected-no_dot (bits {left = left} {n = n} {colon = colon} {m = m} {right = right} {rest = rest} o i k j c) le = expect-not Dot left (n ∷ colon ∷ m ∷ right ∷ rest) (λ e. absurd cc)
 
-selected-read : {d : ℕ} {s : Option Select} {ts rest : List Token} → IsSelected d s ts rest → 0 < next_looseness rest → optional OpenSquare (readers d).select ts ≡ Some (s, rest)
+selected-read : {d : ℕ} {s : Option Select} {ts rest : List Token} → IsSelected d s ts rest → 0 < next_precedence rest → optional OpenSquare (readers d).select ts ≡ Some (s, rest)
 unfolding readers select
-selected-read (whole {d = d} {ts = ts}) le = optional-none OpenSquare (readers d).select ts (expect-loose OpenSquare 0 loose-OpenSquare ts (λ e. omega arith))
+selected-read (whole {d = d} {ts = ts}) le = optional-none OpenSquare (readers d).select ts (expect-precedence OpenSquare 0 precedence-OpenSquare ts (λ e. omega arith))
 selected-read (bit {left = left} {n = n} {right = right} {i = i} {rest = rest} o k c) le =
     optional-is OpenSquare select left (n ∷ right ∷ rest) _ rest o
     (rw (pick-is index i n (right ∷ rest) k, optional-none Colon (pick index) (right ∷ rest) (expect-not Colon right rest (λ e. absurd cc)), expect-is CloseSquare right rest c) refl)
@@ -135,7 +135,7 @@ selected-read (bits {left = left} {n = n} {colon = colon} {m = m} {right = right
     optional-is OpenSquare select left (n ∷ colon ∷ m ∷ right ∷ rest) _ rest o
     (rw (pick-is index i n (colon ∷ m ∷ right ∷ rest) k, optional-is Colon (pick index) colon (m ∷ right ∷ rest) j (right ∷ rest) l (pick-is index j m (right ∷ rest) h), expect-is CloseSquare right rest c) refl)
 
-named-read : (d : ℕ) (t : Token) (more : List Token) (s : Option Select) (ts us rest : List Token) → is_name t ≡ true → AreMembers more ts us → IsSelected d s us rest → 0 < next_looseness rest → base d (t ∷ ts) ≡ Some (path (t ∷ more) s, rest)
+named-read : (d : ℕ) (t : Token) (more : List Token) (s : Option Select) (ts us rest : List Token) → is_name t ≡ true → AreMembers more ts us → IsSelected d s us rest → 0 < next_precedence rest → base d (t ∷ ts) ≡ Some (path (t ∷ more) s, rest)
 unfolding prefixed_with named
 named-read d t more s ts us rest n m sel le = rw (name-mark t n, members-read m (selected-no_dot sel le), selected-read sel le) refl
 
@@ -157,9 +157,9 @@ ticks-read : {ticks : Option Bound} {ts : List Token} {right : Token} {rest : Li
 ticks-read {right = right} {rest = rest} one_tick c = optional-none Comma (pick (bound_within 1 64)) (right ∷ rest) (expect-not Comma right rest (λ e. absurd cc))
 ticks-read {right = right} {rest = rest} (some_ticks {comma = comma} {n = n} {b = b} k h) c = optional-is Comma (pick (bound_within 1 64)) comma (n ∷ right ∷ rest) b (right ∷ rest) k (pick-is (bound_within 1 64) b n (right ∷ rest) h)
 
-ticks-next : {ticks : Option Bound} {ts : List Token} {right : Token} {rest : List Token} → IsTicks ticks ts (right ∷ rest) → terminal right ≡ CloseRound → next_looseness ts ≡ 100
-ticks-next {right = right} one_tick c = loose-CloseRound right c
-ticks-next (some_ticks {comma = comma} k h) c = loose-Comma comma k
+ticks-next : {ticks : Option Bound} {ts : List Token} {right : Token} {rest : List Token} → IsTicks ticks ts (right ∷ rest) → terminal right ≡ CloseRound → next_precedence ts ≡ 100
+ticks-next {right = right} one_tick c = precedence-CloseRound right c
+ticks-next (some_ticks {comma = comma} k h) c = precedence-Comma comma k
 
 past-read : (d : ℕ) (f left right : Token) (e : Tree) (ticks : Option Bound) (ts us rest : List Token) → mark f ≡ marks.Past → terminal left ≡ OpenRound → expr d ts ≡ Some (e, us) → optional Comma (pick (bound_within 1 64)) us ≡ Some (ticks, right ∷ rest) → terminal right ≡ CloseRound
     → base (suc d) (f ∷ left ∷ ts) ≡ Some (past f e ticks, rest)
@@ -215,63 +215,63 @@ mutual
   spells-shorter (is_operand o) = operand-shorter o
   spells-shorter (is_choice h k o s v) = omega (arith, operand-shorter o, spells-shorter s, spells-shorter v)
 
-follows-loose : {d l : ℕ} {t : Token} {e : Tree} {more : Links} {ts rest : List Token} → Follows d l (link t e more) ts rest → next_looseness ts ≡ suc l
-follows-loose (one_more h o f) = h
+follows-precedence : {d l : ℕ} {t : Token} {e : Tree} {more : Links} {ts rest : List Token} → Follows d l (link t e more) ts rest → next_precedence ts ≡ suc l
+follows-precedence (one_more h o f) = h
 
-follows-next : {d l : ℕ} {more : Links} {ts rest : List Token} → Follows d l more ts rest → suc l < next_looseness rest → l < next_looseness ts
+follows-next : {d l : ℕ} {more : Links} {ts rest : List Token} → Follows d l more ts rest → suc l < next_precedence rest → l < next_precedence ts
 follows-next no_more le = omega arith
 follows-next (one_more h o f) le = omega arith
 
-parts-next : {d : ℕ} {more : Parts} {ts rest : List Token} → AreParts d more ts rest → 10 < next_looseness rest → 10 < next_looseness ts
+parts-next : {d : ℕ} {more : Parts} {ts rest : List Token} → AreParts d more ts rest → 10 < next_precedence rest → 10 < next_precedence ts
 parts-next no_parts le = le
-parts-next (one_part {comma = comma} k s p) le = omega (arith, loose-Comma comma k)
+parts-next (one_part {comma = comma} k s p) le = omega (arith, precedence-Comma comma k)
 
-pub links-none : (operand : Reader Tree) (l : ℕ) (ts : List Token) → suc l < next_looseness ts → links operand l ts ≡ Some ([], ts)
+pub links-none : (operand : Reader Tree) (l : ℕ) (ts : List Token) → suc l < next_precedence ts → links operand l ts ≡ Some ([], ts)
 unfolding links each
-links-none operand l ts h = many-none (so_loose (suc l)) (λ t us. operand us >>= λ p. Some ((t, p.0), p.1)) (length ts) ts (lead-loose (suc l) ts (λ e. omega arith))
+links-none operand l ts h = many-none (has_precedence (suc l)) (λ t us. operand us >>= λ p. Some ((t, p.0), p.1)) (length ts) ts (lead-precedence (suc l) ts (λ e. omega arith))
 
 number-read : (d : ℕ) (t : Token) (rest : List Token) → mark t ≡ marks.Number → base d (t ∷ rest) ≡ Some (number t, rest)
 unfolding prefixed_with
 number-read d t rest h = rw h refl
 
 mutual
-  unfolding list_of list_of_parts links each expect readers so_loose
+  unfolding list_of list_of_parts links each expect readers has_precedence
 
-  pub operand-read : {d l : ℕ} {e : Tree} {ts rest : List Token} → Operand d l e ts rest → l < next_looseness rest → level (base d) l ts ≡ Some (e, rest)
+  pub operand-read : {d l : ℕ} {e : Tree} {ts rest : List Token} → Operand d l e ts rest → l < next_precedence rest → level (base d) l ts ≡ Some (e, rest)
   operand-read (is_number {d = d} {t = t} {rest = rest} h) le = level-zero (base d) (t ∷ rest) ∙ number-read d t rest h
   operand-read (is_path {d = d} {us = us} {rest = rest} (name {t = t} {more = more} {ts = ts} n m) s) le = level-zero (base d) (t ∷ ts) ∙ named-read d t more _ ts us rest n m s le
   operand-read (is_concatenation {d = d} {left = left} {right = right} {e = e} {more = more} {ts = ts} {us = us} {rest = rest} m s p c) le =
       level-zero (base (suc d)) (left ∷ ts)
-      ∙ concatenation-read d left right e (list_of_parts more) ts us rest m (spells-read s (parts-next p (omega (arith, loose-CloseBrace right c)))) (parts-many p (length us) (omega arith) (omega (arith, loose-CloseBrace right c)) (expect-not Comma right rest (λ h. absurd cc))) c
+      ∙ concatenation-read d left right e (list_of_parts more) ts us rest m (spells-read s (parts-next p (omega (arith, precedence-CloseBrace right c)))) (parts-many p (length us) (omega arith) (omega (arith, precedence-CloseBrace right c)) (expect-not Comma right rest (λ h. absurd cc))) c
       ∙ ap (λ (x : Parts). Some (concatenation left e x, rest)) (parts_of-list more)
   operand-read (in_brackets {d = d} {left = left} {right = right} {e = e} {ts = ts} {rest = rest} m s c) le =
-      level-zero (base (suc d)) (left ∷ ts) ∙ brackets-read d left right e ts rest m (spells-read s (omega (arith, loose-CloseRound right c))) c
+      level-zero (base (suc d)) (left ∷ ts) ∙ brackets-read d left right e ts rest m (spells-read s (omega (arith, precedence-CloseRound right c))) c
   operand-read (is_past {d = d} {f = f} {left = left} {right = right} {e = e} {ticks = ticks} {ts = ts} {us = us} {rest = rest} m o s t c) le =
       level-zero (base (suc d)) (f ∷ left ∷ ts) ∙ past-read d f left right e ticks ts us rest m o (spells-read s (omega (arith, ticks-next t c))) (ticks-read t c) c
   operand-read (is_call {d = d} {g = g} {f = f} {left = left} {right = right} {e = e} {ts = ts} {rest = rest} m o s c) le =
-      level-zero (base (suc d)) (f ∷ left ∷ ts) ∙ call-read d g f left right e ts rest m o (spells-read s (omega (arith, loose-CloseRound right c))) c
+      level-zero (base (suc d)) (f ∷ left ∷ ts) ∙ call-read d g f left right e ts rest m o (spells-read s (omega (arith, precedence-CloseRound right c))) c
   operand-read (is_unary {d = d} {t = t} {e = e} {ts = ts} {rest = rest} h o) le =
       level-zero (base (suc d)) (t ∷ ts) ∙ unary-read d t e ts rest h (sym (level-zero (base d) ts) ∙ operand-read o le)
   operand-read (is_tighter {d = d} {l = l} {e = e} {ts = ts} {rest = rest} o) le =
       level-on (base d) l e (list_of end) ts rest rest (operand-read o (omega arith)) (links-none (level (base d) l) l rest le) ∙ ap (λ (x : Tree). Some (x, rest)) (joined-none e)
   operand-read (is_chain {d = d} {l = l} {t = t} {first = first} {e = e} {more = more} {ts = ts} {us = us} {rest = rest} o f) le =
-      level-on (base d) l first (list_of (link t e more)) ts us rest (operand-read o (omega (arith, follows-loose f))) (follows-many f (length us) (omega arith) le) ∙ ap (λ (x : Tree). Some (x, rest)) (joined-list first t e more)
+      level-on (base d) l first (list_of (link t e more)) ts us rest (operand-read o (omega (arith, follows-precedence f))) (follows-many f (length us) (omega arith) le) ∙ ap (λ (x : Tree). Some (x, rest)) (joined-list first t e more)
 
-  follows-many : {d l : ℕ} {more : Links} {ts rest : List Token} → Follows d l more ts rest → (n : ℕ) → length ts ≤ n → suc l < next_looseness rest
-      → many (so_loose (suc l)) (λ t us. level (base d) l us >>= λ p. Some ((t, p.0), p.1)) n ts ≡ Some (list_of more, rest)
-  follows-many (no_more {d = d} {l = l} {ts = ts}) n len le = many-none (so_loose (suc l)) (λ t us. level (base d) l us >>= λ p. Some ((t, p.0), p.1)) n ts (lead-loose (suc l) ts (λ e. omega arith))
+  follows-many : {d l : ℕ} {more : Links} {ts rest : List Token} → Follows d l more ts rest → (n : ℕ) → length ts ≤ n → suc l < next_precedence rest
+      → many (has_precedence (suc l)) (λ t us. level (base d) l us >>= λ p. Some ((t, p.0), p.1)) n ts ≡ Some (list_of more, rest)
+  follows-many (no_more {d = d} {l = l} {ts = ts}) n len le = many-none (has_precedence (suc l)) (λ t us. level (base d) l us >>= λ p. Some ((t, p.0), p.1)) n ts (lead-precedence (suc l) ts (λ e. omega arith))
   follows-many (one_more h o f) zero len le = absurd (omega arith)
   follows-many (one_more {d = d} {l = l} {t = t} {e = e} {more = more} {ts = ts} {us = us} {rest = rest} h o f) (suc n) len le =
-      many-more (so_loose (suc l)) (λ t us. level (base d) l us >>= λ p. Some ((t, p.0), p.1)) n t ts (t, e) us (list_of more) rest (eq-eqb (looseness t) (suc l) h) (rw (operand-read o (follows-next f le)) refl)
+      many-more (has_precedence (suc l)) (λ t us. level (base d) l us >>= λ p. Some ((t, p.0), p.1)) n t ts (t, e) us (list_of more) rest (eq-eqb (precedence t) (suc l) h) (rw (operand-read o (follows-next f le)) refl)
       (follows-many f n (omega (arith, operand-shorter o)) le)
 
-  parts-many : {d : ℕ} {more : Parts} {ts rest : List Token} → AreParts d more ts rest → (n : ℕ) → length ts ≤ n → 10 < next_looseness rest → expect Comma rest ≡ None → many (is Comma) (λ comma. expr d) n ts ≡ Some (list_of_parts more, rest)
+  parts-many : {d : ℕ} {more : Parts} {ts rest : List Token} → AreParts d more ts rest → (n : ℕ) → length ts ≤ n → 10 < next_precedence rest → expect Comma rest ≡ None → many (is Comma) (λ comma. expr d) n ts ≡ Some (list_of_parts more, rest)
   parts-many (no_parts {d = d} {ts = ts}) n len le h = many-none (is Comma) (λ comma. expr d) n ts h
   parts-many (one_part k s p) zero len le h = absurd (omega arith)
   parts-many (one_part {d = d} {comma = comma} {e = e} {more = more} {ts = ts} {us = us} {rest = rest} k s p) (suc n) len le h =
       many-more (is Comma) (λ comma. expr d) n comma ts e us (list_of_parts more) rest (true-is Comma comma k) (spells-read s (parts-next p le)) (parts-many p n (omega (arith, spells-shorter s)) le h)
 
-  pub spells-read : {d : ℕ} {e : Tree} {ts rest : List Token} → Spells d e ts rest → 10 < next_looseness rest → expr d ts ≡ Some (e, rest)
+  pub spells-read : {d : ℕ} {e : Tree} {ts rest : List Token} → Spells d e ts rest → 10 < next_precedence rest → expr d ts ≡ Some (e, rest)
   spells-read (is_operand {d = d} {e = e} {ts = ts} {rest = rest} o) le = expr-is (readers d) (base d) ts ∙ rw (operand-read o (omega arith)) (choice-none (readers d).expr e rest le)
   spells-read (is_choice {d = d} {t = t} {colon = colon} {c = c} {a = a} {b = b} {ts = ts} {us = us} {vs = vs} {rest = rest} h k o s v) le =
-      expr-is (readers (suc d)) (base (suc d)) ts ∙ rw (operand-read o (omega arith)) (choice-some (readers (suc d)).expr t colon c a b us vs rest h k (spells-read s (omega (arith, loose-Colon colon k))) (spells-read v le))
+      expr-is (readers (suc d)) (base (suc d)) ts ∙ rw (operand-read o (omega arith)) (choice-some (readers (suc d)).expr t colon c a b us vs rest h k (spells-read s (omega (arith, precedence-Colon colon k))) (spells-read v le))

@@ -7,7 +7,7 @@ use Rattle.grammar.specs.declared.terminal.Terminal.TheVariants as word
 use Rattle.grammar.specs.declared.terminal.Terminal.TheVariants.{OpenRound, CloseRound, OpenSquare, CloseSquare, Comma, Semicolon, Colon, AtSign, Posedge, Disable, Iff, EndSequence, End, Delay}
 use Rattle.grammar.specs.Terminals.{terminal, names, is_name}
 use Rattle.grammar.specs.Bounds.{bound_within}
-use Rattle.grammar.specs.Marks.{mark, next_looseness}
+use Rattle.grammar.specs.Marks.{mark, next_precedence}
 use Rattle.grammar.specs.Trees.{Tree, Property, Counter, Declaration, Assertion, Item, counter, declaration, assertion}
 use Rattle.grammar.specs.Expressions.{IsPath, Spells}
 use Rattle.grammar.specs.Sequences.{IsProperty, is_plain, is_implication, bracketed}
@@ -17,12 +17,12 @@ use Rattle.grammar.specs.ReadExpressions.{name_of, expression, prefixed_with}
 use Rattle.grammar.specs.ReadSequences.{body_with, during_with, whole_with, whole, property_with, property}
 use Rattle.grammar.specs.ReadFiles.{one_operand, two_operands, counter_head, counter_item, again_of, skip, ending_of, declaration_item, is_verb_token, opening, clock_of, disabling, property_end, assertion_item, labelled, declared, item, asserts, is_more, items, ReadsFile}
 use Rattle.grammar.proofs.TerminalLaws.{true-is, false-is}
-use Rattle.grammar.proofs.ReaderLaws.{lead-true, lead-false, expect-is, expect-not, expect-some, pick-is, optional-none, optional-is, many-none, many-more, loose-Comma, loose-CloseRound, loose-Semicolon, loose-EndSequence}
+use Rattle.grammar.proofs.ReaderLaws.{lead-true, lead-false, expect-is, expect-not, expect-some, pick-is, optional-none, optional-is, many-none, many-more, precedence-Comma, precedence-CloseRound, precedence-Semicolon, precedence-EndSequence}
 use Rattle.grammar.proofs.Complete.{path-read, path-shorter, spells-read, spells-shorter}
 use Rattle.grammar.proofs.SequencesComplete.{sequence-shorter}
 use Rattle.grammar.proofs.PropertyLaws.{whole-read, property-read}
 
-expression-read : {d : ℕ} {e : Tree} {ts rest : List Token} → Spells d e ts rest → 10 < next_looseness rest → expression d ts ≡ Some (e, rest)
+expression-read : {d : ℕ} {e : Tree} {ts rest : List Token} → Spells d e ts rest → 10 < next_precedence rest → expression d ts ≡ Some (e, rest)
 unfolding expression
 expression-read s le = spells-read s le
 
@@ -46,12 +46,12 @@ clear-not (clear {w = x} {left = left} {ts = ts} k o a c) w ne h = expect-not w 
 
 one-read : (d : ℕ) (left right : Token) (e : Tree) (ts rest : List Token) → terminal left ≡ OpenRound → Spells d e ts (right ∷ rest) → terminal right ≡ CloseRound → one_operand d (left ∷ ts) ≡ Some (e, rest)
 unfolding one_operand
-one-read d left right e ts rest o s c = rw (expect-is OpenRound left ts o, expression-read s (omega (arith, loose-CloseRound right c)), expect-is CloseRound right rest c) refl
+one-read d left right e ts rest o s c = rw (expect-is OpenRound left ts o, expression-read s (omega (arith, precedence-CloseRound right c)), expect-is CloseRound right rest c) refl
 
 two-read : (left comma right : Token) (a b : Tree) (ts us rest : List Token) → terminal left ≡ OpenRound → Spells in_one a ts (comma ∷ us) → terminal comma ≡ Comma → Spells in_one b us (right ∷ rest) → terminal right ≡ CloseRound → two_operands (left ∷ ts) ≡ Some ((a, b), rest)
 unfolding two_operands
 two-read left comma right a b ts us rest o s m v c =
-    rw (expect-is OpenRound left ts o, expression-read s (omega (arith, loose-Comma comma m)), expect-is Comma comma us m, expression-read v (omega (arith, loose-CloseRound right c)), expect-is CloseRound right rest c) refl
+    rw (expect-is OpenRound left ts o, expression-read s (omega (arith, precedence-Comma comma m)), expect-is Comma comma us m, expression-read v (omega (arith, precedence-CloseRound right c)), expect-is CloseRound right rest c) refl
 
 clear-read : {o : Option Tree} {ts us : List Token} → IsClear o ts us → expect word.Clear us ≡ None → optional word.Clear (one_operand in_one) ts ≡ Some (o, us)
 clear-read (no_clear {ts = ts}) h = optional-none word.Clear (one_operand in_one) ts h
@@ -102,9 +102,9 @@ unfolding skip
 ending-read (ending {name = name} {e = e} {ts = ts} {rest = rest} k c) h = end-read name e ts rest k c h (e ∷ ts) (rw (expect-not Semicolon e ts (λ x. absurd cc)) refl)
 ending-read (with_semicolon {name = name} {semicolon = semicolon} {e = e} {ts = ts} {rest = rest} s k c) h = end-read name e ts rest k c h (semicolon ∷ e ∷ ts) (rw (expect-is Semicolon semicolon (e ∷ ts) s) refl)
 
-ending-next : {name : Token} {ts rest : List Token} → IsEnding name ts rest → next_looseness ts ≡ 100
-ending-next (ending {e = e} k c) = loose-EndSequence e k
-ending-next (with_semicolon {semicolon = semicolon} s k c) = loose-Semicolon semicolon s
+ending-next : {name : Token} {ts rest : List Token} → IsEnding name ts rest → next_precedence ts ≡ 100
+ending-next (ending {e = e} k c) = precedence-EndSequence e k
+ending-next (with_semicolon {semicolon = semicolon} s k c) = precedence-Semicolon semicolon s
 
 item-sequence : (w : Token) (ts : List Token) → terminal w ≡ word.Sequence → item (w ∷ ts) ≡ declaration_item ts
 unfolding item declared
@@ -145,7 +145,7 @@ assertion-read : (l : Option Token) (verb prop open_round at_sign round posedge 
     → assertion_item l (verb ∷ prop ∷ open_round ∷ at_sign ∷ round ∷ posedge ∷ us) ≡ Some (assertion (record { label = l; verb = verb; clock = clock; disable = off; property = p }), rest)
 unfolding assertion_item opening clock_of property_end
 assertion-read l verb prop open_round at_sign round posedge right last semicolon clock off p us vs ws rest v a b c e f g h i j k m =
-    let read = property-read j (omega (arith, loose-CloseRound last k)) in
+    let read = property-read j (omega (arith, precedence-CloseRound last k)) in
     rw (
       lead-true is_verb_token verb (prop ∷ open_round ∷ at_sign ∷ round ∷ posedge ∷ us) (verb-token verb v),
       expect-is word.Property prop (open_round ∷ at_sign ∷ round ∷ posedge ∷ us) a,
@@ -153,7 +153,7 @@ assertion-read l verb prop open_round at_sign round posedge right last semicolon
       expect-is AtSign at_sign (round ∷ posedge ∷ us) c,
       expect-is OpenRound round (posedge ∷ us) e,
       expect-is Posedge posedge us f,
-      path-read g (omega (arith, loose-CloseRound right h)),
+      path-read g (omega (arith, precedence-CloseRound right h)),
       expect-is CloseRound right vs h,
       disable-read i (no_disable_by in_one ws (p, last ∷ semicolon ∷ rest) read (expect Disable ws) refl),
       read,

@@ -4,30 +4,30 @@ use Rattle.std.proofs.lemmas.Bool.{eqb-true, eq-eqb, ne_eqb}
 use Rattle.lexer.specs.declared.token.Token.{Token}
 use Rattle.grammar.specs.declared.terminal.Terminal.TheVariants.{OpenRound, CloseRound, Delay}
 use Rattle.grammar.specs.Terminals.{terminal}
-use Rattle.grammar.specs.Marks.{looseness, next_looseness, so_loose}
+use Rattle.grammar.specs.Marks.{precedence, next_precedence, has_precedence}
 use Rattle.grammar.specs.Trees.{Tree, Sequence, boolean, repeated, late, delayed, throughout, all, either, Property, plain, implication}
 use Rattle.grammar.specs.Sequences.{IsBody, is_boolean, in_brackets, is_once, is_prompt, is_head, is_cat, is_during, IsSequence, is_conjunction, IsProperty, is_plain, is_implication, bracketed}
 use Rattle.grammar.specs.Expressions as expressions
 use Rattle.grammar.specs.Expressions.{Spells, is_operand, is_tighter}
 use Rattle.grammar.specs.Readers.{◌>>=◌, lead, expect}
 use Rattle.grammar.specs.ReadSequences.{regroup, body_with, during_behind, during_with, sides_behind, whole_with, sequences, sequence_behind, whole, implication_by, implication_behind, regroup_property, property_by, property_with, properties, property}
-use Rattle.grammar.proofs.ReaderLaws.{Reads, bind-some, lead-true, lead-false, lead-nil, lead-some, expect-is, expect-not, expect-some, loose-CloseRound}
+use Rattle.grammar.proofs.ReaderLaws.{Reads, bind-some, lead-true, lead-false, lead-nil, lead-some, expect-is, expect-not, expect-some, precedence-CloseRound}
 use Rattle.grammar.proofs.Sound.{opening-mark}
 use Rattle.grammar.proofs.SequencesComplete.{body, during, sequence-none, regroup-none, sequence-read}
 use Rattle.grammar.proofs.SequencesSound.{sequence-is_boolean, regroup-sound, behind-sound, sides-sound, is_sound_below, sequence-sound}
 
 -- implications
-implication-none : (d : ℕ) (s : Sequence) (ts : List Token) → (next_looseness ts ≡ 17 → ⊥) → implication_behind d s ts ≡ Some (plain s, ts)
-unfolding implication_behind so_loose
+implication-none : (d : ℕ) (s : Sequence) (ts : List Token) → (next_precedence ts ≡ 17 → ⊥) → implication_behind d s ts ≡ Some (plain s, ts)
+unfolding implication_behind has_precedence
 implication-none d s ts h = rw (no_sign ts h) refl
   where
-    no_sign : (us : List Token) → (next_looseness us ≡ 17 → ⊥) → lead (so_loose 17) us ≡ None
-    no_sign [] k = lead-nil (so_loose 17)
-    no_sign (u ∷ us) k = lead-false (so_loose 17) u us (ne_eqb (looseness u) 17 k)
+    no_sign : (us : List Token) → (next_precedence us ≡ 17 → ⊥) → lead (has_precedence 17) us ≡ None
+    no_sign [] k = lead-nil (has_precedence 17)
+    no_sign (u ∷ us) k = lead-false (has_precedence 17) u us (ne_eqb (precedence u) 17 k)
 
-implication-some : (d : ℕ) (a c : Sequence) (t : Token) (us rest : List Token) → looseness t ≡ 17 → whole d us ≡ Some (c, rest) → implication_behind d a (t ∷ us) ≡ Some (implication a t c, rest)
-unfolding implication_behind so_loose
-implication-some d a c t us rest h k = rw (lead-true (so_loose 17) t us (eq-eqb (looseness t) 17 h), k) refl
+implication-some : (d : ℕ) (a c : Sequence) (t : Token) (us rest : List Token) → precedence t ≡ 17 → whole d us ≡ Some (c, rest) → implication_behind d a (t ∷ us) ≡ Some (implication a t c, rest)
+unfolding implication_behind has_precedence
+implication-some d a c t us rest h k = rw (lead-true (has_precedence 17) t us (eq-eqb (precedence t) 17 h), k) refl
 
 -- Where a seq is read, a prop goes on with its implication.
 record Grouped (d : ℕ) (s : Sequence) (ts rest : List Token) : Type 0 where
@@ -102,7 +102,7 @@ regroup-plain d x vs y ws z us a b = rw (a, b) refl
 property-group : (d : ℕ) → GoesOn d → (t : Token) (ts : List Token) (s : Sequence) (rest : List Token) → terminal t ≡ OpenRound → Grouped (suc d) s ts rest → property (suc d) (t ∷ ts) ≡ implication_behind (suc d) s rest
 property-group d inner t ts s rest o g =
     let h : whole d ts ≡ Some (g.inside, g.right ∷ g.after) = sym (inner-whole d ts) ∙ g.read in
-    let p : property d ts ≡ Some (plain g.inside, g.right ∷ g.after) = inner ts g.inside (g.right ∷ g.after) h ∙ implication-none d g.inside (g.right ∷ g.after) (λ e. omega (arith, loose-CloseRound g.right g.marked)) in
+    let p : property d ts ≡ Some (plain g.inside, g.right ∷ g.after) = inner ts g.inside (g.right ∷ g.after) h ∙ implication-none d g.inside (g.right ∷ g.after) (λ e. omega (arith, precedence-CloseRound g.right g.marked)) in
     property-opens (suc d) t g.right ts g.after (plain g.inside) o (inner-property d ts ∙ p) g.marked ∙ regroup-plain (suc d) g.inside g.after g.first g.middle s rest g.regroups g.goes_on
 
 goes_on_by : (d : ℕ) (ts : List Token) (s : Sequence) (rest : List Token) → whole d ts ≡ Some (s, rest) → ((t : Token) (us : List Token) → terminal t ≡ OpenRound → Grouped d s us rest → property d (t ∷ us) ≡ implication_behind d s rest) → (o : Option (Token × List Token)) → expect OpenRound ts ≡ o
@@ -116,20 +116,20 @@ pub goes_on : (d : ℕ) → GoesOn d
 goes_on zero ts s rest h = goes_on_by zero ts s rest h (λ t us o g. absurd (no_inside us (g.inside, g.right ∷ g.after) g.read)) (expect OpenRound ts) refl
 goes_on (suc d) ts s rest h = goes_on_by (suc d) ts s rest h (λ t us o g. property-group d (goes_on d) t us s rest o g) (expect OpenRound ts) refl
 
-pub whole-read : {d : ℕ} {s : Sequence} {ts rest : List Token} → IsSequence d s ts rest → 16 < next_looseness rest → whole d ts ≡ Some (s, rest)
+pub whole-read : {d : ℕ} {s : Sequence} {ts rest : List Token} → IsSequence d s ts rest → 16 < next_precedence rest → whole d ts ≡ Some (s, rest)
 unfolding whole
 whole-read w le = sequence-read w le
 
-regroup-stays : (d : ℕ) (p : Property) (ts : List Token) → 17 < next_looseness ts → regroup_property d p ts ≡ Some (p, ts)
+regroup-stays : (d : ℕ) (p : Property) (ts : List Token) → 17 < next_precedence ts → regroup_property d p ts ≡ Some (p, ts)
 unfolding regroup_property
 regroup-stays d (plain s) ts h = rw (regroup-none d s ts (omega arith), sequence-none d s ts (omega arith)) (implication-none d s ts (λ e. omega arith))
 regroup-stays d (implication a t c) ts h = refl
 
-pub property-read : {d : ℕ} {p : Property} {ts rest : List Token} → IsProperty d p ts rest → 17 < next_looseness rest → property d ts ≡ Some (p, rest)
+pub property-read : {d : ℕ} {p : Property} {ts rest : List Token} → IsProperty d p ts rest → 17 < next_precedence rest → property d ts ≡ Some (p, rest)
 property-read (is_plain {d = d} {s = s} {ts = ts} {rest = rest} w) le = goes_on d ts s rest (whole-read w (omega arith)) ∙ implication-none d s rest (λ e. omega arith)
 property-read (is_implication {d = d} {t = t} {a = a} {c = c} {ts = ts} {us = us} {rest = rest} k v w) le = goes_on d ts a (t ∷ us) (whole-read v (omega arith)) ∙ implication-some d a c t us rest k (whole-read w (omega arith))
 property-read (bracketed {d = d} {left = left} {right = right} {p = p} {ts = ts} {rest = rest} o c w) le =
-    property-opens (suc d) left right ts rest p o (inner-property d ts ∙ property-read w (omega (arith, loose-CloseRound right c))) c ∙ regroup-stays (suc d) p rest le
+    property-opens (suc d) left right ts rest p o (inner-property d ts ∙ property-read w (omega (arith, precedence-CloseRound right c))) c ∙ regroup-stays (suc d) p rest le
 
 -- the other way: a property that is a sequence is spelled as one
 single : {d : ℕ} {s : Sequence} {ts rest : List Token} → IsBody d s ts rest → IsSequence d s ts rest
@@ -155,18 +155,18 @@ pub whole-sound : (d : ℕ) → Reads (whole d) (λ s ts rest. IsSequence d s ts
 unfolding whole
 whole-sound d ts p h = sequence-sound d ts p h
 
-implication_by-sound : (d : ℕ) (s : Sequence) (ts us : List Token) (p : Property × List Token) → IsSequence d s ts us → (o : Option (Token × List Token)) → lead (so_loose 17) us ≡ o → implication_by d o s us ≡ Some p → IsProperty d p.0 ts p.1
-unfolding so_loose
+implication_by-sound : (d : ℕ) (s : Sequence) (ts us : List Token) (p : Property × List Token) → IsSequence d s ts us → (o : Option (Token × List Token)) → lead (has_precedence 17) us ≡ o → implication_by d o s us ≡ Some p → IsProperty d p.0 ts p.1
+unfolding has_precedence
 implication_by-sound d s ts us p w None l h = let same : (plain s, us) ≡ p = cc (h) in subst (λ (r : Property × List Token). IsProperty d r.0 ts r.1) same (is_plain w)
 implication_by-sound d s ts us p w (Some q) l h =
     let a = bind-some (whole d q.1) (λ (p : Sequence × List Token). Some (implication s q.0 p.0, p.1)) p h in
     let same : (implication s q.0 a.0.0, a.0.1) ≡ p = cc (a.2) in
-    let x = lead-some (so_loose 17) us q l in
-    subst (λ (r : Property × List Token). IsProperty d r.0 ts r.1) same (is_implication (eqb-true (looseness q.0) 17 x.passes) (subst (λ (vs : List Token). IsSequence d s ts vs) x.parts w) (whole-sound d q.1 a.0 a.1))
+    let x = lead-some (has_precedence 17) us q l in
+    subst (λ (r : Property × List Token). IsProperty d r.0 ts r.1) same (is_implication (eqb-true (precedence q.0) 17 x.passes) (subst (λ (vs : List Token). IsSequence d s ts vs) x.parts w) (whole-sound d q.1 a.0 a.1))
 
 implication-sound : (d : ℕ) (s : Sequence) (ts us : List Token) (p : Property × List Token) → IsSequence d s ts us → implication_behind d s us ≡ Some p → IsProperty d p.0 ts p.1
 unfolding implication_behind
-implication-sound d s ts us p w h = implication_by-sound d s ts us p w (lead (so_loose 17) us) refl h
+implication-sound d s ts us p w h = implication_by-sound d s ts us p w (lead (has_precedence 17) us) refl h
 
 sequence_behind-sound : (d : ℕ) (s : Sequence) (ts us : List Token) (p : Sequence × List Token) → IsBody d s ts us → sequence_behind d s us ≡ Some p → IsSequence d p.0 ts p.1
 unfolding sequence_behind

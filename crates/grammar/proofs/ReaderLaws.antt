@@ -4,7 +4,7 @@ use Rattle.lexer.specs.declared.token.Token.{Token}
 use Rattle.grammar.specs.declared.terminal.Terminal.{Terminal}
 use Rattle.grammar.specs.declared.terminal.Terminal.TheVariants as word
 use Rattle.grammar.specs.Terminals.{terminal, is}
-use Rattle.grammar.specs.Marks.{looseness, next_looseness}
+use Rattle.grammar.specs.Marks.{precedence, next_precedence}
 use Rattle.grammar.specs.Readers.{◌>>=◌, Reader, lead, expect, pick, optional_by, optional, many_by, many, each}
 use Rattle.grammar.proofs.TerminalLaws.{is-true, true-is, false-is}
 
@@ -67,10 +67,10 @@ unfolding expect
 expect-some w ts p h = let l = lead-some (is w) ts p h in record { parts = l.parts; marked = is-true w p.0 l.passes }
 
 -- a terminal so loose does not stand where something else does
-pub expect-loose : (w : Terminal) (k : ℕ) → ((t : Token) → terminal t ≡ w → looseness t ≡ k) → (ts : List Token) → (next_looseness ts ≡ k → ⊥) → expect w ts ≡ None
+pub expect-precedence : (w : Terminal) (k : ℕ) → ((t : Token) → terminal t ≡ w → precedence t ≡ k) → (ts : List Token) → (next_precedence ts ≡ k → ⊥) → expect w ts ≡ None
 unfolding expect
-expect-loose w k loose [] h = lead-nil (is w)
-expect-loose w k loose (t ∷ ts) h = lead-false (is w) t ts (false-is w t (λ e. h (loose t e)))
+expect-precedence w k loose [] h = lead-nil (is w)
+expect-precedence w k loose (t ∷ ts) h = lead-false (is w) t ts (false-is w t (λ e. h (loose t e)))
 
 pub pick-is : {A : Type 0} (f : Token → Option A) (a : A) (t : Token) (ts : List Token) → f t ≡ Some a → pick f (t ∷ ts) ≡ Some (a, ts)
 unfolding pick
@@ -156,54 +156,54 @@ abbrev pub Reads : {A : Type 0} → Reader A → (A → List Token → List Toke
 Reads {A} reader P = (ts : List Token) (p : A × List Token) → reader ts ≡ Some p → P p.0 ts p.1
 
 -- how loose the terminals are
-pub loose-Dot : (t : Token) → terminal t ≡ word.Dot → looseness t ≡ 0
-unfolding looseness
-loose-Dot t h = rw h refl
+pub precedence-Dot : (t : Token) → terminal t ≡ word.Dot → precedence t ≡ 0
+unfolding precedence
+precedence-Dot t h = rw h refl
 
-pub loose-OpenSquare : (t : Token) → terminal t ≡ word.OpenSquare → looseness t ≡ 0
-unfolding looseness
-loose-OpenSquare t h = rw h refl
+pub precedence-OpenSquare : (t : Token) → terminal t ≡ word.OpenSquare → precedence t ≡ 0
+unfolding precedence
+precedence-OpenSquare t h = rw h refl
 
-pub loose-Throughout : (t : Token) → terminal t ≡ word.Throughout → looseness t ≡ 11
-unfolding looseness
-loose-Throughout t h = rw h refl
+pub precedence-Throughout : (t : Token) → terminal t ≡ word.Throughout → precedence t ≡ 11
+unfolding precedence
+precedence-Throughout t h = rw h refl
 
-pub loose-OpenRepeat : (t : Token) → terminal t ≡ word.OpenRepeat → looseness t ≡ 12
-unfolding looseness
-loose-OpenRepeat t h = rw h refl
+pub precedence-OpenRepeat : (t : Token) → terminal t ≡ word.OpenRepeat → precedence t ≡ 12
+unfolding precedence
+precedence-OpenRepeat t h = rw h refl
 
-pub loose-Delay : (t : Token) → terminal t ≡ word.Delay → looseness t ≡ 13
-unfolding looseness
-loose-Delay t h = rw h refl
+pub precedence-Delay : (t : Token) → terminal t ≡ word.Delay → precedence t ≡ 13
+unfolding precedence
+precedence-Delay t h = rw h refl
 
-pub loose-And : (t : Token) → terminal t ≡ word.And → looseness t ≡ 15
-unfolding looseness
-loose-And t h = rw h refl
+pub precedence-And : (t : Token) → terminal t ≡ word.And → precedence t ≡ 15
+unfolding precedence
+precedence-And t h = rw h refl
 
-pub loose-Or : (t : Token) → terminal t ≡ word.Or → looseness t ≡ 16
-unfolding looseness
-loose-Or t h = rw h refl
+pub precedence-Or : (t : Token) → terminal t ≡ word.Or → precedence t ≡ 16
+unfolding precedence
+precedence-Or t h = rw h refl
 
-pub loose-Comma : (t : Token) → terminal t ≡ word.Comma → looseness t ≡ 100
-unfolding looseness
-loose-Comma t h = rw h refl
+pub precedence-Comma : (t : Token) → terminal t ≡ word.Comma → precedence t ≡ 100
+unfolding precedence
+precedence-Comma t h = rw h refl
 
-pub loose-Colon : (t : Token) → terminal t ≡ word.Colon → looseness t ≡ 100
-unfolding looseness
-loose-Colon t h = rw h refl
+pub precedence-Colon : (t : Token) → terminal t ≡ word.Colon → precedence t ≡ 100
+unfolding precedence
+precedence-Colon t h = rw h refl
 
-pub loose-Semicolon : (t : Token) → terminal t ≡ word.Semicolon → looseness t ≡ 100
-unfolding looseness
-loose-Semicolon t h = rw h refl
+pub precedence-Semicolon : (t : Token) → terminal t ≡ word.Semicolon → precedence t ≡ 100
+unfolding precedence
+precedence-Semicolon t h = rw h refl
 
-pub loose-CloseRound : (t : Token) → terminal t ≡ word.CloseRound → looseness t ≡ 100
-unfolding looseness
-loose-CloseRound t h = rw h refl
+pub precedence-CloseRound : (t : Token) → terminal t ≡ word.CloseRound → precedence t ≡ 100
+unfolding precedence
+precedence-CloseRound t h = rw h refl
 
-pub loose-CloseBrace : (t : Token) → terminal t ≡ word.CloseBrace → looseness t ≡ 100
-unfolding looseness
-loose-CloseBrace t h = rw h refl
+pub precedence-CloseBrace : (t : Token) → terminal t ≡ word.CloseBrace → precedence t ≡ 100
+unfolding precedence
+precedence-CloseBrace t h = rw h refl
 
-pub loose-EndSequence : (t : Token) → terminal t ≡ word.EndSequence → looseness t ≡ 100
-unfolding looseness
-loose-EndSequence t h = rw h refl
+pub precedence-EndSequence : (t : Token) → terminal t ≡ word.EndSequence → precedence t ≡ 100
+unfolding precedence
+precedence-EndSequence t h = rw h refl

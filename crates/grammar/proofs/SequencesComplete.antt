@@ -9,7 +9,7 @@ use Rattle.lexer.specs.declared.token.Kind.TheVariants as kinds
 use Rattle.grammar.specs.declared.terminal.Terminal.TheVariants.{Number, OpenRound, CloseRound, OpenSquare, OpenRepeat, CloseSquare, Colon, Delay, Throughout, And, Or}
 use Rattle.grammar.specs.Terminals.{terminal, kind_terminal, is}
 use Rattle.grammar.specs.Bounds.{bound_of_kind, bound_within}
-use Rattle.grammar.specs.Marks.{mark, looseness, next_looseness, so_loose}
+use Rattle.grammar.specs.Marks.{mark, precedence, next_precedence, has_precedence}
 use Rattle.grammar.specs.Trees.{Tree, Sequence, boolean, repeated, late, delayed, throughout, all, either, Steps, no_step, step, Others, no_other, other}
 use Rattle.grammar.specs.Expressions.{Spells}
 use Rattle.grammar.specs.Sequences.{bound, IsTimes, times, times_to, IsDelay, after, between, IsBody, is_boolean, in_brackets, IsRepetition, is_once, is_repeated, IsHead, is_prompt, is_late, AreSteps, no_steps, one_step, IsDelayed, is_head, is_delayed, IsDuring, is_cat, is_throughout, AreConjuncts, no_conjunct, one_conjunct, IsConjunction, is_during, is_all, AreAlternatives, no_alternative, one_alternative, IsSequence, is_conjunction, is_either}
@@ -19,7 +19,7 @@ use Rattle.grammar.specs.ReadExpressions.{Inner as Inside, prefixed_with, reader
 use Rattle.grammar.specs.ReadSequences as reading
 use Rattle.grammar.specs.ReadSequences.{Inner, delay_by, delay, regroup, body_by, body_with, with_times, repeat_behind, repetition_with, late_part, steps_of, with_steps, delayed_behind, cat_behind, throughout_by, during_behind, during_by, during_with, others_of, with_conjuncts, conjunction_behind, conjunction_with, with_alternatives, alternatives_behind, sides_behind, whole_with, sequences, sequence_behind, whole, implication_by, implication_behind, regroup_property, property_by, property_with, properties, property}
 use Rattle.grammar.proofs.TerminalLaws.{true-is}
-use Rattle.grammar.proofs.ReaderLaws.{bind-some, bind-assoc, lead-false, lead-nil, expect-some, expect-is, expect-not, expect-loose, pick-is, optional-none, optional-is, many-none, many-more, each-none, loose-Throughout, loose-OpenRepeat, loose-Delay, loose-And, loose-Or, loose-CloseRound}
+use Rattle.grammar.proofs.ReaderLaws.{bind-some, bind-assoc, lead-false, lead-nil, expect-some, expect-is, expect-not, expect-precedence, pick-is, optional-none, optional-is, many-none, many-more, each-none, precedence-Throughout, precedence-OpenRepeat, precedence-Delay, precedence-And, precedence-Or, precedence-CloseRound}
 use Rattle.grammar.proofs.Complete.{spells-read, spells-shorter, links-none}
 use Rattle.grammar.proofs.Sound.{is_sound, opening-mark}
 
@@ -39,18 +39,18 @@ abbrev pub seq : ℕ → Reader Sequence
 seq d = whole_with d (sequences d)
 
 -- where nothing follows that goes on
-no_throughout : (ts : List Token) → (next_looseness ts ≡ 11 → ⊥) → expect Throughout ts ≡ None
-no_throughout ts h = expect-loose Throughout 11 loose-Throughout ts h
+no_throughout : (ts : List Token) → (next_precedence ts ≡ 11 → ⊥) → expect Throughout ts ≡ None
+no_throughout ts h = expect-precedence Throughout 11 precedence-Throughout ts h
 
-repeat-none : (inner : Inner) (s : Sequence) (ts : List Token) → (next_looseness ts ≡ 12 → ⊥) → repeat_behind inner s ts ≡ Some (s, ts)
+repeat-none : (inner : Inner) (s : Sequence) (ts : List Token) → (next_precedence ts ≡ 12 → ⊥) → repeat_behind inner s ts ≡ Some (s, ts)
 unfolding repeat_behind
-repeat-none inner s ts h = rw (optional-none OpenRepeat inner.times ts (expect-loose OpenRepeat 12 loose-OpenRepeat ts h)) refl
+repeat-none inner s ts h = rw (optional-none OpenRepeat inner.times ts (expect-precedence OpenRepeat 12 precedence-OpenRepeat ts h)) refl
 
-delayed-none : (d : ℕ) (inner : Inner) (s : Sequence) (ts : List Token) → (next_looseness ts ≡ 13 → ⊥) → delayed_behind d inner s ts ≡ Some (s, ts)
+delayed-none : (d : ℕ) (inner : Inner) (s : Sequence) (ts : List Token) → (next_precedence ts ≡ 13 → ⊥) → delayed_behind d inner s ts ≡ Some (s, ts)
 unfolding delayed_behind expect
-delayed-none d inner s ts h = rw (each-none (is Delay) (λ t. late_part d inner) ts (expect-loose Delay 13 loose-Delay ts h)) refl
+delayed-none d inner s ts h = rw (each-none (is Delay) (λ t. late_part d inner) ts (expect-precedence Delay 13 precedence-Delay ts h)) refl
 
-cat-none : (d : ℕ) (inner : Inner) (s : Sequence) (ts : List Token) → 13 < next_looseness ts → cat_behind d inner s ts ≡ Some (s, ts)
+cat-none : (d : ℕ) (inner : Inner) (s : Sequence) (ts : List Token) → 13 < next_precedence ts → cat_behind d inner s ts ≡ Some (s, ts)
 unfolding cat_behind
 cat-none d inner s ts h = rw (repeat-none inner s ts (λ e. omega arith)) (delayed-none d inner s ts (λ e. omega arith))
 
@@ -64,40 +64,40 @@ during-cat d inner (throughout e s) ts h = refl
 during-cat d inner (all s more) ts h = refl
 during-cat d inner (either s more) ts h = refl
 
-during-none : (d : ℕ) (inner : Inner) (s : Sequence) (ts : List Token) → 13 < next_looseness ts → during_behind d inner s ts ≡ Some (s, ts)
+during-none : (d : ℕ) (inner : Inner) (s : Sequence) (ts : List Token) → 13 < next_precedence ts → during_behind d inner s ts ≡ Some (s, ts)
 during-none d inner s ts h = during-cat d inner s ts (no_throughout ts (λ e. omega arith)) ∙ cat-none d inner s ts h
 
-conjunction-none : (d : ℕ) (inner : Inner) (s : Sequence) (ts : List Token) → (next_looseness ts ≡ 15 → ⊥) → conjunction_behind d inner s ts ≡ Some (s, ts)
+conjunction-none : (d : ℕ) (inner : Inner) (s : Sequence) (ts : List Token) → (next_precedence ts ≡ 15 → ⊥) → conjunction_behind d inner s ts ≡ Some (s, ts)
 unfolding conjunction_behind expect
-conjunction-none d inner s ts h = rw (each-none (is And) (λ t. during_with d inner) ts (expect-loose And 15 loose-And ts h)) refl
+conjunction-none d inner s ts h = rw (each-none (is And) (λ t. during_with d inner) ts (expect-precedence And 15 precedence-And ts h)) refl
 
-alternatives-none : (d : ℕ) (inner : Inner) (s : Sequence) (ts : List Token) → (next_looseness ts ≡ 16 → ⊥) → alternatives_behind d inner s ts ≡ Some (s, ts)
+alternatives-none : (d : ℕ) (inner : Inner) (s : Sequence) (ts : List Token) → (next_precedence ts ≡ 16 → ⊥) → alternatives_behind d inner s ts ≡ Some (s, ts)
 unfolding alternatives_behind expect
-alternatives-none d inner s ts h = rw (each-none (is Or) (λ t. conjunction_with d inner) ts (expect-loose Or 16 loose-Or ts h)) refl
+alternatives-none d inner s ts h = rw (each-none (is Or) (λ t. conjunction_with d inner) ts (expect-precedence Or 16 precedence-Or ts h)) refl
 
-sides-none : (d : ℕ) (inner : Inner) (s : Sequence) (ts : List Token) → 16 < next_looseness ts → sides_behind d inner s ts ≡ Some (s, ts)
+sides-none : (d : ℕ) (inner : Inner) (s : Sequence) (ts : List Token) → 16 < next_precedence ts → sides_behind d inner s ts ≡ Some (s, ts)
 unfolding sides_behind
 sides-none d inner s ts h = rw (conjunction-none d inner s ts (λ e. omega arith)) (alternatives-none d inner s ts (λ e. omega arith))
 
-pub sequence-none : (d : ℕ) (s : Sequence) (ts : List Token) → 16 < next_looseness ts → sequence_behind d s ts ≡ Some (s, ts)
+pub sequence-none : (d : ℕ) (s : Sequence) (ts : List Token) → 16 < next_precedence ts → sequence_behind d s ts ≡ Some (s, ts)
 unfolding sequence_behind
 sequence-none d s ts h = rw (during-none d (sequences d) s ts (omega arith)) (sides-none d (sequences d) s ts h)
 
 -- nothing goes on behind an expression
-climb-none : (b : Reader Tree) (l : ℕ) (e : Tree) (ts : List Token) → l < next_looseness ts → climb b l e ts ≡ Some (e, ts)
+climb-none : (b : Reader Tree) (l : ℕ) (e : Tree) (ts : List Token) → l < next_precedence ts → climb b l e ts ≡ Some (e, ts)
 unfolding climb
 climb-none b zero e ts h = refl
 climb-none b (suc l) e ts h = rw (climb-none b l e ts (omega arith), links-none (behind b (climb b l)) l ts h) refl
 
-finish-none : (d : ℕ) (e : Tree) (ts : List Token) → 10 < next_looseness ts → finish d e ts ≡ Some (e, ts)
-unfolding finish choice_with so_loose
+finish-none : (d : ℕ) (e : Tree) (ts : List Token) → 10 < next_precedence ts → finish d e ts ≡ Some (e, ts)
+unfolding finish choice_with has_precedence
 finish-none d e ts h = rw (climb-none (prefixed_with (readers d)) 9 e ts (omega arith), no_choice ts (λ k. omega arith)) refl
   where
-    no_choice : (us : List Token) → (next_looseness us ≡ 10 → ⊥) → lead (so_loose 10) us ≡ None
-    no_choice [] k = lead-nil (so_loose 10)
-    no_choice (u ∷ us) k = lead-false (so_loose 10) u us (ne_eqb (looseness u) 10 k)
+    no_choice : (us : List Token) → (next_precedence us ≡ 10 → ⊥) → lead (has_precedence 10) us ≡ None
+    no_choice [] k = lead-nil (has_precedence 10)
+    no_choice (u ∷ us) k = lead-false (has_precedence 10) u us (ne_eqb (precedence u) 10 k)
 
-pub regroup-none : (d : ℕ) (s : Sequence) (ts : List Token) → 10 < next_looseness ts → regroup d s ts ≡ Some (s, ts)
+pub regroup-none : (d : ℕ) (s : Sequence) (ts : List Token) → 10 < next_precedence ts → regroup d s ts ≡ Some (s, ts)
 unfolding regroup
 regroup-none d (boolean e) ts h = rw (finish-none d e ts h) refl
 regroup-none d (repeated s n) ts h = refl
@@ -143,15 +143,15 @@ during-body : (d : ℕ) (ts : List Token) (s : Sequence) (us : List Token) → b
 unfolding during_with
 during-body d ts s us h = rw (starts d ts (s, us) h, h) refl
 
-seq-none : (d : ℕ) (s : Sequence) (ts rest : List Token) → during d ts ≡ Some (s, rest) → 16 < next_looseness rest → seq d ts ≡ Some (s, rest)
+seq-none : (d : ℕ) (s : Sequence) (ts rest : List Token) → during d ts ≡ Some (s, rest) → 16 < next_precedence rest → seq d ts ≡ Some (s, rest)
 unfolding whole_with
 seq-none d s ts rest a h = rw a (sides-none d (sequences d) s rest h)
 
 -- What is proved of expressions that are read as sequences, at a depth.
 abbrev ReadsBodies : ℕ → Type 0
-ReadsBodies d = (e : Tree) (ts rest : List Token) → Spells d e ts rest → 10 < next_looseness rest → body d ts ≡ Some (boolean e, rest)
+ReadsBodies d = (e : Tree) (ts rest : List Token) → Spells d e ts rest → 10 < next_precedence rest → body d ts ≡ Some (boolean e, rest)
 
-seq-boolean : (d : ℕ) → ReadsBodies d → (e : Tree) (ts rest : List Token) → Spells d e ts rest → 16 < next_looseness rest → seq d ts ≡ Some (boolean e, rest)
+seq-boolean : (d : ℕ) → ReadsBodies d → (e : Tree) (ts rest : List Token) → Spells d e ts rest → 16 < next_precedence rest → seq d ts ≡ Some (boolean e, rest)
 seq-boolean d reads e ts rest s le =
     seq-none d (boolean e) ts rest (during-body d ts (boolean e) rest (reads e ts rest s (omega arith)) ∙ during-none d (sequences d) (boolean e) rest (omega arith)) le
 
@@ -180,7 +180,7 @@ opened d t ts e rest m h =
       goes_on = ap (λ (p : Tree × List Token). finish d p.0 p.1) same ∙ x.2;
     }
 
-expression-read : {d : ℕ} {e : Tree} {ts rest : List Token} → Spells d e ts rest → 10 < next_looseness rest → expression d ts ≡ Some (e, rest)
+expression-read : {d : ℕ} {e : Tree} {ts rest : List Token} → Spells d e ts rest → 10 < next_precedence rest → expression d ts ≡ Some (e, rest)
 unfolding expression
 expression-read s le = spells-read s le
 
@@ -208,7 +208,7 @@ opens-suc : (d : ℕ) → ReadsBodies d → OpensBodies (suc d)
 unfolding regroup
 opens-suc d reads t us e rest m h =
     let o = opened (suc d) t us e rest m h in
-    let inner = seq-boolean d reads o.inside us (o.right ∷ o.after) ((is_sound (suc d)).0 us (o.inside, o.right ∷ o.after) o.read) (omega (arith, loose-CloseRound o.right o.marked)) in
+    let inner = seq-boolean d reads o.inside us (o.right ∷ o.after) ((is_sound (suc d)).0 us (o.inside, o.right ∷ o.after) o.read) (omega (arith, precedence-CloseRound o.right o.marked)) in
     body-brackets (suc d) t o.right us o.after (boolean o.inside) m o.marked (inner-whole d us ∙ inner) ∙ ap (λ (r : Option (Tree × List Token)). r >>= λ p. Some (boolean p.0, p.1)) o.goes_on
 
 -- The brackets round an expression are those of a sequence that is that expression.
@@ -226,9 +226,9 @@ times-read d (times_to {left = left} {n = n} {colon = colon} {m = m} {right = ri
     optional-is OpenRepeat reading.times left (n ∷ colon ∷ m ∷ right ∷ rest) _ rest o
     (rw (pick-is bound low n (colon ∷ m ∷ right ∷ rest) h, optional-is Colon (pick (bound_within low.value 127)) colon (m ∷ right ∷ rest) high (right ∷ rest) k (pick-is (bound_within low.value 127) high m (right ∷ rest) l), expect-is CloseSquare right rest c) refl)
 
-times-next : {n : Range} {ts rest : List Token} → IsTimes n ts rest → next_looseness ts ≡ 12
-times-next (times {left = left} o h c) = loose-OpenRepeat left o
-times-next (times_to {left = left} o h k l c) = loose-OpenRepeat left o
+times-next : {n : Range} {ts rest : List Token} → IsTimes n ts rest → next_precedence ts ≡ 12
+times-next (times {left = left} o h c) = precedence-OpenRepeat left o
+times-next (times_to {left = left} o h k l c) = precedence-OpenRepeat left o
 
 times-shorter : {n : Range} {ts rest : List Token} → IsTimes n ts rest → length rest ≤ length ts
 times-shorter (times o h c) = omega arith
@@ -260,9 +260,9 @@ delay-shorter : {d : ℕ} {n : Range} {ts rest : List Token} → IsDelay d n ts 
 delay-shorter (after t h) = omega arith
 delay-shorter (between t o h k l c) = omega arith
 
-delay-next : {d : ℕ} {n : Range} {ts rest : List Token} → IsDelay d n ts rest → next_looseness ts ≡ 13
-delay-next (after {t = t} k h) = loose-Delay t k
-delay-next (between {t = t} k o h l m c) = loose-Delay t k
+delay-next : {d : ℕ} {n : Range} {ts rest : List Token} → IsDelay d n ts rest → next_precedence ts ≡ 13
+delay-next (after {t = t} k h) = precedence-Delay t k
+delay-next (between {t = t} k o h l m c) = precedence-Delay t k
 
 -- ghost lists as lists
 pub list_of_steps : Steps → List (Range × Sequence)
@@ -341,26 +341,26 @@ mutual
   sequence-shorter (is_conjunction w) = conjunction-shorter w
   sequence-shorter (is_either w f) = omega (arith, conjunction-shorter w, alternatives-shorter f)
 
-steps-loose : {d : ℕ} {n : Range} {s : Sequence} {more : Steps} {ts rest : List Token} → AreSteps d (step n s more) ts rest → next_looseness ts ≡ 13
+steps-loose : {d : ℕ} {n : Range} {s : Sequence} {more : Steps} {ts rest : List Token} → AreSteps d (step n s more) ts rest → next_precedence ts ≡ 13
 steps-loose (one_step l r f) = delay-next l
 
-conjuncts-loose : {d : ℕ} {s : Sequence} {more : Others} {ts rest : List Token} → AreConjuncts d (other s more) ts rest → next_looseness ts ≡ 15
-conjuncts-loose (one_conjunct {t = t} k w f) = loose-And t k
+conjuncts-loose : {d : ℕ} {s : Sequence} {more : Others} {ts rest : List Token} → AreConjuncts d (other s more) ts rest → next_precedence ts ≡ 15
+conjuncts-loose (one_conjunct {t = t} k w f) = precedence-And t k
 
-alternatives-loose : {d : ℕ} {s : Sequence} {more : Others} {ts rest : List Token} → AreAlternatives d (other s more) ts rest → next_looseness ts ≡ 16
-alternatives-loose (one_alternative {t = t} k w f) = loose-Or t k
+alternatives-loose : {d : ℕ} {s : Sequence} {more : Others} {ts rest : List Token} → AreAlternatives d (other s more) ts rest → next_precedence ts ≡ 16
+alternatives-loose (one_alternative {t = t} k w f) = precedence-Or t k
 
-steps-next : {d : ℕ} {more : Steps} {ts rest : List Token} → AreSteps d more ts rest → 13 < next_looseness rest → 12 < next_looseness ts
+steps-next : {d : ℕ} {more : Steps} {ts rest : List Token} → AreSteps d more ts rest → 13 < next_precedence rest → 12 < next_precedence ts
 steps-next no_steps le = omega arith
 steps-next (one_step l r f) le = omega (arith, delay-next l)
 
-conjuncts-next : {d : ℕ} {more : Others} {ts rest : List Token} → AreConjuncts d more ts rest → 15 < next_looseness rest → 14 < next_looseness ts
+conjuncts-next : {d : ℕ} {more : Others} {ts rest : List Token} → AreConjuncts d more ts rest → 15 < next_precedence rest → 14 < next_precedence ts
 conjuncts-next no_conjunct le = omega arith
-conjuncts-next (one_conjunct {t = t} k w f) le = omega (arith, loose-And t k)
+conjuncts-next (one_conjunct {t = t} k w f) le = omega (arith, precedence-And t k)
 
-alternatives-next : {d : ℕ} {more : Others} {ts rest : List Token} → AreAlternatives d more ts rest → 16 < next_looseness rest → 15 < next_looseness ts
+alternatives-next : {d : ℕ} {more : Others} {ts rest : List Token} → AreAlternatives d more ts rest → 16 < next_precedence rest → 15 < next_precedence ts
 alternatives-next no_alternative le = omega arith
-alternatives-next (one_alternative {t = t} k w f) le = omega (arith, loose-Or t k)
+alternatives-next (one_alternative {t = t} k w f) le = omega (arith, precedence-Or t k)
 
 -- a body, and its repetition
 pub record Prompt (d : ℕ) (s : Sequence) (ts us : List Token) : Type 0 where
@@ -401,18 +401,18 @@ seq-on d s v ts us rest h k = seq-is d ts ∙ rw h k
 mutual
   unfolding expect each list_of_steps list_of_others
 
-  pub body-read : {d : ℕ} {s : Sequence} {ts rest : List Token} → IsBody d s ts rest → 10 < next_looseness rest → body d ts ≡ Some (s, rest)
+  pub body-read : {d : ℕ} {s : Sequence} {ts rest : List Token} → IsBody d s ts rest → 10 < next_precedence rest → body d ts ≡ Some (s, rest)
   body-read (is_boolean {d = d} {e = e} {ts = ts} {rest = rest} s) le = body-boolean d e ts rest s le
   body-read (in_brackets {d = d} {left = left} {right = right} {s = s} {ts = ts} {rest = rest} o c g w) le =
-      body-brackets (suc d) left right ts rest s o c (inner-whole d ts ∙ sequence-read w (omega (arith, loose-CloseRound right c))) ∙ regroup-none (suc d) s rest le
+      body-brackets (suc d) left right ts rest s o c (inner-whole d ts ∙ sequence-read w (omega (arith, precedence-CloseRound right c))) ∙ regroup-none (suc d) s rest le
 
-  prompt-read : {d : ℕ} {s : Sequence} {ts rest : List Token} → IsRepetition d s ts rest → 12 < next_looseness rest → Prompt d s ts rest
+  prompt-read : {d : ℕ} {s : Sequence} {ts rest : List Token} → IsRepetition d s ts rest → 12 < next_precedence rest → Prompt d s ts rest
   prompt-read (is_once {d = d} {s = s} {ts = ts} {rest = rest} b) le =
       record { first = s; middle = rest; read = body-read b (omega arith); no_word = no_throughout rest (λ e. omega arith); repeats = repeat-none (sequences d) s rest (λ e. omega arith) }
   prompt-read (is_repeated {d = d} {n = n} {s = s} {ts = ts} {us = us} {rest = rest} b t) le =
       record { first = s; middle = us; read = body-read b (omega (arith, times-next t)); no_word = no_throughout us (λ e. omega (arith, times-next t)); repeats = repeats-read d s n us rest (times-read d t) }
 
-  head-read : {d : ℕ} {s : Sequence} {ts us : List Token} → IsHead d s ts us → 12 < next_looseness us → (v : Sequence) (rest : List Token) → delayed_behind d (sequences d) s us ≡ Some (v, rest) → during d ts ≡ Some (v, rest)
+  head-read : {d : ℕ} {s : Sequence} {ts us : List Token} → IsHead d s ts us → 12 < next_precedence us → (v : Sequence) (rest : List Token) → delayed_behind d (sequences d) s us ≡ Some (v, rest) → during d ts ≡ Some (v, rest)
   head-read (is_prompt {d = d} {s = s} {ts = ts} {rest = us} r) le v rest h = during-prompt d s v ts us rest (prompt-read r le) h
   head-read (is_late {d = d} {n = m} {s = s} {rest = vs} (after {t = t} {n = n} {low = low} {rest = us} k b) r) le v rest h =
       during-late d t m s v (n ∷ us) vs rest k (late-read d (n ∷ us) us vs m s (after-read d n low us b) (repetition-prompt d s us vs (prompt-read r le))) h
@@ -420,8 +420,8 @@ mutual
       during-late (suc d) t q s v (left ∷ n ∷ colon ∷ m ∷ right ∷ us) vs rest k
       (late-read (suc d) (left ∷ n ∷ colon ∷ m ∷ right ∷ us) us vs q s (between-read d left n colon m right low high us o b l e c) (repetition-prompt (suc d) s us vs (prompt-read r le))) h
 
-  steps-many : {d : ℕ} {more : Steps} {ts rest : List Token} → AreSteps d more ts rest → (i : ℕ) → length ts ≤ i → 13 < next_looseness rest → many (is Delay) (λ t. late_part d (sequences d)) i ts ≡ Some (list_of_steps more, rest)
-  steps-many (no_steps {d = d} {ts = ts}) i len le = many-none (is Delay) (λ t. late_part d (sequences d)) i ts (expect-loose Delay 13 loose-Delay ts (λ e. omega arith))
+  steps-many : {d : ℕ} {more : Steps} {ts rest : List Token} → AreSteps d more ts rest → (i : ℕ) → length ts ≤ i → 13 < next_precedence rest → many (is Delay) (λ t. late_part d (sequences d)) i ts ≡ Some (list_of_steps more, rest)
+  steps-many (no_steps {d = d} {ts = ts}) i len le = many-none (is Delay) (λ t. late_part d (sequences d)) i ts (expect-precedence Delay 13 precedence-Delay ts (λ e. omega arith))
   steps-many (one_step l r f) zero len le = absurd (omega (arith, delay-shorter l))
   steps-many (one_step {d = d} {n = q} {s = s} {more = more} {vs = vs} {rest = rest} (after {t = t} {n = n} {low = low} {rest = us} k b) r f) (suc i) len le =
       many-more (is Delay) (λ t. late_part d (sequences d)) i t (n ∷ us) (q, s) vs (list_of_steps more) rest (true-is Delay t k)
@@ -431,31 +431,31 @@ mutual
       (late-read (suc d) (left ∷ n ∷ colon ∷ m ∷ right ∷ us) us vs q s (between-read d left n colon m right low high us o b l e c) (repetition-prompt (suc d) s us vs (prompt-read r (steps-next f le))))
       (steps-many f i (omega (arith, repetition-shorter r)) le)
 
-  pub during-read : {d : ℕ} {s : Sequence} {ts rest : List Token} → IsDuring d s ts rest → 13 < next_looseness rest → during d ts ≡ Some (s, rest)
+  pub during-read : {d : ℕ} {s : Sequence} {ts rest : List Token} → IsDuring d s ts rest → 13 < next_precedence rest → during d ts ≡ Some (s, rest)
   during-read (is_cat (is_head {d = d} {s = s} {ts = ts} {rest = rest} h)) le = head-read h (omega arith) s rest (delayed-none d (sequences d) s rest (λ e. omega arith))
   during-read (is_cat (is_delayed {d = d} {n = n} {s = s} {v = v} {more = more} {ts = ts} {us = us} {rest = rest} h f)) le =
       head-read h (omega (arith, steps-loose f)) (delayed s (step n v more)) rest (delayed-some d s v n more us rest (steps-many f (length us) (omega arith) le))
   during-read (is_throughout {d = d} {t = t} {e = e} {s = s} {ts = ts} {us = us} {rest = rest} k x w) le =
-      during-throughout d t e s ts us rest k (body-boolean (suc d) e ts (t ∷ us) x (omega (arith, loose-Throughout t k))) (during-read w le)
+      during-throughout d t e s ts us rest k (body-boolean (suc d) e ts (t ∷ us) x (omega (arith, precedence-Throughout t k))) (during-read w le)
 
-  conjuncts-many : {d : ℕ} {more : Others} {ts rest : List Token} → AreConjuncts d more ts rest → (i : ℕ) → length ts ≤ i → 15 < next_looseness rest → many (is And) (λ t. during d) i ts ≡ Some (list_of_others more, rest)
-  conjuncts-many (no_conjunct {d = d} {ts = ts}) i len le = many-none (is And) (λ t. during d) i ts (expect-loose And 15 loose-And ts (λ e. omega arith))
+  conjuncts-many : {d : ℕ} {more : Others} {ts rest : List Token} → AreConjuncts d more ts rest → (i : ℕ) → length ts ≤ i → 15 < next_precedence rest → many (is And) (λ t. during d) i ts ≡ Some (list_of_others more, rest)
+  conjuncts-many (no_conjunct {d = d} {ts = ts}) i len le = many-none (is And) (λ t. during d) i ts (expect-precedence And 15 precedence-And ts (λ e. omega arith))
   conjuncts-many (one_conjunct k w f) zero len le = absurd (omega arith)
   conjuncts-many (one_conjunct {d = d} {t = t} {s = s} {more = more} {ts = ts} {us = us} {rest = rest} k w f) (suc i) len le =
       many-more (is And) (λ t. during d) i t ts s us (list_of_others more) rest (true-is And t k) (during-read w (omega (arith, conjuncts-next f le))) (conjuncts-many f i (omega (arith, during-shorter w)) le)
 
-  conjunction-read : {d : ℕ} {s : Sequence} {ts rest : List Token} → IsConjunction d s ts rest → 15 < next_looseness rest → conjunction d ts ≡ Some (s, rest)
+  conjunction-read : {d : ℕ} {s : Sequence} {ts rest : List Token} → IsConjunction d s ts rest → 15 < next_precedence rest → conjunction d ts ≡ Some (s, rest)
   conjunction-read (is_during {d = d} {s = s} {ts = ts} {rest = rest} w) le = conjunction-on d s s ts rest rest (during-read w (omega arith)) (conjunction-none d (sequences d) s rest (λ e. omega arith))
   conjunction-read (is_all {d = d} {s = s} {v = v} {more = more} {ts = ts} {us = us} {rest = rest} w f) le =
       conjunction-on d s (all s (other v more)) ts us rest (during-read w (omega (arith, conjuncts-loose f))) (conjunction-some d s v more us rest (conjuncts-many f (length us) (omega arith) le))
 
-  alternatives-many : {d : ℕ} {more : Others} {ts rest : List Token} → AreAlternatives d more ts rest → (i : ℕ) → length ts ≤ i → 16 < next_looseness rest → many (is Or) (λ t. conjunction d) i ts ≡ Some (list_of_others more, rest)
-  alternatives-many (no_alternative {d = d} {ts = ts}) i len le = many-none (is Or) (λ t. conjunction d) i ts (expect-loose Or 16 loose-Or ts (λ e. omega arith))
+  alternatives-many : {d : ℕ} {more : Others} {ts rest : List Token} → AreAlternatives d more ts rest → (i : ℕ) → length ts ≤ i → 16 < next_precedence rest → many (is Or) (λ t. conjunction d) i ts ≡ Some (list_of_others more, rest)
+  alternatives-many (no_alternative {d = d} {ts = ts}) i len le = many-none (is Or) (λ t. conjunction d) i ts (expect-precedence Or 16 precedence-Or ts (λ e. omega arith))
   alternatives-many (one_alternative k w f) zero len le = absurd (omega arith)
   alternatives-many (one_alternative {d = d} {t = t} {s = s} {more = more} {ts = ts} {us = us} {rest = rest} k w f) (suc i) len le =
       many-more (is Or) (λ t. conjunction d) i t ts s us (list_of_others more) rest (true-is Or t k) (conjunction-read w (omega (arith, alternatives-next f le))) (alternatives-many f i (omega (arith, conjunction-shorter w)) le)
 
-  pub sequence-read : {d : ℕ} {s : Sequence} {ts rest : List Token} → IsSequence d s ts rest → 16 < next_looseness rest → seq d ts ≡ Some (s, rest)
+  pub sequence-read : {d : ℕ} {s : Sequence} {ts rest : List Token} → IsSequence d s ts rest → 16 < next_precedence rest → seq d ts ≡ Some (s, rest)
   sequence-read (is_conjunction {d = d} {s = s} {ts = ts} {rest = rest} w) le = seq-on d s s ts rest rest (conjunction-read w (omega arith)) (alternatives-none d (sequences d) s rest (λ e. omega arith))
   sequence-read (is_either {d = d} {s = s} {v = v} {more = more} {ts = ts} {us = us} {rest = rest} w f) le =
       seq-on d s (either s (other v more)) ts us rest (conjunction-read w (omega (arith, alternatives-loose f))) (alternatives-some d s v more us rest (alternatives-many f (length us) (omega arith) le))

@@ -15,7 +15,7 @@ use Rattle.grammar.specs.ReadExpressions.{readers, expression, finish, prefixed_
 use Rattle.grammar.specs.ReadSequences as reading
 use Rattle.grammar.specs.ReadSequences.{Inner, delay_by, delay, regroup, body_by, body_with, with_times, repeat_behind, repetition_with, late_part, steps_of, with_steps, delayed_behind, cat_behind, throughout_by, during_behind, during_by, during_with, others_of, with_conjuncts, conjunction_behind, conjunction_with, with_alternatives, alternatives_behind, sides_behind, whole_with, sequences}
 use Rattle.grammar.proofs.TerminalLaws.{is-true}
-use Rattle.grammar.proofs.ReaderLaws.{Reads, bind-some, expect-is, expect-some, pick-some, IsOptional, absent, present, optional-sound, each-sound, loose-CloseRound}
+use Rattle.grammar.proofs.ReaderLaws.{Reads, bind-some, expect-is, expect-some, pick-some, IsOptional, absent, present, optional-sound, each-sound, precedence-CloseRound}
 use Rattle.grammar.proofs.Complete.{spells-read}
 use Rattle.grammar.proofs.Sound.{is_sound, spells-sound}
 use Rattle.std.proofs.Common.{arith}
@@ -56,7 +56,7 @@ expression-sound d ts p h = spells-sound d (is_sound d) ts p h
 bracketed-boolean : (d : ℕ) (t c : Token) (e : Tree) (ts vs : List Token) → terminal t ≡ OpenRound → terminal c ≡ CloseRound → Spells d e ts (c ∷ vs) → expression (suc d) (t ∷ ts) ≡ finish (suc d) e vs
 unfolding readers expressions.bracketed
 bracketed-boolean d t c e ts vs o k s =
-    let inner : expr_with (readers d) (prefixed_with (readers d)) ts ≡ Some (e, c ∷ vs) = spells-read s (omega (arith, loose-CloseRound c k)) in
+    let inner : expr_with (readers d) (prefixed_with (readers d)) ts ≡ Some (e, c ∷ vs) = spells-read s (omega (arith, precedence-CloseRound c k)) in
     expression-opening (suc d) t ts o ∙ rw (inner, expect-is CloseRound c vs k) refl
 
 group-is : (d : ℕ) (t c : Token) (s : Sequence) (ts vs : List Token) (p : Sequence × List Token) → terminal t ≡ OpenRound → terminal c ≡ CloseRound → IsNoExpression s → IsSequence d s ts (c ∷ vs) → Some (s, vs) ≡ Some p → IsBody (suc d) p.0 (t ∷ ts) p.1

@@ -16,7 +16,7 @@ use Rattle.grammar.specs.declared.terminal.Terminal.TheVariants as words
 use Rattle.grammar.specs.declared.terminal.Terminal.TheVariants.{OpenRound, CloseRound, CloseBrace, OpenSquare, CloseSquare, Comma, Colon, Dot}
 use Rattle.grammar.specs.Terminals.{terminal, names, is, is_name, is_word}
 use Rattle.grammar.specs.Bounds.{index, bound_within}
-use Rattle.grammar.specs.Marks.{mark, mark_of_terminal, mark_of_operator, looseness, so_loose}
+use Rattle.grammar.specs.Marks.{mark, mark_of_terminal, mark_of_operator, precedence, has_precedence}
 use Rattle.grammar.specs.Trees.{Tree, number, path, concatenation, past, call, unary, choice, end}
 use Rattle.grammar.specs.Expressions.{AreMembers, no_member, member, IsPath, name, IsSelected, whole, bit, bits, IsTicks, one_tick, some_ticks, Operand, is_number, is_path, is_concatenation, in_brackets, is_past, is_call, is_unary, is_tighter, is_chain, Follows, no_more, one_more, AreParts, no_parts, one_part, Spells, is_operand, is_choice}
 use Rattle.grammar.specs.Readers.{◌>>=◌, Reader, lead, expect, pick, optional, each}
@@ -249,13 +249,13 @@ prefixed-sound d inner [] p h = absurd cc
 prefixed-sound d inner (t ∷ ts) p h = prefixed_by-sound d inner t ts p (mark t) refl h
 
 links-sound : (d l : ℕ) (operand : Reader Tree) → Reads operand (λ e ts rest. Operand d l e ts rest) → Reads (links operand l) (λ xs ts rest. Follows d l (links_of xs) ts rest)
-unfolding links so_loose
+unfolding links has_precedence
 links-sound d l operand ok ts p h =
-    each-sound (so_loose (suc l)) (λ t us. operand us >>= λ p. Some ((t, p.0), p.1)) (λ xs us vs. Follows d l (links_of xs) us vs) (λ us. no_more)
+    each-sound (has_precedence (suc l)) (λ t us. operand us >>= λ p. Some ((t, p.0), p.1)) (λ xs us vs. Follows d l (links_of xs) us vs) (λ us. no_more)
     (λ t a xs us vs rest loose read more.
     let b = bind-some (operand us) (λ (p : Tree × List Token). Some ((t, p.0), p.1)) (a, vs) read in
     let same : ((t, b.0.0), b.0.1) ≡ (a, vs) = cc (b.2) in
-    subst (λ (x : (Token × Tree) × List Token). Follows d l (links_of (x.0 ∷ xs)) (t ∷ us) rest) same (one_more (eqb-true (looseness t) (suc l) loose) (ok us b.0 b.1) (subst (λ (x : (Token × Tree) × List Token). Follows d l (links_of xs) x.1 rest) (sym same) more)))
+    subst (λ (x : (Token × Tree) × List Token). Follows d l (links_of (x.0 ∷ xs)) (t ∷ us) rest) same (one_more (eqb-true (precedence t) (suc l) loose) (ok us b.0 b.1) (subst (λ (x : (Token × Tree) × List Token). Follows d l (links_of xs) x.1 rest) (sym same) more)))
     ts p h
 
 follows-end : {d l : ℕ} {ts rest : List Token} → Follows d l end ts rest → ts ≡ rest
@@ -274,8 +274,8 @@ level-sound d b ok (suc l) ts p h =
     subst (λ (r : Tree × List Token). Operand d (suc l) r.0 ts r.1) same
     (joined-sound d l a.0.0 c.0.0 ts a.0.1 c.0.1 (level-sound d b ok l ts a.0 a.1) (links-sound d l (level b l) (level-sound d b ok l) a.0.1 c.0 c.1))
 
-choice_by-sound : (d : ℕ) → IsSound d → (c : Tree) (ts us : List Token) (p : Tree × List Token) → Operand d 9 c ts us → (o : Option (Token × List Token)) → lead (so_loose 10) us ≡ o → choice_by (readers d).expr o c us ≡ Some p → Spells d p.0 ts p.1
-unfolding readers so_loose
+choice_by-sound : (d : ℕ) → IsSound d → (c : Tree) (ts us : List Token) (p : Tree × List Token) → Operand d 9 c ts us → (o : Option (Token × List Token)) → lead (has_precedence 10) us ≡ o → choice_by (readers d).expr o c us ≡ Some p → Spells d p.0 ts p.1
+unfolding readers has_precedence
 choice_by-sound d inner c ts us p o None l h = let same : (c, us) ≡ p = cc (h) in subst (λ (r : Tree × List Token). Spells d r.0 ts r.1) same (is_operand o)
 choice_by-sound zero inner c ts us p o (Some q) l h = absurd cc
 choice_by-sound (suc d) inner c ts us p o (Some q) l h =
@@ -284,16 +284,16 @@ choice_by-sound (suc d) inner c ts us p o (Some q) l h =
     let k = bind-some (expect Colon a.0.1) (λ (v : Token × List Token). r v.1 >>= λ b. Some (choice c a.0.0 b.0, b.1)) p a.2 in
     let b = bind-some (r k.0.1) (λ (b : Tree × List Token). Some (choice c a.0.0 b.0, b.1)) p k.2 in
     let same : (choice c a.0.0 b.0.0, b.0.1) ≡ p = cc (b.2) in
-    let x = lead-some (so_loose 10) us q l in
+    let x = lead-some (has_precedence 10) us q l in
     let z = expect-some Colon a.0.1 k.0 k.1 in
     subst (λ (r : Tree × List Token). Spells (suc d) r.0 ts r.1) same
-    (is_choice (eqb-true (looseness q.0) 10 x.passes) z.marked (subst (λ (vs : List Token). Operand (suc d) 9 c ts vs) x.parts o) (subst (λ (vs : List Token). Spells d a.0.0 q.1 vs) z.parts (inner.0 q.1 a.0 a.1)) (inner.0 k.0.1 b.0 b.1))
+    (is_choice (eqb-true (precedence q.0) 10 x.passes) z.marked (subst (λ (vs : List Token). Operand (suc d) 9 c ts vs) x.parts o) (subst (λ (vs : List Token). Spells d a.0.0 q.1 vs) z.parts (inner.0 q.1 a.0 a.1)) (inner.0 k.0.1 b.0 b.1))
 
 pub spells-sound : (d : ℕ) → IsSound d → Reads (expr_with (readers d) (prefixed_with (readers d))) (λ e ts rest. Spells d e ts rest)
 unfolding choice_with
 spells-sound d inner ts p h =
     let a = bind-some (level (prefixed_with (readers d)) 9 ts) (λ (p : Tree × List Token). choice_with (readers d).expr p.0 p.1) p (sym (expr-is (readers d) (prefixed_with (readers d)) ts) ∙ h) in
-    choice_by-sound d inner a.0.0 ts a.0.1 p (level-sound d (prefixed_with (readers d)) (prefixed-sound d inner) 9 ts a.0 a.1) (lead (so_loose 10) a.0.1) refl a.2
+    choice_by-sound d inner a.0.0 ts a.0.1 p (level-sound d (prefixed_with (readers d)) (prefixed-sound d inner) 9 ts a.0 a.1) (lead (has_precedence 10) a.0.1) refl a.2
 
 pub is_sound : (d : ℕ) → IsSound d
 unfolding readers

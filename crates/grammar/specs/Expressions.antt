@@ -11,7 +11,7 @@ use Rattle.grammar.specs.declared.mark.Mark.TheVariants as marks
 use Rattle.grammar.specs.declared.terminal.Terminal.TheVariants.{OpenRound, CloseRound, CloseBrace, OpenSquare, CloseSquare, Comma, Colon, Dot}
 use Rattle.grammar.specs.Terminals.{terminal, is_name, is_word}
 use Rattle.grammar.specs.Bounds.{index, bound_within}
-use Rattle.grammar.specs.Marks.{mark, looseness}
+use Rattle.grammar.specs.Marks.{mark, precedence}
 use Rattle.grammar.specs.Trees.{Tree, number, path, concatenation, past, call, unary, chain, choice, Links, end, link, Parts, no_part, part}
 
 -- path = NAME ("." NAME)*, and behind a dot every word is a NAME
@@ -56,7 +56,7 @@ mutual
   -- (operator operand)*, the operators of level l + 1
   pub data Follows : ℕ → ℕ → Links → List Token → List Token → Type 0 where
     no_more : {d l : ℕ} {ts : List Token} → Follows d l end ts ts
-    one_more : {d l : ℕ} {t : Token} {e : Tree} {more : Links} {ts us rest : List Token} → looseness t ≡ suc l → Operand d l e ts us → Follows d l more us rest → Follows d l (link t e more) (t ∷ ts) rest
+    one_more : {d l : ℕ} {t : Token} {e : Tree} {more : Links} {ts us rest : List Token} → precedence t ≡ suc l → Operand d l e ts us → Follows d l more us rest → Follows d l (link t e more) (t ∷ ts) rest
 
   -- ("," expr)*
   pub data AreParts : ℕ → Parts → List Token → List Token → Type 0 where
@@ -66,5 +66,5 @@ mutual
   -- expr = operand_9 | operand_9 "?" expr ":" expr
   pub data Spells : ℕ → Tree → List Token → List Token → Type 0 where
     is_operand : {d : ℕ} {e : Tree} {ts rest : List Token} → Operand d 9 e ts rest → Spells d e ts rest
-    is_choice : {d : ℕ} {t colon : Token} {c a b : Tree} {ts us vs rest : List Token} → looseness t ≡ 10 → terminal colon ≡ Colon → Operand (suc d) 9 c ts (t ∷ us) → Spells d a us (colon ∷ vs) → Spells d b vs rest
+    is_choice : {d : ℕ} {t colon : Token} {c a b : Tree} {ts us vs rest : List Token} → precedence t ≡ 10 → terminal colon ≡ Colon → Operand (suc d) 9 c ts (t ∷ us) → Spells d a us (colon ∷ vs) → Spells d b vs rest
         → Spells (suc d) (choice c a b) ts rest

@@ -1,7 +1,7 @@
 -- Laws that show that reading from the left finds exactly what the grammar's rules say.
 use Rattle.std.specs.Prelude.{◌≡◌, ℕ, ◌<◌, List, Some}
 use Rattle.lexer.specs.declared.token.Token.{Token}
-use Rattle.grammar.specs.Marks.{next_looseness}
+use Rattle.grammar.specs.Marks.{next_precedence}
 use Rattle.grammar.specs.Trees.{Tree, Sequence, Property, Item}
 use Rattle.grammar.specs.Expressions.{Spells}
 use Rattle.grammar.specs.Sequences.{IsSequence, IsProperty}
@@ -24,7 +24,7 @@ TokensSpellOneFile = (xs ys : List Item) (tokens : List Token) → IsFile xs tok
 
 -- The tokens that an expression spells are read as it, where no operator of expressions follows.
 abbrev pub SpelledExpressionsAreRead : Type 0
-SpelledExpressionsAreRead = (d : ℕ) (e : Tree) (ts rest : List Token) → 10 < next_looseness rest → Spells d e ts rest → expression d ts ≡ Some (e, rest)
+SpelledExpressionsAreRead = (d : ℕ) (e : Tree) (ts rest : List Token) → 10 < next_precedence rest → Spells d e ts rest → expression d ts ≡ Some (e, rest)
 
 -- What is read as an expression spells the tokens that were read.
 abbrev pub ReadExpressionsAreSpelled : Type 0
@@ -32,11 +32,11 @@ ReadExpressionsAreSpelled = (d : ℕ) (e : Tree) (ts rest : List Token) → expr
 
 -- Tokens spell at most one expression, where no operator of expressions follows.
 abbrev pub TokensSpellOneExpression : Type 0
-TokensSpellOneExpression = (d : ℕ) (e f : Tree) (ts rest : List Token) → 10 < next_looseness rest → Spells d e ts rest → Spells d f ts rest → e ≡ f
+TokensSpellOneExpression = (d : ℕ) (e f : Tree) (ts rest : List Token) → 10 < next_precedence rest → Spells d e ts rest → Spells d f ts rest → e ≡ f
 
 -- The tokens that a sequence spells are read as it, where no operator of sequences follows.
 abbrev pub SpelledSequencesAreRead : Type 0
-SpelledSequencesAreRead = (d : ℕ) (s : Sequence) (ts rest : List Token) → 16 < next_looseness rest → IsSequence d s ts rest → whole d ts ≡ Some (s, rest)
+SpelledSequencesAreRead = (d : ℕ) (s : Sequence) (ts rest : List Token) → 16 < next_precedence rest → IsSequence d s ts rest → whole d ts ≡ Some (s, rest)
 
 -- What is read as a sequence spells the tokens that were read.
 abbrev pub ReadSequencesAreSpelled : Type 0
@@ -44,7 +44,7 @@ ReadSequencesAreSpelled = (d : ℕ) (s : Sequence) (ts rest : List Token) → wh
 
 -- The tokens that a property spells are read as it, where no operator of properties follows.
 abbrev pub SpelledPropertiesAreRead : Type 0
-SpelledPropertiesAreRead = (d : ℕ) (p : Property) (ts rest : List Token) → 17 < next_looseness rest → IsProperty d p ts rest → property d ts ≡ Some (p, rest)
+SpelledPropertiesAreRead = (d : ℕ) (p : Property) (ts rest : List Token) → 17 < next_precedence rest → IsProperty d p ts rest → property d ts ≡ Some (p, rest)
 
 -- What is read as a property spells the tokens that were read.
 abbrev pub ReadPropertiesAreSpelled : Type 0

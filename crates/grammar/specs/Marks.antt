@@ -51,48 +51,48 @@ mark t = mark_of_terminal (terminal t) t.kind
 -- How loosely a token joins what stands before it to what follows: 1 to 9 are the levels of the left operators, from the
 -- tightest, 10 is ?, 11 throughout, 12 [*, 13 ##, 15 and, 16 or, 17 the implications. 0 goes on with a path, 100 with
 -- nothing. (14 is left for intersect.)
-abbrev pub looseness_of_operator : Kind → ℕ
-looseness_of_operator (kind.Symbol symbol.Plus) = 1
-looseness_of_operator (kind.Symbol symbol.Minus) = 1
-looseness_of_operator (kind.Symbol symbol.ShiftLeft) = 2
-looseness_of_operator (kind.Symbol symbol.ShiftRight) = 2
-looseness_of_operator (kind.Symbol symbol.Less) = 3
-looseness_of_operator (kind.Symbol symbol.LessEqual) = 3
-looseness_of_operator (kind.Symbol symbol.Greater) = 3
-looseness_of_operator (kind.Symbol symbol.GreaterEqual) = 3
-looseness_of_operator (kind.Symbol symbol.Equal) = 4
-looseness_of_operator (kind.Symbol symbol.NotEqual) = 4
-looseness_of_operator (kind.Symbol symbol.And) = 5
-looseness_of_operator (kind.Symbol symbol.Xor) = 6
-looseness_of_operator (kind.Symbol symbol.Xnor) = 6
-looseness_of_operator (kind.Symbol symbol.XnorCaret) = 6
-looseness_of_operator (kind.Symbol symbol.Or) = 7
-looseness_of_operator (kind.Symbol symbol.AndAnd) = 8
-looseness_of_operator (kind.Symbol symbol.OrOr) = 9
-looseness_of_operator (kind.Symbol symbol.Question) = 10
-looseness_of_operator _ = 100
+abbrev pub precedence_of_operator : Kind → ℕ
+precedence_of_operator (kind.Symbol symbol.Plus) = 1
+precedence_of_operator (kind.Symbol symbol.Minus) = 1
+precedence_of_operator (kind.Symbol symbol.ShiftLeft) = 2
+precedence_of_operator (kind.Symbol symbol.ShiftRight) = 2
+precedence_of_operator (kind.Symbol symbol.Less) = 3
+precedence_of_operator (kind.Symbol symbol.LessEqual) = 3
+precedence_of_operator (kind.Symbol symbol.Greater) = 3
+precedence_of_operator (kind.Symbol symbol.GreaterEqual) = 3
+precedence_of_operator (kind.Symbol symbol.Equal) = 4
+precedence_of_operator (kind.Symbol symbol.NotEqual) = 4
+precedence_of_operator (kind.Symbol symbol.And) = 5
+precedence_of_operator (kind.Symbol symbol.Xor) = 6
+precedence_of_operator (kind.Symbol symbol.Xnor) = 6
+precedence_of_operator (kind.Symbol symbol.XnorCaret) = 6
+precedence_of_operator (kind.Symbol symbol.Or) = 7
+precedence_of_operator (kind.Symbol symbol.AndAnd) = 8
+precedence_of_operator (kind.Symbol symbol.OrOr) = 9
+precedence_of_operator (kind.Symbol symbol.Question) = 10
+precedence_of_operator _ = 100
 
-abbrev pub looseness_of_terminal : Terminal → Kind → ℕ
-looseness_of_terminal terminals.Dot k = 0
-looseness_of_terminal terminals.OpenSquare k = 0
-looseness_of_terminal terminals.Operator k = looseness_of_operator k
-looseness_of_terminal terminals.Throughout k = 11
-looseness_of_terminal terminals.OpenRepeat k = 12
-looseness_of_terminal terminals.Delay k = 13
-looseness_of_terminal terminals.And k = 15
-looseness_of_terminal terminals.Or k = 16
-looseness_of_terminal terminals.Overlapped k = 17
-looseness_of_terminal terminals.Following k = 17
-looseness_of_terminal _ k = 100
+abbrev pub precedence_of_terminal : Terminal → Kind → ℕ
+precedence_of_terminal terminals.Dot k = 0
+precedence_of_terminal terminals.OpenSquare k = 0
+precedence_of_terminal terminals.Operator k = precedence_of_operator k
+precedence_of_terminal terminals.Throughout k = 11
+precedence_of_terminal terminals.OpenRepeat k = 12
+precedence_of_terminal terminals.Delay k = 13
+precedence_of_terminal terminals.And k = 15
+precedence_of_terminal terminals.Or k = 16
+precedence_of_terminal terminals.Overlapped k = 17
+precedence_of_terminal terminals.Following k = 17
+precedence_of_terminal _ k = 100
 
-unfoldable pub looseness : Token → ℕ
-looseness t = looseness_of_terminal (terminal t) t.kind
+unfoldable pub precedence : Token → ℕ
+precedence t = precedence_of_terminal (terminal t) t.kind
 
 -- whether a token is an operator so loose
-unfoldable pub so_loose : ℕ → Token → Bool
-so_loose k t = looseness t == k
+unfoldable pub has_precedence : ℕ → Token → Bool
+has_precedence k t = precedence t == k
 
 -- that of the first token
-abbrev pub next_looseness : List Token → ℕ
-next_looseness [] = 100
-next_looseness (t ∷ ts) = looseness t
+abbrev pub next_precedence : List Token → ℕ
+next_precedence [] = 100
+next_precedence (t ∷ ts) = precedence t

@@ -8,7 +8,7 @@ use Rattle.grammar.specs.declared.mark.Function.{Function}
 use Rattle.grammar.specs.declared.terminal.Terminal.TheVariants.{OpenRound, CloseRound, CloseBrace, OpenSquare, CloseSquare, Comma, Colon, Dot}
 use Rattle.grammar.specs.Terminals.{is, is_name, is_word}
 use Rattle.grammar.specs.Bounds.{index, bound_within}
-use Rattle.grammar.specs.Marks.{mark, so_loose}
+use Rattle.grammar.specs.Marks.{mark, has_precedence}
 use Rattle.grammar.specs.Trees.{Tree, number, path, concatenation, past, call, unary, chain, choice, Links, end, link, Parts, no_part, part}
 use Rattle.grammar.specs.Readers.{◌>>=◌, Reader, refuse, lead, expect, pick, optional, each}
 
@@ -85,7 +85,7 @@ prefixed_with inner (t ∷ ts) = prefixed_by inner (mark t) t ts
 
 -- operators of level l + 1 with their right operands
 unfoldable pub links : Reader Tree → ℕ → Reader (List (Token × Tree))
-links operand l ts = each (so_loose (suc l)) (λ t us. operand us >>= λ p. Some ((t, p.0), p.1)) ts
+links operand l ts = each (has_precedence (suc l)) (λ t us. operand us >>= λ p. Some ((t, p.0), p.1)) ts
 
 abbrev pub joined : Tree → List (Token × Tree) → Tree
 joined first [] = first
@@ -109,7 +109,7 @@ choice_by inner (Some t) c ts = inner t.1 >>= λ a. expect Colon a.1 >>= λ r. i
 
 -- behind a condition, if it is one
 unfoldable pub choice_with : Reader Tree → Tree → Reader Tree
-choice_with inner c ts = choice_by inner (lead (so_loose 10) ts) c ts
+choice_with inner c ts = choice_by inner (lead (has_precedence 10) ts) c ts
 
 -- the rest of an expression behind its first operand
 abbrev pub finish_with : Inner → Reader Tree → Tree → Reader Tree

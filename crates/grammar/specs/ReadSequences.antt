@@ -5,7 +5,7 @@ use Rattle.grammar.specs.declared.bound.Range.{Range}
 use Rattle.grammar.specs.declared.terminal.Terminal.TheVariants.{OpenRound, CloseRound, OpenSquare, OpenRepeat, CloseSquare, Colon, Delay, Throughout, And, Or}
 use Rattle.grammar.specs.Terminals.{is}
 use Rattle.grammar.specs.Bounds.{bound_within}
-use Rattle.grammar.specs.Marks.{so_loose}
+use Rattle.grammar.specs.Marks.{has_precedence}
 use Rattle.grammar.specs.Trees.{Tree, Sequence, boolean, repeated, late, delayed, throughout, all, either, Steps, no_step, step, Others, no_other, other, Property, plain, implication}
 use Rattle.grammar.specs.Sequences.{bound}
 use Rattle.grammar.specs.Readers.{◌>>=◌, Reader, refuse, lead, expect, pick, optional, each}
@@ -157,7 +157,7 @@ implication_by d (Some t) s ts = whole d t.1 >>= λ p. Some (implication s t.0 p
 
 -- behind a seq: an implication and its right side, if one stands there
 unfoldable pub implication_behind : ℕ → Sequence → Reader Property
-implication_behind d s ts = implication_by d (lead (so_loose 17) ts) s ts
+implication_behind d s ts = implication_by d (lead (has_precedence 17) ts) s ts
 
 -- What stood in brackets: a seq may go on behind them.
 unfoldable pub regroup_property : ℕ → Property → Reader Property

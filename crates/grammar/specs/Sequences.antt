@@ -6,7 +6,7 @@ use Rattle.grammar.specs.declared.bound.Range.{Range}
 use Rattle.grammar.specs.declared.terminal.Terminal.TheVariants.{OpenRound, CloseRound, OpenSquare, OpenRepeat, CloseSquare, Colon, Delay, Throughout, And, Or}
 use Rattle.grammar.specs.Terminals.{terminal}
 use Rattle.grammar.specs.Bounds.{bound_within}
-use Rattle.grammar.specs.Marks.{looseness}
+use Rattle.grammar.specs.Marks.{precedence}
 use Rattle.grammar.specs.Trees.{Tree, Sequence, boolean, repeated, late, delayed, throughout, all, either, Steps, no_step, step, Others, no_other, other, Property, plain, implication}
 use Rattle.grammar.specs.Expressions.{Spells}
 
@@ -90,5 +90,5 @@ mutual
 -- prop = "(" prop ")" | seq | seq "|->" seq | seq "|=>" seq
 pub data IsProperty : ℕ → Property → List Token → List Token → Type 0 where
   is_plain : {d : ℕ} {s : Sequence} {ts rest : List Token} → IsSequence d s ts rest → IsProperty d (plain s) ts rest
-  is_implication : {d : ℕ} {t : Token} {a c : Sequence} {ts us rest : List Token} → looseness t ≡ 17 → IsSequence d a ts (t ∷ us) → IsSequence d c us rest → IsProperty d (implication a t c) ts rest
+  is_implication : {d : ℕ} {t : Token} {a c : Sequence} {ts us rest : List Token} → precedence t ≡ 17 → IsSequence d a ts (t ∷ us) → IsSequence d c us rest → IsProperty d (implication a t c) ts rest
   bracketed : {d : ℕ} {left right : Token} {p : Property} {ts rest : List Token} → terminal left ≡ OpenRound → terminal right ≡ CloseRound → IsProperty d p ts (right ∷ rest) → IsProperty (suc d) p (left ∷ ts) rest

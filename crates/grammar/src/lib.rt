@@ -4,14 +4,14 @@
 
 mod bound;
 mod laws;
-mod looseness;
 mod mark;
+mod precedence;
 mod terminal;
 #[cfg(test)]
 mod tests;
 
 pub use bound::{Bound, Index, Range, Select, bound_of, index_of};
 pub use laws::grammar_law;
-pub use looseness::looseness_of;
 pub use mark::{Function, Mark, mark_of};
+pub use precedence::precedence_of;
 pub use terminal::{Terminal, is, is_name, is_word, terminal_of};

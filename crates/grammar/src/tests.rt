@@ -2,14 +2,14 @@
 
 use crate::bound::{Bound, Index, bound_of, index_of};
 use crate::laws::grammar_law;
-use crate::looseness::looseness_of;
 use crate::mark::{Function, Mark, mark_of};
+use crate::precedence::precedence_of;
 use crate::terminal::{Terminal, is, is_name, is_word, terminal_of};
-use lexer::lex;
+use lexer::{Kind, Token, lex};
 use std::test::Fail;
 
 #[test]
-fn bounds(rt: HostRuntime) -> Result<(), Fail> {
+fn numbers(rt: HostRuntime) -> Result<(), Fail> {
     let tokens = lex(rt.alloc(), "127 128 0 8'd5 'd5 width")?;
     assert_eq!(rt; tokens.len(), 7);
     assert_eq!(rt;
@@ -30,11 +30,6 @@ fn bounds(rt: HostRuntime) -> Result<(), Fail> {
     assert_eq!(rt; bound_of(tokens[4], 0, 127), None);
     assert_eq!(rt; bound_of(tokens[5], 0, 127), None);
     assert_eq!(rt; bound_of(tokens[6], 0, 127), None);
-    Ok(())
-}
-
-#[test]
-fn indices(rt: HostRuntime) -> Result<(), Fail> {
     let tokens = lex(rt.alloc(), "31 8'h1F bit")?;
     assert_eq!(rt; tokens.len(), 4);
     assert_eq!(rt; index_of(tokens[0]), Some(Index { value: 31, at: 0 }));
@@ -45,7 +40,7 @@ fn indices(rt: HostRuntime) -> Result<(), Fail> {
 }
 
 #[test]
-fn looseness(rt: HostRuntime) -> Result<(), Fail> {
+fn precedence(rt: HostRuntime) -> Result<(), Fail> {
     for (text, expected) in [
         (".", 0),
         ("[", 0),
@@ -75,7 +70,7 @@ fn looseness(rt: HostRuntime) -> Result<(), Fail> {
     ] {
         let tokens = lex(rt.alloc(), text)?;
         assert!(rt; tokens.len() > 0, "{text}");
-        assert_eq!(rt; looseness_of(tokens[0]), expected, "{text}");
+        assert_eq!(rt; precedence_of(tokens[0]), expected, "{text}");
     }
     Ok(())
 }
@@ -155,86 +150,52 @@ fn terminals(rt: HostRuntime) -> Result<(), Fail> {
     Ok(())
 }
 
+/// Whether each token but the end is a word, and whether it may be a name.
+fn are_words(tokens: &[Token], names: bool) -> bool {
+    for token in tokens {
+        if token.kind != Kind::End && (!is_word(*token) || is_name(*token) != names) {
+            return false;
+        }
+    }
+    true
+}
+
+/// The words of a counter are names, so that `counter` before `:` may be a label. Behind a dot each
+/// word is one.
+#[test]
+fn words(rt: HostRuntime) -> Result<(), Fail> {
+    let names = lex(rt.alloc(), "counter clear load add sub ready Or")?;
+    assert_eq!(rt; names.len(), 8);
+    assert!(rt; are_words(&names, true));
+    let kept = lex(
+        rt.alloc(),
+        "sequence endsequence assert assume property posedge disable iff or and throughout",
+    )?;
+    assert_eq!(rt; kept.len(), 12);
+    assert!(rt; are_words(&kept, false));
+    let none = lex(rt.alloc(), "$past 7 .")?;
+    assert_eq!(rt; none.len(), 4);
+    for token in &none {
+        assert!(rt; !is_name(*token) && !is_word(*token));
+    }
+    Ok(())
+}
+
 /// The words of constructs that the language leaves out: no names, but words.
 #[test]
 fn foreign_words(rt: HostRuntime) -> Result<(), Fail> {
-    for text in [
-        "intersect",
-        "within",
-        "first_match",
-        "strong",
-        "weak",
-        "not",
-        "if",
-        "else",
-        "case",
-        "always",
-        "nexttime",
-        "eventually",
-        "until",
-        "s_always",
-        "s_nexttime",
-        "s_eventually",
-        "s_until",
-        "s_until_with",
-        "until_with",
-        "implies",
-        "accept_on",
-        "reject_on",
-        "cover",
-        "restrict",
-        "default",
-        "clocking",
-        "negedge",
-        "edge",
-        "local",
-    ] {
-        let tokens = lex(rt.alloc(), text)?;
-        assert_eq!(rt; tokens.len(), 2, "{text}");
-        assert_eq!(rt; terminal_of(tokens[0]), Terminal::ForeignWord, "{text}");
-        assert!(rt; !is_name(tokens[0]), "{text}");
-        assert!(rt; is_word(tokens[0]), "{text}");
+    let tokens = lex(
+        rt.alloc(),
+        "intersect within first_match strong weak not if else case always nexttime eventually \
+         until s_always s_nexttime s_eventually s_until s_until_with until_with implies \
+         accept_on reject_on cover restrict default clocking negedge edge local",
+    )?;
+    assert_eq!(rt; tokens.len(), 30);
+    assert!(rt; are_words(&tokens, false));
+    for token in &tokens {
+        let foreign = terminal_of(*token) == Terminal::ForeignWord;
+        assert_eq!(rt; foreign, token.kind == Kind::Word);
     }
-    Ok(())
-}
-
-/// The words of a counter are names, so that `counter` before `:` may be a label. Behind a dot each word is one.
-#[test]
-fn names(rt: HostRuntime) -> Result<(), Fail> {
-    for (text, name, word) in [
-        ("counter:", true, true),
-        ("clear", true, true),
-        ("load", true, true),
-        ("add", true, true),
-        ("sub", true, true),
-        ("ready", true, true),
-        ("Or", true, true),
-        ("sequence", false, true),
-        ("endsequence", false, true),
-        ("assert", false, true),
-        ("assume", false, true),
-        ("property", false, true),
-        ("posedge", false, true),
-        ("disable", false, true),
-        ("iff", false, true),
-        ("or", false, true),
-        ("and", false, true),
-        ("throughout", false, true),
-        ("$past", false, false),
-        ("7", false, false),
-        (".", false, false),
-        ("", false, false),
-    ] {
-        let tokens = lex(rt.alloc(), text)?;
-        assert!(rt; tokens.len() > 0, "{text}");
-        assert_eq!(rt; is_name(tokens[0]), name, "{text}");
-        assert_eq!(rt; is_word(tokens[0]), word, "{text}");
-    }
-    Ok(())
-}
-
-#[test]
-fn laws(_rt: HostRuntime) -> Result<(), Fail> {
     grammar_law();
     Ok(())
 }

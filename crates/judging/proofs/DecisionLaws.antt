@@ -3,18 +3,18 @@ use Rattle.std.proofs.Common.{◌≡◌, inl, inr, ℕ, zero, suc, ◌+◌, ◌-
 use Rattle.std.specs.Prelude.{IsTrue, ◌==◌, slice_get}
 use Rattle.std.proofs.Math.ListN.{get_or-append}
 use Rattle.std.proofs.lemmas.Bool.{and_from, false_from_ne_true, cases_lt, le-leb}
-use Rattle.types.specs.declared.sequence.Boolean.{Boolean}
-use Rattle.types.specs.declared.sequence.Boolean.TheVariants.{One, Listed}
-use Rattle.types.specs.declared.decision.Decision.{Decision}
-use Rattle.types.specs.Quantifiers.{some_in, each_in, or_later, first_in, first_true_of, first_true}
-use Rattle.types.proofs.Quantifiers.{some_in-same, some_in-cut, each_in-at, each_in-true, first_in-step}
-use Rattle.types.specs.Segments.{Seq, sat, is_match, longest}
-use Rattle.types.specs.Attempts.{has_end, is_failed, all_kept, goes_on, is_possible, is_kept, decision, decided_at, disabled_or, verdict_by}
-use Rattle.types.proofs.Segments.{Matches-longest, is_match-Matches}
+use Rattle.assertions.specs.declared.sequence.Boolean.{Boolean}
+use Rattle.assertions.specs.declared.sequence.Boolean.TheVariants.{One, Listed}
+use Rattle.assertions.specs.declared.decision.Decision.{Decision}
+use Rattle.assertions.specs.Quantifiers.{some_in, each_in, or_later, first_in, first_true_of, first_true}
+use Rattle.assertions.proofs.Quantifiers.{some_in-same, some_in-cut, each_in-at, each_in-true, first_in-step}
+use Rattle.assertions.specs.Segments.{Seq, sat, is_match, longest}
+use Rattle.assertions.specs.Attempts.{has_end, is_failed, all_kept, goes_on, is_possible, is_kept, decision, decided_at, disabled_or, verdict_by}
+use Rattle.assertions.proofs.Segments.{Matches-longest, is_match-Matches}
 use Rattle.signals.specs.declared.verdict.Verdict.TheVariants as outcome
-use Rattle.values.specs.declared.expr.Expr.{Expr}
-use Rattle.values.specs.Terms.{Samples}
-use Rattle.types.specs.Shapes.{is_true_at, expression_at, value_in, off_in}
+use Rattle.expressions.specs.declared.expr.Expr.{Expr}
+use Rattle.expressions.specs.Terms.{Samples}
+use Rattle.assertions.specs.Shapes.{is_true_at, expression_at, value_in, off_in}
 use Rattle.judging.specs.Tables.{marks, row_at, links, value_at, off_at, last_of, HasSeen, IsRow, IsRelation}
 use Rattle.judging.proofs.RowLaws.{same_truth, get_or_end}
 use Rattle.judging.proofs.ShiftLaws.{decision_seen}

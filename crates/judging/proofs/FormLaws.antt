@@ -2,12 +2,12 @@
 use Rattle.std.proofs.Common.{◌≡◌, inl, inr, ℕ, zero, suc, ◌+◌, ◌-◌, ◌<◌, ◌≤◌, max, Bool, true, false, ◌&&◌, ◌||◌, List, [], length, refl, sym, subst, ap, ◌∙◌, arith, nat_le}
 use Rattle.std.specs.Prelude.{IsTrue, ◌==◌}
 use Rattle.std.proofs.lemmas.Bool.{or_cases, or_left, or_right, and_parts, and_from, both_ways, eqb-true, eq-eqb, le-leb, leb-true}
-use Rattle.types.specs.Quantifiers.{some_in, each_in}
-use Rattle.types.proofs.Quantifiers.{some_in-found, some_in-true, some_in-same, some_in-end, some_in-snoc}
-use Rattle.types.specs.Segments.{Seq, either, both, during, times, chain, Matches, is_match}
-use Rattle.types.specs.Written.{after, later, one_of}
-use Rattle.types.proofs.Segments.{Matches-forward, is_match-Matches, Matches-is_match}
-use Rattle.types.proofs.RangeLaws.{one_of-found, one_of-matches, after-found, after-matches, later-found, later-matches}
+use Rattle.assertions.specs.Quantifiers.{some_in, each_in}
+use Rattle.assertions.proofs.Quantifiers.{some_in-found, some_in-true, some_in-same, some_in-end, some_in-snoc}
+use Rattle.assertions.specs.Segments.{Seq, either, both, during, times, chain, Matches, is_match}
+use Rattle.assertions.specs.Written.{after, later, one_of}
+use Rattle.assertions.proofs.Segments.{Matches-forward, is_match-Matches, Matches-is_match}
+use Rattle.assertions.proofs.RangeLaws.{one_of-found, one_of-matches, after-found, after-matches, later-found, later-matches}
 use Rattle.judging.specs.Tables.{marks, row_at, links, reached_from, behind, IsRelation}
 use Rattle.judging.proofs.RowLaws.{same_truth, get_or_past, marked_within}
 

@@ -3,8 +3,8 @@ use Rattle.std.proofs.Common.{◌≡◌, inl, inr, ℕ, zero, suc, ◌+◌, ◌<
 use Rattle.std.specs.Prelude.{IsTrue, ◌==◌}
 use Rattle.std.proofs.Math.ListN.{get_or-append}
 use Rattle.std.proofs.lemmas.Bool.{cases_lt, both_ways, le-leb, leb-true, false_from_ne_true, and_parts}
-use Rattle.types.specs.Quantifiers.{some_in, each_in}
-use Rattle.types.proofs.Quantifiers.{some_in-end, some_in-snoc, each_in-end, each_in-snoc}
+use Rattle.assertions.specs.Quantifiers.{some_in, each_in}
+use Rattle.assertions.proofs.Quantifiers.{some_in-end, some_in-snoc, each_in-end, each_in-snoc}
 use Rattle.judging.specs.Tables.{marks, row_at, links, IsRow, IsRelation}
 
 -- two tests that pass together

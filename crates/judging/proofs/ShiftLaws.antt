@@ -2,12 +2,12 @@
 use Rattle.std.proofs.Common.{◌≡◌, inl, inr, ℕ, zero, suc, ◌+◌, ◌-◌, ◌<◌, ◌≤◌, Bool, Option, Some, None, refl, sym, subst, ◌∙◌, arith, nat_le}
 use Rattle.std.specs.Prelude.{IsTrue}
 use Rattle.std.proofs.lemmas.Bool.{or_cases, or_left, or_right, cases_lt, le-leb, leb-true}
-use Rattle.types.specs.declared.decision.Decision.{Decision}
-use Rattle.types.specs.declared.decision.Decision.TheVariants.{Held, Vacuously, Failed}
-use Rattle.types.specs.Segments.{Seq, one, none, chop, fuse, either, both, during, times, Chain, sat, Matches}
-use Rattle.types.specs.Attempts.{IsEnd, IsDecided, decision}
-use Rattle.types.proofs.Segments.{Matches-forward, Chain-forward}
-use Rattle.types.proofs.Attempts.{decision-IsDecided, IsDecided-decision}
+use Rattle.assertions.specs.declared.decision.Decision.{Decision}
+use Rattle.assertions.specs.declared.decision.Decision.TheVariants.{Held, Vacuously, Failed}
+use Rattle.assertions.specs.Segments.{Seq, one, none, chop, fuse, either, both, during, times, Chain, sat, Matches}
+use Rattle.assertions.specs.Attempts.{IsEnd, IsDecided, decision}
+use Rattle.assertions.proofs.Segments.{Matches-forward, Chain-forward}
+use Rattle.assertions.proofs.Attempts.{decision-IsDecided, IsDecided-decision}
 
 -- c is how much later the one lies
 chain_down : (P Q : ℕ → ℕ → Type 0) (c : ℕ) → ((i j : ℕ) → P i j → i ≤ j) → ((i j k l : ℕ) → i ≡ c + k → j ≡ c + l → P i j → Q k l) → (n i j k l : ℕ) → i ≡ c + k → j ≡ c + l → Chain P n i j → Chain Q n k l

@@ -1,10 +1,10 @@
 -- Tables of marks, with a row for each start: which places a sequence reaches from it. Place k is the tick that lies k behind the attempt's first.
 use Rattle.std.specs.Prelude.{◌≡◌, ℕ, ◌+◌, ◌<◌, ◌&&◌, ◌||◌, ◌-◌, List, [], Bool, true, false, Option, Some, None, IsTrue, nat_le, length, slice_index_or}
-use Rattle.types.specs.declared.sequence.Boolean.{Boolean}
-use Rattle.types.specs.declared.sequence.Boolean.TheVariants.{One, Listed}
-use Rattle.types.specs.declared.decision.Decision.{Decision}
-use Rattle.types.specs.Quantifiers.{some_in}
-use Rattle.types.specs.Segments.{sat}
+use Rattle.assertions.specs.declared.sequence.Boolean.{Boolean}
+use Rattle.assertions.specs.declared.sequence.Boolean.TheVariants.{One, Listed}
+use Rattle.assertions.specs.declared.decision.Decision.{Decision}
+use Rattle.assertions.specs.Quantifiers.{some_in}
+use Rattle.assertions.specs.Segments.{sat}
 
 -- whether a row has a place
 abbrev pub marks : List Bool → ℕ → Bool

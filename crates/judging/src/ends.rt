@@ -1,21 +1,22 @@
 //! Up to where a sequence matches, by tables.
 
 ghost use Rattle.std.specs.Prelude.{◌<◌, ◌-◌, ◌^◌, IfOk, length};
-ghost use Rattle.types.specs.Segments.{Seq, is_match};
-ghost use Rattle.types.specs.Written.{one_of, after, later};
-ghost use Rattle.types.specs.declared.sequence.Boolean.{Boolean};
-ghost use Rattle.types.specs.declared.sequence.Boolean.TheVariants.{One};
-ghost use Rattle.types.specs.Shapes.{shape};
+ghost use Rattle.assertions.specs.Segments.{Seq, is_match};
+ghost use Rattle.assertions.specs.Written.{one_of, after, later};
+ghost use Rattle.assertions.specs.declared.sequence.Boolean.{Boolean};
+ghost use Rattle.assertions.specs.declared.sequence.Boolean.TheVariants.{One};
+ghost use Rattle.assertions.specs.Shapes.{shape};
 ghost use Rattle.judging.specs.Tables.{behind, held_at, IsRelation};
 
 use crate::relation::{
-    both, joined_behind, kept, merged, moved, next, repeated, same, shared, starts_behind,
+    both, composition_behind, last_ticks, moved_places, next, places_throughout, repetition_of,
+    same, starts_behind, union_of,
 };
 use crate::row::{every_place, some_mark};
 use crate::seen::Seen;
 use crate::table::Table;
+use assertions::Sequence;
 use std::alloc::{AllocError, Global};
-use types::Sequence;
 
 /// The places up to which the sequence matches from each marked start. Each part of it is run once.
 #[cycle(ends)]
@@ -41,12 +42,12 @@ pub(crate) fn ends_from(
         Sequence::Repeat(body, least, most) => {
             let every = every_place(alloc, starts.len())?;
             let bodies = ends_from(alloc, body, seen, every.as_slice())?;
-            repeated(alloc, &bodies, *least, *most, starts)
+            repetition_of(alloc, &bodies, *least, *most, starts)
         }
         Sequence::Or(one, other) => {
             let ones = ends_from(alloc, one, seen, starts)?;
             let others = ends_from(alloc, other, seen, starts)?;
-            merged(alloc, &ones, &others, starts)
+            union_of(alloc, &ones, &others, starts)
         }
         Sequence::And(one, other) => {
             let ones = ends_from(alloc, one, seen, starts)?;
@@ -55,7 +56,7 @@ pub(crate) fn ends_from(
         }
         Sequence::Throughout(boolean, body) => {
             let bodies = ends_from(alloc, body, seen, starts)?;
-            kept(alloc, &bodies, *boolean, seen, starts)
+            places_throughout(alloc, &bodies, *boolean, seen, starts)
         }
     }
 }
@@ -76,8 +77,8 @@ fn ends_delayed(
         → IsRelation (is_match (held_at seen.now.values) (one_of least (most - least) (after One r (shape second.now)))) starts.now v) }
 {
     let end = least.max(most) as usize;
-    let apart = moved(alloc, fronts, least.saturating_sub(1) as usize, end, starts)?;
-    let together = shared(alloc, fronts, least == 0, starts)?;
+    let apart = moved_places(alloc, fronts, least.saturating_sub(1) as usize, end, starts)?;
+    let together = last_ticks(alloc, fronts, least == 0, starts)?;
     ends_behind(alloc, &apart, &together, second, seen, starts)
 }
 
@@ -96,7 +97,7 @@ fn ends_late(
 {
     let here = same(alloc, true, starts)?;
     let end = least.max(most) as usize + 1;
-    let apart = moved(alloc, &here, least as usize, end, starts)?;
+    let apart = moved_places(alloc, &here, least as usize, end, starts)?;
     let none = Table::new(alloc);
     ends_behind(alloc, &apart, &none, body, seen, starts)
 }
@@ -116,5 +117,5 @@ fn ends_behind(
 {
     let begins = starts_behind(alloc, apart, together, starts)?;
     let rests = ends_from(alloc, rest, seen, begins.as_slice())?;
-    joined_behind(alloc, apart, together, &rests, starts)
+    composition_behind(alloc, apart, together, &rests, starts)
 }

@@ -1,7 +1,7 @@
 //! What stands at the ends of an attempt.
 
 ghost use Rattle.std.specs.Prelude.{◌≡◌, ◌+◌, ◌<◌, ◌≤◌, ◌^◌, ◌&&◌, ◌||◌, not, nat_le, IfOk, length};
-ghost use Rattle.types.specs.Quantifiers.{some_in, each_in};
+ghost use Rattle.assertions.specs.Quantifiers.{some_in, each_in};
 ghost use Rattle.judging.specs.Tables.{marks, links, IsRow};
 
 use crate::row::some_mark;
@@ -19,8 +19,8 @@ pub(crate) fn obligations_at(
     ensures { IfOk result (λ row. IsRow (λ e. nat_le (e + 1) below && marks ends.now (e + 1)) count row.items) }
 {
     let mut row = Vec::with_capacity(alloc, count)?;
-    for e in 0..count {
-        row.push(e < below && is_marked(ends, e + 1))?;
+    for tick in 0..count {
+        row.push(tick < below && is_marked(ends, tick + 1))?;
     }
     Ok(row)
 }

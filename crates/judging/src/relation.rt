@@ -1,8 +1,8 @@
 //! Tables of what starts reach, made from others. Each row is made for one marked start.
 
 ghost use Rattle.std.specs.Prelude.{◌≡◌, ℕ, ◌+◌, ◌-◌, ◌<◌, ◌≤◌, ◌&&◌, ◌||◌, ◌==◌, ◌^◌, true, nat_le, IsTrue, IfOk, length};
-ghost use Rattle.types.specs.Quantifiers.{some_in, each_in};
-ghost use Rattle.types.specs.Segments.{chain};
+ghost use Rattle.assertions.specs.Quantifiers.{some_in, each_in};
+ghost use Rattle.assertions.specs.Segments.{chain};
 ghost use Rattle.judging.specs.Tables.{marks, links, held_at, reached_from, IsRelation};
 
 use crate::row::{
@@ -10,8 +10,8 @@ use crate::row::{
 };
 use crate::seen::Seen;
 use crate::table::Table;
+use assertions::Boolean;
 use std::alloc::{AllocError, Global};
-use types::Boolean;
 
 /// Each start itself, if that is asked for.
 pub(crate) fn same(alloc: Global, wanted: bool, starts: &[bool]) -> Result<Table, AllocError>
@@ -52,7 +52,7 @@ pub(crate) fn next(
 }
 
 /// The places that lie so far behind those of each start.
-pub(crate) fn moved(
+pub(crate) fn moved_places(
     alloc: Global,
     front: &Table,
     least: usize,
@@ -74,7 +74,7 @@ pub(crate) fn moved(
 }
 
 /// The last ticks of what ends at the places of each start and isn't empty, if that is asked for.
-pub(crate) fn shared(
+pub(crate) fn last_ticks(
     alloc: Global,
     front: &Table,
     wanted: bool,
@@ -96,7 +96,7 @@ pub(crate) fn shared(
 }
 
 /// What the second table reaches from the places of each start, so many ticks further on at least.
-pub(crate) fn joined(
+pub(crate) fn composition_of(
     alloc: Global,
     front: &Table,
     rest: &Table,
@@ -119,7 +119,7 @@ pub(crate) fn joined(
 }
 
 /// What each start reaches in one of the tables.
-pub(crate) fn merged(
+pub(crate) fn union_of(
     alloc: Global,
     one: &Table,
     other: &Table,
@@ -161,7 +161,7 @@ pub(crate) fn both(
 }
 
 /// The places of each start up to which the boolean is true.
-pub(crate) fn kept(
+pub(crate) fn places_throughout(
     alloc: Global,
     body: &Table,
     boolean: Boolean,
@@ -183,7 +183,7 @@ pub(crate) fn kept(
 }
 
 /// The places that some marked start reaches.
-pub(crate) fn reached(
+pub(crate) fn reached_places(
     alloc: Global,
     table: &Table,
     starts: &[bool],
@@ -211,14 +211,14 @@ pub(crate) fn starts_behind(
     ensures moved { IfOk result (λ v. (i j : ℕ) → IsTrue (marks starts.now i) → j < length starts.now → IsTrue (links moved.now i j) → IsTrue (marks v.items j)) }
     ensures shared { IfOk result (λ v. (i j : ℕ) → IsTrue (marks starts.now i) → j < length starts.now → IsTrue (links shared.now i j) → IsTrue (marks v.items j)) }
 {
-    let mut all = reached(alloc, moved, starts)?;
-    let more = reached(alloc, shared, starts)?;
+    let mut all = reached_places(alloc, moved, starts)?;
+    let more = reached_places(alloc, shared, starts)?;
     merge_from(&mut all, more.as_slice(), 0);
     Ok(all)
 }
 
 /// What a table reaches from the places of the one, and behind the places of the other.
-pub(crate) fn joined_behind(
+pub(crate) fn composition_behind(
     alloc: Global,
     moved: &Table,
     shared: &Table,
@@ -227,13 +227,13 @@ pub(crate) fn joined_behind(
 ) -> Result<Table, AllocError>
     ensures { IfOk result (IsRelation (λ i j. reached_from moved.now rests.now 0 i j || reached_from shared.now rests.now 1 i j) starts.now) }
 {
-    let apart = joined(alloc, moved, rests, 0, starts)?;
-    let together = joined(alloc, shared, rests, 1, starts)?;
-    merged(alloc, &apart, &together, starts)
+    let apart = composition_of(alloc, moved, rests, 0, starts)?;
+    let together = composition_of(alloc, shared, rests, 1, starts)?;
+    union_of(alloc, &apart, &together, starts)
 }
 
 /// What the table reaches by so many steps, from the least number of them to the most.
-pub(crate) fn repeated(
+pub(crate) fn repetition_of(
     alloc: Global,
     bodies: &Table,
     least: u8,
@@ -245,11 +245,11 @@ pub(crate) fn repeated(
     let mut last = same(alloc, true, starts)?;
     let mut all = same(alloc, least == 0, starts)?;
     for count in 0..most {
-        last = joined(alloc, &last, bodies, 0, starts)?;
+        last = composition_of(alloc, &last, bodies, 0, starts)?;
         if count + 1 < least {
             continue;
         }
-        all = merged(alloc, &all, &last, starts)?;
+        all = union_of(alloc, &all, &last, starts)?;
     }
     Ok(all)
 }

@@ -1,13 +1,13 @@
 //! Rows of marks, each made for one start.
 
 ghost use Rattle.std.specs.Prelude.{◌≡◌, ℕ, ◌+◌, ◌-◌, ◌<◌, ◌≤◌, ◌&&◌, ◌||◌, ◌==◌, ◌^◌, true, nat_le, IfOk, length};
-ghost use Rattle.types.specs.Quantifiers.{some_in, each_in};
+ghost use Rattle.assertions.specs.Quantifiers.{some_in, each_in};
 ghost use Rattle.judging.specs.Tables.{marks, links, held_at, IsRow};
 
 use crate::seen::Seen;
 use crate::table::{Table, is_marked};
+use assertions::Boolean;
 use std::alloc::{AllocError, Global};
-use types::Boolean;
 
 /// Whether the row has a place from the first up to the end.
 pub(crate) fn some_mark(row: &[bool], from: usize, end: usize) -> bool
@@ -24,15 +24,15 @@ pub(crate) fn some_mark(row: &[bool], from: usize, end: usize) -> bool
 /// The one place, if that is asked for.
 pub(crate) fn only(
     alloc: Global,
-    place: usize,
+    start: usize,
     marked: bool,
     count: usize,
 ) -> Result<Vec<bool>, AllocError>
-    ensures { IfOk result (λ row. IsRow (λ j. (j == place) && marked) count row.items) }
+    ensures { IfOk result (λ row. IsRow (λ j. (j == start) && marked) count row.items) }
 {
     let mut row = Vec::with_capacity(alloc, count)?;
-    for j in 0..count {
-        row.push(j == place && marked)?;
+    for place in 0..count {
+        row.push(place == start && marked)?;
     }
     Ok(row)
 }
@@ -42,7 +42,7 @@ pub(crate) fn every_place(alloc: Global, count: usize) -> Result<Vec<bool>, Allo
     ensures { IfOk result (λ row. IsRow (λ j. true) count row.items) }
 {
     let mut row = Vec::with_capacity(alloc, count)?;
-    for _j in 0..count {
+    for _place in 0..count {
         row.push(true)?;
     }
     Ok(row)
@@ -80,16 +80,17 @@ pub(crate) fn moved_row(
 pub(crate) fn shared_row(
     alloc: Global,
     front: &[bool],
-    place: usize,
+    start: usize,
     wanted: bool,
     count: usize,
 ) -> Result<Vec<bool>, AllocError>
     requires { count < 2 ^ 61 }
-    ensures { IfOk result (λ row. IsRow (λ j. wanted && (nat_le place j && marks front.now (j + 1))) count row.items) }
+    ensures { IfOk result (λ row.
+        IsRow (λ j. wanted && (nat_le start j && marks front.now (j + 1))) count row.items) }
 {
     let mut row = Vec::with_capacity(alloc, count)?;
-    for j in 0..count {
-        row.push(wanted && place <= j && is_marked(front, j + 1))?;
+    for place in 0..count {
+        row.push(wanted && start <= place && is_marked(front, place + 1))?;
     }
     Ok(row)
 }
@@ -99,8 +100,8 @@ pub(crate) fn merge_from(row: &mut Vec<bool>, more: &[bool], from: usize)
     ensures long { length row.new.items ≡ length row.old.items }
     ensures each { (j : ℕ) → j < length row.old.items → marks row.new.items j ≡ (marks row.old.items j || (nat_le from j && marks more.now j)) }
 {
-    for j in from..row.len().min(more.len()) {
-        row[j] |= more[j];
+    for place in from..row.len().min(more.len()) {
+        row[place] |= more[place];
     }
 }
 
@@ -116,11 +117,11 @@ pub(crate) fn joined_row(
     ensures { IfOk result (λ row. IsRow (λ j. some_in 0 (length front.now) (λ m. marks front.now m && (nat_le (m + gap) j && links rest.now m j))) count row.items) }
 {
     let mut row = only(alloc, 0, false, count)?;
-    for m in 0..front.len() {
-        if !front[m] {
+    for place in 0..front.len() {
+        if !front[place] {
             continue;
         }
-        merge_from(&mut row, rest.row(m), m + gap);
+        merge_from(&mut row, rest.row(place), place + gap);
     }
     Ok(row)
 }
@@ -135,8 +136,8 @@ pub(crate) fn merged_row(
     ensures { IfOk result (λ row. IsRow (λ j. marks one.now j || marks other.now j) count row.items) }
 {
     let mut row = Vec::with_capacity(alloc, count)?;
-    for j in 0..count {
-        row.push(is_marked(one, j) || is_marked(other, j))?;
+    for place in 0..count {
+        row.push(is_marked(one, place) || is_marked(other, place))?;
     }
     Ok(row)
 }
@@ -160,13 +161,13 @@ pub(crate) fn both_row(
     let mut row = Vec::with_capacity(alloc, count)?;
     let mut one_ended = false;
     let mut other_ended = false;
-    for j in 0..count {
-        one_ended |= is_marked(one, j);
-        other_ended |= is_marked(other, j);
+    for place in 0..count {
+        one_ended |= is_marked(one, place);
+        other_ended |= is_marked(other, place);
         let here = is_later_end(
-            is_marked(one, j),
+            is_marked(one, place),
             one_ended,
-            is_marked(other, j),
+            is_marked(other, place),
             other_ended,
         );
         row.push(here)?;
@@ -187,16 +188,18 @@ pub(crate) fn kept_row(
     body: &[bool],
     boolean: Boolean,
     seen: &Seen,
-    place: usize,
+    start: usize,
     count: usize,
 ) -> Result<Vec<bool>, AllocError>
-    ensures { IfOk result (λ row. IsRow (λ j. marks body.now j && each_in place j (held_at seen.now.values boolean)) count row.items) }
+    ensures { IfOk result (λ row.
+        IsRow (λ j. marks body.now j && each_in start j (held_at seen.now.values boolean))
+        count row.items) }
 {
     let mut row = Vec::with_capacity(alloc, count)?;
     let mut holds = true;
-    for j in 0..count {
-        row.push(is_marked(body, j) & holds)?;
-        holds &= holds_from(place, boolean, seen, j);
+    for place in 0..count {
+        row.push(is_marked(body, place) & holds)?;
+        holds &= holds_from(start, boolean, seen, place);
     }
     Ok(row)
 }

@@ -1,14 +1,14 @@
 //! What an attempt has seen.
 
 ghost use Rattle.std.specs.Prelude.{◌≡◌, ℕ, ◌∷◌, [], ◌++◌, slice_get, OnOk, OnErr, IfOk};
-ghost use Rattle.types.specs.Shapes.{is_true_at, expression_at};
-ghost use Rattle.values.specs.Traces.{samples_of};
+ghost use Rattle.assertions.specs.Shapes.{is_true_at, expression_at};
+ghost use Rattle.expressions.specs.Rows.{samples_of};
 ghost use Rattle.judging.specs.Tables.{marks, value_at, held_at};
 
 use crate::table::{Table, is_marked};
+use assertions::Boolean;
+use expressions::{Expr, Rows, is_true};
 use std::alloc::{AllocError, Global};
-use types::Boolean;
-use values::{Expr, Trace, is_true};
 
 /// The values of an assertion's booleans, with a row for each tick that was seen, from the attempt's first on.
 #[derive(Drop)]
@@ -36,7 +36,7 @@ impl Seen {
 }
 
 /// Whether an expression is true at a tick, by its place among all; one that isn't there is false.
-fn is_listed_true(all: &[Expr], place: usize, rows: &Trace, tick: usize) -> bool
+fn is_listed_true(all: &[Expr], place: usize, rows: &Rows, tick: usize) -> bool
     ensures { result ≡ is_true_at (samples_of rows.now) (slice_get all.now place) tick }
 {
     match all.get(place) {
@@ -50,7 +50,7 @@ pub(crate) fn values_at(
     alloc: Global,
     all: &[Expr],
     places: &[usize],
-    rows: &Trace,
+    rows: &Rows,
     tick: usize,
 ) -> Result<Vec<bool>, AllocError>
     ensures { IfOk result (λ v. (i : ℕ) → marks v.items i ≡ is_true_at (samples_of rows.now) (expression_at all.now (slice_get places.now i)) tick) }

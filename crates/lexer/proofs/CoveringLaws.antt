@@ -288,3 +288,12 @@ tokens_of-faulty bytes Memory h = tt
 tokens_of-faulty bytes (BadCharacter at) h = subst (λ (r : Result (List Cut) LexFault). IsAnswer 0 bytes r) h (answer bytes)
 tokens_of-faulty bytes (BadNumber at) h = subst (λ (r : Result (List Cut) LexFault). IsAnswer 0 bytes r) h (answer bytes)
 tokens_of-faulty bytes (UnclosedComment at) h = subst (λ (r : Result (List Cut) LexFault). IsAnswer 0 bytes r) h (answer bytes)
+
+pub tokens_of-memory : (bytes : List ℕ) → tokens_of bytes ≡ Err Memory → ⊥
+tokens_of-memory bytes h = subst (λ (r : Result (List Cut) LexFault). IsAnswer 0 bytes r) h (answer bytes)
+
+pub tokens_of-first : (bytes : List ℕ) (fault : LexFault) → tokens_of bytes ≡ Err fault → IsFaulty 0 bytes fault
+tokens_of-first bytes Memory h = absurd (tokens_of-memory bytes h)
+tokens_of-first bytes (BadCharacter at) h = tokens_of-faulty bytes (BadCharacter at) h
+tokens_of-first bytes (BadNumber at) h = tokens_of-faulty bytes (BadNumber at) h
+tokens_of-first bytes (UnclosedComment at) h = tokens_of-faulty bytes (UnclosedComment at) h

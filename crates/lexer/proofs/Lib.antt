@@ -3,3 +3,4 @@ pub mod CutLaws
 pub mod NumberEnds
 pub mod NumberLaws
 pub mod CoveringLaws
+pub mod OneCut

@@ -3,3 +3,4 @@ pub mod Runs
 pub mod Numbers
 pub mod Cutting
 pub mod Covering
+pub mod Laws

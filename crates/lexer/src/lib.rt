@@ -2,6 +2,7 @@
 #![tactic(auto)]
 
 mod fault;
+mod laws;
 mod longest;
 mod number;
 mod piece;
@@ -11,6 +12,7 @@ mod tests;
 mod token;
 
 pub use fault::LexFault;
+pub use laws::cut_law;
 pub use piece::Shape;
 pub use scan::{Next, lex};
 pub use token::{Base, Kind, Number, Symbol, Token};

@@ -1,6 +1,7 @@
 //! Texts and their tokens.
 
 use crate::fault::LexFault;
+use crate::laws::cut_law;
 use crate::scan::lex;
 use crate::token::{Kind, Symbol, Token};
 use std::alloc::Global;
@@ -15,6 +16,10 @@ fn cuts_a_text(rt: HostRuntime) -> Result<(), Fail> {
     assert_eq!(rt; tokens[4].at, 21);
     assert_eq!(rt; tokens[5].at, 33);
     assert_eq!(rt; tokens[5].kind, Kind::End);
+    let gaps = lex(rt.alloc(), "// nothing\n/* more *///")?;
+    assert_eq!(rt; gaps.len(), 1);
+    assert_eq!(rt; gaps[0].at, 23);
+    cut_law();
     Ok(())
 }
 
@@ -47,7 +52,7 @@ fn sized_literals(rt: HostRuntime) -> Result<(), Fail> {
 }
 
 #[test]
-fn bad_numbers(rt: HostRuntime) -> Result<(), Fail> {
+fn faults(rt: HostRuntime) -> Result<(), Fail> {
     for (text, fault) in [
         ("a 4294967296", LexFault::BadNumber(2)),
         ("'hFFFFFFFFF", LexFault::BadNumber(0)),
@@ -57,23 +62,11 @@ fn bad_numbers(rt: HostRuntime) -> Result<(), Fail> {
         ("4'b", LexFault::BadNumber(0)),
         ("4'b_1", LexFault::BadNumber(0)),
         ("8'hFF?a:b", LexFault::BadNumber(0)),
-    ] {
-        let refused = match lex(rt.alloc(), text) {
-            Ok(_) => false,
-            Err(found) => found == fault,
-        };
-        assert!(rt; refused, "{text}");
-    }
-    Ok(())
-}
-
-#[test]
-fn bad_texts(rt: HostRuntime) -> Result<(), Fail> {
-    for (text, fault) in [
         ("4'sb1", LexFault::BadCharacter(1)),
         ("a '0", LexFault::BadCharacter(2)),
         ("a \\ b", LexFault::BadCharacter(2)),
         ("a /* b", LexFault::UnclosedComment(2)),
+        ("/*", LexFault::UnclosedComment(0)),
         ("/*/", LexFault::UnclosedComment(0)),
     ] {
         let refused = match lex(rt.alloc(), text) {
@@ -82,14 +75,6 @@ fn bad_texts(rt: HostRuntime) -> Result<(), Fail> {
         };
         assert!(rt; refused, "{text}");
     }
-    Ok(())
-}
-
-#[test]
-fn comment_only(rt: HostRuntime) -> Result<(), Fail> {
-    let tokens = lex(rt.alloc(), "// nothing\n/* more */")?;
-    assert_eq!(rt; tokens.len(), 1);
-    assert_eq!(rt; tokens[0].at, 21);
     Ok(())
 }
 
@@ -201,17 +186,5 @@ fn symbols_beside_symbols(rt: HostRuntime) -> Result<(), Fail> {
         let is_cut = is_cut_beside_each(rt.alloc(), left)?;
         assert!(rt; is_cut, "{left}");
     }
-    Ok(())
-}
-
-#[test]
-fn comments_of_two_symbols(rt: HostRuntime) -> Result<(), Fail> {
-    let tokens = lex(rt.alloc(), "//")?;
-    assert_eq!(rt; tokens.len(), 1);
-    let refused = match lex(rt.alloc(), "/*") {
-        Ok(_) => false,
-        Err(found) => found == LexFault::UnclosedComment(0),
-    };
-    assert!(rt; refused);
     Ok(())
 }

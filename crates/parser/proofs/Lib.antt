@@ -5,3 +5,4 @@ pub mod SequenceSteps
 pub mod PropertySteps
 pub mod ItemSteps
 pub mod FileLaws
+pub mod PlaceLaws

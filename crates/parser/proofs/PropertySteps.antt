@@ -2,7 +2,7 @@
 use Rattle.std.proofs.Common.{◌≡◌, ℕ, suc, ◌+◌, List, Option, Some, None, refl, ap, ◌∙◌, arith}
 use Rattle.lexer.specs.declared.token.Token.{Token}
 use Rattle.grammar.specs.declared.terminal.Terminal.TheVariants.{OpenRound, CloseRound}
-use Rattle.grammar.specs.Marks.{so_loose}
+use Rattle.grammar.specs.Marks.{has_precedence}
 use Rattle.grammar.specs.Trees.{Sequence, Property, plain, implication}
 use Rattle.grammar.specs.Readers.{◌>>=◌, Reader, refuse, lead, expect}
 use Rattle.grammar.specs.ReadSequences.{whole, regroup, sequence_behind, implication_behind, regroup_property, property_with, properties, property}
@@ -38,15 +38,15 @@ behind-unclosed d o p vs h k = rw (h, k) refl
 behind-closed : (d : ℕ) (o : Option (Property × List Token)) (p : Property) (vs : List Token) (c : Token) (ws : List Token) → o ≡ Some (p, vs) → expect CloseRound vs ≡ Some (c, ws) → closed d o ≡ regroup_property d p ws
 behind-closed d o p vs c ws h k = rw (h, k) refl
 
-pub implication-absent : (d : ℕ) (s : Sequence) (ts : List Token) → lead (so_loose 17) ts ≡ None → implication_behind d s ts ≡ Some (plain s, ts)
+pub implication-absent : (d : ℕ) (s : Sequence) (ts : List Token) → lead (has_precedence 17) ts ≡ None → implication_behind d s ts ≡ Some (plain s, ts)
 unfolding implication_behind
 implication-absent d s ts h = rw (h) refl
 
-pub implication-fails : (d : ℕ) (s : Sequence) (ts : List Token) (t : Token) (us : List Token) (x : Stop) → lead (so_loose 17) ts ≡ Some (t, us) → Fails x (whole d us) → Fails x (implication_behind d s ts)
+pub implication-fails : (d : ℕ) (s : Sequence) (ts : List Token) (t : Token) (us : List Token) (x : Stop) → lead (has_precedence 17) ts ≡ Some (t, us) → Fails x (whole d us) → Fails x (implication_behind d s ts)
 unfolding implication_behind
 implication-fails d s ts t us x h f = failing x _ _ (λ none. rw (h, none) refl) f
 
-pub implication-ok : (d : ℕ) (s : Sequence) (ts : List Token) (t : Token) (us : List Token) (q : Sequence) (vs : List Token) → lead (so_loose 17) ts ≡ Some (t, us) → whole d us ≡ Some (q, vs) → implication_behind d s ts ≡ Some (implication s t q, vs)
+pub implication-ok : (d : ℕ) (s : Sequence) (ts : List Token) (t : Token) (us : List Token) (q : Sequence) (vs : List Token) → lead (has_precedence 17) ts ≡ Some (t, us) → whole d us ≡ Some (q, vs) → implication_behind d s ts ≡ Some (implication s t q, vs)
 unfolding implication_behind
 implication-ok d s ts t us q vs h k = rw (h, k) refl
 

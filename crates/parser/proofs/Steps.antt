@@ -1,5 +1,5 @@
 -- Reading, in the steps of the code: what each step that was taken says, and each that failed. The rules are those of the grammar's functions.
-use Rattle.std.proofs.Common.{◌≡◌, ℕ, zero, suc, ◌+◌, ◌-◌, Bool, true, false, List, [], ◌∷◌, Option, Some, None, option_map, refl, sym, ap, ◌∙◌, arith}
+use Rattle.std.proofs.Common.{◌≡◌, ℕ, zero, suc, ◌+◌, ◌-◌, Bool, true, false, List, [], ◌∷◌, Option, Some, None, option_map, Result, refl, sym, ap, subst, ◌∙◌, arith}
 use Rattle.std.proofs.lemmas.Bool.{eq-eqb, ne_eqb}
 use Rattle.lexer.specs.declared.token.Token.{Token}
 use Rattle.grammar.specs.declared.bound.Bound.{Bound}
@@ -11,13 +11,13 @@ use Rattle.grammar.specs.declared.terminal.Terminal.{Terminal}
 use Rattle.grammar.specs.declared.terminal.Terminal.TheVariants.{OpenRound, CloseRound, CloseBrace, OpenSquare, CloseSquare, Comma, Colon}
 use Rattle.grammar.specs.Terminals.{is, is_word}
 use Rattle.grammar.specs.Bounds.{index, bound_within}
-use Rattle.grammar.specs.Marks.{mark, looseness, so_loose}
+use Rattle.grammar.specs.Marks.{mark, precedence, has_precedence}
 use Rattle.grammar.specs.Trees.{Tree, number, path, concatenation, past, call, unary, choice}
 use Rattle.grammar.specs.Readers.{◌>>=◌, Reader, refuse, lead, expect, pick, optional, each}
 use Rattle.grammar.specs.ReadExpressions.{word_of, members, select, parts_of, named, bracketed, concatenated, passed, called, prefixing, prefixed_with, prefixed, links, joined, climb, level, choice_with, readers, operand, finish, expression}
 use Rattle.parser.specs.declared.stop.Stop.{Stop}
 use Rattle.parser.specs.declared.stop.Stop.TheVariants as stops
-use Rattle.parser.specs.Views.{Fails}
+use Rattle.parser.specs.Views.{Fails, Gives}
 
 pub failing : {A B : Type 0} (e : Stop) (o : Option A) (p : Option B) → (o ≡ None → p ≡ None) → Fails e o → Fails e p
 failing stops.Memory o p f h = tt
@@ -30,6 +30,10 @@ none-fails stops.Memory o h = tt
 none-fails (stops.Expected what at) o h = h
 none-fails (stops.TooDeep at) o h = h
 none-fails (stops.BadBound at) o h = h
+
+-- what is read, by another name
+pub gives-as : {X Y : Type 0} (view : X → Y) (r : Result X Stop) (o p : Option Y) → p ≡ o → Gives view r o → Gives view r p
+gives-as {Y = Y} view r o p e h = subst (λ (q : Option Y). Gives view r q) (sym e) h
 
 -- one deeper
 pub below : (d : ℕ) → (d ≡ 0 → ⊥) → d ≡ d - 1 + 1
@@ -183,23 +187,23 @@ pub choice-fail1 : (d : ℕ) (first : Tree) (ts : List Token) (x : Stop) → Fai
 unfolding finish choice_with
 choice-fail1 d first ts x f = failing x _ _ (λ none. rw (none) refl) f
 
-pub choice-deep : (d : ℕ) (first : Tree) (ts : List Token) (c : Tree) (us : List Token) (t : Token) (vs : List Token) (x : Stop) → climb (prefixed_with (readers d)) 9 first ts ≡ Some (c, us) → lead (so_loose 10) us ≡ Some (t, vs) → d ≡ 0 → Fails x (finish d first ts)
+pub choice-deep : (d : ℕ) (first : Tree) (ts : List Token) (c : Tree) (us : List Token) (t : Token) (vs : List Token) (x : Stop) → climb (prefixed_with (readers d)) 9 first ts ≡ Some (c, us) → lead (has_precedence 10) us ≡ Some (t, vs) → d ≡ 0 → Fails x (finish d first ts)
 unfolding finish choice_with
 choice-deep d first ts c us t vs x h1 h2 h = none-fails x _ (rw (h1, h2, expr-zero d h) refl)
 
-pub choice-fail4 : (d : ℕ) (first : Tree) (ts : List Token) (c : Tree) (us : List Token) (t : Token) (vs : List Token) (k : ℕ) (x : Stop) → climb (prefixed_with (readers d)) 9 first ts ≡ Some (c, us) → lead (so_loose 10) us ≡ Some (t, vs) → d ≡ k + 1 → Fails x (expression k vs) → Fails x (finish d first ts)
+pub choice-fail4 : (d : ℕ) (first : Tree) (ts : List Token) (c : Tree) (us : List Token) (t : Token) (vs : List Token) (k : ℕ) (x : Stop) → climb (prefixed_with (readers d)) 9 first ts ≡ Some (c, us) → lead (has_precedence 10) us ≡ Some (t, vs) → d ≡ k + 1 → Fails x (expression k vs) → Fails x (finish d first ts)
 unfolding finish choice_with
 choice-fail4 d first ts c us t vs k x h1 h2 depth f = failing x _ _ (λ none. rw (h1, h2, expr-at d k depth, none) refl) f
 
-pub choice-fail5 : (d : ℕ) (first : Tree) (ts : List Token) (c : Tree) (us : List Token) (t : Token) (vs : List Token) (k : ℕ) (a : Tree) (ws : List Token) (x : Stop) → climb (prefixed_with (readers d)) 9 first ts ≡ Some (c, us) → lead (so_loose 10) us ≡ Some (t, vs) → d ≡ k + 1 → expression k vs ≡ Some (a, ws) → Fails x (expect Colon ws) → Fails x (finish d first ts)
+pub choice-fail5 : (d : ℕ) (first : Tree) (ts : List Token) (c : Tree) (us : List Token) (t : Token) (vs : List Token) (k : ℕ) (a : Tree) (ws : List Token) (x : Stop) → climb (prefixed_with (readers d)) 9 first ts ≡ Some (c, us) → lead (has_precedence 10) us ≡ Some (t, vs) → d ≡ k + 1 → expression k vs ≡ Some (a, ws) → Fails x (expect Colon ws) → Fails x (finish d first ts)
 unfolding finish choice_with
 choice-fail5 d first ts c us t vs k a ws x h1 h2 depth h4 f = failing x _ _ (λ none. rw (h1, h2, expr-at d k depth, h4, none) refl) f
 
-pub choice-fail6 : (d : ℕ) (first : Tree) (ts : List Token) (c : Tree) (us : List Token) (t : Token) (vs : List Token) (k : ℕ) (a : Tree) (ws : List Token) (q : Token) (xs : List Token) (x : Stop) → climb (prefixed_with (readers d)) 9 first ts ≡ Some (c, us) → lead (so_loose 10) us ≡ Some (t, vs) → d ≡ k + 1 → expression k vs ≡ Some (a, ws) → expect Colon ws ≡ Some (q, xs) → Fails x (expression k xs) → Fails x (finish d first ts)
+pub choice-fail6 : (d : ℕ) (first : Tree) (ts : List Token) (c : Tree) (us : List Token) (t : Token) (vs : List Token) (k : ℕ) (a : Tree) (ws : List Token) (q : Token) (xs : List Token) (x : Stop) → climb (prefixed_with (readers d)) 9 first ts ≡ Some (c, us) → lead (has_precedence 10) us ≡ Some (t, vs) → d ≡ k + 1 → expression k vs ≡ Some (a, ws) → expect Colon ws ≡ Some (q, xs) → Fails x (expression k xs) → Fails x (finish d first ts)
 unfolding finish choice_with
 choice-fail6 d first ts c us t vs k a ws q xs x h1 h2 depth h4 h5 f = failing x _ _ (λ none. rw (h1, h2, expr-at d k depth, h4, h5, none) refl) f
 
-pub choice-ok : (d : ℕ) (first : Tree) (ts : List Token) (c : Tree) (us : List Token) (t : Token) (vs : List Token) (k : ℕ) (a : Tree) (ws : List Token) (q : Token) (xs : List Token) (b : Tree) (ys : List Token) → climb (prefixed_with (readers d)) 9 first ts ≡ Some (c, us) → lead (so_loose 10) us ≡ Some (t, vs) → d ≡ k + 1 → expression k vs ≡ Some (a, ws) → expect Colon ws ≡ Some (q, xs) → expression k xs ≡ Some (b, ys) → finish d first ts ≡ Some (choice c a b, ys)
+pub choice-ok : (d : ℕ) (first : Tree) (ts : List Token) (c : Tree) (us : List Token) (t : Token) (vs : List Token) (k : ℕ) (a : Tree) (ws : List Token) (q : Token) (xs : List Token) (b : Tree) (ys : List Token) → climb (prefixed_with (readers d)) 9 first ts ≡ Some (c, us) → lead (has_precedence 10) us ≡ Some (t, vs) → d ≡ k + 1 → expression k vs ≡ Some (a, ws) → expect Colon ws ≡ Some (q, xs) → expression k xs ≡ Some (b, ys) → finish d first ts ≡ Some (choice c a b, ys)
 unfolding finish choice_with
 choice-ok d first ts c us t vs k a ws q xs b ys h1 h2 depth h4 h5 h6 = rw (h1, h2, expr-at d k depth, h4, h5, h6) refl
 
@@ -227,13 +231,13 @@ pub expect-yes : (w : Terminal) (ts : List Token) (t : Token) (us : List Token) 
 unfolding expect
 expect-yes w ts t us e h = lead-yes (is w) ts t us e h
 
-pub operator-no : (k : ℕ) (ts : List Token) (t : Token) (us : List Token) → ts ≡ t ∷ us → (looseness t ≡ k → ⊥) → lead (so_loose k) ts ≡ None
-unfolding so_loose
-operator-no k ts t us e h = lead-no (so_loose k) ts t us e (sym (ne_eqb (looseness t) k h))
+pub operator-no : (k : ℕ) (ts : List Token) (t : Token) (us : List Token) → ts ≡ t ∷ us → (precedence t ≡ k → ⊥) → lead (has_precedence k) ts ≡ None
+unfolding has_precedence
+operator-no k ts t us e h = lead-no (has_precedence k) ts t us e (sym (ne_eqb (precedence t) k h))
 
-pub operator-yes : (k : ℕ) (ts : List Token) (t : Token) (us : List Token) → ts ≡ t ∷ us → looseness t ≡ k → lead (so_loose k) ts ≡ Some (t, us)
-unfolding so_loose
-operator-yes k ts t us e h = lead-yes (so_loose k) ts t us e (sym (eq-eqb (looseness t) k h))
+pub operator-yes : (k : ℕ) (ts : List Token) (t : Token) (us : List Token) → ts ≡ t ∷ us → precedence t ≡ k → lead (has_precedence k) ts ≡ Some (t, us)
+unfolding has_precedence
+operator-yes k ts t us e h = lead-yes (has_precedence k) ts t us e (sym (eq-eqb (precedence t) k h))
 
 pub word-nil : (ts : List Token) → ts ≡ [] → pick word_of ts ≡ None
 unfolding pick
@@ -349,7 +353,7 @@ links-fails d l first ts e us x some h f = failing x _ _ (λ none. climb-suc d l
 pub climb-read : (d l : ℕ) (first : Tree) (ts : List Token) (e : Tree) (us : List Token) (xs : List (Token × Tree)) (vs : List Token) → (l ≡ 0 → ⊥) → climb (prefixed_with (readers d)) (l - 1) first ts ≡ Some (e, us) → links (operand d (l - 1)) (l - 1) us ≡ Some (xs, vs) → climb (prefixed_with (readers d)) l first ts ≡ Some (joined e xs, vs)
 climb-read d l first ts e us xs vs some h k = climb-suc d l first ts some ∙ rw (h, k) refl
 
-pub finish-stop : (d : ℕ) (first : Tree) (ts : List Token) (c : Tree) (us : List Token) → climb (prefixed_with (readers d)) 9 first ts ≡ Some (c, us) → lead (so_loose 10) us ≡ None → finish d first ts ≡ Some (c, us)
+pub finish-stop : (d : ℕ) (first : Tree) (ts : List Token) (c : Tree) (us : List Token) → climb (prefixed_with (readers d)) 9 first ts ≡ Some (c, us) → lead (has_precedence 10) us ≡ None → finish d first ts ≡ Some (c, us)
 unfolding finish choice_with
 finish-stop d first ts c us h k = rw (h, k) refl
 
@@ -393,7 +397,7 @@ pub ruleset for_prefixed = (prefixed-nil, prefixed-number, prefixed-named, prefi
 
 pub ruleset for_operand = (operand-fail1, operand-tail)
 
-pub ruleset for_climb = (climb-zero, climb-fails, links-fails)
+pub ruleset for_climb = (climb-zero, climb-fails, links-fails, climb-read)
 
 pub ruleset for_expression = (expression-fail1, expression-tail)
 

@@ -41,13 +41,15 @@ pub tree-Choice : (a b c : Box Expr Global) → tree_of (expr.Choice a b c) ≡ 
 tree-Choice a b c = search (rules, expr.the_lemmas)
 
 -- nothing more, or something
-pub joined-none : (e : Tree) (xs : List (Token × Expr)) → length xs ≡ 0 → joined e (map link_of xs) ≡ e
-joined-none e [] h = refl
-joined-none e (x ∷ xs) h = absurd (omega arith)
+pub links-none : (e : Tree) (xs : List (Token × Expr)) → length xs ≡ 0 → e ≡ joined e (map link_of xs)
+links-none e [] h = refl
+links-none e (x ∷ xs) h = absurd (omega arith)
 
-pub joined-some : (e : Tree) (xs : List (Token × Expr)) → (length xs ≡ 0 → ⊥) → joined e (map link_of xs) ≡ trees.chain e (links_of (map link_of xs))
-joined-some e [] h = absurd (h refl)
-joined-some e (x ∷ xs) h = refl
+pub links-some : (e : Tree) (xs : List (Token × Expr)) → (length xs ≡ 0 → ⊥) → trees.chain e (links_of (map link_of xs)) ≡ joined e (map link_of xs)
+links-some e [] h = absurd (h refl)
+links-some e (x ∷ xs) h = refl
+
+pub ruleset links_rules = (links-none, links-some, tree-Chain)
 
 pub ruleset tree_rules = (tree-Number, tree-Path, tree-Concatenation, tree-Past, tree-Call, tree-Unary, tree-Choice)
 

@@ -5,6 +5,7 @@ use Rattle.lexer.specs.declared.token.Token.{Token}
 use Rattle.grammar.specs.declared.bound.Range.{Range}
 use Rattle.grammar.specs.Trees as trees
 use Rattle.grammar.specs.Trees.{Tree, number, path, concatenation, past, call, unary, chain, choice}
+use Rattle.grammar.specs.Readers.{Reader}
 use Rattle.grammar.specs.ReadExpressions.{links_of, parts_of}
 use Rattle.grammar.specs.ReadSequences.{steps_of, others_of}
 use Rattle.parser.specs.declared.tree.Path.{Path}
@@ -98,3 +99,7 @@ Fails (stops.BadBound at) read = read ≡ None
 abbrev pub Gives : {X Y : Type 0} → (X → Y) → Result X Stop → Option Y → Type 0
 Gives view (Ok x) read = read ≡ Some (view x)
 Gives view (Err e) read = Fails e read
+
+-- what was read, with the tokens behind it
+abbrev pub read_as : {A : Type 0} → A → Reader A
+read_as a ts = Some (a, ts)

@@ -1,14 +1,17 @@
 //! Sequences made of their parts.
 
-ghost use Rattle.std.specs.Prelude.{◌≡◌, ◌<◌, length, map, Some, IfOk, MatchResult};
+ghost use Rattle.std.specs.Prelude.{◌≡◌, ◌<◌, ◌≤◌, ◌++◌, [], ◌∷◌, length, map, Some, IfOk, IfErr, MatchResult};
+ghost use Rattle.parser.specs.declared.stop.Stop.TheVariants.{Memory};
 ghost use Rattle.grammar.specs.declared.terminal.Terminal.TheVariants.{Throughout};
 ghost use Rattle.grammar.specs.Trees.{boolean};
+ghost use Rattle.grammar.specs.Trees as trees;
 ghost use Rattle.grammar.specs.Readers.{expect};
 ghost use Rattle.grammar.specs.ReadSequences.{with_times, with_steps, with_conjuncts, with_alternatives};
-ghost use Rattle.parser.specs.Views.{tree_of, sequence_of, step_of};
+ghost use Rattle.parser.specs.Views.{tree_of, sequence_of, step_of, Gives, read_as};
 ghost use Rattle.parser.specs.Bodies.{body_of, IsProper, HasNoThroughout};
 
-use crate::read::accept;
+use crate::read::{Read, accept};
+use crate::stop::Stop;
 use crate::tree::{Expr, Sequence};
 use grammar::{Range, Terminal};
 use lexer::Token;
@@ -60,62 +63,135 @@ pub(crate) fn into_body<'a>(
 
 /// A body with the counts of its repetition, if they are written.
 #[tactic(auto, using(crate::proofs::TreeLaws::sequence_rules))]
-pub(crate) fn with_times<'a>(
+pub(crate) fn with_times<'t, 'a>(
     alloc: Global,
     body: Box<Sequence<'a>>,
     counts: Option<Range>,
-) -> Result<Box<Sequence<'a>>, AllocError>
-    ensures { IfOk result (λ s. sequence_of s.value ≡ with_times (sequence_of body.entry.value) counts) }
+    rest: &'t [Token<'a>],
+) -> Read<'t, 'a, Box<Sequence<'a>>>
+    ensures read { Gives (λ r. (sequence_of r.0.value, r.1.now)) result
+        (read_as (with_times (sequence_of body.entry.value) counts) rest.now) }
+    ensures shorter { IfOk result (λ r. length r.1.now ≤ length rest.now) }
 {
     match counts {
-        None => Ok(body),
-        Some(range) => Ok(Box::new(alloc, Sequence::Repeated(body, range))?),
+        None => Ok((body, rest)),
+        Some(range) => Ok((Box::new(alloc, Sequence::Repeated(body, range))?, rest)),
     }
 }
 
 /// A first part with the delays that follow it and what they delay.
 #[tactic(auto, using(crate::proofs::TreeLaws::steps_rules))]
-pub(crate) fn with_steps<'a>(
+pub(crate) fn with_steps<'t, 'a>(
     alloc: Global,
     head: Box<Sequence<'a>>,
     more: Vec<(Range, Sequence<'a>)>,
-) -> Result<Box<Sequence<'a>>, AllocError>
-    ensures { IfOk result (λ s. sequence_of s.value ≡ with_steps (sequence_of head.entry.value) (map step_of more.entry.items)) }
+    rest: &'t [Token<'a>],
+) -> Read<'t, 'a, Box<Sequence<'a>>>
+    ensures read { Gives (λ r. (sequence_of r.0.value, r.1.now)) result
+        (read_as (with_steps (sequence_of head.entry.value)
+        (map step_of more.entry.items)) rest.now) }
+    ensures shorter { IfOk result (λ r. length r.1.now ≤ length rest.now) }
 {
     if more.is_empty() {
-        return Ok(head);
+        return Ok((head, rest));
     }
-    Ok(Box::new(alloc, Sequence::Delayed(head, more))?)
+    Ok((Box::new(alloc, Sequence::Delayed(head, more))?, rest))
 }
 
 /// A first side with those behind `and`.
 #[tactic(auto, using(crate::proofs::TreeLaws::conjuncts_rules))]
-pub(crate) fn with_conjuncts<'a>(
+pub(crate) fn with_conjuncts<'t, 'a>(
     alloc: Global,
     side: Box<Sequence<'a>>,
     more: Vec<Sequence<'a>>,
-) -> Result<Box<Sequence<'a>>, AllocError>
-    ensures { IfOk result (λ s. sequence_of s.value ≡ with_conjuncts (sequence_of side.entry.value) (map sequence_of more.entry.items)) }
+    rest: &'t [Token<'a>],
+) -> Read<'t, 'a, Box<Sequence<'a>>>
+    ensures read { Gives (λ r. (sequence_of r.0.value, r.1.now)) result
+        (read_as (with_conjuncts (sequence_of side.entry.value)
+        (map sequence_of more.entry.items)) rest.now) }
+    ensures shorter { IfOk result (λ r. length r.1.now ≤ length rest.now) }
 {
     if more.is_empty() {
-        return Ok(side);
+        return Ok((side, rest));
     }
-    Ok(Box::new(alloc, Sequence::And(side, more))?)
+    Ok((Box::new(alloc, Sequence::And(side, more))?, rest))
 }
 
 /// A first side with those behind `or`.
 #[tactic(auto, using(crate::proofs::TreeLaws::alternatives_rules))]
-pub(crate) fn with_alternatives<'a>(
+pub(crate) fn with_alternatives<'t, 'a>(
     alloc: Global,
     side: Box<Sequence<'a>>,
     more: Vec<Sequence<'a>>,
-) -> Result<Box<Sequence<'a>>, AllocError>
-    ensures { IfOk result (λ s. sequence_of s.value ≡ with_alternatives (sequence_of side.entry.value) (map sequence_of more.entry.items)) }
+    rest: &'t [Token<'a>],
+) -> Read<'t, 'a, Box<Sequence<'a>>>
+    ensures read { Gives (λ r. (sequence_of r.0.value, r.1.now)) result
+        (read_as (with_alternatives (sequence_of side.entry.value)
+        (map sequence_of more.entry.items)) rest.now) }
+    ensures shorter { IfOk result (λ r. length r.1.now ≤ length rest.now) }
 {
     if more.is_empty() {
-        return Ok(side);
+        return Ok((side, rest));
     }
-    Ok(Box::new(alloc, Sequence::Or(side, more))?)
+    Ok((Box::new(alloc, Sequence::Or(side, more))?, rest))
+}
+
+/// A delay with nothing before it, and what it delays.
+#[tactic(auto, using(crate::proofs::TreeLaws::sequence_rules))]
+pub(crate) fn late<'t, 'a>(
+    alloc: Global,
+    token: Token<'a>,
+    range: Range,
+    body: Box<Sequence<'a>>,
+    rest: &'t [Token<'a>],
+) -> Read<'t, 'a, Box<Sequence<'a>>>
+    ensures read { Gives (λ r. (sequence_of r.0.value, r.1.now)) result
+        (read_as (trees.late token.entry range (sequence_of body.entry.value)) rest.now) }
+    ensures shorter { IfOk result (λ r. length r.1.now ≤ length rest.now) }
+{
+    Ok((Box::new(alloc, Sequence::Late(token, range, body))?, rest))
+}
+
+/// What holds throughout a body.
+#[tactic(auto, using(crate::proofs::TreeLaws::sequence_rules))]
+pub(crate) fn throughout<'t, 'a>(
+    alloc: Global,
+    expr: Box<Expr<'a>>,
+    body: Box<Sequence<'a>>,
+    rest: &'t [Token<'a>],
+) -> Read<'t, 'a, Box<Sequence<'a>>>
+    ensures read { Gives (λ r. (sequence_of r.0.value, r.1.now)) result
+        (read_as (trees.throughout (tree_of expr.entry.value)
+        (sequence_of body.entry.value)) rest.now) }
+    ensures shorter { IfOk result (λ r. length r.1.now ≤ length rest.now) }
+{
+    Ok((Box::new(alloc, Sequence::Throughout(expr, body))?, rest))
+}
+
+/// Puts one more sequence behind those that were found.
+pub(crate) fn push_sequence<'a>(
+    found: &mut Vec<Sequence<'a>>,
+    sequence: Box<Sequence<'a>>,
+) -> Result<(), Stop>
+    ensures ok { IfOk result (λ _. found.new.items ≡ found.old.items ++ sequence.entry.value ∷ []) }
+    ensures err { IfErr result (λ stop. stop ≡ Memory) }
+{
+    found.push(Box::into_inner(sequence))?;
+    Ok(())
+}
+
+/// Puts one more delay with what it delays behind those that were found.
+pub(crate) fn push_step<'a>(
+    found: &mut Vec<(Range, Sequence<'a>)>,
+    range: Range,
+    body: Box<Sequence<'a>>,
+) -> Result<(), Stop>
+    ensures ok { IfOk result
+        (λ _. found.new.items ≡ found.old.items ++ (range, body.entry.value) ∷ []) }
+    ensures err { IfErr result (λ stop. stop ≡ Memory) }
+{
+    found.push((range, Box::into_inner(body)))?;
+    Ok(())
 }
 
 /// The expression, the word and the tokens behind it, where a body goes on with `throughout`; else the body.

@@ -7,7 +7,7 @@ ghost use Rattle.grammar.specs.Readers.{pick, optional};
 ghost use Rattle.grammar.specs.ReadSequences.{times, between, delay, sequences};
 ghost use Rattle.parser.specs.Views.{Gives};
 
-use crate::read::{Read, accept, expect, expect_bound};
+use crate::read::{Read, accept, expect, expect_bound, read};
 use crate::stop::Stop;
 use grammar::{Bound, Range, Terminal};
 use lexer::Token;
@@ -24,7 +24,7 @@ fn read_high<'t, 'a>(tokens: &'t [Token<'a>], low: Bound) -> Read<'t, 'a, Option
     let Some((_, rest)) = accept(tokens, Terminal::Colon) else {
         return Ok((None, tokens));
     };
-    let (high, rest) = expect_bound(rest, low.value, LARGEST)?;
+    let (high, rest) = read!(expect_bound(rest, low.value, LARGEST));
     Ok((Some(high), rest))
 }
 
@@ -34,9 +34,9 @@ fn read_times<'t, 'a>(tokens: &'t [Token<'a>]) -> Read<'t, 'a, Range>
     ensures read { Gives (λ r. (r.0, r.1.now)) result (times tokens.now) }
     ensures shorter { IfOk result (λ r. length r.1.now ≤ length tokens.now) }
 {
-    let (low, rest) = expect_bound(tokens, 0, LARGEST)?;
-    let (high, rest) = read_high(rest, low)?;
-    let (_, rest) = expect(rest, Terminal::CloseSquare)?;
+    let (low, rest) = read!(expect_bound(tokens, 0, LARGEST));
+    let (high, rest) = read!(read_high(rest, low));
+    let (_, rest) = read!(expect(rest, Terminal::CloseSquare));
     Ok((Range { low, high }, rest))
 }
 
@@ -46,10 +46,10 @@ fn read_between<'t, 'a>(tokens: &'t [Token<'a>]) -> Read<'t, 'a, Range>
     ensures read { Gives (λ r. (r.0, r.1.now)) result (between tokens.now) }
     ensures shorter { IfOk result (λ r. length r.1.now ≤ length tokens.now) }
 {
-    let (low, rest) = expect_bound(tokens, 0, LARGEST)?;
-    let (_, rest) = expect(rest, Terminal::Colon)?;
-    let (high, rest) = expect_bound(rest, low.value, LARGEST)?;
-    let (_, rest) = expect(rest, Terminal::CloseSquare)?;
+    let (low, rest) = read!(expect_bound(tokens, 0, LARGEST));
+    let (_, rest) = read!(expect(rest, Terminal::Colon));
+    let (high, rest) = read!(expect_bound(rest, low.value, LARGEST));
+    let (_, rest) = read!(expect(rest, Terminal::CloseSquare));
     let high = Some(high);
     Ok((Range { low, high }, rest))
 }
@@ -61,7 +61,7 @@ pub(crate) fn read_delay<'t, 'a>(tokens: &'t [Token<'a>], depth: usize) -> Read<
     ensures shorter { IfOk result (λ r. length r.1.now ≤ length tokens.now) }
 {
     let Some((bracket, rest)) = accept(tokens, Terminal::OpenSquare) else {
-        let (low, rest) = expect_bound(tokens, 0, LARGEST)?;
+        let (low, rest) = read!(expect_bound(tokens, 0, LARGEST));
         return Ok((Range { low, high: None }, rest));
     };
     if depth == 0 {
@@ -85,6 +85,6 @@ pub(crate) fn read_counts<'t, 'a>(
     if depth == 0 {
         return Err(Stop::TooDeep(bracket.at));
     }
-    let (range, rest) = read_times(rest)?;
+    let (range, rest) = read!(read_times(rest));
     Ok((Some(range), rest))
 }

@@ -9,9 +9,12 @@ ghost use Rattle.grammar.specs.Readers.{pick, optional, each};
 ghost use Rattle.grammar.specs.ReadExpressions.{members, select, readers, path_words, named, bracketed, concatenated, passed, called, prefixing, prefixed, links, climb, operand, prefixed_with, finish, expression};
 ghost use Rattle.parser.specs.Views.{path_of, tree_of, link_of, Gives};
 
+use crate::node::{
+    call, choice, concatenation, number, past, push_link, push_part, unary, with_links,
+};
 use crate::read::{
     Read, accept, deeper, expect, expect_bound, expect_index, expect_name, expect_word, first,
-    operator, same,
+    operator, read, same,
 };
 use crate::stop::Stop;
 use crate::tree::{Expr, Path};
@@ -30,10 +33,7 @@ fn read_members<'t, 'a>(alloc: Global, tokens: &'t [Token<'a>]) -> Read<'t, 'a, 
         let Some((_, rest)) = accept(left, Terminal::Dot) else {
             return Ok((found, left));
         };
-        let (word, rest) = match expect_word(rest) {
-            Ok(read) => read,
-            Err(stop) => return Err(stop),
-        };
+        let (word, rest) = read!(expect_word(rest));
         found.push(word)?;
         left = same(rest);
     }
@@ -45,8 +45,8 @@ pub(crate) fn read_path<'t, 'a>(alloc: Global, tokens: &'t [Token<'a>]) -> Read<
     ensures read { Gives (λ r. (path_of r.0, r.1.now)) result (path_words tokens.now) }
     ensures shorter { IfOk result (λ r. length r.1.now ≤ length tokens.now) }
 {
-    let (first, rest) = expect_name(tokens)?;
-    let (more, rest) = read_members(alloc, rest)?;
+    let (first, rest) = read!(expect_name(tokens));
+    let (more, rest) = read!(read_members(alloc, rest));
     Ok((Path { first, more }, rest))
 }
 
@@ -59,7 +59,7 @@ fn read_low<'t, 'a>(tokens: &'t [Token<'a>]) -> Read<'t, 'a, Option<Index>>
     let Some((_, rest)) = accept(tokens, Terminal::Colon) else {
         return Ok((None, tokens));
     };
-    let (low, rest) = expect_index(rest)?;
+    let (low, rest) = read!(expect_index(rest));
     Ok((Some(low), rest))
 }
 
@@ -69,9 +69,9 @@ fn read_select<'t, 'a>(tokens: &'t [Token<'a>]) -> Read<'t, 'a, Select>
     ensures read { Gives (λ r. (r.0, r.1.now)) result (select tokens.now) }
     ensures shorter { IfOk result (λ r. length r.1.now ≤ length tokens.now) }
 {
-    let (high, rest) = expect_index(tokens)?;
-    let (low, rest) = read_low(rest)?;
-    let (_, rest) = expect(rest, Terminal::CloseSquare)?;
+    let (high, rest) = read!(expect_index(tokens));
+    let (low, rest) = read!(read_low(rest));
+    let (_, rest) = read!(expect(rest, Terminal::CloseSquare));
     Ok((Select { high, low }, rest))
 }
 
@@ -87,7 +87,7 @@ fn read_selected<'t, 'a>(tokens: &'t [Token<'a>], depth: usize) -> Read<'t, 'a, 
     if depth == 0 {
         return Err(Stop::TooDeep(bracket.at));
     }
-    let (select, rest) = read_select(rest)?;
+    let (select, rest) = read!(read_select(rest));
     Ok((Some(select), rest))
 }
 
@@ -98,13 +98,14 @@ fn read_named<'t, 'a>(
     first: Token<'a>,
     tokens: &'t [Token<'a>],
     depth: usize,
-) -> Read<'t, 'a, Expr<'a>>
-    ensures read { Gives (λ r. (tree_of r.0, r.1.now)) result (named (readers depth) first.entry tokens.now) }
+) -> Read<'t, 'a, Box<Expr<'a>>>
+    ensures read { Gives (λ r. (tree_of r.0.value, r.1.now)) result (named (readers depth) first.entry tokens.now) }
     ensures shorter { IfOk result (λ r. length r.1.now ≤ length tokens.now) }
 {
-    let (more, rest) = read_members(alloc, tokens)?;
-    let (select, rest) = read_selected(rest, depth)?;
-    Ok((Expr::Path(Path { first, more }, select), rest))
+    let (more, rest) = read!(read_members(alloc, tokens));
+    let (select, rest) = read!(read_selected(rest, depth));
+    let path = Path { first, more };
+    Ok((Box::new(alloc, Expr::Path(path, select))?, rest))
 }
 
 /// What stands in brackets, behind the opening one.
@@ -115,13 +116,13 @@ fn read_bracketed<'t, 'a>(
     bracket: Token<'a>,
     tokens: &'t [Token<'a>],
     depth: usize,
-) -> Read<'t, 'a, Expr<'a>>
-    ensures read { Gives (λ r. (tree_of r.0, r.1.now)) result (bracketed (readers depth) tokens.now) }
+) -> Read<'t, 'a, Box<Expr<'a>>>
+    ensures read { Gives (λ r. (tree_of r.0.value, r.1.now)) result (bracketed (readers depth) tokens.now) }
     ensures shorter { IfOk result (λ r. length r.1.now ≤ length tokens.now) }
 {
-    let inner = deeper(depth, bracket)?;
-    let (expr, rest) = read_expression(alloc, tokens, inner)?;
-    let (_, rest) = expect(rest, Terminal::CloseRound)?;
+    let inner = read!(deeper(depth, bracket));
+    let (expr, rest) = read!(read_expression(alloc, tokens, inner));
+    let (_, rest) = read!(expect(rest, Terminal::CloseRound));
     Ok((expr, rest))
 }
 
@@ -141,11 +142,8 @@ fn read_parts<'t, 'a>(
         let Some((_, rest)) = accept(left, Terminal::Comma) else {
             return Ok((found, left));
         };
-        let (part, rest) = match read_expression(alloc, rest, depth) {
-            Ok(read) => read,
-            Err(stop) => return Err(stop),
-        };
-        found.push(part)?;
+        let (part, rest) = read!(read_expression(alloc, rest, depth));
+        read!(push_part(&mut found, part));
         left = same(rest);
     }
 }
@@ -158,18 +156,15 @@ fn read_concatenation<'t, 'a>(
     bracket: Token<'a>,
     tokens: &'t [Token<'a>],
     depth: usize,
-) -> Read<'t, 'a, Expr<'a>>
-    ensures read { Gives (λ r. (tree_of r.0, r.1.now)) result (concatenated (readers depth) bracket.entry tokens.now) }
+) -> Read<'t, 'a, Box<Expr<'a>>>
+    ensures read { Gives (λ r. (tree_of r.0.value, r.1.now)) result (concatenated (readers depth) bracket.entry tokens.now) }
     ensures shorter { IfOk result (λ r. length r.1.now ≤ length tokens.now) }
 {
-    let inner = deeper(depth, bracket)?;
-    let (part, rest) = read_expression(alloc, tokens, inner)?;
-    let (more, rest) = read_parts(alloc, rest, inner)?;
-    let (_, rest) = expect(rest, Terminal::CloseBrace)?;
-    Ok((
-        Expr::Concatenation(bracket, Box::new(alloc, part)?, more),
-        rest,
-    ))
+    let inner = read!(deeper(depth, bracket));
+    let (part, rest) = read!(read_expression(alloc, tokens, inner));
+    let (more, rest) = read!(read_parts(alloc, rest, inner));
+    let (_, rest) = read!(expect(rest, Terminal::CloseBrace));
+    concatenation(alloc, bracket, part, more, rest)
 }
 
 /// The ticks of `$past`, if they are written.
@@ -181,7 +176,7 @@ fn read_ticks<'t, 'a>(tokens: &'t [Token<'a>]) -> Read<'t, 'a, Option<Bound>>
     let Some((_, rest)) = accept(tokens, Terminal::Comma) else {
         return Ok((None, tokens));
     };
-    let (ticks, rest) = expect_bound(rest, 1, 64)?;
+    let (ticks, rest) = read!(expect_bound(rest, 1, 64));
     Ok((Some(ticks), rest))
 }
 
@@ -193,16 +188,16 @@ fn read_past<'t, 'a>(
     name: Token<'a>,
     tokens: &'t [Token<'a>],
     depth: usize,
-) -> Read<'t, 'a, Expr<'a>>
-    ensures read { Gives (λ r. (tree_of r.0, r.1.now)) result (passed (readers depth) name.entry tokens.now) }
+) -> Read<'t, 'a, Box<Expr<'a>>>
+    ensures read { Gives (λ r. (tree_of r.0.value, r.1.now)) result (passed (readers depth) name.entry tokens.now) }
     ensures shorter { IfOk result (λ r. length r.1.now ≤ length tokens.now) }
 {
-    let (bracket, rest) = expect(tokens, Terminal::OpenRound)?;
-    let inner = deeper(depth, bracket)?;
-    let (expr, rest) = read_expression(alloc, rest, inner)?;
-    let (ticks, rest) = read_ticks(rest)?;
-    let (_, rest) = expect(rest, Terminal::CloseRound)?;
-    Ok((Expr::Past(name, Box::new(alloc, expr)?, ticks), rest))
+    let (bracket, rest) = read!(expect(tokens, Terminal::OpenRound));
+    let inner = read!(deeper(depth, bracket));
+    let (expr, rest) = read!(read_expression(alloc, rest, inner));
+    let (ticks, rest) = read!(read_ticks(rest));
+    let (_, rest) = read!(expect(rest, Terminal::CloseRound));
+    past(alloc, name, expr, ticks, rest)
 }
 
 /// A function of one operand behind its name.
@@ -214,13 +209,13 @@ fn read_call<'t, 'a>(
     name: Token<'a>,
     tokens: &'t [Token<'a>],
     depth: usize,
-) -> Read<'t, 'a, Expr<'a>>
-    ensures read { Gives (λ r. (tree_of r.0, r.1.now)) result (called (readers depth) function name.entry tokens.now) }
+) -> Read<'t, 'a, Box<Expr<'a>>>
+    ensures read { Gives (λ r. (tree_of r.0.value, r.1.now)) result (called (readers depth) function name.entry tokens.now) }
     ensures shorter { IfOk result (λ r. length r.1.now ≤ length tokens.now) }
 {
-    let (bracket, rest) = expect(tokens, Terminal::OpenRound)?;
-    let (operand, rest) = read_bracketed(alloc, bracket, rest, depth)?;
-    Ok((Expr::Call(function, name, Box::new(alloc, operand)?), rest))
+    let (bracket, rest) = read!(expect(tokens, Terminal::OpenRound));
+    let (operand, rest) = read!(read_bracketed(alloc, bracket, rest, depth));
+    call(alloc, function, name, operand, rest)
 }
 
 /// The operand of a unary operator.
@@ -231,13 +226,13 @@ fn read_unary<'t, 'a>(
     sign: Token<'a>,
     tokens: &'t [Token<'a>],
     depth: usize,
-) -> Read<'t, 'a, Expr<'a>>
-    ensures read { Gives (λ r. (tree_of r.0, r.1.now)) result (prefixing (readers depth) sign.entry tokens.now) }
+) -> Read<'t, 'a, Box<Expr<'a>>>
+    ensures read { Gives (λ r. (tree_of r.0.value, r.1.now)) result (prefixing (readers depth) sign.entry tokens.now) }
     ensures shorter { IfOk result (λ r. length r.1.now ≤ length tokens.now) }
 {
-    let inner = deeper(depth, sign)?;
-    let (operand, rest) = read_prefixed(alloc, tokens, inner)?;
-    Ok((Expr::Unary(sign, Box::new(alloc, operand)?), rest))
+    let inner = read!(deeper(depth, sign));
+    let (operand, rest) = read!(read_prefixed(alloc, tokens, inner));
+    unary(alloc, sign, operand, rest)
 }
 
 /// What stands at the left of a left operator: a primary, or a unary operator with its operand.
@@ -247,15 +242,15 @@ fn read_prefixed<'t, 'a>(
     alloc: Global,
     tokens: &'t [Token<'a>],
     depth: usize,
-) -> Read<'t, 'a, Expr<'a>>
-    ensures read { Gives (λ r. (tree_of r.0, r.1.now)) result (prefixed depth tokens.now) }
+) -> Read<'t, 'a, Box<Expr<'a>>>
+    ensures read { Gives (λ r. (tree_of r.0.value, r.1.now)) result (prefixed depth tokens.now) }
     ensures shorter { IfOk result (λ r. length r.1.now ≤ length tokens.now) }
 {
     let Some((token, rest)) = first(tokens) else {
         return Err(Stop::Expected("an expression", 0));
     };
     match mark_of(token) {
-        Mark::Number => Ok((Expr::Number(token), rest)),
+        Mark::Number => number(alloc, token, rest),
         Mark::Name => read_named(alloc, token, rest, depth),
         Mark::Prefix => read_unary(alloc, token, rest, depth),
         Mark::Opening => read_bracketed(alloc, token, rest, depth),
@@ -284,11 +279,8 @@ fn read_links<'t, 'a>(
         let Some((token, rest)) = operator(left, level + 1) else {
             return Ok((found, left));
         };
-        let (right, rest) = match read_operand(alloc, rest, depth, level) {
-            Ok(read) => read,
-            Err(stop) => return Err(stop),
-        };
-        found.push((token, right))?;
+        let (right, rest) = read!(read_operand(alloc, rest, depth, level));
+        read!(push_link(&mut found, token, right));
         left = same(rest);
     }
 }
@@ -301,12 +293,12 @@ fn read_operand<'t, 'a>(
     tokens: &'t [Token<'a>],
     depth: usize,
     level: usize,
-) -> Read<'t, 'a, Expr<'a>>
+) -> Read<'t, 'a, Box<Expr<'a>>>
     requires { level < 10 }
-    ensures read { Gives (λ r. (tree_of r.0, r.1.now)) result (operand depth level tokens.now) }
+    ensures read { Gives (λ r. (tree_of r.0.value, r.1.now)) result (operand depth level tokens.now) }
     ensures shorter { IfOk result (λ r. length r.1.now ≤ length tokens.now) }
 {
-    let (left, rest) = read_prefixed(alloc, tokens, depth)?;
+    let (left, rest) = read!(read_prefixed(alloc, tokens, depth));
     read_climb(alloc, rest, left, depth, level)
 }
 
@@ -316,68 +308,26 @@ fn read_operand<'t, 'a>(
 fn read_climb<'t, 'a>(
     alloc: Global,
     tokens: &'t [Token<'a>],
-    left: Expr<'a>,
+    left: Box<Expr<'a>>,
     depth: usize,
     level: usize,
-) -> Read<'t, 'a, Expr<'a>>
+) -> Read<'t, 'a, Box<Expr<'a>>>
     requires level { level < 10 }
-    ensures read { Gives (λ r. (tree_of r.0, r.1.now)) result (climb (prefixed_with (readers depth)) level (tree_of left.entry) tokens.now) }
+    ensures read { Gives (λ r. (tree_of r.0.value, r.1.now)) result (climb (prefixed_with (readers depth)) level (tree_of left.entry.value) tokens.now) }
     ensures shorter { IfOk result (λ r. length r.1.now ≤ length tokens.now) }
 {
     if level == 0 {
         return Ok((left, tokens));
     }
-    let (left, rest) = read_climb(alloc, tokens, left, depth, level - 1)?;
-    let (more, rest) = read_links(alloc, rest, depth, level - 1)?;
-    if more.is_empty() {
-        return Ok((left, rest));
-    }
-    Ok((Expr::Chain(Box::new(alloc, left)?, more), rest))
+    let (left, rest) = read!(read_climb(alloc, tokens, left, depth, level - 1));
+    let (more, rest) = read!(read_links(alloc, rest, depth, level - 1));
+    with_links(alloc, left, more, rest)
 }
 
 /// An expression.
 #[tactic(auto, using(crate::proofs::Steps::for_expression))]
 #[cycle(expressions)]
-fn read_expression<'t, 'a>(
-    alloc: Global,
-    tokens: &'t [Token<'a>],
-    depth: usize,
-) -> Read<'t, 'a, Expr<'a>>
-    ensures read { Gives (λ r. (tree_of r.0, r.1.now)) result (expression depth tokens.now) }
-    ensures shorter { IfOk result (λ r. length r.1.now ≤ length tokens.now) }
-{
-    let (left, rest) = read_prefixed(alloc, tokens, depth)?;
-    finish_expression(alloc, rest, left, depth)
-}
-
-/// The expression that begins with an operand.
-#[tactic(auto, using(crate::proofs::Steps::for_finish, crate::proofs::TreeLaws::tree_rules))]
-#[cycle(expressions)]
-fn finish_expression<'t, 'a>(
-    alloc: Global,
-    tokens: &'t [Token<'a>],
-    left: Expr<'a>,
-    depth: usize,
-) -> Read<'t, 'a, Expr<'a>>
-    ensures read { Gives (λ r. (tree_of r.0, r.1.now)) result (finish depth (tree_of left.entry) tokens.now) }
-    ensures shorter { IfOk result (λ r. length r.1.now ≤ length tokens.now) }
-{
-    let (condition, rest) = read_climb(alloc, tokens, left, depth, 9)?;
-    let Some((question, arms)) = operator(rest, 10) else {
-        return Ok((condition, rest));
-    };
-    let condition = Box::new(alloc, condition)?;
-    let inner = deeper(depth, question)?;
-    let (yes, rest) = read_expression(alloc, arms, inner)?;
-    let yes = Box::new(alloc, yes)?;
-    let (_, rest) = expect(rest, Terminal::Colon)?;
-    let (no, rest) = read_expression(alloc, rest, inner)?;
-    let no = Box::new(alloc, no)?;
-    Ok((Expr::Choice(condition, yes, no), rest))
-}
-
-/// An expression, in a box.
-pub(crate) fn read_boxed<'t, 'a>(
+pub(crate) fn read_expression<'t, 'a>(
     alloc: Global,
     tokens: &'t [Token<'a>],
     depth: usize,
@@ -385,12 +335,14 @@ pub(crate) fn read_boxed<'t, 'a>(
     ensures read { Gives (λ r. (tree_of r.0.value, r.1.now)) result (expression depth tokens.now) }
     ensures shorter { IfOk result (λ r. length r.1.now ≤ length tokens.now) }
 {
-    let (expr, rest) = read_expression(alloc, tokens, depth)?;
-    Ok((Box::new(alloc, expr)?, rest))
+    let (left, rest) = read!(read_prefixed(alloc, tokens, depth));
+    finish_expression(alloc, rest, left, depth)
 }
 
-/// The expression that begins with an operand, in a box.
-pub(crate) fn finish_boxed<'t, 'a>(
+/// The expression that begins with an operand.
+#[tactic(auto, using(crate::proofs::Steps::for_finish, crate::proofs::TreeLaws::tree_rules))]
+#[cycle(expressions)]
+pub(crate) fn finish_expression<'t, 'a>(
     alloc: Global,
     tokens: &'t [Token<'a>],
     left: Box<Expr<'a>>,
@@ -399,6 +351,13 @@ pub(crate) fn finish_boxed<'t, 'a>(
     ensures read { Gives (λ r. (tree_of r.0.value, r.1.now)) result (finish depth (tree_of left.entry.value) tokens.now) }
     ensures shorter { IfOk result (λ r. length r.1.now ≤ length tokens.now) }
 {
-    let (expr, rest) = finish_expression(alloc, tokens, Box::into_inner(left), depth)?;
-    Ok((Box::new(alloc, expr)?, rest))
+    let (condition, rest) = read!(read_climb(alloc, tokens, left, depth, 9));
+    let Some((question, arms)) = operator(rest, 10) else {
+        return Ok((condition, rest));
+    };
+    let inner = read!(deeper(depth, question));
+    let (yes, rest) = read!(read_expression(alloc, arms, inner));
+    let (_, rest) = read!(expect(rest, Terminal::Colon));
+    let (no, rest) = read!(read_expression(alloc, rest, inner));
+    choice(alloc, condition, yes, no, rest)
 }

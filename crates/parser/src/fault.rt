@@ -1,9 +1,11 @@
 //! Why a text isn't read.
 
-ghost use Rattle.std.specs.Prelude.{◌≡◌};
+ghost use Rattle.std.specs.Prelude.{◌≡◌, ◌<◌, length, IfSome};
+ghost use Rattle.std.specs.List.{Contains};
 ghost use Rattle.parser.specs.declared.fault.ParseFault.TheVariants.{Memory};
-ghost use Rattle.parser.specs.Faults.{Names};
+ghost use Rattle.parser.specs.Faults.{Names, IsPlaceIn, IsPlaced};
 
+use crate::read::{first, place, same};
 use crate::stop::Stop;
 use grammar::{Terminal, is, terminal_of};
 use lexer::Token;
@@ -53,6 +55,16 @@ struct Before {
     implication: bool,
 }
 
+impl Before {
+    /// What stands before the token that follows this one.
+    fn behind(self, token: Token) -> Before {
+        Before {
+            nothing: false,
+            implication: self.implication || is_implication(token),
+        }
+    }
+}
+
 /// Whether the profile leaves out what the token stands for behind those before it: `property` where an item begins, and
 /// a second implication, too.
 fn is_outside(token: Token, before: Before) -> bool {
@@ -65,38 +77,66 @@ fn is_outside(token: Token, before: Before) -> bool {
     is_foreign(token)
 }
 
-/// The fault at the byte, where something else would go on. The tokens are those from the item's first on.
-fn unexpected<'a>(tokens: &[Token<'a>], what: &'static str, at: usize) -> ParseFault<'a>
-    ensures { result ≡ Memory → ⊥ }
+/// The token at the byte, and what stands before it in its item, whose tokens these are.
+fn token_at<'a>(tokens: &[Token<'a>], at: usize) -> Option<(Token<'a>, Before)>
+    ensures { IfSome result (λ r. (r.0.at ≡ at) × Contains tokens.now r.0) }
 {
     let mut before = Before {
         nothing: true,
         implication: false,
     };
-    for token in tokens {
-        if token.at == at {
-            if is_outside(*token, before) {
-                return ParseFault::OutsideProfile(token.text, at);
-            }
-            return ParseFault::Expected(what, at);
-        }
-        before = Before {
-            nothing: false,
-            implication: before.implication || is_implication(*token),
+    let mut left = tokens;
+    'behind: loop {
+        let Some((token, rest)) = first(left) else {
+            return None;
         };
+        if token.at == at {
+            return Some((token, before));
+        }
+        before = before.behind(token);
+        left = same(rest);
     }
-    ParseFault::Expected(what, at)
+}
+
+/// The byte, if a token stands there; else that of the first. One does: reading stops at a token.
+#[tactic(auto, using(crate::proofs::PlaceLaws::for_place_in))]
+pub(crate) fn place_in(tokens: &[Token], at: usize) -> usize
+    ensures { 0 < length tokens.now → IsPlaceIn tokens.now result }
+{
+    match token_at(tokens, at) {
+        Some((token, _)) => token.at,
+        None => place(tokens),
+    }
+}
+
+/// The fault at the byte, where something else would go on. The tokens are those from the item's
+/// first on.
+#[tactic(auto, using(crate::proofs::PlaceLaws::for_unexpected))]
+fn unexpected<'a>(tokens: &[Token<'a>], what: &'static str, at: usize) -> ParseFault<'a>
+    requires { 0 < length tokens.now }
+    ensures other { result ≡ Memory → ⊥ }
+    ensures placed { IsPlaced tokens.now result }
+{
+    let Some((token, before)) = token_at(tokens, at) else {
+        return ParseFault::Expected(what, place(tokens));
+    };
+    if is_outside(token, before) {
+        return ParseFault::OutsideProfile(token.text, token.at);
+    }
+    ParseFault::Expected(what, token.at)
 }
 
 /// The fault of a stop, in the item that begins with the tokens.
 pub(crate) fn fault_of<'a>(tokens: &[Token<'a>], stop: Stop) -> ParseFault<'a>
-    ensures { Names stop result }
+    requires { 0 < length tokens.now }
+    ensures names { Names stop result }
+    ensures placed { IsPlaced tokens.now result }
 {
     match stop {
         Stop::Memory => ParseFault::Memory,
         Stop::Expected(what, at) => unexpected(tokens, what, at),
-        Stop::TooDeep(at) => ParseFault::TooDeep(at),
-        Stop::BadBound(at) => ParseFault::BadBound(at),
+        Stop::TooDeep(at) => ParseFault::TooDeep(place_in(tokens, at)),
+        Stop::BadBound(at) => ParseFault::BadBound(place_in(tokens, at)),
     }
 }
 

@@ -1,15 +1,15 @@
 //! Whole files.
 
-ghost use Rattle.std.specs.Prelude.{◌≡◌, ◌≤◌, ◌<◌, [], ◌∷◌, Some, None, length, map, IfOk, IfErr, MatchOption, MatchResult, IfSome};
+ghost use Rattle.std.specs.Prelude.{◌≡◌, ◌≤◌, ◌<◌, ◌-◌, [], ◌∷◌, Some, None, length, drop, map, IfOk, IfErr, MatchOption, MatchResult, IfSome};
 ghost use Rattle.grammar.specs.Readers.{lead};
 ghost use Rattle.grammar.specs.Files.{IsFile};
 ghost use Rattle.grammar.specs.ReadFiles.{asserts, is_more, items};
 ghost use Rattle.parser.specs.Views.{item_of, items_of};
-ghost use Rattle.parser.specs.Faults.{IsRefused, Refuses};
+ghost use Rattle.parser.specs.Faults.{IsRefused, Refuses, IsPlaced};
 
-use crate::fault::{ParseFault, fault_of};
+use crate::fault::{ParseFault, fault_of, place_in};
 use crate::item::read_item;
-use crate::read::{first, same};
+use crate::read::{first, place, same};
 use crate::tree::{File, Item};
 use grammar::{Terminal, is};
 use lexer::Token;
@@ -34,11 +34,20 @@ fn more<'t, 'a>(tokens: &'t [Token<'a>]) -> Option<(Token<'a>, &'t [Token<'a>])>
     Some((token, rest))
 }
 
+/// The last tokens, so many of them.
+fn last_of<'t, 'a>(tokens: &'t [Token<'a>], count: usize) -> &'t [Token<'a>]
+    requires { count ≤ length tokens.now }
+    ensures { result.now ≡ drop (length tokens.now - count) tokens.now }
+{
+    &tokens[tokens.len() - count..]
+}
+
 /// Items, up to the end.
 fn read_items<'t, 'a>(alloc: Global, tokens: &'t [Token<'a>]) -> Items<'t, 'a>
-    ensures { MatchResult result
+    ensures read { MatchResult result
         (λ r. items tokens.now ≡ Some (map item_of r.0.items, r.1.now))
         (λ fault. Refuses fault (items tokens.now)) }
+    ensures placed { IfErr result (IsPlaced tokens.now) }
 {
     let mut found = Vec::new(alloc);
     let mut left = tokens;
@@ -48,7 +57,7 @@ fn read_items<'t, 'a>(alloc: Global, tokens: &'t [Token<'a>]) -> Items<'t, 'a>
         };
         let (item, rest) = match read_item(alloc, left) {
             Ok(read) => read,
-            Err(stop) => return Err(fault_of(left, stop)),
+            Err(stop) => return Err(fault_of(last_of(tokens, left.len()), stop)),
         };
         found.push(item)?;
         left = same(rest);
@@ -98,27 +107,30 @@ fn has_assertion(items: &[Item]) -> bool
 
 /// The file that the tokens are.
 ///
-/// The tokens are those of `lexer::lex`: the last one is the end, and no other is. The fault is that of the first token
-/// at which reading can't go on (see `ParseFault`); which one it is, and where, is shown by tests.
+/// The tokens are those of `lexer::lex`: the last one is the end, and no other is. The fault is that
+/// of the first token at which reading can't go on (see `ParseFault`). Which one it is, and at which
+/// of the tokens, is shown by tests.
 pub fn parse<'a>(alloc: Global, tokens: &[Token<'a>]) -> Result<File<'a>, ParseFault<'a>>
     ensures ok { IfOk result (λ f. IsFile (items_of f) tokens.now) }
     ensures err { IfErr result (IsRefused tokens.now) }
+    // The fault stands at one of the tokens, if there is one, and P2 tells that token's text.
+    ensures placed { IfErr result (λ fault. 0 < length tokens.now → IsPlaced tokens.now fault) }
 {
     let (items, rest) = match read_items(alloc, tokens) {
         Ok(read) => read,
         Err(fault) => return Err(fault),
     };
     let Some((last, behind)) = first(rest) else {
-        return Err(ParseFault::Expected("the end", 0));
+        return Err(ParseFault::Expected("the end", place(tokens)));
     };
     if !is(Terminal::End, last) {
-        return Err(ParseFault::Expected("the end", last.at));
+        return Err(ParseFault::Expected("the end", place_in(tokens, last.at)));
     }
     if let Some((token, _)) = first(behind) {
-        return Err(ParseFault::Expected("no more tokens", token.at));
+        return Err(ParseFault::Expected("no more tokens", place_in(tokens, token.at)));
     }
     if !has_assertion(items.as_slice()) {
-        return Err(ParseFault::Expected("an assertion", last.at));
+        return Err(ParseFault::Expected("an assertion", place_in(tokens, last.at)));
     }
     Ok(File { items })
 }

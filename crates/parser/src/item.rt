@@ -10,10 +10,10 @@ ghost use Rattle.grammar.specs.Files.{in_one};
 ghost use Rattle.grammar.specs.ReadFiles.{one_operand, two_operands, counter_head, counter_item, again_of, skip, ending_of, declaration_item, opening, clock_of, disabling, property_end, assertion_item, labelled, declared, item};
 ghost use Rattle.parser.specs.Views.{path_of, boxed_of, pair_of, property_of, counter_of, declaration_of, assertion_of, item_of, Gives};
 
-use crate::expression::{read_boxed, read_path};
+use crate::expression::{read_expression, read_path};
 use crate::property::read_property;
 use crate::read::{
-    Read, accept, accept_name, expect, expect_bound, expect_name, expect_verb, first, same,
+    Read, accept, accept_name, expect, expect_bound, expect_name, expect_verb, first, read, same,
 };
 use crate::sequence::read_sequence;
 use crate::stop::Stop;
@@ -32,9 +32,9 @@ fn read_operand<'t, 'a>(
     ensures read { Gives (λ r. (boxed_of r.0, r.1.now)) result (one_operand depth tokens.now) }
     ensures shorter { IfOk result (λ r. length r.1.now ≤ length tokens.now) }
 {
-    let (_, rest) = expect(tokens, Terminal::OpenRound)?;
-    let (operand, rest) = read_boxed(alloc, rest, depth)?;
-    let (_, rest) = expect(rest, Terminal::CloseRound)?;
+    let (_, rest) = read!(expect(tokens, Terminal::OpenRound));
+    let (operand, rest) = read!(read_expression(alloc, rest, depth));
+    let (_, rest) = read!(expect(rest, Terminal::CloseRound));
     Ok((operand, rest))
 }
 
@@ -44,11 +44,11 @@ fn read_operands<'t, 'a>(alloc: Global, tokens: &'t [Token<'a>]) -> Read<'t, 'a,
     ensures read { Gives (λ r. (pair_of r.0, r.1.now)) result (two_operands tokens.now) }
     ensures shorter { IfOk result (λ r. length r.1.now ≤ length tokens.now) }
 {
-    let (_, rest) = expect(tokens, Terminal::OpenRound)?;
-    let (condition, rest) = read_boxed(alloc, rest, 63)?;
-    let (_, rest) = expect(rest, Terminal::Comma)?;
-    let (value, rest) = read_boxed(alloc, rest, 63)?;
-    let (_, rest) = expect(rest, Terminal::CloseRound)?;
+    let (_, rest) = read!(expect(tokens, Terminal::OpenRound));
+    let (condition, rest) = read!(read_expression(alloc, rest, 63));
+    let (_, rest) = read!(expect(rest, Terminal::Comma));
+    let (value, rest) = read!(read_expression(alloc, rest, 63));
+    let (_, rest) = read!(expect(rest, Terminal::CloseRound));
     Ok(((condition, value), rest))
 }
 
@@ -61,10 +61,7 @@ fn read_clear<'t, 'a>(alloc: Global, tokens: &'t [Token<'a>]) -> Read<'t, 'a, Op
     let Some((_, inside)) = accept(tokens, Terminal::Clear) else {
         return Ok((None, tokens));
     };
-    let (operand, rest) = match read_operand(alloc, inside, 63) {
-        Ok(read) => read,
-        Err(stop) => return Err(stop),
-    };
+    let (operand, rest) = read!(read_operand(alloc, inside, 63));
     Ok((Some(operand), rest))
 }
 
@@ -81,10 +78,7 @@ fn read_clause<'t, 'a>(
     let Some((_, inside)) = accept(tokens, word) else {
         return Ok((None, tokens));
     };
-    let (operands, rest) = match read_operands(alloc, inside) {
-        Ok(read) => read,
-        Err(stop) => return Err(stop),
-    };
+    let (operands, rest) = read!(read_operands(alloc, inside));
     Ok((Some(operands), rest))
 }
 
@@ -94,10 +88,10 @@ fn read_counter_head<'t, 'a>(tokens: &'t [Token<'a>]) -> Read<'t, 'a, (Token<'a>
     ensures read { Gives (λ r. (r.0, r.1.now)) result (counter_head tokens.now) }
     ensures shorter { IfOk result (λ r. length r.1.now ≤ length tokens.now) }
 {
-    let (name, rest) = expect_name(tokens)?;
-    let (_, rest) = expect(rest, Terminal::OpenSquare)?;
-    let (width, rest) = expect_bound(rest, 1, 128)?;
-    let (_, rest) = expect(rest, Terminal::CloseSquare)?;
+    let (name, rest) = read!(expect_name(tokens));
+    let (_, rest) = read!(expect(rest, Terminal::OpenSquare));
+    let (width, rest) = read!(expect_bound(rest, 1, 128));
+    let (_, rest) = read!(expect(rest, Terminal::CloseSquare));
     Ok(((name, width), rest))
 }
 
@@ -107,18 +101,12 @@ fn read_counter<'t, 'a>(alloc: Global, tokens: &'t [Token<'a>]) -> Read<'t, 'a, 
     ensures read { Gives (λ r. (item_of r.0, r.1.now)) result (counter_item tokens.now) }
     ensures shorter { IfOk result (λ r. length r.1.now ≤ length tokens.now) }
 {
-    let ((name, width), rest) = read_counter_head(tokens)?;
-    let (clear, rest) = read_clear(alloc, rest)?;
-    let (load, rest) = read_clause(alloc, rest, Terminal::Load)?;
-    let (add, rest) = read_clause(alloc, rest, Terminal::Add)?;
-    let (sub, rest) = match read_clause(alloc, rest, Terminal::Sub) {
-        Ok(read) => read,
-        Err(stop) => return Err(stop),
-    };
-    let (_, rest) = match expect(rest, Terminal::Semicolon) {
-        Ok(read) => read,
-        Err(stop) => return Err(stop),
-    };
+    let ((name, width), rest) = read!(read_counter_head(tokens));
+    let (clear, rest) = read!(read_clear(alloc, rest));
+    let (load, rest) = read!(read_clause(alloc, rest, Terminal::Load));
+    let (add, rest) = read!(read_clause(alloc, rest, Terminal::Add));
+    let (sub, rest) = read!(read_clause(alloc, rest, Terminal::Sub));
+    let (_, rest) = read!(expect(rest, Terminal::Semicolon));
     let counter = Counter {
         name,
         width,
@@ -157,7 +145,7 @@ fn read_closing<'t, 'a>(tokens: &'t [Token<'a>], name: Token<'a>) -> Read<'t, 'a
     let Some((_, inside)) = accept(tokens, Terminal::Colon) else {
         return Ok((None, tokens));
     };
-    let (again, rest) = expect_again(inside, name)?;
+    let (again, rest) = read!(expect_again(inside, name));
     Ok((Some(again), rest))
 }
 
@@ -180,8 +168,8 @@ fn read_ending<'t, 'a>(tokens: &'t [Token<'a>], name: Token<'a>) -> Result<&'t [
     ensures shorter { IfOk result (λ r. length r.now ≤ length tokens.now) }
 {
     let rest = skip(tokens, Terminal::Semicolon);
-    let (_, rest) = expect(rest, Terminal::EndSequence)?;
-    let (_, rest) = read_closing(rest, name)?;
+    let (_, rest) = read!(expect(rest, Terminal::EndSequence));
+    let (_, rest) = read!(read_closing(rest, name));
     Ok(rest)
 }
 
@@ -191,10 +179,10 @@ fn read_declaration<'t, 'a>(alloc: Global, tokens: &'t [Token<'a>]) -> Read<'t, 
     ensures read { Gives (λ r. (item_of r.0, r.1.now)) result (declaration_item tokens.now) }
     ensures shorter { IfOk result (λ r. length r.1.now ≤ length tokens.now) }
 {
-    let (name, rest) = expect_name(tokens)?;
-    let (_, rest) = expect(rest, Terminal::Semicolon)?;
-    let (body, rest) = read_sequence(alloc, rest, 64)?;
-    let rest = read_ending(rest, name)?;
+    let (name, rest) = read!(expect_name(tokens));
+    let (_, rest) = read!(expect(rest, Terminal::Semicolon));
+    let (body, rest) = read!(read_sequence(alloc, rest, 64));
+    let rest = read!(read_ending(rest, name));
     Ok((Item::Declaration(Declaration { name, body }), rest))
 }
 
@@ -204,8 +192,8 @@ fn read_opening<'t, 'a>(tokens: &'t [Token<'a>]) -> Result<&'t [Token<'a>], Stop
     ensures read { Gives (λ r. r.now) result (opening tokens.now) }
     ensures shorter { IfOk result (λ r. length r.now ≤ length tokens.now) }
 {
-    let (_, rest) = expect(tokens, Terminal::Property)?;
-    let (_, rest) = expect(rest, Terminal::OpenRound)?;
+    let (_, rest) = read!(expect(tokens, Terminal::Property));
+    let (_, rest) = read!(expect(rest, Terminal::OpenRound));
     Ok(rest)
 }
 
@@ -215,11 +203,11 @@ fn read_clock<'t, 'a>(alloc: Global, tokens: &'t [Token<'a>]) -> Read<'t, 'a, Pa
     ensures read { Gives (λ r. (path_of r.0, r.1.now)) result (clock_of tokens.now) }
     ensures shorter { IfOk result (λ r. length r.1.now ≤ length tokens.now) }
 {
-    let (_, rest) = expect(tokens, Terminal::AtSign)?;
-    let (_, rest) = expect(rest, Terminal::OpenRound)?;
-    let (_, rest) = expect(rest, Terminal::Posedge)?;
-    let (clock, rest) = read_path(alloc, rest)?;
-    let (_, rest) = expect(rest, Terminal::CloseRound)?;
+    let (_, rest) = read!(expect(tokens, Terminal::AtSign));
+    let (_, rest) = read!(expect(rest, Terminal::OpenRound));
+    let (_, rest) = read!(expect(rest, Terminal::Posedge));
+    let (clock, rest) = read!(read_path(alloc, rest));
+    let (_, rest) = read!(expect(rest, Terminal::CloseRound));
     Ok((clock, rest))
 }
 
@@ -229,7 +217,7 @@ fn read_disabling<'t, 'a>(alloc: Global, tokens: &'t [Token<'a>]) -> Read<'t, 'a
     ensures read { Gives (λ r. (boxed_of r.0, r.1.now)) result (disabling tokens.now) }
     ensures shorter { IfOk result (λ r. length r.1.now ≤ length tokens.now) }
 {
-    let (_, rest) = expect(tokens, Terminal::Iff)?;
+    let (_, rest) = read!(expect(tokens, Terminal::Iff));
     read_operand(alloc, rest, 62)
 }
 
@@ -245,10 +233,7 @@ fn read_disable<'t, 'a>(
     let Some((_, inside)) = accept(tokens, Terminal::Disable) else {
         return Ok((None, tokens));
     };
-    let (operand, rest) = match read_disabling(alloc, inside) {
-        Ok(read) => read,
-        Err(stop) => return Err(stop),
-    };
+    let (operand, rest) = read!(read_disabling(alloc, inside));
     Ok((Some(operand), rest))
 }
 
@@ -258,9 +243,9 @@ fn read_property_end<'t, 'a>(alloc: Global, tokens: &'t [Token<'a>]) -> Read<'t,
     ensures read { Gives (λ r. (property_of r.0, r.1.now)) result (property_end tokens.now) }
     ensures shorter { IfOk result (λ r. length r.1.now ≤ length tokens.now) }
 {
-    let (property, rest) = read_property(alloc, tokens, 63)?;
-    let (_, rest) = expect(rest, Terminal::CloseRound)?;
-    let (_, rest) = expect(rest, Terminal::Semicolon)?;
+    let (property, rest) = read!(read_property(alloc, tokens, 63));
+    let (_, rest) = read!(expect(rest, Terminal::CloseRound));
+    let (_, rest) = read!(expect(rest, Terminal::Semicolon));
     Ok((property, rest))
 }
 
@@ -274,11 +259,11 @@ fn read_assertion<'t, 'a>(
     ensures read { Gives (λ r. (item_of r.0, r.1.now)) result (assertion_item label.entry tokens.now) }
     ensures shorter { IfOk result (λ r. length r.1.now < length tokens.now) }
 {
-    let (verb, rest) = expect_verb(tokens)?;
-    let rest = read_opening(rest)?;
-    let (clock, rest) = read_clock(alloc, rest)?;
-    let (disable, rest) = read_disable(alloc, rest)?;
-    let (property, rest) = read_property_end(alloc, rest)?;
+    let (verb, rest) = read!(expect_verb(tokens));
+    let rest = read!(read_opening(rest));
+    let (clock, rest) = read!(read_clock(alloc, rest));
+    let (disable, rest) = read!(read_disable(alloc, rest));
+    let (property, rest) = read!(read_property_end(alloc, rest));
     let assertion = Assertion {
         label,
         verb,
@@ -298,7 +283,7 @@ fn read_labelled<'t, 'a>(alloc: Global, tokens: &'t [Token<'a>]) -> Read<'t, 'a,
     let Some((label, rest)) = accept_name(tokens) else {
         return read_assertion(alloc, tokens, None);
     };
-    let (_, rest) = expect(rest, Terminal::Colon)?;
+    let (_, rest) = read!(expect(rest, Terminal::Colon));
     read_assertion(alloc, rest, Some(label))
 }
 

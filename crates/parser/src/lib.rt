@@ -7,6 +7,7 @@ mod expression;
 mod fault;
 mod file;
 mod item;
+mod node;
 mod property;
 mod read;
 mod sequence;

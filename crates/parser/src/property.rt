@@ -4,7 +4,7 @@ ghost use Rattle.std.specs.Prelude.{◌≡◌, ◌<◌, ◌≤◌, ◌+◌, ℕ,
 ghost use Rattle.grammar.specs.ReadSequences.{implication_behind, regroup_property, property};
 ghost use Rattle.parser.specs.Views.{sequence_of, property_of, Gives};
 
-use crate::read::{Read, accept, deeper, expect, operator};
+use crate::read::{Read, accept, deeper, expect, operator, read};
 use crate::sequence::{finish_sequence, read_sequence, regroup};
 use crate::tree::{Property, Sequence};
 use grammar::Terminal;
@@ -25,10 +25,7 @@ fn read_implication<'t, 'a>(
     let Some((sign, right)) = operator(tokens, 17) else {
         return Ok((Property::Plain(antecedent), tokens));
     };
-    let (consequent, rest) = match read_sequence(alloc, right, depth) {
-        Ok(read) => read,
-        Err(stop) => return Err(stop),
-    };
+    let (consequent, rest) = read!(read_sequence(alloc, right, depth));
     Ok((Property::Implication(antecedent, sign, consequent), rest))
 }
 
@@ -45,14 +42,8 @@ fn regroup_property<'t, 'a>(
 {
     match inner {
         Property::Plain(sequence) => {
-            let (body, rest) = match regroup(alloc, tokens, sequence, depth) {
-                Ok(read) => read,
-                Err(stop) => return Err(stop),
-            };
-            let (sequence, rest) = match finish_sequence(alloc, rest, body, depth) {
-                Ok(read) => read,
-                Err(stop) => return Err(stop),
-            };
+            let (body, rest) = read!(regroup(alloc, tokens, sequence, depth));
+            let (sequence, rest) = read!(finish_sequence(alloc, rest, body, depth));
             read_implication(alloc, rest, sequence, depth)
         }
         Property::Implication(antecedent, sign, consequent) => Ok((
@@ -73,17 +64,11 @@ pub(crate) fn read_property<'t, 'a>(
     ensures shorter { IfOk result (λ r. length r.1.now ≤ length tokens.now) }
 {
     let Some((bracket, inside)) = accept(tokens, Terminal::OpenRound) else {
-        let (sequence, rest) = match read_sequence(alloc, tokens, depth) {
-            Ok(read) => read,
-            Err(stop) => return Err(stop),
-        };
+        let (sequence, rest) = read!(read_sequence(alloc, tokens, depth));
         return read_implication(alloc, rest, sequence, depth);
     };
-    let inner = deeper(depth, bracket)?;
-    let (property, rest) = match read_property(alloc, inside, inner) {
-        Ok(read) => read,
-        Err(stop) => return Err(stop),
-    };
-    let (_, rest) = expect(rest, Terminal::CloseRound)?;
+    let inner = read!(deeper(depth, bracket));
+    let (property, rest) = read!(read_property(alloc, inside, inner));
+    let (_, rest) = read!(expect(rest, Terminal::CloseRound));
     regroup_property(alloc, rest, property, depth)
 }

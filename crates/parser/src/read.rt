@@ -3,19 +3,32 @@
 ghost use Rattle.std.specs.Prelude.{◌≡◌, ◌≤◌, ◌<◌, ◌+◌, ◌==◌, ℕ, length, [], ◌∷◌, Some, None, MatchOption, IfSome, IfOk, IfErr};
 ghost use Rattle.lexer.specs.declared.token.Token.{Token};
 ghost use Rattle.grammar.specs.Bounds.{bound_within, index};
-ghost use Rattle.grammar.specs.Marks.{so_loose};
+ghost use Rattle.grammar.specs.Marks.{has_precedence};
 ghost use Rattle.grammar.specs.Readers.{lead, expect, pick};
 ghost use Rattle.grammar.specs.ReadExpressions.{name_of, word_of};
 ghost use Rattle.grammar.specs.ReadFiles.{is_verb_token};
 ghost use Rattle.grammar.specs.Terminals.{is_name};
 ghost use Rattle.parser.specs.Views.{Gives};
+ghost use Rattle.parser.specs.Faults.{IsPlaceIn};
 
 use crate::stop::{Stop, in_words};
-use grammar::{Bound, Index, Terminal, bound_of, index_of, is, is_name, is_word, looseness_of};
+use grammar::{Bound, Index, Terminal, bound_of, index_of, is, is_name, is_word, precedence_of};
 use lexer::Token;
 
 /// A part, and the tokens behind it.
 pub(crate) type Read<'t, 'a, T> = Result<(T, &'t [Token<'a>]), Stop>;
+
+/// What a step reads. Where it stops, so does its caller.
+macro_rules! read {
+    ($step:expr) => {
+        match $step {
+            Ok(read) => read,
+            Err(stop) => return Err(stop),
+        }
+    };
+}
+
+pub(crate) use read;
 
 /// The first token.
 pub(crate) fn first<'t, 'a>(tokens: &'t [Token<'a>]) -> Option<(Token<'a>, &'t [Token<'a>])>
@@ -35,9 +48,12 @@ pub(crate) fn same<'t, 'a>(tokens: &'t [Token<'a>]) -> &'t [Token<'a>]
 }
 
 /// The byte of the first token. There is one: reading never goes past the end's.
-pub(crate) fn place(tokens: &[Token]) -> usize {
-    match tokens.first() {
-        Some(token) => token.at,
+#[tactic(auto, using(crate::proofs::PlaceLaws::for_place))]
+pub(crate) fn place(tokens: &[Token]) -> usize
+    ensures { 0 < length tokens.now → IsPlaceIn tokens.now result }
+{
+    match first(tokens) {
+        Some((token, _)) => token.at,
         None => 0,
     }
 }
@@ -71,19 +87,19 @@ pub(crate) fn expect<'t, 'a>(tokens: &'t [Token<'a>], wanted: Terminal) -> Read<
     }
 }
 
-/// The first token, if it is an operator so loose.
+/// The first token, if it is an operator of this level.
 #[tactic(auto, using(crate::proofs::Steps::for_operator))]
 pub(crate) fn operator<'t, 'a>(
     tokens: &'t [Token<'a>],
-    loose: usize,
+    level: usize,
 ) -> Option<(Token<'a>, &'t [Token<'a>])>
-    ensures token { MatchOption result (lead (so_loose loose) tokens.now ≡ None) (λ r. lead (so_loose loose) tokens.now ≡ Some (r.0, r.1.now)) }
+    ensures token { MatchOption result (lead (has_precedence level) tokens.now ≡ None) (λ r. lead (has_precedence level) tokens.now ≡ Some (r.0, r.1.now)) }
     ensures shorter { IfSome result (λ r. length r.1.now < length tokens.now) }
 {
     let Some((token, rest)) = first(tokens) else {
         return None;
     };
-    if looseness_of(token) == loose {
+    if precedence_of(token) == level {
         return Some((token, rest));
     }
     None

@@ -6,12 +6,12 @@ ghost use Rattle.parser.specs.Views.{sequence_of, boxed_step_of, Gives};
 ghost use Rattle.parser.specs.Bodies.{body_of, IsProper};
 
 use crate::body::{
-    Body, into_body, into_sequence, throughout_side, with_alternatives, with_conjuncts, with_steps,
-    with_times,
+    Body, into_body, into_sequence, late, push_sequence, push_step, throughout, throughout_side,
+    with_alternatives, with_conjuncts, with_steps, with_times,
 };
 use crate::count::{read_counts, read_delay};
-use crate::expression::{finish_boxed, read_boxed};
-use crate::read::{Read, accept, deeper, expect, same};
+use crate::expression::{finish_expression, read_expression};
+use crate::read::{Read, accept, deeper, expect, read, same};
 use crate::stop::Stop;
 use crate::tree::Sequence;
 use grammar::{Range, Terminal};
@@ -32,10 +32,7 @@ pub(crate) fn regroup<'t, 'a>(
 {
     match into_body(alloc, inner)? {
         Body::Expression(expr) => {
-            let (expr, rest) = match finish_boxed(alloc, tokens, expr, depth) {
-                Ok(read) => read,
-                Err(stop) => return Err(stop),
-            };
+            let (expr, rest) = read!(finish_expression(alloc, tokens, expr, depth));
             Ok((Body::Expression(expr), rest))
         }
         Body::Sequence(sequence) => Ok((Body::Sequence(sequence), tokens)),
@@ -51,18 +48,12 @@ fn read_body<'t, 'a>(alloc: Global, tokens: &'t [Token<'a>], depth: usize) -> Re
     ensures shorter { IfOk result (λ r. length r.1.now ≤ length tokens.now) }
 {
     let Some((bracket, inside)) = accept(tokens, Terminal::OpenRound) else {
-        let (expr, rest) = match read_boxed(alloc, tokens, depth) {
-            Ok(read) => read,
-            Err(stop) => return Err(stop),
-        };
+        let (expr, rest) = read!(read_expression(alloc, tokens, depth));
         return Ok((Body::Expression(expr), rest));
     };
-    let inner = deeper(depth, bracket)?;
-    let (sequence, rest) = match read_sequence(alloc, inside, inner) {
-        Ok(read) => read,
-        Err(stop) => return Err(stop),
-    };
-    let (_, rest) = expect(rest, Terminal::CloseRound)?;
+    let inner = read!(deeper(depth, bracket));
+    let (sequence, rest) = read!(read_sequence(alloc, inside, inner));
+    let (_, rest) = read!(expect(rest, Terminal::CloseRound));
     regroup(alloc, rest, sequence, depth)
 }
 
@@ -78,8 +69,8 @@ fn read_repeat<'t, 'a>(
     ensures shorter { IfOk result (λ r. length r.1.now ≤ length tokens.now) }
 {
     let body = into_sequence(alloc, body)?;
-    let (counts, rest) = read_counts(tokens, depth)?;
-    Ok((with_times(alloc, body, counts)?, rest))
+    let (counts, rest) = read!(read_counts(tokens, depth));
+    with_times(alloc, body, counts, rest)
 }
 
 /// A delay behind its `##`, and what it delays.
@@ -93,9 +84,9 @@ fn read_late<'t, 'a>(
     ensures read { Gives (λ r. (boxed_step_of r.0, r.1.now)) result (late_part depth (sequences depth) tokens.now) }
     ensures shorter { IfOk result (λ r. length r.1.now ≤ length tokens.now) }
 {
-    let (range, rest) = read_delay(tokens, depth)?;
-    let (body, rest) = read_body(alloc, rest, depth)?;
-    let (body, rest) = read_repeat(alloc, rest, body, depth)?;
+    let (range, rest) = read!(read_delay(tokens, depth));
+    let (body, rest) = read!(read_body(alloc, rest, depth));
+    let (body, rest) = read!(read_repeat(alloc, rest, body, depth));
     Ok(((range, body), rest))
 }
 
@@ -114,13 +105,10 @@ fn read_delayed<'t, 'a>(
     let mut left = tokens;
     'steps: loop {
         let Some((_, rest)) = accept(left, Terminal::Delay) else {
-            return Ok((with_steps(alloc, head, found)?, left));
+            return with_steps(alloc, head, found, left);
         };
-        let ((range, body), rest) = match read_late(alloc, rest, depth) {
-            Ok(read) => read,
-            Err(stop) => return Err(stop),
-        };
-        found.push((range, Box::into_inner(body)))?;
+        let ((range, body), rest) = read!(read_late(alloc, rest, depth));
+        read!(push_step(&mut found, range, body));
         left = same(rest);
     }
 }
@@ -141,19 +129,13 @@ fn read_behind<'t, 'a>(
     let (expr, word, right) = match throughout_side(tokens, body) {
         Ok(side) => side,
         Err(body) => {
-            let (head, rest) = match read_repeat(alloc, tokens, body, depth) {
-                Ok(read) => read,
-                Err(stop) => return Err(stop),
-            };
+            let (head, rest) = read!(read_repeat(alloc, tokens, body, depth));
             return read_delayed(alloc, rest, head, depth);
         }
     };
-    let inner = deeper(depth, word)?;
-    let (body, rest) = match read_during(alloc, right, inner) {
-        Ok(read) => read,
-        Err(stop) => return Err(stop),
-    };
-    Ok((Box::new(alloc, Sequence::Throughout(expr, body))?, rest))
+    let inner = read!(deeper(depth, word));
+    let (body, rest) = read!(read_during(alloc, right, inner));
+    throughout(alloc, expr, body, rest)
 }
 
 /// A chain of delays, or `throughout` with both its sides.
@@ -168,17 +150,11 @@ fn read_during<'t, 'a>(
     ensures shorter { IfOk result (λ r. length r.1.now ≤ length tokens.now) }
 {
     let Some((token, rest)) = accept(tokens, Terminal::Delay) else {
-        let (body, rest) = match read_body(alloc, tokens, depth) {
-            Ok(read) => read,
-            Err(stop) => return Err(stop),
-        };
+        let (body, rest) = read!(read_body(alloc, tokens, depth));
         return read_behind(alloc, rest, body, depth);
     };
-    let ((range, body), rest) = match read_late(alloc, rest, depth) {
-        Ok(read) => read,
-        Err(stop) => return Err(stop),
-    };
-    let late = Box::new(alloc, Sequence::Late(token, range, body))?;
+    let ((range, body), rest) = read!(read_late(alloc, rest, depth));
+    let (late, rest) = read!(late(alloc, token, range, body, rest));
     read_delayed(alloc, rest, late, depth)
 }
 
@@ -197,13 +173,10 @@ fn read_conjunction<'t, 'a>(
     let mut left = tokens;
     'conjuncts: loop {
         let Some((_, rest)) = accept(left, Terminal::And) else {
-            return Ok((with_conjuncts(alloc, side, found)?, left));
+            return with_conjuncts(alloc, side, found, left);
         };
-        let (conjunct, rest) = match read_during(alloc, rest, depth) {
-            Ok(read) => read,
-            Err(stop) => return Err(stop),
-        };
-        found.push(Box::into_inner(conjunct))?;
+        let (conjunct, rest) = read!(read_during(alloc, rest, depth));
+        read!(push_sequence(&mut found, conjunct));
         left = same(rest);
     }
 }
@@ -219,7 +192,7 @@ fn read_side<'t, 'a>(
     ensures read { Gives (λ r. (sequence_of r.0.value, r.1.now)) result (conjunction_with depth (sequences depth) tokens.now) }
     ensures shorter { IfOk result (λ r. length r.1.now ≤ length tokens.now) }
 {
-    let (side, rest) = read_during(alloc, tokens, depth)?;
+    let (side, rest) = read!(read_during(alloc, tokens, depth));
     read_conjunction(alloc, rest, side, depth)
 }
 
@@ -238,13 +211,10 @@ fn read_alternatives<'t, 'a>(
     let mut left = tokens;
     'alternatives: loop {
         let Some((_, rest)) = accept(left, Terminal::Or) else {
-            return Ok((with_alternatives(alloc, side, found)?, left));
+            return with_alternatives(alloc, side, found, left);
         };
-        let (alternative, rest) = match read_side(alloc, rest, depth) {
-            Ok(read) => read,
-            Err(stop) => return Err(stop),
-        };
-        found.push(Box::into_inner(alternative))?;
+        let (alternative, rest) = read!(read_side(alloc, rest, depth));
+        read!(push_sequence(&mut found, alternative));
         left = same(rest);
     }
 }
@@ -260,7 +230,7 @@ pub(crate) fn read_sequence<'t, 'a>(
     ensures read { Gives (λ r. (sequence_of r.0.value, r.1.now)) result (whole depth tokens.now) }
     ensures shorter { IfOk result (λ r. length r.1.now ≤ length tokens.now) }
 {
-    let (side, rest) = read_side(alloc, tokens, depth)?;
+    let (side, rest) = read!(read_side(alloc, tokens, depth));
     read_alternatives(alloc, rest, side, depth)
 }
 
@@ -276,7 +246,7 @@ pub(crate) fn finish_sequence<'t, 'a>(
     ensures read { Gives (λ r. (sequence_of r.0.value, r.1.now)) result (sequence_behind depth (body_of body.entry) tokens.now) }
     ensures shorter { IfOk result (λ r. length r.1.now ≤ length tokens.now) }
 {
-    let (side, rest) = read_behind(alloc, tokens, body, depth)?;
-    let (side, rest) = read_conjunction(alloc, rest, side, depth)?;
+    let (side, rest) = read!(read_behind(alloc, tokens, body, depth));
+    let (side, rest) = read!(read_conjunction(alloc, rest, side, depth));
     read_alternatives(alloc, rest, side, depth)
 }

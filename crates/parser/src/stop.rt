@@ -4,7 +4,7 @@ use grammar::Terminal;
 use std::alloc::{AllocError, AllocFailed};
 
 /// Each but `Memory` with the byte of the first token at which reading can't go on.
-#[derive(Clone, Copy, Debug)]
+#[derive(Clone, Copy)]
 pub enum Stop {
     Memory,
     /// What would go on.

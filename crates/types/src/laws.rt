@@ -1,32 +1,8 @@
-//! Laws of the definitions, proved.
+//! Laws of the suites that texts say, each a call that does nothing.
 
-ghost use Rattle.types.specs.Laws.{MatchesForward, MatchesWithin, TestsMatches, MatchesWithinWeight, HasVerdict, HasOneVerdict, EmptyMatchesAlike, TestsEmpty, TestsDegenerate};
+ghost use Rattle.types.specs.Laws.{SuitesAreOne};
 
-/// A match goes forward, is no longer than the longest, and is found by the test of it.
-pub fn match_law()
-    ensures forward { MatchesForward }
-    ensures within { MatchesWithin }
-    ensures tests { TestsMatches }
-{}
-
-/// Each attempt has exactly one verdict.
-pub fn verdict_law()
-    ensures some { HasVerdict }
-    ensures one { HasOneVerdict }
-{}
-
-/// No match of a sequence as it is written takes more ticks than it weighs.
-pub fn weight_law()
-    ensures { MatchesWithinWeight }
-{}
-
-/// Whether a sequence as it is written matches an empty segment is told by its form alone.
-pub fn empty_law()
-    ensures anywhere { EmptyMatchesAlike }
-    ensures tests { TestsEmpty }
-{}
-
-/// Whether a sequence as it is written is degenerate is told by its form alone.
-pub fn degenerate_law()
-    ensures { TestsDegenerate }
+/// Any two suites that a text may be said to say over one scope say the same.
+pub fn suites_law()
+    ensures { SuitesAreOne }
 {}

@@ -1,20 +1,27 @@
-//! Suites of assertions, and their meaning.
+//! Names, widths and types of a text: the suite that it says, or the first fault in it.
 #![tactic(auto)]
 
-mod assertion;
-mod decision;
-mod implication;
+mod bodies;
+mod bytes;
+mod clocks;
+mod counters;
+mod cycles;
+mod drafts;
+mod drawn;
+mod fault;
+mod known;
 mod laws;
-mod sequence;
+mod least;
+mod names;
+mod resolved;
+mod side;
+mod sides;
+mod stages;
 mod suite;
-#[cfg(test)]
-mod tests;
-mod weight;
+mod typed_assertions;
 
-pub use assertion::Assertion;
-pub use decision::Decision;
-pub use implication::Implication;
-pub use laws::{degenerate_law, empty_law, match_law, verdict_law, weight_law};
-pub use sequence::{Boolean, Sequence};
-pub use suite::{Signal, Suite};
-pub use weight::{HEAVIEST, weight_of};
+pub use assertions::{Assertion, Suite};
+pub use fault::TypeFault;
+pub use laws::suites_law;
+pub use suite::check;
+pub use types_expressions::{Names, path_string};

@@ -1,46 +1,126 @@
-//! The assertions of one text.
+//! From a text to its suite.
 
-ghost use Rattle.std.specs.Prelude.{◌≡◌, ◌≤◌, string_bytes};
+ghost use Rattle.std.specs.Prelude.{◌≡◌, ◌<◌, ℕ, [], true, map, length, Some, string_bytes, IfOk, IfErr, OnOk, IsTrue};
+ghost use Rattle.grammar.specs.Trees.{Tree};
+ghost use Rattle.parser.specs.Views.{item_of, items_of};
+ghost use Rattle.types_sequences.specs.Entries.{has_entry};
+ghost use Rattle.types_expressions.specs.declared.own.Sought.{Sought};
+ghost use Rattle.types_expressions.specs.Scopes.{sequence_named, scope_for};
+ghost use Rattle.types_expressions.specs.Columns.{all_listed, file_signals};
+ghost use Rattle.types_expressions.specs.Faults.{file_faults};
+ghost use Rattle.types_expressions.specs.Views.{scope_of, columns_in, names_in};
+ghost use Rattle.types_sequences.specs.Placed.{Extends};
+ghost use Rattle.types.specs.Texts.{declarations_of, assertions_of, clock_of};
+ghost use Rattle.types.specs.Faults.{Where, Text, outlines_of, sides_of, consequents_of, ClearTo, IsFaultless, IsRefused};
+ghost use Rattle.types.specs.Sides.{AreWeighed, AreLight};
+ghost use Rattle.types.specs.Suites.{IsSuite};
+ghost use Rattle.types.specs.Resolved.{HasBodies, sides_in, consequents_in};
 
-use crate::assertion::Assertion;
-use values::{Counter, Expr};
+use crate::bodies::{bodies_of, name_bytes};
+use crate::clocks::first_clock;
+use crate::counters::counters_of;
+use crate::fault::TypeFault;
+use crate::known::signals_of;
+use crate::resolved::{Resolved, all_resolved};
+use crate::sides::{all_consequents, all_sides};
+use crate::stages::{check_cycles, check_expressions, check_sides};
+use crate::typed_assertions::assertions_of;
+use assertions::Suite;
+use parser::{File, Item};
+use std::alloc::Global;
+use types_expressions::{Columns, Names, Scope, columns_of};
+use types_sequences::{Entry, resolve};
 
-/// A signal: its path, and its width, 1 to 128.
-#[derive(Drop)]
-pub struct Signal {
-    pub path: String,
-    pub width: u8,
-    pub ghost some_bits: { 1 ≤ width },
-    pub ghost at_most_128: { width ≤ 128 },
+/// The entries of the named sequences, by the places of their declarations, if none reaches itself (Y8).
+fn entries_of(
+    alloc: Global,
+    scope: &Scope,
+    columns: &Columns,
+    items: &[Item],
+    booleans: &mut Vec<expressions::Expr>,
+) -> Result<Vec<Option<Entry>>, TypeFault>
+    requires sound { (k : Sought) → file_faults (scope_of scope.now) k (map item_of items.now) ≡ [] }
+    requires listed { IsTrue (all_listed (columns_in columns.now) (file_signals (scope_of scope.now) (map item_of items.now))) }
+    requires declared { (t : Tree) (p : ℕ) → sequence_named (scope_of scope.now) t ≡ Some p → p < length (declarations_of (map item_of items.now)) }
+    requires clear { ClearTo (scope_of scope.now) (map item_of items.now) 5 }
+    ensures grows { OnOk result (Extends booleans.old.items booleans.new.items) }
+    ensures long { IfOk result (λ table. length table.items ≡ length (declarations_of (map item_of items.now))) }
+    ensures entries { IfOk result (λ table. (p : ℕ) → p < length table.items → has_entry table.items p ≡ true) }
+    ensures bodies { IfOk result (λ table. HasBodies (scope_of scope.now) (columns_in columns.now) booleans.new.items (map item_of items.now) table.items) }
+    ensures clear { IfOk result (λ _. ClearTo (scope_of scope.now) (map item_of items.now) 6) }
+    ensures refused { IfErr result (IsRefused (scope_of scope.now) (map item_of items.now)) }
+{
+    let bodies = bodies_of(alloc, scope, columns, items, booleans)?;
+    let bytes = name_bytes(alloc, items)?;
+    let table = resolve(alloc, bodies.as_slice())?;
+    check_cycles(alloc, bodies.as_slice(), bytes.as_slice(), table.as_slice())?;
+    Ok(table)
 }
 
-/// The assertions of a text, with their clock and what they read.
-#[derive(Drop)]
-pub struct Suite {
-    /// The path of the clock.
-    pub clock: String,
-    /// The signals that expressions name by their place, in the order in which the text names them first.
-    pub names: Vec<Signal>,
-    /// The counters, in the order of the text.
-    pub counters: Vec<Counter>,
-    /// The expressions of all assertions.
-    pub booleans: Vec<Expr>,
-    /// The assertions, in the order of the text.
-    pub assertions: Vec<Assertion>,
+/// Looks for faults of the sides of these assertions, Y9, Y5 and Y6, in this order.
+fn check_resolved(alloc: Global, resolved: &[Resolved]) -> Result<(), TypeFault>
+    ensures light { IfOk result (λ _. AreLight (sides_in resolved.now)) }
+    ensures ok { (s : Where) (items : Text) → ClearTo s items 6 → AreWeighed (outlines_of s items) (sides_of s (assertions_of items)) (sides_in resolved.now)
+        → AreWeighed (outlines_of s items) (consequents_of s (assertions_of items)) (consequents_in resolved.now) → IfOk result (λ _. IsFaultless s items) }
+    ensures err { (s : Where) (items : Text) → ClearTo s items 6 → AreWeighed (outlines_of s items) (sides_of s (assertions_of items)) (sides_in resolved.now)
+        → AreWeighed (outlines_of s items) (consequents_of s (assertions_of items)) (consequents_in resolved.now) → IfErr result (IsRefused s items) }
+{
+    let sides = all_sides(alloc, resolved)?;
+    let consequents = all_consequents(alloc, resolved)?;
+    check_sides(sides.as_slice(), consequents.as_slice())
 }
 
-impl Suite {
-    /// The assertions, in the order of the text.
-    pub fn assertions(&self) -> &[Assertion]
-        ensures { result.now ≡ self.now.assertions.items }
-    {
-        self.assertions.as_slice()
-    }
+/// The suite of items whose expressions have no fault, or the first fault of their sequences.
+fn suite_of(alloc: Global, scope: &Scope, items: &[Item], clock: String) -> Result<Suite, TypeFault>
+    requires clock { string_bytes clock ≡ clock_of (assertions_of (map item_of items.now)) }
+    requires declared { (t : Tree) (p : ℕ) → sequence_named (scope_of scope.now) t ≡ Some p → p < length (declarations_of (map item_of items.now)) }
+    requires clear { ClearTo (scope_of scope.now) (map item_of items.now) 5 }
+    ensures faultless { IfOk result (λ _. IsFaultless (scope_of scope.now) (map item_of items.now)) }
+    ensures suite { IfOk result (IsSuite (scope_of scope.now) (map item_of items.now)) }
+    ensures refused { IfErr result (IsRefused (scope_of scope.now) (map item_of items.now)) }
+{
+    let columns = columns_of(alloc, scope, items)?;
+    let mut booleans = Vec::new(alloc);
+    let table = entries_of(alloc, scope, &columns, items, &mut booleans)?;
+    let resolved = all_resolved(
+        alloc,
+        scope,
+        &columns,
+        table.as_slice(),
+        items,
+        &mut booleans,
+    )?;
+    check_resolved(alloc, resolved.as_slice())?;
+    Ok(Suite {
+        clock,
+        names: signals_of(alloc, scope, &columns)?,
+        counters: counters_of(alloc, scope, &columns, items)?,
+        booleans,
+        assertions: assertions_of(alloc, resolved.as_slice())?,
+    })
+}
 
-    /// The path of the clock.
-    pub fn clock(&self) -> &str
-        ensures { result.now ≡ string_bytes self.now.clock }
-    {
-        self.clock.as_str()
-    }
+/// The suite that a text spells over the paths of a dump: its clock, the signals that it reads, its counters, its typed expressions and
+/// its assertions, with named sequences written out.
+///
+/// The clock's path is not looked up among the dump's. A text's own names come before the dump's paths. The cost is about linear in the
+/// text, but for names of sequences that are declared in an adversarial order.
+///
+/// # Errors
+///
+/// The first of the faults Y1, Y2, Y3, Y4, Y7, Y8, Y9, Y5, Y6 that stands in the text, and of these the one at the lowest byte; and
+/// want of memory. Named sequences and counters that nothing uses are looked at too, but for Y9, Y5 and Y6, which are of
+/// antecedents and consequents.
+///
+/// IEEE 1800-2017, clauses 11.6 to 11.8, 16.6 to 16.9, 16.12.7, 16.12.22.
+pub fn check(alloc: Global, file: &File, names: &Names) -> Result<Suite, TypeFault>
+    ensures faultless { IfOk result (λ _. IsFaultless (scope_for (items_of file.now) (names_in names.now)) (items_of file.now)) }
+    ensures suite { IfOk result (IsSuite (scope_for (items_of file.now) (names_in names.now)) (items_of file.now)) }
+    ensures refused { IfErr result (IsRefused (scope_for (items_of file.now) (names_in names.now)) (items_of file.now)) }
+{
+    let items = file.items.as_slice();
+    let scope = Scope::of(alloc, names, items)?;
+    let clock = first_clock(alloc, items)?;
+    check_expressions(alloc, &scope, items, clock.as_str())?;
+    suite_of(alloc, &scope, items, clock)
 }

@@ -17,14 +17,14 @@ use Rattle.vcd_reader.specs.Values.{ValueChange}
 use Rattle.vcd_reader.specs.Variables.{place_of}
 use Rattle.vcd_reader.specs.Faults.{◌>>=◌}
 use Rattle.vcd_reader.specs.Stored.{StoredChange, StoredStep, kept_change, kept_step}
-use Rattle.vcd_reader.specs.Body.{Kind, Time, Scalar, Vector, Text, Lone, Section, Bad, Rest, Next, with_step, with_time, changed, scalar, by_kind, behind_first, most_changes, body, section, vector, ignored, steps_of, kind_of}
-use Rattle.vcd_reader.specs.Kept.{seen, KeptRest, kept, kept_steps, with_kept, with_kept_step, applied, code_item, scalar_item}
+use Rattle.vcd_reader.specs.Body.{Kind, Time, Scalar, Vector, Text, Lone, Section, Bad, Rest, Next, with_step, with_time, change_by_code, scalar, by_kind, behind_first, most_changes, body, section, vector, behind_ignored, steps_of, kind_of}
+use Rattle.vcd_reader.specs.Kept.{seen_kind, KeptRest, kept_result, kept_steps, with_kept, with_kept_step, with_item, code_item, scalar_item}
 
 -- the steps so far, the open step, and what is still read
 abbrev pub joined : List StoredStep → ℕ → List StoredChange → Result KeptRest Fault → Result (List StoredStep) Fault
 joined steps now changes read = read >>= λ r. Ok (steps ++ record { time = now; changes = changes ++ r.0 } ∷ r.1)
 
-pub joined-none : (read : Result Rest Fault) → kept_steps (steps_of read) ≡ joined [] 0 [] (kept read)
+pub joined-none : (read : Result Rest Fault) → kept_steps (steps_of read) ≡ joined [] 0 [] (kept_result read)
 unfolding kept_step
 joined-none (Ok r) = refl
 joined-none (Err f) = refl
@@ -40,24 +40,24 @@ joined-step steps now time changes (Ok r) =
 joined-step steps now time changes (Err f) = refl
 
 -- keeping goes through each part of a reading
-kept-change : (c : ValueChange) (read : Result Rest Fault) → kept (read >>= λ r. Ok (c ∷ r.0, r.1)) ≡ with_kept (kept_change c) (kept read)
+kept-change : (c : ValueChange) (read : Result Rest Fault) → kept_result (read >>= λ r. Ok (c ∷ r.0, r.1)) ≡ with_kept (kept_change c) (kept_result read)
 kept-change c (Ok r) = refl
 kept-change c (Err f) = refl
 
-kept-step : (time : ℕ) (read : Result Rest Fault) → kept (with_step time read) ≡ with_kept_step time (kept read)
+kept-step : (time : ℕ) (read : Result Rest Fault) → kept_result (with_step time read) ≡ with_kept_step time (kept_result read)
 unfolding kept_step
 kept-step time (Ok r) = refl
 kept-step time (Err f) = refl
 
-kept-cond : (b : Bool) (x y : Result Rest Fault) → kept (cond b x y) ≡ cond b (kept x) (kept y)
+kept-cond : (b : Bool) (x y : Result Rest Fault) → kept_result (cond b x y) ≡ cond b (kept_result x) (kept_result y)
 kept-cond true x y = refl
 kept-cond false x y = refl
 
-kept-with_time : (time place count now : ℕ) (rest : Next) → kept (with_time time place count now rest) ≡ applied (Timed time place) count now (λ c n. kept (rest c n))
+kept-with_time : (time place count now : ℕ) (rest : Next) → kept_result (with_time time place count now rest) ≡ with_item (Timed time place) count now (λ c n. kept_result (rest c n))
 kept-with_time time place count now rest =
-    kept-cond (ltb time now) _ _ ∙ ap (λ (x : Result KeptRest Fault). cond (ltb time now) (Err (TimeBack place)) x) (kept-cond (eqb time now) _ _ ∙ ap (λ (x : Result KeptRest Fault). cond (eqb time now) (kept (rest count now)) x) (kept-step time (rest count time)))
+    kept-cond (ltb time now) _ _ ∙ ap (λ (x : Result KeptRest Fault). cond (ltb time now) (Err (TimeBack place)) x) (kept-cond (eqb time now) _ _ ∙ ap (λ (x : Result KeptRest Fault). cond (eqb time now) (kept_result (rest count now)) x) (kept-step time (rest count time)))
 
-kept-changed : (o : Option ℕ) (text digits : List ℕ) (place count now : ℕ) (rest : Next) → kept (changed o text digits place count now rest) ≡ (code_item o text (bits_value digits) place >>= λ i. applied i count now (λ c n. kept (rest c n)))
+kept-changed : (o : Option ℕ) (text digits : List ℕ) (place count now : ℕ) (rest : Next) → kept_result (change_by_code o text digits place count now rest) ≡ (code_item o text (bits_value digits) place >>= λ i. with_item i count now (λ c n. kept_result (rest c n)))
 unfolding kept_change
 kept-changed None text digits place count now rest = refl
 kept-changed (Some n) text digits place count now rest =
@@ -68,93 +68,93 @@ unfolding bits_from
 bits_value-one d = elim (eqb_tells d 49) [ inl p ↦ rw p.0 refl | inr p ↦ rw p.0 refl ]
 
 kept-scalar : (declared : List (List ℕ)) (len digit : ℕ) (text : List ℕ) (place count now : ℕ) (rest : Next)
-    → kept (scalar declared len digit text place count now rest) ≡ (scalar_item declared len text (bit_of digit) place >>= λ i. applied i count now (λ c n. kept (rest c n)))
+    → kept_result (scalar declared len digit text place count now rest) ≡ (scalar_item declared len text (bit_of digit) place >>= λ i. with_item i count now (λ c n. kept_result (rest c n)))
 kept-scalar declared len digit [] place count now rest = refl
 kept-scalar declared len digit (c ∷ text) place count now rest =
     kept-changed (place_of declared (c ∷ text)) (c ∷ text) (digit ∷ []) place count now rest
-    ∙ ap (λ (v : ℕ). code_item (place_of declared (c ∷ text)) (c ∷ text) v place >>= λ i. applied i count now (λ c n. kept (rest c n))) (bits_value-one digit)
+    ∙ ap (λ (v : ℕ). code_item (place_of declared (c ∷ text)) (c ∷ text) v place >>= λ i. with_item i count now (λ c n. kept_result (rest c n))) (bits_value-one digit)
 
 -- what each kind of token leads to
 module _ (declared : List (List ℕ)) (len count now : ℕ) where
   module _ (t : Token) (items : Next) (vectors : List ℕ → Result Rest Fault) (second words : Result Rest Fault) where
-    by-time : (k : Kind) (time : ℕ) → code.Time time ≡ seen k → kept (by_kind k declared len t count now items vectors second words) ≡ applied (Timed time t.place) count now (λ c n. kept (items c n))
+    by-time : (k : Kind) (time : ℕ) → code.Time time ≡ seen_kind k → kept_result (by_kind k declared len t count now items vectors second words) ≡ with_item (Timed time t.place) count now (λ c n. kept_result (items c n))
     by-time (Time n) time e = let h : n ≡ time = cc in rw h (kept-with_time time t.place count now items)
     by-time k time e = absurd cc
 
-    by-scalar : (k : Kind) (value : ℕ) → code.Scalar value ≡ seen k → kept (by_kind k declared len t count now items vectors second words) ≡ (scalar_item declared len (behind_first t.text) value t.place >>= λ i. applied i count now (λ c n. kept (items c n)))
+    by-scalar : (k : Kind) (value : ℕ) → code.Scalar value ≡ seen_kind k → kept_result (by_kind k declared len t count now items vectors second words) ≡ (scalar_item declared len (behind_first t.text) value t.place >>= λ i. with_item i count now (λ c n. kept_result (items c n)))
     by-scalar (Scalar digit) value e = let h : bit_of digit ≡ value = cc in kept-scalar declared len digit (behind_first t.text) t.place count now items ∙ rw h refl
     by-scalar k value e = absurd cc
 
-    by-vector : (k : Kind) (value : ℕ) → code.Vector value ≡ seen k → (digits : List ℕ) × (bits_value digits ≡ value) × (kept (by_kind k declared len t count now items vectors second words) ≡ kept (vectors digits))
+    by-vector : (k : Kind) (value : ℕ) → code.Vector value ≡ seen_kind k → (digits : List ℕ) × (bits_value digits ≡ value) × (kept_result (by_kind k declared len t count now items vectors second words) ≡ kept_result (vectors digits))
     by-vector (Vector digits) value e = (digits, cc, refl)
     by-vector k value e = absurd cc
 
-    by-text : (k : Kind) → code.Text ≡ seen k → kept (by_kind k declared len t count now items vectors second words) ≡ kept second
+    by-text : (k : Kind) → code.Text ≡ seen_kind k → kept_result (by_kind k declared len t count now items vectors second words) ≡ kept_result second
     by-text Text e = refl
     by-text k e = absurd cc
 
-    by-lone : (k : Kind) → code.Lone ≡ seen k → kept (by_kind k declared len t count now items vectors second words) ≡ kept (items count now)
+    by-lone : (k : Kind) → code.Lone ≡ seen_kind k → kept_result (by_kind k declared len t count now items vectors second words) ≡ kept_result (items count now)
     by-lone Lone e = refl
     by-lone k e = absurd cc
 
-    by-section : (k : Kind) → code.Section ≡ seen k → kept (by_kind k declared len t count now items vectors second words) ≡ kept words
+    by-section : (k : Kind) → code.Section ≡ seen_kind k → kept_result (by_kind k declared len t count now items vectors second words) ≡ kept_result words
     by-section Section e = refl
     by-section k e = absurd cc
 
-    by-bad : (k : Kind) → code.Bad ≡ seen k → kept (by_kind k declared len t count now items vectors second words) ≡ Err (BadToken t.place)
+    by-bad : (k : Kind) → code.Bad ≡ seen_kind k → kept_result (by_kind k declared len t count now items vectors second words) ≡ Err (BadToken t.place)
     by-bad Bad e = refl
     by-bad k e = absurd cc
 
-  pub body-none : (ts : List Token) → ts ≡ [] → kept (body declared len count now ts) ≡ Ok ([], [])
+  pub body-none : (ts : List Token) → ts ≡ [] → kept_result (body declared len count now ts) ≡ Ok ([], [])
   unfolding body
   body-none ts e = rw e refl
 
   vector-cons : (digits : List ℕ) (ts : List Token) (text : List ℕ) (place : ℕ) (rest : List Token) → ts ≡ record { text = text; place = place } ∷ rest
-      → vector declared len count now digits ts ≡ changed (place_of declared text) text digits place count now (λ c n. body declared len c n rest)
+      → vector declared len count now digits ts ≡ change_by_code (place_of declared text) text digits place count now (λ c n. body declared len c n rest)
   unfolding body vector
   vector-cons digits ts text place rest e = rw e refl
 
   module _ (ts : List Token) (text : List ℕ) (place : ℕ) (rest : List Token) (e : ts ≡ record { text = text; place = place } ∷ rest) where
     body-cons : body declared len count now ts
-        ≡ by_kind (kind_of text) declared len (record { text = text; place = place }) count now (λ c n. body declared len c n rest) (λ digits. vector declared len count now digits rest) (ignored declared len count now rest) (section declared len count now place rest)
+        ≡ by_kind (kind_of text) declared len (record { text = text; place = place }) count now (λ c n. body declared len c n rest) (λ digits. vector declared len count now digits rest) (behind_ignored declared len count now rest) (section declared len count now place rest)
     unfolding body
     body-cons = rw e refl
 
-    pub body-time : (time : ℕ) → code.Time time ≡ seen (kind_of text) → kept (body declared len count now ts) ≡ applied (Timed time place) count now (λ c n. kept (body declared len c n rest))
-    body-time time k = ap kept body-cons ∙ by-time _ _ _ _ _ (kind_of text) time k
+    pub body-time : (time : ℕ) → code.Time time ≡ seen_kind (kind_of text) → kept_result (body declared len count now ts) ≡ with_item (Timed time place) count now (λ c n. kept_result (body declared len c n rest))
+    body-time time k = ap kept_result body-cons ∙ by-time _ _ _ _ _ (kind_of text) time k
 
-    pub body-scalar : (value : ℕ) → code.Scalar value ≡ seen (kind_of text)
-        → kept (body declared len count now ts) ≡ (scalar_item declared len (behind_first text) value place >>= λ i. applied i count now (λ c n. kept (body declared len c n rest)))
-    body-scalar value k = ap kept body-cons ∙ by-scalar _ _ _ _ _ (kind_of text) value k
+    pub body-scalar : (value : ℕ) → code.Scalar value ≡ seen_kind (kind_of text)
+        → kept_result (body declared len count now ts) ≡ (scalar_item declared len (behind_first text) value place >>= λ i. with_item i count now (λ c n. kept_result (body declared len c n rest)))
+    body-scalar value k = ap kept_result body-cons ∙ by-scalar _ _ _ _ _ (kind_of text) value k
 
-    pub body-vector_none : (value : ℕ) → code.Vector value ≡ seen (kind_of text) → rest ≡ [] → kept (body declared len count now ts) ≡ Err Truncated
+    pub body-vector_none : (value : ℕ) → code.Vector value ≡ seen_kind (kind_of text) → rest ≡ [] → kept_result (body declared len count now ts) ≡ Err Truncated
     unfolding body vector
-    body-vector_none value k n = let v = by-vector (record { text = text; place = place }) (λ c m. body declared len c m rest) (λ digits. vector declared len count now digits rest) (ignored declared len count now rest) (section declared len count now place rest) (kind_of text) value k in
-        ap kept body-cons ∙ v.2 ∙ rw n refl
+    body-vector_none value k n = let v = by-vector (record { text = text; place = place }) (λ c m. body declared len c m rest) (λ digits. vector declared len count now digits rest) (behind_ignored declared len count now rest) (section declared len count now place rest) (kind_of text) value k in
+        ap kept_result body-cons ∙ v.2 ∙ rw n refl
 
-    pub body-vector : (value : ℕ) (text' : List ℕ) (place' : ℕ) (rest' : List Token) → code.Vector value ≡ seen (kind_of text) → rest ≡ record { text = text'; place = place' } ∷ rest'
-        → kept (body declared len count now ts) ≡ (code_item (place_of declared text') text' value place' >>= λ i. applied i count now (λ c n. kept (body declared len c n rest')))
+    pub body-vector : (value : ℕ) (text' : List ℕ) (place' : ℕ) (rest' : List Token) → code.Vector value ≡ seen_kind (kind_of text) → rest ≡ record { text = text'; place = place' } ∷ rest'
+        → kept_result (body declared len count now ts) ≡ (code_item (place_of declared text') text' value place' >>= λ i. with_item i count now (λ c n. kept_result (body declared len c n rest')))
     body-vector value text' place' rest' k n =
-        let v = by-vector (record { text = text; place = place }) (λ c m. body declared len c m rest) (λ digits. vector declared len count now digits rest) (ignored declared len count now rest) (section declared len count now place rest) (kind_of text) value k in
-        ap kept body-cons ∙ v.2 ∙ ap kept (vector-cons v.0 rest text' place' rest' n)
-        ∙ kept-changed (place_of declared text') text' v.0 place' count now (λ c m. body declared len c m rest') ∙ ap (λ (x : ℕ). code_item (place_of declared text') text' x place' >>= λ i. applied i count now (λ c m. kept (body declared len c m rest'))) v.1
+        let v = by-vector (record { text = text; place = place }) (λ c m. body declared len c m rest) (λ digits. vector declared len count now digits rest) (behind_ignored declared len count now rest) (section declared len count now place rest) (kind_of text) value k in
+        ap kept_result body-cons ∙ v.2 ∙ ap kept_result (vector-cons v.0 rest text' place' rest' n)
+        ∙ kept-changed (place_of declared text') text' v.0 place' count now (λ c m. body declared len c m rest') ∙ ap (λ (x : ℕ). code_item (place_of declared text') text' x place' >>= λ i. with_item i count now (λ c m. kept_result (body declared len c m rest'))) v.1
 
-    pub body-text_none : code.Text ≡ seen (kind_of text) → rest ≡ [] → kept (body declared len count now ts) ≡ Err Truncated
-    unfolding body ignored
-    body-text_none k n = ap kept body-cons ∙ by-text _ _ _ _ _ (kind_of text) k ∙ rw n refl
+    pub body-text_none : code.Text ≡ seen_kind (kind_of text) → rest ≡ [] → kept_result (body declared len count now ts) ≡ Err Truncated
+    unfolding body behind_ignored
+    body-text_none k n = ap kept_result body-cons ∙ by-text _ _ _ _ _ (kind_of text) k ∙ rw n refl
 
-    pub body-text : (skipped : Token) (rest' : List Token) → code.Text ≡ seen (kind_of text) → rest ≡ skipped ∷ rest' → kept (body declared len count now ts) ≡ kept (body declared len count now rest')
-    unfolding body ignored
-    body-text skipped rest' k n = ap kept body-cons ∙ by-text _ _ _ _ _ (kind_of text) k ∙ rw n refl
+    pub body-text : (skipped : Token) (rest' : List Token) → code.Text ≡ seen_kind (kind_of text) → rest ≡ skipped ∷ rest' → kept_result (body declared len count now ts) ≡ kept_result (body declared len count now rest')
+    unfolding body behind_ignored
+    body-text skipped rest' k n = ap kept_result body-cons ∙ by-text _ _ _ _ _ (kind_of text) k ∙ rw n refl
 
-    pub body-lone : code.Lone ≡ seen (kind_of text) → kept (body declared len count now ts) ≡ kept (body declared len count now rest)
-    body-lone k = ap kept body-cons ∙ by-lone _ _ _ _ _ (kind_of text) k
+    pub body-lone : code.Lone ≡ seen_kind (kind_of text) → kept_result (body declared len count now ts) ≡ kept_result (body declared len count now rest)
+    body-lone k = ap kept_result body-cons ∙ by-lone _ _ _ _ _ (kind_of text) k
 
-    pub body-section : code.Section ≡ seen (kind_of text) → kept (body declared len count now ts) ≡ kept (section declared len count now place rest)
-    body-section k = ap kept body-cons ∙ by-section _ _ _ _ _ (kind_of text) k
+    pub body-section : code.Section ≡ seen_kind (kind_of text) → kept_result (body declared len count now ts) ≡ kept_result (section declared len count now place rest)
+    body-section k = ap kept_result body-cons ∙ by-section _ _ _ _ _ (kind_of text) k
 
-    pub body-bad : code.Bad ≡ seen (kind_of text) → kept (body declared len count now ts) ≡ Err (BadToken place)
-    body-bad k = ap kept body-cons ∙ by-bad _ _ _ _ _ (kind_of text) k
+    pub body-bad : code.Bad ≡ seen_kind (kind_of text) → kept_result (body declared len count now ts) ≡ Err (BadToken place)
+    body-bad k = ap kept_result body-cons ∙ by-bad _ _ _ _ _ (kind_of text) k
 
   pub section-none : (place : ℕ) (ts : List Token) → ts ≡ [] → section declared len count now place ts ≡ Err (UnclosedSection place)
   unfolding body section
@@ -198,16 +198,16 @@ scalar-bare declared bytes i j value e lt =
 pub ruleset scalars = (scalar-code, scalar-cut, scalar-bare)
 
 -- what the code does with an item
-pub applied-full : (n value count now : ℕ) (rest : ℕ → ℕ → Result KeptRest Fault) → 4294967295 ≤ count → applied (Changed n value) count now rest ≡ Err TooLarge
+pub applied-full : (n value count now : ℕ) (rest : ℕ → ℕ → Result KeptRest Fault) → 4294967295 ≤ count → with_item (Changed n value) count now rest ≡ Err TooLarge
 applied-full n value count now rest h = let f : ltb count most_changes ≡ false = le-ltb _ _ h in rw f refl
 
-pub applied-change : (n value count now : ℕ) (rest : ℕ → ℕ → Result KeptRest Fault) → count < 4294967295 → applied (Changed n value) count now rest ≡ with_kept (record { code = n; value = value }) (rest (count + 1) now)
+pub applied-change : (n value count now : ℕ) (rest : ℕ → ℕ → Result KeptRest Fault) → count < 4294967295 → with_item (Changed n value) count now rest ≡ with_kept (record { code = n; value = value }) (rest (count + 1) now)
 applied-change n value count now rest h = let t : ltb count most_changes ≡ true = lt-ltb _ _ h in rw (t, add-one) refl
 
-pub applied-back : (time place count now : ℕ) (rest : ℕ → ℕ → Result KeptRest Fault) → time < now → applied (Timed time place) count now rest ≡ Err (TimeBack place)
+pub applied-back : (time place count now : ℕ) (rest : ℕ → ℕ → Result KeptRest Fault) → time < now → with_item (Timed time place) count now rest ≡ Err (TimeBack place)
 applied-back time place count now rest h = let t : ltb time now ≡ true = lt-ltb _ _ h in rw t refl
 
-pub applied-later : (time place count now : ℕ) (rest : ℕ → ℕ → Result KeptRest Fault) → now < time → applied (Timed time place) count now rest ≡ with_kept_step time (rest count time)
+pub applied-later : (time place count now : ℕ) (rest : ℕ → ℕ → Result KeptRest Fault) → now < time → with_item (Timed time place) count now rest ≡ with_kept_step time (rest count time)
 applied-later time place count now rest h =
     let f : ltb time now ≡ false = le-ltb _ _ (omega arith) in
     let g : eqb time now ≡ false = elim (eqb_tells time now) [ inl p ↦ absurd (omega (arith, p.1)) | inr p ↦ p.0 ] in

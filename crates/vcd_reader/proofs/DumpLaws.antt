@@ -10,11 +10,11 @@ use Rattle.vcd_reader.specs.Faults.{◌>>=◌, Fails}
 use Rattle.vcd_reader.specs.Values.{Moment}
 use Rattle.vcd_reader.specs.Variables.{Declared}
 use Rattle.vcd_reader.specs.Index.{codes_in}
-use Rattle.vcd_reader.specs.Stored.{StoredStep, declared, kept_step}
+use Rattle.vcd_reader.specs.Stored.{StoredStep, declaration_of, kept_step}
 use Rattle.vcd_reader.specs.Kept.{kept_steps}
 use Rattle.vcd_reader.specs.Header.{header}
 use Rattle.vcd_reader.specs.Body.{body, steps_of}
-use Rattle.vcd_reader.specs.Dump.{Contents, behind, dump_of}
+use Rattle.vcd_reader.specs.Dump.{Contents, contents_behind, dump_of}
 use Rattle.vcd_reader.proofs.LookupLaws.{codes-texts}
 
 -- contents that are stored so
@@ -38,16 +38,16 @@ fails bytes vars read errors.Memory k e = tt
 fails bytes vars (Ok ms) (errors.Fault f) k e = absurd cc
 fails bytes vars (Err g) (errors.Fault f) k e = e ∙ (let h : g ≡ f = cc in ap (λ (x : Fault). Err x) h)
 
-module _ (bytes : List ℕ) (ss : List Scope) (vs : List Variable) (ts : List Token) (read : header [] [] (tokens 0 bytes) ≡ Ok (map (declared ss) vs, ts)) where
-  joined : dump_of bytes ≡ finish (map (declared ss) vs) (steps_of (body (codes_in vs) (length bytes) 0 0 ts))
-  unfolding finish dump_of behind
+module _ (bytes : List ℕ) (ss : List Scope) (vs : List Variable) (ts : List Token) (read : header [] [] (tokens 0 bytes) ≡ Ok (map (declaration_of ss) vs, ts)) where
+  joined : dump_of bytes ≡ finish (map (declaration_of ss) vs) (steps_of (body (codes_in vs) (length bytes) 0 0 ts))
+  unfolding finish dump_of contents_behind
   joined = rw (read, codes-texts ss vs) refl
 
-  pub dump-says : (stored : List StoredStep) → kept_steps (steps_of (body (codes_in vs) (length bytes) 0 0 ts)) ≡ Ok stored → Says bytes (map (declared ss) vs) stored
-  dump-says stored k = says bytes (map (declared ss) vs) stored _ k joined
+  pub dump-says : (stored : List StoredStep) → kept_steps (steps_of (body (codes_in vs) (length bytes) 0 0 ts)) ≡ Ok stored → Says bytes (map (declaration_of ss) vs) stored
+  dump-says stored k = says bytes (map (declaration_of ss) vs) stored _ k joined
 
   pub dump-fails : (e : ReadError) → Fails e (kept_steps (steps_of (body (codes_in vs) (length bytes) 0 0 ts))) → Fails e (dump_of bytes)
-  dump-fails e k = fails bytes (map (declared ss) vs) _ e k joined
+  dump-fails e k = fails bytes (map (declaration_of ss) vs) _ e k joined
 
 pub header-fails : (bytes : List ℕ) (e : ReadError) → Fails e (header [] [] (tokens 0 bytes)) → Fails e (dump_of bytes)
 unfolding dump_of

@@ -13,10 +13,10 @@ use Rattle.vcd_reader.specs.Numbers.{decimal_below}
 use Rattle.vcd_reader.specs.Values.{ValueChange, Moment}
 use Rattle.vcd_reader.specs.Variables.{Declared, is_code_byte, codes_of, place_of}
 use Rattle.vcd_reader.specs.Faults.{◌>>=◌}
-use Rattle.vcd_reader.specs.Header.{Header, Head, is_end, outer, variable, word_of, field, close, ended, header, closed, skipped, scope_type, scope_name, var_type, var_size, var_code, var_reference, var_more, sized}
-use Rattle.vcd_reader.specs.Body.{Kind, Time, Scalar, Vector, Text, Lone, Section, Bad, Rest, Next, kind_of, behind_first, most_changes, with_change, with_step, with_time, changed, scalar, by_kind, body, section, vector, ignored, steps_of}
-use Rattle.vcd_reader.specs.Dump.{Contents, dump_of, behind}
-use Rattle.vcd_reader.specs.Grammar.{AreInner, IsEnd, Part, Opens, Closes, Declares, Skipped, part_tokens, IsPart, joined_text, declared_by, Entry, Instant, Bit, Digits, Ignored, Alone, Comment, entry_tokens, IsEntry, Rises, changes_in, said, IsDump}
+use Rattle.vcd_reader.specs.Header.{Header, Head, is_end, outer_scopes, variable, word_of, field, close, header_end, header, closing_token, skipped_section, scope_type, scope_name, var_type, var_size, var_code, var_reference, var_more, with_size}
+use Rattle.vcd_reader.specs.Body.{Kind, Time, Scalar, Vector, Text, Lone, Section, Bad, Rest, Next, kind_of, behind_first, most_changes, with_change, with_step, with_time, change_by_code, scalar, by_kind, body, section, vector, behind_ignored, steps_of}
+use Rattle.vcd_reader.specs.Dump.{Contents, dump_of, contents_behind}
+use Rattle.vcd_reader.specs.Grammar.{AreInner, IsEnd, Part, Opens, Closes, Declares, Skipped, part_tokens, IsPart, joined_text, declared_by, Entry, Instant, Bit, Digits, Ignored, Alone, Comment, entry_tokens, IsEntry, Rises, changes_in, said_rest, IsDump}
 use Rattle.vcd_reader.proofs.HeaderLaws.{scope_type-field, scope_name-field, closed-close, var_type-field, var_size-field, var_code-field, var_reference-field, skipped-none, skipped-end, skipped-more, more-none, more-end, more-more, header-none}
 use Rattle.vcd_reader.proofs.BodyLaws.{section-none, section-end, section-more}
 use Rattle.vcd_reader.proofs.GrammarLaws.{header-word, body-kind, body-nil, vector-cons, ignored-cons}
@@ -67,7 +67,7 @@ record Inner (ts : List Token) : Type 0 where
   shorter : length later < length ts
 
 module _ (scopes : List (List ℕ)) (vars : List Declared) (word : Token) (r : Header) where
-  skipped-ok : (ts : List Token) → skipped scopes vars word ts ≡ Ok r → (i : Inner ts) × (header scopes vars i.later ≡ Ok r)
+  skipped-ok : (ts : List Token) → skipped_section scopes vars word ts ≡ Ok r → (i : Inner ts) × (header scopes vars i.later ≡ Ok r)
   skipped-ok [] e = let n = skipped-none scopes vars word [] refl in absurd (cc (n, e))
   skipped-ok (t ∷ ts) e = elim (tells (is_end t.text)) [
     | inl h ↦ (record { inner = []; stop = t; later = ts; parts = refl; are_inner = tt; ends = h; shorter = omega arith }, sym (skipped-end scopes vars word (t ∷ ts) t.text t.place ts refl h) ∙ e)
@@ -90,7 +90,7 @@ module _ (scopes : List (List ℕ)) (vars : List Declared) (word : Token) (r : H
         )
   ]
 
-sized-ok : (o : Option ℕ) (t : Token) (go : ℕ → Result Header Fault) (r : Header) → sized o t go ≡ Ok r → (n : ℕ) × (o ≡ Some n) × (go n ≡ Ok r)
+sized-ok : (o : Option ℕ) (t : Token) (go : ℕ → Result Header Fault) (r : Header) → with_size o t go ≡ Ok r → (n : ℕ) × (o ≡ Some n) × (go n ≡ Ok r)
 sized-ok None t go r e = absurd cc
 sized-ok (Some n) t go r e = (n, refl, e)
 
@@ -109,12 +109,12 @@ module _ (scopes : List (List ℕ)) (vars : List Declared) (word : Token) (r : H
     size : decimal_below (2 ^ 32) token.text ≡ Some number
     read : var_code scopes vars word type number later ≡ Ok r
 
-  sized-from : (type : List ℕ) (ts : List Token) (b : Field ts (λ u us. sized (decimal_below (2 ^ 32) u.text) u (λ size. var_code scopes vars word type size us)) r) → (s : (n : ℕ) × (decimal_below (2 ^ 32) b.first.text ≡ Some n) × (var_code scopes vars word type n b.later ≡ Ok r)) → Sized type ts
+  sized-from : (type : List ℕ) (ts : List Token) (b : Field ts (λ u us. with_size (decimal_below (2 ^ 32) u.text) u (λ size. var_code scopes vars word type size us)) r) → (s : (n : ℕ) × (decimal_below (2 ^ 32) b.first.text ≡ Some n) × (var_code scopes vars word type n b.later ≡ Ok r)) → Sized type ts
   sized-from type ts b s = record { token = b.first; number = s.0; later = b.later; parts = b.parts; inner = b.inner; size = s.1; read = s.2 }
 
   size-ok : (type : List ℕ) (ts : List Token) → var_size scopes vars word type ts ≡ Ok r → Sized type ts
   size-ok type ts e =
-      let b = field-ok word ts (λ u us. sized (decimal_below (2 ^ 32) u.text) u (λ size. var_code scopes vars word type size us)) r (sym (var_size-field scopes vars word type ts) ∙ e) in
+      let b = field-ok word ts (λ u us. with_size (decimal_below (2 ^ 32) u.text) u (λ size. var_code scopes vars word type size us)) r (sym (var_size-field scopes vars word type ts) ∙ e) in
       sized-from type ts b (sized-ok (decimal_below (2 ^ 32) b.first.text) b.first (λ size. var_code scopes vars word type size b.later) r b.read)
 
   record Coded (type : List ℕ) (number : ℕ) (ts : List Token) : Type 0 where
@@ -196,7 +196,7 @@ put-part scopes after vars more p ts rest r is spells says s = record {
 }
 
 module _ (n : ℕ) (next : (scopes : List (List ℕ)) (vars : List Declared) (ts : List Token) (r : Header) → length ts ≤ n → header scopes vars ts ≡ Ok r → Parts scopes vars ts r) (scopes : List (List ℕ)) (vars : List Declared) (t : Token) (ts : List Token) (r : Header) (short : length ts ≤ n) where
-  at-ends : words.Ends ≡ word_of t.text → ended vars t ts ≡ Ok r → Parts scopes vars (t ∷ ts) r
+  at-ends : words.Ends ≡ word_of t.text → header_end vars t ts ≡ Ok r → Parts scopes vars (t ∷ ts) r
   at-ends w e =
       let c = close-ok t ts (λ (rest : List Token). let x : Result Header Fault = Ok (vars, rest) in x) r e in
       let same : (vars, c.later) ≡ r = let h = c.read in cc in
@@ -205,17 +205,17 @@ module _ (n : ℕ) (next : (scopes : List (List ℕ)) (vars : List Declared) (ts
   at-scope : words.Scope ≡ word_of t.text → scope_type scopes vars t ts ≡ Ok r → Parts scopes vars (t ∷ ts) r
   at-scope w e =
       let a = field-ok t ts (λ u us. scope_name scopes vars t us) r (sym (scope_type-field scopes vars t ts) ∙ e) in
-      let b = field-ok t a.later (λ u us. closed (scopes ++ u.text ∷ []) vars t us) r (sym (scope_name-field scopes vars t a.later) ∙ a.read) in
+      let b = field-ok t a.later (λ u us. closing_token (scopes ++ u.text ∷ []) vars t us) r (sym (scope_name-field scopes vars t a.later) ∙ a.read) in
       let c = close-ok t b.later (λ us. header (scopes ++ b.first.text ∷ []) vars us) r (sym (closed-close (scopes ++ b.first.text ∷ []) vars t b.later) ∙ b.read) in
       let whole : a.first ∷ b.first ∷ c.stop ∷ c.later ≡ ts = sym (a.parts ∙ ap (λ (xs : List Token). a.first ∷ xs) (b.parts ∙ ap (λ (xs : List Token). b.first ∷ xs) c.parts)) in
       let less : length c.later ≤ n = omega (arith, ap (λ (xs : List Token). length xs) whole) in
       put-part scopes (scopes ++ b.first.text ∷ []) vars vars (Opens t a.first b.first c.stop) (t ∷ ts) c.later r (w, (a.inner, (b.inner, tt)), c.ends) (ap (λ (xs : List Token). t ∷ xs) whole) (λ ps. refl) (next (scopes ++ b.first.text ∷ []) vars c.later r less c.read)
 
-  at-upscope : words.Upscope ≡ word_of t.text → closed (outer scopes) vars t ts ≡ Ok r → Parts scopes vars (t ∷ ts) r
+  at-upscope : words.Upscope ≡ word_of t.text → closing_token (outer_scopes scopes) vars t ts ≡ Ok r → Parts scopes vars (t ∷ ts) r
   at-upscope w e =
-      let c = close-ok t ts (λ us. header (outer scopes) vars us) r (sym (closed-close (outer scopes) vars t ts) ∙ e) in
+      let c = close-ok t ts (λ us. header (outer_scopes scopes) vars us) r (sym (closed-close (outer_scopes scopes) vars t ts) ∙ e) in
       let less : length c.later ≤ n = omega (arith, ap (λ (xs : List Token). length xs) c.parts) in
-      put-part scopes (outer scopes) vars vars (Closes t c.stop) (t ∷ ts) c.later r (w, c.ends) (ap (λ (xs : List Token). t ∷ xs) (sym c.parts)) (λ ps. refl) (next (outer scopes) vars c.later r less c.read)
+      put-part scopes (outer_scopes scopes) vars vars (Closes t c.stop) (t ∷ ts) c.later r (w, c.ends) (ap (λ (xs : List Token). t ∷ xs) (sym c.parts)) (λ ps. refl) (next (outer_scopes scopes) vars c.later r less c.read)
 
   var-part : (v : Variable scopes vars t r ts) (i : Inner v.rest) → words.Var ≡ word_of t.text
       → header scopes (vars ++ variable scopes (record { type = v.type.text; size = v.number; code = v.code.text }) (v.first.text ++ joined_text i.inner) ∷ []) i.later ≡ Ok r → Parts scopes vars (t ∷ ts) r
@@ -234,7 +234,7 @@ module _ (n : ℕ) (next : (scopes : List (List ℕ)) (vars : List Declared) (ts
       let m = more-ok scopes vars t r (record { type = v.type.text; size = v.number; code = v.code.text }) v.first.text v.rest v.read in
       var-part v m.0 w m.1
 
-  at-other : words.Other ≡ word_of t.text → skipped scopes vars t ts ≡ Ok r → Parts scopes vars (t ∷ ts) r
+  at-other : words.Other ≡ word_of t.text → skipped_section scopes vars t ts ≡ Ok r → Parts scopes vars (t ∷ ts) r
   at-other w e =
       let m = skipped-ok scopes vars t r ts e in
       put-part scopes scopes vars vars (Skipped t m.0.inner m.0.stop) (t ∷ ts) m.0.later r (w, m.0.are_inner, m.0.ends) (ap (λ (xs : List Token). t ∷ xs) (append_assoc m.0.inner (m.0.stop ∷ []) m.0.later ∙ m.0.parts)) (λ ps. refl) (next scopes vars m.0.later r (omega (arith, m.0.shorter)) m.1)
@@ -259,7 +259,7 @@ record Reading (declared : List (List ℕ)) (count now : ℕ) (ts : List Token) 
   each : AllByRecursion (IsEntry declared) entries
   rises : Rises now entries
   few : count + changes_in entries ≤ most_changes
-  means : said now entries ≡ r
+  means : said_rest now entries ≡ r
 
 change-ok : (c : ValueChange) (count now : ℕ) (next : Next) (r : Rest) → with_change c count now next ≡ Ok r → (count < most_changes) × ((s : Rest) × (next (suc count) now ≡ Ok s) × ((c ∷ s.0, s.1) ≡ r))
 change-ok c count now next r e = elim (cases_lt count most_changes) [
@@ -281,10 +281,10 @@ time-same time place count now next b p = rw (b, p) refl
 time-later : (time place count now : ℕ) (next : Next) → ltb time now ≡ false → eqb time now ≡ false → with_time time place count now next ≡ with_step time (next count time)
 time-later time place count now next b p = rw (b, p) refl
 
-said-same : (now time : ℕ) (t : Token) (es : List Entry) → eqb time now ≡ true → said now (Instant t time ∷ es) ≡ said now es
+said-same : (now time : ℕ) (t : Token) (es : List Entry) → eqb time now ≡ true → said_rest now (Instant t time ∷ es) ≡ said_rest now es
 said-same now time t es p = rw p refl
 
-said-later : (now time : ℕ) (t : Token) (es : List Entry) → eqb time now ≡ false → said now (Instant t time ∷ es) ≡ ([], record { time = time; changes = (said time es).0 } ∷ (said time es).1)
+said-later : (now time : ℕ) (t : Token) (es : List Entry) → eqb time now ≡ false → said_rest now (Instant t time ∷ es) ≡ ([], record { time = time; changes = (said_rest time es).0 } ∷ (said_rest time es).1)
 said-later now time t es p = rw p refl
 
 section-ok : (declared : List (List ℕ)) (len count now place : ℕ) (ts : List Token) (r : Rest) → section declared len count now place ts ≡ Ok r → (i : Inner ts) × (body declared len count now i.later ≡ Ok r)
@@ -316,7 +316,7 @@ module _ (declared : List (List ℕ)) (len n : ℕ) (next : (count now : ℕ) (t
 
   -- a change, in front of what follows it
   at_change : (front : List Token) (entry : Entry) (c : ValueChange) (rest : List Token) (r : Rest) → length rest ≤ n → IsEntry declared entry → entry_tokens entry ≡ front
-      → ((es : List Entry) → Rises now es → Rises now (entry ∷ es)) → ((es : List Entry) → changes_in (entry ∷ es) ≡ suc (changes_in es)) → ((es : List Entry) → said now (entry ∷ es) ≡ (c ∷ (said now es).0, (said now es).1))
+      → ((es : List Entry) → Rises now es → Rises now (entry ∷ es)) → ((es : List Entry) → changes_in (entry ∷ es) ≡ suc (changes_in es)) → ((es : List Entry) → said_rest now (entry ∷ es) ≡ (c ∷ (said_rest now es).0, (said_rest now es).1))
       → with_change c count now (λ k m. body declared len k m rest) ≡ Ok r → Reading declared count now (front ++ rest) r
   at_change front entry c rest r le is spells up one says e =
       let w = change-ok c count now (λ k m. body declared len k m rest) r e in
@@ -332,7 +332,7 @@ module _ (declared : List (List ℕ)) (len n : ℕ) (next : (count now : ℕ) (t
 
   -- an entry that says nothing
   at_nothing : (front : List Token) (entry : Entry) (rest : List Token) (r : Rest) → length rest ≤ n → IsEntry declared entry → entry_tokens entry ≡ front
-      → ((es : List Entry) → Rises now es → Rises now (entry ∷ es)) → ((es : List Entry) → changes_in (entry ∷ es) ≡ changes_in es) → ((es : List Entry) → said now (entry ∷ es) ≡ said now es)
+      → ((es : List Entry) → Rises now es → Rises now (entry ∷ es)) → ((es : List Entry) → changes_in (entry ∷ es) ≡ changes_in es) → ((es : List Entry) → said_rest now (entry ∷ es) ≡ said_rest now es)
       → body declared len count now rest ≡ Ok r → Reading declared count now (front ++ rest) r
   at_nothing front entry rest r le is spells up none says e =
       let s = next count now rest r le room e in
@@ -354,7 +354,7 @@ module _ (declared : List (List ℕ)) (len n : ℕ) (next : (count now : ℕ) (t
       (digit, k, refl, rw (← is) refl, rw (← is) (sym at)) refl (λ es h. h) (λ es. refl) (λ es. refl) (rw (← at) at e)
 
   at_vector : (digits : List ℕ) (t u : Token) (ts : List Token) (r : Rest) (o : Option ℕ) → o ≡ place_of declared u.text → length ts ≤ n → kind_of t.text ≡ Vector digits
-      → changed o u.text digits u.place count now (λ k m. body declared len k m ts) ≡ Ok r → Reading declared count now (t ∷ u ∷ ts) r
+      → change_by_code o u.text digits u.place count now (λ k m. body declared len k m ts) ≡ Ok r → Reading declared count now (t ∷ u ∷ ts) r
   at_vector digits t u ts r None at le k e = absurd cc
   at_vector digits t u ts r (Some v) at le k e =
       at_change (t ∷ u ∷ []) (Digits t u (record { code = v; digits = digits })) (record { code = v; digits = digits }) ts r le (k, sym at) refl (λ es h. h) (λ es. refl) (λ es. refl) e
@@ -363,12 +363,12 @@ module _ (declared : List (List ℕ)) (len n : ℕ) (next : (count now : ℕ) (t
   unfolding body vector
   vector-none digits r e = cc
 
-  ignored-none : (r : Rest) → ignored declared len count now [] ≡ Ok r → ⊥
-  unfolding body ignored
+  ignored-none : (r : Rest) → behind_ignored declared len count now [] ≡ Ok r → ⊥
+  unfolding body behind_ignored
   ignored-none r e = cc
 
   at_token : (t : Token) (ts : List Token) (r : Rest) (kind : Kind) → kind_of t.text ≡ kind → length ts ≤ n
-      → by_kind kind declared len t count now (λ c m. body declared len c m ts) (λ digits. vector declared len count now digits ts) (ignored declared len count now ts) (section declared len count now t.place ts) ≡ Ok r → Reading declared count now (t ∷ ts) r
+      → by_kind kind declared len t count now (λ c m. body declared len c m ts) (λ digits. vector declared len count now digits ts) (behind_ignored declared len count now ts) (section declared len count now t.place ts) ≡ Ok r → Reading declared count now (t ∷ ts) r
   at_token t ts r (Time time) k le e = at_time time t ts r le k e
   at_token t ts r (Scalar digit) k le e = at_scalar digit t ts r (behind_first t.text) (place_of declared (behind_first t.text)) refl refl le k e
   at_token t [] r (Vector digits) k le e = absurd (vector-none digits r e)
@@ -393,9 +393,9 @@ bind-ok (Ok a) go b e = (a, refl, e)
 bind-ok (Err f) go b e = absurd cc
 
 pub finds-dump : (bytes : List ℕ) (c : Contents) → dump_of bytes ≡ Ok c → IsDump bytes c
-unfolding dump_of behind
+unfolding dump_of contents_behind
 finds-dump bytes c e =
-    let a = bind-ok (header [] [] (tokens 0 bytes)) (behind (length bytes)) c e in
+    let a = bind-ok (header [] [] (tokens 0 bytes)) (contents_behind (length bytes)) c e in
     let b = bind-ok (steps_of (body (codes_of a.0.0) (length bytes) 0 0 a.0.1)) (λ (steps : List Moment). let x : Result Contents Fault = Ok (record { variables = a.0.0; steps = steps }) in x) c a.2 in
     let s = bind-ok (body (codes_of a.0.0) (length bytes) 0 0 a.0.1) (λ (r : Rest). let x : Result (List Moment) Fault = Ok (record { time = 0; changes = r.0 } ∷ r.1) in x) b.0 b.1 in
     let p = found-parts (length (tokens 0 bytes)) [] [] (tokens 0 bytes) a.0 (omega arith) a.1 in

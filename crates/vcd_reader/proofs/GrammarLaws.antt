@@ -10,27 +10,27 @@ use Rattle.vcd_reader.specs.Tokens.{Token, tokens}
 use Rattle.vcd_reader.specs.Numbers.{is_empty, decimal_below}
 use Rattle.vcd_reader.specs.Values.{ValueChange, Moment}
 use Rattle.vcd_reader.specs.Variables.{Declared, is_code_byte, codes_of, place_of}
-use Rattle.vcd_reader.specs.Header.{Head, is_end, outer, variable, word_of, by_word, ended, header, closed, skipped, scope_type, scope_name, var_type, var_size, var_code, var_reference, var_more}
-use Rattle.vcd_reader.specs.Body.{Kind, Time, Scalar, Vector, Text, Lone, Section, Rest, Next, kind_of, behind_first, most_changes, with_change, with_step, with_time, changed, scalar, by_kind, body, section, vector, ignored}
-use Rattle.vcd_reader.specs.Dump.{Contents, dump_of, behind}
-use Rattle.vcd_reader.specs.Grammar.{AreInner, IsEnd, Part, Opens, Closes, Declares, Skipped, part_tokens, IsPart, joined_text, declared_by, Entry, Instant, Bit, Digits, Ignored, Alone, Comment, entry_tokens, IsEntry, Rises, changes_in, said, steps_said, IsDump}
+use Rattle.vcd_reader.specs.Header.{Head, is_end, outer_scopes, variable, word_of, by_word, header_end, header, closing_token, skipped_section, scope_type, scope_name, var_type, var_size, var_code, var_reference, var_more}
+use Rattle.vcd_reader.specs.Body.{Kind, Time, Scalar, Vector, Text, Lone, Section, Rest, Next, kind_of, behind_first, most_changes, with_change, with_step, with_time, change_by_code, scalar, by_kind, body, section, vector, behind_ignored}
+use Rattle.vcd_reader.specs.Dump.{Contents, dump_of, contents_behind}
+use Rattle.vcd_reader.specs.Grammar.{AreInner, IsEnd, Part, Opens, Closes, Declares, Skipped, part_tokens, IsPart, joined_text, declared_by, Entry, Instant, Bit, Digits, Ignored, Alone, Comment, entry_tokens, IsEntry, Rises, changes_in, said_rest, steps_said, IsDump}
 
 -- sections of the header
 module _ (scopes : List (List ℕ)) (vars : List Declared) where
-  pub header-word : (t : Token) (ts : List Token) (w : Word) → w ≡ word_of t.text → header scopes vars (t ∷ ts) ≡ by_word w t (ended vars t ts) (scope_type scopes vars t ts) (closed (outer scopes) vars t ts) (var_type scopes vars t ts) (skipped scopes vars t ts)
+  pub header-word : (t : Token) (ts : List Token) (w : Word) → w ≡ word_of t.text → header scopes vars (t ∷ ts) ≡ by_word w t (header_end vars t ts) (scope_type scopes vars t ts) (closing_token (outer_scopes scopes) vars t ts) (var_type scopes vars t ts) (skipped_section scopes vars t ts)
   unfolding header
   header-word t ts w e = rw e refl
 
-  closed-end : (word stop : Token) (ts : List Token) → IsEnd stop → closed scopes vars word (stop ∷ ts) ≡ header scopes vars ts
-  unfolding header closed
+  closed-end : (word stop : Token) (ts : List Token) → IsEnd stop → closing_token scopes vars word (stop ∷ ts) ≡ header scopes vars ts
+  unfolding header closing_token
   closed-end word stop ts e = rw e refl
 
-  skipped-inner : (word : Token) (inner : List Token) (stop : Token) (ts : List Token) → AreInner inner → IsEnd stop → skipped scopes vars word (inner ++ stop ∷ ts) ≡ header scopes vars ts
-  unfolding header skipped
+  skipped-inner : (word : Token) (inner : List Token) (stop : Token) (ts : List Token) → AreInner inner → IsEnd stop → skipped_section scopes vars word (inner ++ stop ∷ ts) ≡ header scopes vars ts
+  unfolding header skipped_section
   skipped-inner word [] stop ts all e = rw e refl
   skipped-inner word (t ∷ inner) stop ts all e = let h = all.0 in rw h (skipped-inner word inner stop ts all.1 e)
 
-  scope-read : (word type name stop : Token) (ts : List Token) → is_end type.text ≡ false → is_end name.text ≡ false → scope_type scopes vars word (type ∷ name ∷ stop ∷ ts) ≡ closed (scopes ++ name.text ∷ []) vars word (stop ∷ ts)
+  scope-read : (word type name stop : Token) (ts : List Token) → is_end type.text ≡ false → is_end name.text ≡ false → scope_type scopes vars word (type ∷ name ∷ stop ∷ ts) ≡ closing_token (scopes ++ name.text ∷ []) vars word (stop ∷ ts)
   unfolding header scope_type scope_name
   scope-read word type name stop ts a b = rw (a, b) refl
 
@@ -55,7 +55,7 @@ reads-parts scopes vars (Opens word type name s ∷ ps) ends stop ts all w e =
     ∙ reads-parts (scopes ++ name.text ∷ []) vars ps ends stop ts all.1 w e
 reads-parts scopes vars (Closes word s ∷ ps) ends stop ts all w e =
     let rest = flat_map part_tokens ps ++ ends ∷ stop ∷ ts in
-    header-word scopes vars word (s ∷ rest) words.Upscope all.0.0 ∙ closed-end (outer scopes) vars word s rest all.0.1 ∙ reads-parts (outer scopes) vars ps ends stop ts all.1 w e
+    header-word scopes vars word (s ∷ rest) words.Upscope all.0.0 ∙ closed-end (outer_scopes scopes) vars word s rest all.0.1 ∙ reads-parts (outer_scopes scopes) vars ps ends stop ts all.1 w e
 reads-parts scopes vars (Declares word type size n code first more s ∷ ps) ends stop ts all w e =
     let rest = flat_map part_tokens ps ++ ends ∷ stop ∷ ts in
     let h : Head = record { type = type.text; size = n; code = code.text } in
@@ -76,7 +76,7 @@ reads-parts scopes vars (Skipped word inner s ∷ ps) ends stop ts all w e =
 -- entries of the body
 module _ (declared : List (List ℕ)) (len count now : ℕ) where
   pub body-kind : (t : Token) (ts : List Token) (k : Kind) → kind_of t.text ≡ k
-      → body declared len count now (t ∷ ts) ≡ by_kind k declared len t count now (λ c n. body declared len c n ts) (λ digits. vector declared len count now digits ts) (ignored declared len count now ts) (section declared len count now t.place ts)
+      → body declared len count now (t ∷ ts) ≡ by_kind k declared len t count now (λ c n. body declared len c n ts) (λ digits. vector declared len count now digits ts) (behind_ignored declared len count now ts) (section declared len count now t.place ts)
   unfolding body
   body-kind t ts k e = rw e refl
 
@@ -85,12 +85,12 @@ module _ (declared : List (List ℕ)) (len count now : ℕ) where
   section-inner place [] stop ts all e = rw e refl
   section-inner place (t ∷ inner) stop ts all e = let h = all.0 in rw h (section-inner place inner stop ts all.1 e)
 
-  pub vector-cons : (digits : List ℕ) (t : Token) (ts : List Token) → vector declared len count now digits (t ∷ ts) ≡ changed (place_of declared t.text) t.text digits t.place count now (λ c n. body declared len c n ts)
+  pub vector-cons : (digits : List ℕ) (t : Token) (ts : List Token) → vector declared len count now digits (t ∷ ts) ≡ change_by_code (place_of declared t.text) t.text digits t.place count now (λ c n. body declared len c n ts)
   unfolding body vector
   vector-cons digits t ts = refl
 
-  pub ignored-cons : (t : Token) (ts : List Token) → ignored declared len count now (t ∷ ts) ≡ body declared len count now ts
-  unfolding body ignored
+  pub ignored-cons : (t : Token) (ts : List Token) → behind_ignored declared len count now (t ∷ ts) ≡ body declared len count now ts
+  unfolding body behind_ignored
   ignored-cons t ts = refl
 
 pub body-nil : (declared : List (List ℕ)) (len count now : ℕ) → body declared len count now [] ≡ Ok ([], [])
@@ -113,22 +113,22 @@ scalar-read : (declared : List (List ℕ)) (len digit : ℕ) (text : List ℕ) (
 scalar-read declared len digit [] place count now n next e p = absurd cc
 scalar-read declared len digit (c ∷ cs) place count now n next e p = rw p refl
 
-pub reads-entries : (declared : List (List ℕ)) (len count now : ℕ) (es : List Entry) → AllByRecursion (IsEntry declared) es → Rises now es → count + changes_in es ≤ most_changes → body declared len count now (flat_map entry_tokens es) ≡ Ok (said now es)
+pub reads-entries : (declared : List (List ℕ)) (len count now : ℕ) (es : List Entry) → AllByRecursion (IsEntry declared) es → Rises now es → count + changes_in es ≤ most_changes → body declared len count now (flat_map entry_tokens es) ≡ Ok (said_rest now es)
 reads-entries declared len count now [] all rises few = body-nil declared len count now
 reads-entries declared len count now (Instant t time ∷ es) all rises few =
     body-kind declared len count now t (flat_map entry_tokens es) (Time time) all.0
-    ∙ timed count now time t.place (λ c n. body declared len c n (flat_map entry_tokens es)) (said now es) (said time es) rises.0 (reads-entries declared len count time es all.1 rises.1 few) (λ e. ap (λ (n : ℕ). said n es) e)
+    ∙ timed count now time t.place (λ c n. body declared len c n (flat_map entry_tokens es)) (said_rest now es) (said_rest time es) rises.0 (reads-entries declared len count time es all.1 rises.1 few) (λ e. ap (λ (n : ℕ). said_rest n es) e)
 reads-entries declared len count now (Bit t c ∷ es) all rises few =
     body-kind declared len count now t (flat_map entry_tokens es) (Scalar all.0.0) all.0.1
     ∙ scalar-read declared len all.0.0 (behind_first t.text) t.place count now c.code (λ k n. body declared len k n (flat_map entry_tokens es)) all.0.3 all.0.4
     ∙ ap (λ (ds : List ℕ). with_change (record { code = c.code; digits = ds }) count now (λ k n. body declared len k n (flat_map entry_tokens es))) (sym all.0.2)
-    ∙ change-said c count now (λ k n. body declared len k n (flat_map entry_tokens es)) (said now es) (omega arith) (reads-entries declared len (suc count) now es all.1 rises (omega arith))
+    ∙ change-said c count now (λ k n. body declared len k n (flat_map entry_tokens es)) (said_rest now es) (omega arith) (reads-entries declared len (suc count) now es all.1 rises (omega arith))
 reads-entries declared len count now (Digits t code c ∷ es) all rises few =
     let next : Next = λ k n. body declared len k n (flat_map entry_tokens es) in
     body-kind declared len count now t (code ∷ flat_map entry_tokens es) (Vector c.digits) all.0.0
     ∙ vector-cons declared len count now c.digits code (flat_map entry_tokens es)
-    ∙ ap (λ (o : Option ℕ). changed o code.text c.digits code.place count now next) all.0.1
-    ∙ change-said c count now next (said now es) (omega arith) (reads-entries declared len (suc count) now es all.1 rises (omega arith))
+    ∙ ap (λ (o : Option ℕ). change_by_code o code.text c.digits code.place count now next) all.0.1
+    ∙ change-said c count now next (said_rest now es) (omega arith) (reads-entries declared len (suc count) now es all.1 rises (omega arith))
 reads-entries declared len count now (Ignored t u ∷ es) all rises few =
     body-kind declared len count now t (u ∷ flat_map entry_tokens es) Text all.0 ∙ ignored-cons declared len count now u (flat_map entry_tokens es) ∙ reads-entries declared len count now es all.1 rises few
 reads-entries declared len count now (Alone t ∷ es) all rises few =
@@ -143,9 +143,9 @@ contents-is : (c : Contents) (vs : List Declared) (ms : List Moment) → vs ≡ 
 contents-is c vs ms a b = rw (a, b) refl
 
 pub reads-dump : (bytes : List ℕ) (c : Contents) → IsDump bytes c → dump_of bytes ≡ Ok c
-unfolding dump_of behind
+unfolding dump_of contents_behind
 reads-dump bytes c d =
     let front : header [] [] (tokens 0 bytes) ≡ Ok (declared_by [] d.parts, flat_map entry_tokens d.entries) = ap (header [] []) (sym d.spelled) ∙ reads-parts [] [] d.parts d.ends d.stop (flat_map entry_tokens d.entries) d.are_parts d.definitions_end.0 d.definitions_end.1 in
-    let back : body (codes_of c.variables) (length bytes) 0 0 (flat_map entry_tokens d.entries) ≡ Ok (said 0 d.entries) = reads-entries (codes_of c.variables) (length bytes) 0 0 d.entries d.are_entries d.rises (omega (arith, d.bounded)) in
+    let back : body (codes_of c.variables) (length bytes) 0 0 (flat_map entry_tokens d.entries) ≡ Ok (said_rest 0 d.entries) = reads-entries (codes_of c.variables) (length bytes) 0 0 d.entries d.are_entries d.rises (omega (arith, d.bounded)) in
     let v = d.variables in
     rw (front, v, back) (ap (λ (x : Contents). Ok x) (contents-is c c.variables (steps_said d.entries) refl d.steps))

@@ -10,7 +10,7 @@ use Rattle.vcd_reader.specs.Faults.{Fails}
 use Rattle.vcd_reader.specs.Tokens.{Token}
 use Rattle.vcd_reader.specs.Numbers.{decimal_below}
 use Rattle.vcd_reader.specs.Variables.{Declared, is_code_byte}
-use Rattle.vcd_reader.specs.Header.{Header, Head, is_end, field, close, sized, by_word, word_of, ended, outer, variable, header, closed, skipped, scope_type, scope_name, var_type, var_size, var_code, var_reference, var_more}
+use Rattle.vcd_reader.specs.Header.{Header, Head, is_end, field, close, with_size, by_word, word_of, header_end, outer_scopes, variable, header, closing_token, skipped_section, scope_type, scope_name, var_type, var_size, var_code, var_reference, var_more}
 
 module _ (scopes : List (List ℕ)) (vars : List Declared) (word : Token) where
   pub scope_type-field : (ts : List Token) → scope_type scopes vars word ts ≡ field word ts (λ t us. scope_name scopes vars word us)
@@ -18,13 +18,13 @@ module _ (scopes : List (List ℕ)) (vars : List Declared) (word : Token) where
   scope_type-field [] = refl
   scope_type-field (t ∷ ts) = refl
 
-  pub scope_name-field : (ts : List Token) → scope_name scopes vars word ts ≡ field word ts (λ t us. closed (scopes ++ t.text ∷ []) vars word us)
+  pub scope_name-field : (ts : List Token) → scope_name scopes vars word ts ≡ field word ts (λ t us. closing_token (scopes ++ t.text ∷ []) vars word us)
   unfolding header scope_name
   scope_name-field [] = refl
   scope_name-field (t ∷ ts) = refl
 
-  pub closed-close : (ts : List Token) → closed scopes vars word ts ≡ close word ts (λ us. header scopes vars us)
-  unfolding header closed
+  pub closed-close : (ts : List Token) → closing_token scopes vars word ts ≡ close word ts (λ us. header scopes vars us)
+  unfolding header closing_token
   closed-close [] = refl
   closed-close (t ∷ ts) = refl
 
@@ -33,7 +33,7 @@ module _ (scopes : List (List ℕ)) (vars : List Declared) (word : Token) where
   var_type-field [] = refl
   var_type-field (t ∷ ts) = refl
 
-  pub var_size-field : (type : List ℕ) (ts : List Token) → var_size scopes vars word type ts ≡ field word ts (λ t us. sized (decimal_below (2 ^ 32) t.text) t (λ size. var_code scopes vars word type size us))
+  pub var_size-field : (type : List ℕ) (ts : List Token) → var_size scopes vars word type ts ≡ field word ts (λ t us. with_size (decimal_below (2 ^ 32) t.text) t (λ size. var_code scopes vars word type size us))
   unfolding header var_size
   var_size-field type [] = refl
   var_size-field type (t ∷ ts) = refl
@@ -49,16 +49,16 @@ module _ (scopes : List (List ℕ)) (vars : List Declared) (word : Token) where
   var_reference-field h [] = refl
   var_reference-field h (t ∷ ts) = refl
 
-  pub skipped-none : (ts : List Token) → ts ≡ [] → skipped scopes vars word ts ≡ Err (UnclosedSection word.place)
-  unfolding header skipped
+  pub skipped-none : (ts : List Token) → ts ≡ [] → skipped_section scopes vars word ts ≡ Err (UnclosedSection word.place)
+  unfolding header skipped_section
   skipped-none ts e = rw e refl
 
-  pub skipped-end : (ts : List Token) (text : List ℕ) (place : ℕ) (rest : List Token) → ts ≡ record { text = text; place = place } ∷ rest → is_end text ≡ true → skipped scopes vars word ts ≡ header scopes vars rest
-  unfolding header skipped
+  pub skipped-end : (ts : List Token) (text : List ℕ) (place : ℕ) (rest : List Token) → ts ≡ record { text = text; place = place } ∷ rest → is_end text ≡ true → skipped_section scopes vars word ts ≡ header scopes vars rest
+  unfolding header skipped_section
   skipped-end ts text place rest e h = rw (e, h) refl
 
-  pub skipped-more : (ts : List Token) (text : List ℕ) (place : ℕ) (rest : List Token) → ts ≡ record { text = text; place = place } ∷ rest → is_end text ≡ false → skipped scopes vars word ts ≡ skipped scopes vars word rest
-  unfolding header skipped
+  pub skipped-more : (ts : List Token) (text : List ℕ) (place : ℕ) (rest : List Token) → ts ≡ record { text = text; place = place } ∷ rest → is_end text ≡ false → skipped_section scopes vars word ts ≡ skipped_section scopes vars word rest
+  unfolding header skipped_section
   skipped-more ts text place rest e h = rw (e, h) refl
 
   pub more-none : (h : Head) (reference : List ℕ) (ts : List Token) → ts ≡ [] → var_more scopes vars word h reference ts ≡ Err (UnclosedSection word.place)
@@ -80,7 +80,7 @@ module _ (scopes : List (List ℕ)) (vars : List Declared) (text : List ℕ) (pl
   abbrev opener : Token
   opener = record { text = text; place = place }
 
-  at-word : (w : Word) → w ≡ word_of text → header scopes vars (opener ∷ ts) ≡ by_word w opener (ended vars opener ts) (scope_type scopes vars opener ts) (closed (outer scopes) vars opener ts) (var_type scopes vars opener ts) (skipped scopes vars opener ts)
+  at-word : (w : Word) → w ≡ word_of text → header scopes vars (opener ∷ ts) ≡ by_word w opener (header_end vars opener ts) (scope_type scopes vars opener ts) (closing_token (outer_scopes scopes) vars opener ts) (var_type scopes vars opener ts) (skipped_section scopes vars opener ts)
   unfolding header
   at-word w e = rw e refl
 
@@ -93,13 +93,13 @@ module _ (scopes : List (List ℕ)) (vars : List Declared) (text : List ℕ) (pl
   pub at-scope : words.Scope ≡ word_of text → header scopes vars (opener ∷ ts) ≡ scope_type scopes vars opener ts
   at-scope e = at-word words.Scope e
 
-  pub at-upscope : words.Upscope ≡ word_of text → header scopes vars (opener ∷ ts) ≡ close opener ts (λ us. header (outer scopes) vars us)
-  at-upscope e = at-word words.Upscope e ∙ closed-close (outer scopes) vars opener ts
+  pub at-upscope : words.Upscope ≡ word_of text → header scopes vars (opener ∷ ts) ≡ close opener ts (λ us. header (outer_scopes scopes) vars us)
+  at-upscope e = at-word words.Upscope e ∙ closed-close (outer_scopes scopes) vars opener ts
 
   pub at-var : words.Var ≡ word_of text → header scopes vars (opener ∷ ts) ≡ var_type scopes vars opener ts
   at-var e = at-word words.Var e
 
-  pub at-other : words.Other ≡ word_of text → header scopes vars (opener ∷ ts) ≡ skipped scopes vars opener ts
+  pub at-other : words.Other ≡ word_of text → header scopes vars (opener ∷ ts) ≡ skipped_section scopes vars opener ts
   at-other e = at-word words.Other e
 
 pub ruleset sections = (at-no_word)

@@ -12,3 +12,4 @@ pub mod GrammarLaws
 pub mod FoundLaws
 pub mod PackedLaws
 pub mod ScopeLaws
+pub mod HeldLaws

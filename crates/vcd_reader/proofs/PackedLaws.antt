@@ -2,7 +2,7 @@
 use Rattle.std.proofs.Common.{◌≡◌, ℕ, zero, suc, ◌+◌, ◌*◌, ◌/◌, ◌%◌, ◌<◌, true, false, ltb, List, [], ◌∷◌, ◌++◌, length, get_or, set, refl, sym, ap, ◌∙◌, arith, subst}
 use Rattle.std.proofs.lemmas.Bool.{lt-ltb, le-ltb}
 use Rattle.vcd_reader.specs.declared.codes.Entry.{Entry}
-use Rattle.vcd_reader.specs.Packed.{unpacked, no_entry, IsKnown, AreKnown}
+use Rattle.vcd_reader.specs.Packed.{unpacked_code, no_entry, IsKnown, AreKnown}
 
 list-1 : (xs : List ℕ) → length xs ≡ 1 → get_or xs 0 0 ∷ [] ≡ xs
 list-1 [] e = absurd (omega arith)
@@ -21,12 +21,12 @@ list-4 : (xs : List ℕ) → length xs ≡ 4 → get_or xs 0 0 ∷ get_or xs 1 0
 list-4 [] e = absurd (omega arith)
 list-4 (a ∷ xs) e = ap (λ (ys : List ℕ). a ∷ ys) (list-3 xs (omega arith))
 
-pub packs-1 : (xs : List ℕ) → length xs ≡ 1 → get_or xs 0 0 < 256 → unpacked (get_or xs 0 0) ≡ xs
-unfolding unpacked
+pub packs-1 : (xs : List ℕ) → length xs ≡ 1 → get_or xs 0 0 < 256 → unpacked_code (get_or xs 0 0) ≡ xs
+unfolding unpacked_code
 packs-1 xs e a = let t : ltb (get_or xs 0 0) 256 ≡ true = lt-ltb _ _ a in rw t (list-1 xs e)
 
-two : (a b : ℕ) → a < 256 → b < 256 → 0 < b → unpacked (a + b * 256) ≡ a ∷ b ∷ []
-unfolding unpacked
+two : (a b : ℕ) → a < 256 → b < 256 → 0 < b → unpacked_code (a + b * 256) ≡ a ∷ b ∷ []
+unfolding unpacked_code
 two a b p q r =
     let f : ltb (a + b * 256) 256 ≡ false = le-ltb _ _ (omega arith) in
     let t : ltb (a + b * 256) 65536 ≡ true = lt-ltb _ _ (omega arith) in
@@ -34,8 +34,8 @@ two a b p q r =
     let y : (a + b * 256) / 256 ≡ b = omega arith in
     rw (f, t, x, y) refl
 
-three : (a b c : ℕ) → a < 256 → b < 256 → c < 256 → 0 < c → unpacked (a + b * 256 + c * 65536) ≡ a ∷ b ∷ c ∷ []
-unfolding unpacked
+three : (a b c : ℕ) → a < 256 → b < 256 → c < 256 → 0 < c → unpacked_code (a + b * 256 + c * 65536) ≡ a ∷ b ∷ c ∷ []
+unfolding unpacked_code
 three a b c p q r s =
     let f : ltb (a + b * 256 + c * 65536) 256 ≡ false = le-ltb _ _ (omega arith) in
     let g : ltb (a + b * 256 + c * 65536) 65536 ≡ false = le-ltb _ _ (omega arith) in
@@ -45,8 +45,8 @@ three a b c p q r s =
     let z : (a + b * 256 + c * 65536) / 65536 ≡ c = omega arith in
     rw (f, g, t, x, y, z) refl
 
-four : (a b c d : ℕ) → a < 256 → b < 256 → c < 256 → d < 256 → 0 < d → unpacked (a + b * 256 + c * 65536 + d * 16777216) ≡ a ∷ b ∷ c ∷ d ∷ []
-unfolding unpacked
+four : (a b c d : ℕ) → a < 256 → b < 256 → c < 256 → d < 256 → 0 < d → unpacked_code (a + b * 256 + c * 65536 + d * 16777216) ≡ a ∷ b ∷ c ∷ d ∷ []
+unfolding unpacked_code
 four a b c d p q r s m =
     let n = a + b * 256 + c * 65536 + d * 16777216 in
     let f : ltb (a + b * 256 + c * 65536 + d * 16777216) 256 ≡ false = le-ltb _ _ (omega arith) in
@@ -58,13 +58,13 @@ four a b c d p q r s m =
     let w : (a + b * 256 + c * 65536 + d * 16777216) / 16777216 ≡ d = omega arith in
     rw (f, g, t, x, y, z, w) refl
 
-pub packs-2 : (xs : List ℕ) → length xs ≡ 2 → get_or xs 0 0 < 256 → get_or xs 1 0 < 256 → 0 < get_or xs 1 0 → unpacked (get_or xs 0 0 + get_or xs 1 0 * 256) ≡ xs
+pub packs-2 : (xs : List ℕ) → length xs ≡ 2 → get_or xs 0 0 < 256 → get_or xs 1 0 < 256 → 0 < get_or xs 1 0 → unpacked_code (get_or xs 0 0 + get_or xs 1 0 * 256) ≡ xs
 packs-2 xs e a b z = two (get_or xs 0 0) (get_or xs 1 0) a b z ∙ list-2 xs e
 
-pub packs-3 : (xs : List ℕ) → length xs ≡ 3 → get_or xs 0 0 < 256 → get_or xs 1 0 < 256 → get_or xs 2 0 < 256 → 0 < get_or xs 2 0 → unpacked (get_or xs 0 0 + get_or xs 1 0 * 256 + get_or xs 2 0 * 65536) ≡ xs
+pub packs-3 : (xs : List ℕ) → length xs ≡ 3 → get_or xs 0 0 < 256 → get_or xs 1 0 < 256 → get_or xs 2 0 < 256 → 0 < get_or xs 2 0 → unpacked_code (get_or xs 0 0 + get_or xs 1 0 * 256 + get_or xs 2 0 * 65536) ≡ xs
 packs-3 xs e a b c z = three (get_or xs 0 0) (get_or xs 1 0) (get_or xs 2 0) a b c z ∙ list-3 xs e
 
-pub packs-4 : (xs : List ℕ) → length xs ≡ 4 → get_or xs 0 0 < 256 → get_or xs 1 0 < 256 → get_or xs 2 0 < 256 → get_or xs 3 0 < 256 → 0 < get_or xs 3 0 → unpacked (get_or xs 0 0 + get_or xs 1 0 * 256 + get_or xs 2 0 * 65536 + get_or xs 3 0 * 16777216) ≡ xs
+pub packs-4 : (xs : List ℕ) → length xs ≡ 4 → get_or xs 0 0 < 256 → get_or xs 1 0 < 256 → get_or xs 2 0 < 256 → get_or xs 3 0 < 256 → 0 < get_or xs 3 0 → unpacked_code (get_or xs 0 0 + get_or xs 1 0 * 256 + get_or xs 2 0 * 65536 + get_or xs 3 0 * 16777216) ≡ xs
 packs-4 xs e a b c d z = four (get_or xs 0 0) (get_or xs 1 0) (get_or xs 2 0) (get_or xs 3 0) a b c d z ∙ list-4 xs e
 
 pub ruleset packs = (packs-1, packs-2, packs-3, packs-4)

@@ -16,7 +16,7 @@ use Rattle.vcd_reader.specs.declared.scope.Scope.{Scope}
 use Rattle.vcd_reader.specs.declared.variable.Variable.{Variable}
 use Rattle.vcd_reader.specs.Variables.{path_of, place_of}
 use Rattle.vcd_reader.specs.Keys.{key_of}
-use Rattle.vcd_reader.specs.Scopes.{opened}
+use Rattle.vcd_reader.specs.Scopes.{open_scopes}
 use Rattle.vcd_reader.specs.Index.{place_in, own_in, text_in, texts_in, IsIndex}
 use Rattle.vcd_reader.proofs.ScopeLaws.{opened-top}
 
@@ -123,6 +123,6 @@ pub inside : (part : Part) (ss : List Scope) (vs : List Variable) (text : List �
 inside part ss vs text n e = let long : length (texts_in part ss vs) ≡ length vs = rw length-map refl in let r = place_of-at (texts_in part ss vs) text n (sym e) in omega (arith, r.0)
 
 -- a text from its own part
-pub text-parts : (part : Part) (ss : List Scope) (v : Variable) → path_of (opened ss (place_in part v)) (own_in part v) ≡ text_in part ss v
+pub text-parts : (part : Part) (ss : List Scope) (v : Variable) → path_of (open_scopes ss (place_in part v)) (own_in part v) ≡ text_in part ss v
 text-parts Path ss v = refl
 text-parts Code ss v = ap (λ (xs : List (List ℕ)). path_of xs v.code.items) (opened-top ss)

@@ -10,47 +10,47 @@ use Rattle.std.proofs.lemmas.Slice.Eq.{bytes_eq-Decides}
 use Rattle.std.proofs.Math.Seq.{get_or-append_seam, drop-cons}
 use Rattle.std.proofs.Math.ListN.{get_or-eq_default}
 use Rattle.vcd_reader.specs.declared.scope.Scope.{Scope}
-use Rattle.vcd_reader.specs.Header.{outer}
+use Rattle.vcd_reader.specs.Header.{outer_scopes}
 use Rattle.vcd_reader.specs.Keys.{key_from, key_of}
-use Rattle.vcd_reader.specs.Scopes.{name_in, opened_from, opened, front_of, IsNode, IsTree}
+use Rattle.vcd_reader.specs.Scopes.{name_in, open_scopes_from, open_scopes, front_of, IsNode, IsTree}
 
-opened_from-append : (known : List (List (List ℕ))) (ss ts : List Scope) → opened_from known (ss ++ ts) ≡ opened_from (opened_from known ss) ts
-unfolding opened_from
+opened_from-append : (known : List (List (List ℕ))) (ss ts : List Scope) → open_scopes_from known (ss ++ ts) ≡ open_scopes_from (open_scopes_from known ss) ts
+unfolding open_scopes_from
 opened_from-append known [] ts = refl
 opened_from-append known (s ∷ ss) ts = opened_from-append (known ++ (get_or known s.parent [] ++ name_in s ∷ []) ∷ []) ss ts
 
-length-opened_from : (known : List (List (List ℕ))) (ss : List Scope) → length (opened_from known ss) ≡ length known + length ss
-unfolding opened_from
+length-opened_from : (known : List (List (List ℕ))) (ss : List Scope) → length (open_scopes_from known ss) ≡ length known + length ss
+unfolding open_scopes_from
 length-opened_from known [] = omega arith
 length-opened_from known (s ∷ ss) =
     let one : length (known ++ (get_or known s.parent [] ++ name_in s ∷ []) ∷ []) ≡ length known + 1 = length-append known ((get_or known s.parent [] ++ name_in s ∷ []) ∷ []) in
     let rest = length-opened_from (known ++ (get_or known s.parent [] ++ name_in s ∷ []) ∷ []) ss in
     omega (arith, one, rest)
 
-kept_from : (known : List (List (List ℕ))) (ss : List Scope) (i : ℕ) → i < length known → get_or (opened_from known ss) i [] ≡ get_or known i []
-unfolding opened_from
+kept_from : (known : List (List (List ℕ))) (ss : List Scope) (i : ℕ) → i < length known → get_or (open_scopes_from known ss) i [] ≡ get_or known i []
+unfolding open_scopes_from
 kept_from known [] i lt = refl
 kept_from known (s ∷ ss) i lt =
     let one : length (known ++ (get_or known s.parent [] ++ name_in s ∷ []) ∷ []) ≡ length known + 1 = length-append known ((get_or known s.parent [] ++ name_in s ∷ []) ∷ []) in
     kept_from (known ++ (get_or known s.parent [] ++ name_in s ∷ []) ∷ []) ss i (omega (arith, one)) ∙ get_or_append_left known ((get_or known s.parent [] ++ name_in s ∷ []) ∷ []) [] i lt
 
-pub opened-top : (ss : List Scope) → opened ss 0 ≡ []
-unfolding opened
+pub opened-top : (ss : List Scope) → open_scopes ss 0 ≡ []
+unfolding open_scopes
 opened-top ss = kept_from ([] ∷ []) ss 0 (omega arith)
 
-pub opened-outside : (ss : List Scope) (place : ℕ) → length ss < place → opened ss place ≡ []
-unfolding opened
-opened-outside ss place lt = get_or-eq_default (opened_from ([] ∷ []) ss) [] (omega (arith, length-opened_from ([] ∷ []) ss))
+pub opened-outside : (ss : List Scope) (place : ℕ) → length ss < place → open_scopes ss place ≡ []
+unfolding open_scopes
+opened-outside ss place lt = get_or-eq_default (open_scopes_from ([] ∷ []) ss) [] (omega (arith, length-opened_from ([] ∷ []) ss))
 
 -- what is open at a place stays so when more scopes follow
-pub opened-kept : (ss more : List Scope) (place : ℕ) → place ≤ length ss → opened (ss ++ more) place ≡ opened ss place
-unfolding opened
-opened-kept ss more place le = rw (opened_from-append ([] ∷ []) ss more) (kept_from (opened_from ([] ∷ []) ss) more place (omega (arith, length-opened_from ([] ∷ []) ss)))
+pub opened-kept : (ss more : List Scope) (place : ℕ) → place ≤ length ss → open_scopes (ss ++ more) place ≡ open_scopes ss place
+unfolding open_scopes
+opened-kept ss more place le = rw (opened_from-append ([] ∷ []) ss more) (kept_from (open_scopes_from ([] ∷ []) ss) more place (omega (arith, length-opened_from ([] ∷ []) ss)))
 
-pub opened-new : (ss : List Scope) (s : Scope) → opened (ss ++ s ∷ []) (suc (length ss)) ≡ opened ss s.parent ++ name_in s ∷ []
-unfolding opened opened_from
+pub opened-new : (ss : List Scope) (s : Scope) → open_scopes (ss ++ s ∷ []) (suc (length ss)) ≡ open_scopes ss s.parent ++ name_in s ∷ []
+unfolding open_scopes open_scopes_from
 opened-new ss s =
-    let table = opened_from ([] ∷ []) ss in
+    let table = open_scopes_from ([] ∷ []) ss in
     let long : length table ≡ suc (length ss) = omega (arith, length-opened_from ([] ∷ []) ss) in
     rw (opened_from-append ([] ∷ []) ss (s ∷ []))
     (ap (λ (n : ℕ). get_or (table ++ (get_or table s.parent [] ++ name_in s ∷ []) ∷ []) n []) (sym long) ∙ get_or-append_seam table (get_or table s.parent [] ++ name_in s ∷ []) [] [])
@@ -89,11 +89,11 @@ tree-more ss s tree new = record {
 -- the front inside a scope
 pub front-in : (ss : List Scope) (place : ℕ) (s : Scope) → s.front.items ≡ dotted (name_in s) → IsNode ss place s → front_of ss place ≡ front_of ss s.parent ++ s.front.items
 front-in ss place s dot n =
-    ap (flat_map dotted) n.opens ∙ flat_map-append dotted (opened ss s.parent) (name_in s ∷ [])
+    ap (flat_map dotted) n.opens ∙ flat_map-append dotted (open_scopes ss s.parent) (name_in s ∷ [])
     ∙ ap (λ (xs : List ℕ). front_of ss s.parent ++ xs) (append-nil (dotted (name_in s)) ∙ sym dot)
 
 -- the scopes around a place
-pub outer-more : (xs : List (List ℕ)) (x : List ℕ) → outer (xs ++ x ∷ []) ≡ xs
+pub outer-more : (xs : List (List ℕ)) (x : List ℕ) → outer_scopes (xs ++ x ∷ []) ≡ xs
 outer-more xs x =
     let one : length (xs ++ x ∷ []) ≡ length xs + 1 = length-append xs (x ∷ []) in
     take_at xs (x ∷ []) (length (xs ++ x ∷ []) - 1) (omega arith)
@@ -169,7 +169,7 @@ pub expand : (ss : List Scope) (place : ℕ) (s : Scope) (rest : List ℕ) → r
 expand ss place s rest none dot n = ap (λ (xs : List ℕ). front_of ss place ++ xs) none ∙ append-nil (front_of ss place) ∙ front-in ss place s dot n
 
 -- a path of which nothing is left, and one in a scope
-pub no-left : (ss : List Scope) (left_at right_at left_first right_first : ℕ) (left right : List ℕ) → opened ss left_at ≡ [] → left ≡ [] → (front_of ss left_at ≡ [] → left_first ≡ 0) → (front_of ss right_at ≡ [] → right_first ≡ 0)
+pub no-left : (ss : List Scope) (left_at right_at left_first right_first : ℕ) (left right : List ℕ) → open_scopes ss left_at ≡ [] → left ≡ [] → (front_of ss left_at ≡ [] → left_first ≡ 0) → (front_of ss right_at ≡ [] → right_first ≡ 0)
     → (left_first ≡ right_first → ⊥) → bytes_eq (front_of ss left_at ++ left) (front_of ss right_at ++ right) ≡ false
 no-left ss left_at right_at left_first right_first left right top none f g differ =
     no-test (front_of ss left_at ++ left) (front_of ss right_at ++ right) (bytes_eq (front_of ss left_at ++ left) (front_of ss right_at ++ right)) refl
@@ -178,7 +178,7 @@ no-left ss left_at right_at left_first right_first left right top none f g diffe
     let whole : front_of ss right_at ++ right ≡ [] = sym h ∙ ap (λ (xs : List ℕ). xs ++ left) nil ∙ none in
     absurd (differ (f nil ∙ sym (g (nil-front (front_of ss right_at) right whole)))))
 
-pub no-right : (ss : List Scope) (left_at right_at left_first right_first : ℕ) (left right : List ℕ) → opened ss right_at ≡ [] → right ≡ [] → (front_of ss left_at ≡ [] → left_first ≡ 0) → (front_of ss right_at ≡ [] → right_first ≡ 0)
+pub no-right : (ss : List Scope) (left_at right_at left_first right_first : ℕ) (left right : List ℕ) → open_scopes ss right_at ≡ [] → right ≡ [] → (front_of ss left_at ≡ [] → left_first ≡ 0) → (front_of ss right_at ≡ [] → right_first ≡ 0)
     → (left_first ≡ right_first → ⊥) → bytes_eq (front_of ss left_at ++ left) (front_of ss right_at ++ right) ≡ false
 no-right ss left_at right_at left_first right_first left right top none f g differ =
     no-test (front_of ss left_at ++ left) (front_of ss right_at ++ right) (bytes_eq (front_of ss left_at ++ left) (front_of ss right_at ++ right)) refl
@@ -204,7 +204,7 @@ unfolding key_from
 key_from-step n ds i lt = rw (drop-cons ds i 0 lt, add-one) refl
 
 -- the key where no scope is open
-pub key-top : (ss : List Scope) (place : ℕ) → opened ss place ≡ [] → 0 ≡ key_of (front_of ss place)
+pub key-top : (ss : List Scope) (place : ℕ) → open_scopes ss place ≡ [] → 0 ≡ key_of (front_of ss place)
 unfolding key_from
 key-top ss place top = ap (λ (xs : List (List ℕ)). key_of (flat_map dotted xs)) (sym top)
 
@@ -219,7 +219,7 @@ dotted-again front name e = e ∙ ap (λ (xs : List ℕ). xs ++ 46 ∷ []) (sym 
 
 front-new : (ss : List Scope) (s : Scope) → s.parent ≤ length ss → s.front.items ≡ dotted (name_in s) → front_of (ss ++ s ∷ []) (suc (length ss)) ≡ front_of ss s.parent ++ s.front.items
 front-new ss s le dot =
-    ap (flat_map dotted) (opened-new ss s) ∙ flat_map-append dotted (opened ss s.parent) (name_in s ∷ [])
+    ap (flat_map dotted) (opened-new ss s) ∙ flat_map-append dotted (open_scopes ss s.parent) (name_in s ∷ [])
     ∙ ap (λ (xs : List ℕ). front_of ss s.parent ++ xs) (append-nil (dotted (name_in s)) ∙ sym dot)
 
 same-new : (ss : List Scope) (s : Scope) → s.parent ≤ length ss → s.front.items ≡ dotted (name_in s)
@@ -256,7 +256,7 @@ pub tree-pushed : (ss new : List Scope) (s : Scope) (last : ℕ) → new ≡ ss 
     → (s.first ≡ last + 1) ⊎ ((s.first ≤ length ss) × (front_of ss s.first ≡ front_of ss s.parent ++ s.front.items)) → IsTree new
 tree-pushed ss new s last is long tree le key first = subst (λ (xs : List Scope). IsTree xs) (sym is) (tree-new ss s tree le s.dotted key (first-at ss s last long first))
 
-pub opened-pushed : (ss new : List Scope) (s : Scope) (last : ℕ) (name : List ℕ) → new ≡ ss ++ s ∷ [] → last ≡ length ss → name_in s ≡ name → opened new (last + 1) ≡ opened ss s.parent ++ name ∷ []
+pub opened-pushed : (ss new : List Scope) (s : Scope) (last : ℕ) (name : List ℕ) → new ≡ ss ++ s ∷ [] → last ≡ length ss → name_in s ≡ name → open_scopes new (last + 1) ≡ open_scopes ss s.parent ++ name ∷ []
 opened-pushed ss new s last name is long same =
     let at : last + 1 ≡ suc (length ss) = omega arith in
-    ap (λ (xs : List Scope). opened xs (last + 1)) is ∙ ap (opened (ss ++ s ∷ [])) at ∙ opened-new ss s ∙ ap (λ (xs : List ℕ). opened ss s.parent ++ xs ∷ []) same
+    ap (λ (xs : List Scope). open_scopes xs (last + 1)) is ∙ ap (open_scopes (ss ++ s ∷ [])) at ∙ opened-new ss s ∙ ap (λ (xs : List ℕ). open_scopes ss s.parent ++ xs ∷ []) same

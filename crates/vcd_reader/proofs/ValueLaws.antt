@@ -7,7 +7,7 @@ use Rattle.std.proofs.Math.Pow.{mod-mod-pow}
 use Rattle.std.proofs.Math.Nat.{pow-suc, sub-zero}
 use Rattle.std.specs.Prelude.{replicate}
 use Rattle.vcd_reader.specs.Numbers.{bit_of, bits_from, bits_value}
-use Rattle.vcd_reader.specs.Values.{padding, extended, digits_value}
+use Rattle.vcd_reader.specs.Values.{padding, extended_digits, digits_value}
 
 bit-small : (d : ℕ) → bit_of d < 2
 bit-small d = elim (eqb_tells d 49) [ inl p ↦ rw p.0 (omega arith) | inr p ↦ rw p.0 (omega arith) ]
@@ -22,7 +22,7 @@ padding-zero : (ds : List ℕ) → bit_of (padding ds) ≡ 0
 padding-zero [] = refl
 padding-zero (d ∷ ds) = elim (eqb_tells d 49) [ inl p ↦ rw p.0 refl | inr p ↦ rw (p.0, p.0) refl ]
 
-extension : (size : ℕ) (ds : List ℕ) → size ≤ 128 → bits_from 0 (extended size ds) % 2 ^ size ≡ bits_value ds % 2 ^ size
+extension : (size : ℕ) (ds : List ℕ) → size ≤ 128 → bits_from 0 (extended_digits size ds) % 2 ^ size ≡ bits_value ds % 2 ^ size
 extension size ds le = ap (λ (n : ℕ). n % 2 ^ size) (bits_from-padding (size - length ds) (padding ds) ds (padding-zero ds)) ∙ (let k : 128 ≡ 128 - size + size = omega arith in sym (subst (λ (w : ℕ). bits_from 0 ds % 2 ^ w % 2 ^ size ≡ bits_from 0 ds % 2 ^ size) (sym k) (mod-mod-pow (bits_from 0 ds) (128 - size) size)))
 
 regroup : (n b p : ℕ) → (2 * n + b) * p ≡ n * (p * 2) + (2 * 0 + b) * p
@@ -65,6 +65,6 @@ bits_from-drop n (suc k) (d ∷ ds) le = let e : length (d ∷ ds) - suc k ≡ l
 pub digits : (size : ℕ) (ds : List ℕ) → size ≤ 128 → digits_value size ds ≡ bits_value ds % 2 ^ size
 unfolding digits_value
 digits size ds le =
-    let long : length (extended size ds) ≡ size - length ds + length ds = length-append (replicate (size - length ds) (padding ds)) ds ∙ ap (λ (n : ℕ). n + length ds) (length-replicate (size - length ds) (padding ds)) in
-    let rest : length (extended size ds) - (length ds - size) ≡ size = omega arith in
-    sym (bits_from-drop 0 (length ds - size) (extended size ds) (omega arith)) ∙ ap (λ (w : ℕ). bits_from 0 (extended size ds) % 2 ^ w) rest ∙ extension size ds le
+    let long : length (extended_digits size ds) ≡ size - length ds + length ds = length-append (replicate (size - length ds) (padding ds)) ds ∙ ap (λ (n : ℕ). n + length ds) (length-replicate (size - length ds) (padding ds)) in
+    let rest : length (extended_digits size ds) - (length ds - size) ≡ size = omega arith in
+    sym (bits_from-drop 0 (length ds - size) (extended_digits size ds) (omega arith)) ∙ ap (λ (w : ℕ). bits_from 0 (extended_digits size ds) % 2 ^ w) rest ∙ extension size ds le

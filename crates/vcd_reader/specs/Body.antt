@@ -61,22 +61,22 @@ abbrev pub with_time : ℕ → ℕ → ℕ → ℕ → Next → Result Rest Faul
 with_time time place count now rest = if nat_lt time now then Err (TimeBack place) else (if time == now then rest count now else with_step time (rest count time))
 
 -- why a code is none of the header's
-abbrev pub missing : List ℕ → ℕ → Fault
-missing code place = if list_all is_code_byte code then UnknownCode place else BadToken place
+abbrev pub missing_fault : List ℕ → ℕ → Fault
+missing_fault code place = if list_all is_code_byte code then UnknownCode place else BadToken place
 
 -- a change of the code to the digits, in the token at the place
-abbrev pub changed : Option ℕ → List ℕ → List ℕ → ℕ → ℕ → ℕ → Next → Result Rest Fault
-changed None code digits place count now rest = Err (missing code place)
-changed (Some n) code digits place count now rest = with_change (record { code = n; digits = digits }) count now rest
+abbrev pub change_by_code : Option ℕ → List ℕ → List ℕ → ℕ → ℕ → ℕ → Next → Result Rest Fault
+change_by_code None code digits place count now rest = Err (missing_fault code place)
+change_by_code (Some n) code digits place count now rest = with_change (record { code = n; digits = digits }) count now rest
 
 -- a scalar without a code: the very end of the input may be where it was cut off
-abbrev pub codeless : ℕ → ℕ → Fault
-codeless place len = if suc place == len then Truncated else BadToken place
+abbrev pub codeless_fault : ℕ → ℕ → Fault
+codeless_fault place len = if suc place == len then Truncated else BadToken place
 
 -- a scalar with this text behind its digit
 abbrev pub scalar : List (List ℕ) → ℕ → ℕ → List ℕ → ℕ → ℕ → ℕ → Next → Result Rest Fault
-scalar declared len digit [] place count now rest = Err (codeless place len)
-scalar declared len digit (c ∷ code) place count now rest = changed (place_of declared (c ∷ code)) (c ∷ code) (digit ∷ []) place count now rest
+scalar declared len digit [] place count now rest = Err (codeless_fault place len)
+scalar declared len digit (c ∷ code) place count now rest = change_by_code (place_of declared (c ∷ code)) (c ∷ code) (digit ∷ []) place count now rest
 
 abbrev pub behind_first : List ℕ → List ℕ
 behind_first [] = []
@@ -98,7 +98,7 @@ unfoldable mutual
   pub body : List (List ℕ) → ℕ → ℕ → ℕ → List Token → Result Rest Fault
   body declared len count now [] = Ok ([], [])
   body declared len count now (t ∷ ts) = by_kind (kind_of t.text) declared len t count now
-      (λ c n. body declared len c n ts) (λ digits. vector declared len count now digits ts) (ignored declared len count now ts) (section declared len count now t.place ts)
+      (λ c n. body declared len c n ts) (λ digits. vector declared len count now digits ts) (behind_ignored declared len count now ts) (section declared len count now t.place ts)
 
   pub section : List (List ℕ) → ℕ → ℕ → ℕ → ℕ → List Token → Result Rest Fault
   section declared len count now place [] = Err (UnclosedSection place)
@@ -106,11 +106,11 @@ unfoldable mutual
 
   pub vector : List (List ℕ) → ℕ → ℕ → ℕ → List ℕ → List Token → Result Rest Fault
   vector declared len count now digits [] = Err Truncated
-  vector declared len count now digits (t ∷ ts) = changed (place_of declared t.text) t.text digits t.place count now (λ c n. body declared len c n ts)
+  vector declared len count now digits (t ∷ ts) = change_by_code (place_of declared t.text) t.text digits t.place count now (λ c n. body declared len c n ts)
 
-  pub ignored : List (List ℕ) → ℕ → ℕ → ℕ → List Token → Result Rest Fault
-  ignored declared len count now [] = Err Truncated
-  ignored declared len count now (t ∷ ts) = body declared len count now ts
+  pub behind_ignored : List (List ℕ) → ℕ → ℕ → ℕ → List Token → Result Rest Fault
+  behind_ignored declared len count now [] = Err Truncated
+  behind_ignored declared len count now (t ∷ ts) = body declared len count now ts
 
 -- all steps: the first is at time 0
 abbrev pub steps_of : Result Rest Fault → Result (List Moment) Fault

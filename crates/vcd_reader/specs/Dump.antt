@@ -1,5 +1,5 @@
 -- What a dump says, from its bytes.
-use Rattle.std.specs.Prelude.{◌≡◌, ℕ, ◌+◌, ◌^◌, ◌==◌, List, [], length, take, Option, Result, Ok, Err, count_by}
+use Rattle.std.specs.Prelude.{◌≡◌, ℕ, ◌≤◌, ◌+◌, ◌^◌, ◌==◌, List, [], length, take, Option, Result, Ok, Err, count_by}
 use Rattle.std.specs.Io.KnownBytes.{Consumes, IsAtEnd}
 use Rattle.signals.specs.Source.{after_failure, GaveOver}
 use Rattle.vcd_reader.specs.declared.fault.Fault.{Fault}
@@ -19,47 +19,61 @@ pub record Contents : Type 0 where
   pub steps : List Moment
 
 -- what the body of a dump with this header says
-unfoldable pub behind : ℕ → Header → Result Contents Fault
-behind len h = steps_of (body (codes_of h.0) len 0 0 h.1) >>= λ steps. Ok (record { variables = h.0; steps = steps })
+unfoldable pub contents_behind : ℕ → Header → Result Contents Fault
+contents_behind len h = steps_of (body (codes_of h.0) len 0 0 h.1) >>= λ steps. Ok (record { variables = h.0; steps = steps })
 
 -- what the bytes say, or their first fault
 unfoldable pub dump_of : List ℕ → Result Contents Fault
-dump_of bytes = header [] [] (tokens 0 bytes) >>= behind (length bytes)
+dump_of bytes = header [] [] (tokens 0 bytes) >>= contents_behind (length bytes)
 
 -- lines count from 1, and each ends at a line feed
 abbrev pub line_of : List ℕ → ℕ → ℕ
 line_of bytes place = 1 + count_by (λ b. b == 10) (take place bytes)
 
-abbrev pub located : List ℕ → Fault → VcdFault
-located bytes (at.BadToken place) = line.BadToken (line_of bytes place)
-located bytes (at.UnknownCode place) = line.UnknownCode (line_of bytes place)
-located bytes (at.TimeBack place) = line.TimeBack (line_of bytes place)
-located bytes (at.UnclosedSection place) = line.UnclosedSection (line_of bytes place)
-located bytes (at.BadSize place) = line.BadSize (line_of bytes place)
-located bytes at.Truncated = line.Truncated
-located bytes at.TooLarge = line.TooLarge
+abbrev pub fault_at_line : List ℕ → Fault → VcdFault
+fault_at_line bytes (at.BadToken place) = line.BadToken (line_of bytes place)
+fault_at_line bytes (at.UnknownCode place) = line.UnknownCode (line_of bytes place)
+fault_at_line bytes (at.TimeBack place) = line.TimeBack (line_of bytes place)
+fault_at_line bytes (at.UnclosedSection place) = line.UnclosedSection (line_of bytes place)
+fault_at_line bytes (at.BadSize place) = line.BadSize (line_of bytes place)
+fault_at_line bytes at.Truncated = line.Truncated
+fault_at_line bytes at.TooLarge = line.TooLarge
 
--- these are all the bytes that the source had
+-- the most bytes of a dump
+abbrev pub most_bytes : ℕ
+most_bytes = 2 ^ 48
+
+-- these are all the bytes that the source had, no more than a dump may have
 pub record Gave (old new : Option (List ℕ)) (bytes : List ℕ) : Type 0 where
   pub taken : Consumes old new bytes
   pub ended : IsAtEnd new
+  pub few : length bytes ≤ most_bytes
 
 -- the source gave a dump that says this
 abbrev pub GaveDump : Option (List ℕ) → Option (List ℕ) → Contents → Type 0
 GaveDump old new c = (bytes : List ℕ) × Gave old new bytes × (dump_of bytes ≡ Ok c)
 
+-- the bytes have this fault as the first
+abbrev pub HasFault : List ℕ → VcdFault → Type 0
+HasFault bytes e = (fault : Fault) × (dump_of bytes ≡ Err fault) × (e ≡ fault_at_line bytes fault)
+
 -- the source gave bytes with this fault as the first
 abbrev pub GaveFault : Option (List ℕ) → Option (List ℕ) → VcdFault → Type 0
-GaveFault old new e = (bytes : List ℕ) × Gave old new bytes × (fault : Fault) × (dump_of bytes ≡ Err fault) × (e ≡ located bytes fault)
+GaveFault old new e = (bytes : List ℕ) × Gave old new bytes × HasFault bytes e
 
 -- the source gave more bytes than a dump may have, or a dump with too many changes
 pub data GaveTooMuch (old new : Option (List ℕ)) : Type 0 where
-  Bytes : GaveOver old new (2 ^ 48) → GaveTooMuch old new
+  Bytes : GaveOver old new most_bytes → GaveTooMuch old new
   Changes : GaveFault old new line.TooLarge → GaveTooMuch old new
 
--- why there is no dump
+-- why there is no dump, where no call of the source failed
+abbrev pub WhyRefused : Option (List ℕ) → Option (List ℕ) → VcdFault → Type 0
+WhyRefused old new line.Memory = Unit {0}
+WhyRefused old new line.Read = ⊥
+WhyRefused old new line.TooLarge = GaveTooMuch old new
+WhyRefused old new e = GaveFault old new e
+
+-- why there is no dump: a call of the source failed, or none did
 abbrev pub Stands : Option (List ℕ) → Option (List ℕ) → ℕ → ℕ → VcdFault → Type 0
-Stands old new failures failures_now line.Memory = Unit {0}
 Stands old new failures failures_now line.Read = failures_now ≡ after_failure failures
-Stands old new failures failures_now line.TooLarge = GaveTooMuch old new
-Stands old new failures failures_now e = GaveFault old new e
+Stands old new failures failures_now e = (failures_now ≡ failures) × WhyRefused old new e

@@ -10,13 +10,13 @@ abbrev pub ◌>>=◌ : {A B : Type 0} → Result A Fault → (A → Result B Fau
 (Err e) >>= f = Err e
 
 -- what follows the place that a reader found
-abbrev pub resumed : {A B : Type 0} → Result A Fault → (A → Result B Fault) → Result B Fault
-resumed read go = read >>= go
+abbrev pub read_on : {A B : Type 0} → Result A Fault → (A → Result B Fault) → Result B Fault
+read_on read go = read >>= go
 
 -- what is read, seen by a view
-abbrev pub viewed : {A B : Type 0} → (A → B) → Result A Fault → Result B Fault
-viewed f (Ok x) = Ok (f x)
-viewed f (Err e) = Err e
+abbrev pub view_of : {A B : Type 0} → (A → B) → Result A Fault → Result B Fault
+view_of f (Ok x) = Ok (f x)
+view_of f (Err e) = Err e
 
 -- What a function returned, seen by view, is what reading gives, unless memory ran out.
 abbrev pub Fails : {Y : Type 0} → ReadError → Result Y Fault → Type 0

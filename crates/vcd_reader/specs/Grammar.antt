@@ -6,7 +6,7 @@ use Rattle.vcd_reader.specs.Tokens.{Token, tokens}
 use Rattle.vcd_reader.specs.Numbers.{is_empty, decimal_below}
 use Rattle.vcd_reader.specs.Values.{ValueChange, Moment}
 use Rattle.vcd_reader.specs.Variables.{Declared, is_code_byte, codes_of, place_of}
-use Rattle.vcd_reader.specs.Header.{is_end, outer, variable, word_of}
+use Rattle.vcd_reader.specs.Header.{is_end, outer_scopes, variable, word_of}
 use Rattle.vcd_reader.specs.Body.{Time, Scalar, Vector, Text, Lone, Section, Rest, kind_of, behind_first, most_changes}
 use Rattle.vcd_reader.specs.Dump.{Contents, dump_of}
 
@@ -50,7 +50,7 @@ joined_text ts = flat_map (λ t. t.text) ts
 abbrev pub declared_by : List (List ℕ) → List Part → List Declared
 declared_by scopes [] = []
 declared_by scopes (Opens word type name stop ∷ ps) = declared_by (scopes ++ name.text ∷ []) ps
-declared_by scopes (Closes word stop ∷ ps) = declared_by (outer scopes) ps
+declared_by scopes (Closes word stop ∷ ps) = declared_by (outer_scopes scopes) ps
 declared_by scopes (Declares word type size n code first more stop ∷ ps) = variable scopes (record { type = type.text; size = n; code = code.text }) (first.text ++ joined_text more) ∷ declared_by scopes ps
 declared_by scopes (Skipped word inner stop ∷ ps) = declared_by scopes ps
 
@@ -107,18 +107,18 @@ changes_in (Alone t ∷ es) = changes_in es
 changes_in (Comment word inner stop ∷ es) = changes_in es
 
 -- what the entries say: further changes of the step that is open, and later steps
-abbrev pub said : ℕ → List Entry → Rest
-said now [] = ([], [])
-said now (Instant t time ∷ es) = if time == now then said now es else ([], record { time = time; changes = (said time es).0 } ∷ (said time es).1)
-said now (Bit t c ∷ es) = (c ∷ (said now es).0, (said now es).1)
-said now (Digits t code c ∷ es) = (c ∷ (said now es).0, (said now es).1)
-said now (Ignored t u ∷ es) = said now es
-said now (Alone t ∷ es) = said now es
-said now (Comment word inner stop ∷ es) = said now es
+abbrev pub said_rest : ℕ → List Entry → Rest
+said_rest now [] = ([], [])
+said_rest now (Instant t time ∷ es) = if time == now then said_rest now es else ([], record { time = time; changes = (said_rest time es).0 } ∷ (said_rest time es).1)
+said_rest now (Bit t c ∷ es) = (c ∷ (said_rest now es).0, (said_rest now es).1)
+said_rest now (Digits t code c ∷ es) = (c ∷ (said_rest now es).0, (said_rest now es).1)
+said_rest now (Ignored t u ∷ es) = said_rest now es
+said_rest now (Alone t ∷ es) = said_rest now es
+said_rest now (Comment word inner stop ∷ es) = said_rest now es
 
 -- the steps: the first is at time 0
 abbrev pub steps_said : List Entry → List Moment
-steps_said es = record { time = 0; changes = (said 0 es).0 } ∷ (said 0 es).1
+steps_said es = record { time = 0; changes = (said_rest 0 es).0 } ∷ (said_rest 0 es).1
 
 -- The bytes are a dump that says this.
 pub record IsDump (bytes : List ℕ) (c : Contents) : Type 0 where

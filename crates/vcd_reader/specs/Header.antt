@@ -41,8 +41,8 @@ word_of (b ∷ bs) =
     else NoWord))))
 
 -- the scopes that are open behind $upscope, which does nothing at the top
-abbrev pub outer : List (List ℕ) → List (List ℕ)
-outer scopes = take (length scopes - 1) scopes
+abbrev pub outer_scopes : List (List ℕ) → List (List ℕ)
+outer_scopes scopes = take (length scopes - 1) scopes
 
 -- what stands in a $var before its reference
 pub record Head : Type 0 where
@@ -76,29 +76,29 @@ abbrev pub close : Token → List Token → (List Token → Result Header Fault)
 close word [] go = Err (UnclosedSection word.place)
 close word (t ∷ ts) go = if is_end t.text then go ts else Err (BadToken t.place)
 
-abbrev pub sized : Option ℕ → Token → (ℕ → Result Header Fault) → Result Header Fault
-sized None t go = Err (BadSize t.place)
-sized (Some n) t go = go n
+abbrev pub with_size : Option ℕ → Token → (ℕ → Result Header Fault) → Result Header Fault
+with_size None t go = Err (BadSize t.place)
+with_size (Some n) t go = go n
 
 -- $enddefinitions
-abbrev pub ended : List Declared → Token → List Token → Result Header Fault
-ended vars word ts = close word ts (λ rest. Ok (vars, rest))
+abbrev pub header_end : List Declared → Token → List Token → Result Header Fault
+header_end vars word ts = close word ts (λ rest. Ok (vars, rest))
 
 unfoldable mutual
   -- between sections
   pub header : List (List ℕ) → List Declared → List Token → Result Header Fault
   header scopes vars [] = Err Truncated
-  header scopes vars (t ∷ ts) = by_word (word_of t.text) t (ended vars t ts) (scope_type scopes vars t ts) (closed (outer scopes) vars t ts) (var_type scopes vars t ts) (skipped scopes vars t ts)
+  header scopes vars (t ∷ ts) = by_word (word_of t.text) t (header_end vars t ts) (scope_type scopes vars t ts) (closing_token (outer_scopes scopes) vars t ts) (var_type scopes vars t ts) (skipped_section scopes vars t ts)
 
   -- before the $end of a section with nothing left to say
-  pub closed : List (List ℕ) → List Declared → Token → List Token → Result Header Fault
-  closed scopes vars word [] = Err (UnclosedSection word.place)
-  closed scopes vars word (t ∷ ts) = if is_end t.text then header scopes vars ts else Err (BadToken t.place)
+  pub closing_token : List (List ℕ) → List Declared → Token → List Token → Result Header Fault
+  closing_token scopes vars word [] = Err (UnclosedSection word.place)
+  closing_token scopes vars word (t ∷ ts) = if is_end t.text then header scopes vars ts else Err (BadToken t.place)
 
   -- in a section that is skipped
-  pub skipped : List (List ℕ) → List Declared → Token → List Token → Result Header Fault
-  skipped scopes vars word [] = Err (UnclosedSection word.place)
-  skipped scopes vars word (t ∷ ts) = if is_end t.text then header scopes vars ts else skipped scopes vars word ts
+  pub skipped_section : List (List ℕ) → List Declared → Token → List Token → Result Header Fault
+  skipped_section scopes vars word [] = Err (UnclosedSection word.place)
+  skipped_section scopes vars word (t ∷ ts) = if is_end t.text then header scopes vars ts else skipped_section scopes vars word ts
 
   -- $scope type name $end
   pub scope_type : List (List ℕ) → List Declared → Token → List Token → Result Header Fault
@@ -107,7 +107,7 @@ unfoldable mutual
 
   pub scope_name : List (List ℕ) → List Declared → Token → List Token → Result Header Fault
   scope_name scopes vars word [] = Err (UnclosedSection word.place)
-  scope_name scopes vars word (t ∷ ts) = if is_end t.text then Err (BadToken t.place) else closed (scopes ++ t.text ∷ []) vars word ts
+  scope_name scopes vars word (t ∷ ts) = if is_end t.text then Err (BadToken t.place) else closing_token (scopes ++ t.text ∷ []) vars word ts
 
   -- $var type size code reference.. $end
   pub var_type : List (List ℕ) → List Declared → Token → List Token → Result Header Fault
@@ -116,7 +116,7 @@ unfoldable mutual
 
   pub var_size : List (List ℕ) → List Declared → Token → List ℕ → List Token → Result Header Fault
   var_size scopes vars word type [] = Err (UnclosedSection word.place)
-  var_size scopes vars word type (t ∷ ts) = if is_end t.text then Err (BadToken t.place) else sized (decimal_below (2 ^ 32) t.text) t (λ size. var_code scopes vars word type size ts)
+  var_size scopes vars word type (t ∷ ts) = if is_end t.text then Err (BadToken t.place) else with_size (decimal_below (2 ^ 32) t.text) t (λ size. var_code scopes vars word type size ts)
 
   pub var_code : List (List ℕ) → List Declared → Token → List ℕ → ℕ → List Token → Result Header Fault
   var_code scopes vars word type size [] = Err (UnclosedSection word.place)

@@ -5,12 +5,12 @@ use Rattle.vcd_reader.specs.declared.step.Step.{Step}
 use Rattle.vcd_reader.specs.declared.step.Change.{Change}
 use Rattle.vcd_reader.specs.declared.variable.VarId.{VarId}
 use Rattle.vcd_reader.specs.declared.variable.Name.{Name}
-use Rattle.vcd_reader.specs.Stored.{declared, stored_value, stored_step, kept_step}
+use Rattle.vcd_reader.specs.Stored.{declaration_of, stored_value, stored_step, kept_step}
 use Rattle.vcd_reader.specs.Variables.{Declared, Named, code_number, is_bindable}
 use Rattle.vcd_reader.specs.Dump.{Contents, dump_of, GaveDump}
 
 unfoldable pub variables_of : Dump → List Declared
-variables_of d = map (declared d.scopes.items) d.variables.items
+variables_of d = map (declaration_of d.scopes.items) d.variables.items
 
 unfoldable pub steps_in : Dump → List Step
 steps_in d = d.steps.items

@@ -8,7 +8,7 @@ use Rattle.vcd_reader.specs.declared.places.Part.TheVariants.{Path, Code}
 use Rattle.vcd_reader.specs.declared.places.Places.{Places}
 use Rattle.vcd_reader.specs.Variables.{path_of, place_of}
 use Rattle.vcd_reader.specs.Keys.{key_of}
-use Rattle.vcd_reader.specs.Scopes.{opened}
+use Rattle.vcd_reader.specs.Scopes.{open_scopes}
 
 -- where the own part of a text stands
 abbrev pub place_in : Part → Variable → ℕ
@@ -21,7 +21,7 @@ own_in Path v = v.name.items
 own_in Code v = v.code.items
 
 abbrev pub text_in : Part → List Scope → Variable → List ℕ
-text_in Path ss v = path_of (opened ss v.scope) v.name.items
+text_in Path ss v = path_of (open_scopes ss v.scope) v.name.items
 text_in Code ss v = v.code.items
 
 abbrev pub texts_in : Part → List Scope → List Variable → List (List ℕ)

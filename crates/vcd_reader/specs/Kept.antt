@@ -6,21 +6,21 @@ use Rattle.vcd_reader.specs.declared.item.Seen.{Seen}
 use Rattle.vcd_reader.specs.declared.item.Seen.TheVariants as code
 use Rattle.vcd_reader.specs.declared.item.Item.{Item}
 use Rattle.vcd_reader.specs.declared.item.Item.TheVariants.{Timed, Changed, Skipped}
-use Rattle.vcd_reader.specs.Faults.{◌>>=◌, viewed}
+use Rattle.vcd_reader.specs.Faults.{◌>>=◌, view_of}
 use Rattle.vcd_reader.specs.Numbers.{bit_of, bits_value}
 use Rattle.vcd_reader.specs.Values.{Moment}
 use Rattle.vcd_reader.specs.Variables.{place_of}
 use Rattle.vcd_reader.specs.Stored.{StoredChange, StoredStep, kept_change, kept_step}
-use Rattle.vcd_reader.specs.Body.{Kind, Time, Scalar, Vector, Text, Lone, Section, Bad, Rest, most_changes, missing, codeless}
+use Rattle.vcd_reader.specs.Body.{Kind, Time, Scalar, Vector, Text, Lone, Section, Bad, Rest, most_changes, missing_fault, codeless_fault}
 
-abbrev pub seen : Kind → Seen
-seen (Time n) = code.Time n
-seen (Scalar digit) = code.Scalar (bit_of digit)
-seen (Vector digits) = code.Vector (bits_value digits)
-seen Text = code.Text
-seen Lone = code.Lone
-seen Section = code.Section
-seen Bad = code.Bad
+abbrev pub seen_kind : Kind → Seen
+seen_kind (Time n) = code.Time n
+seen_kind (Scalar digit) = code.Scalar (bit_of digit)
+seen_kind (Vector digits) = code.Vector (bits_value digits)
+seen_kind Text = code.Text
+seen_kind Lone = code.Lone
+seen_kind Section = code.Section
+seen_kind Bad = code.Bad
 
 abbrev pub KeptRest : Type 0
 KeptRest = List StoredChange × List StoredStep
@@ -28,11 +28,11 @@ KeptRest = List StoredChange × List StoredStep
 abbrev pub kept_rest : Rest → KeptRest
 kept_rest r = (map kept_change r.0, map kept_step r.1)
 
-abbrev pub kept : Result Rest Fault → Result KeptRest Fault
-kept read = viewed kept_rest read
+abbrev pub kept_result : Result Rest Fault → Result KeptRest Fault
+kept_result read = view_of kept_rest read
 
 abbrev pub kept_steps : Result (List Moment) Fault → Result (List StoredStep) Fault
-kept_steps read = viewed (map kept_step) read
+kept_steps read = view_of (map kept_step) read
 
 abbrev pub with_kept : StoredChange → Result KeptRest Fault → Result KeptRest Fault
 with_kept c read = read >>= λ r. Ok (c ∷ r.0, r.1)
@@ -41,24 +41,24 @@ abbrev pub with_kept_step : ℕ → Result KeptRest Fault → Result KeptRest Fa
 with_kept_step time read = read >>= λ r. Ok ([], record { time = time; changes = r.0 } ∷ r.1)
 
 -- what an item and the rest say
-abbrev pub applied : Item → ℕ → ℕ → (ℕ → ℕ → Result KeptRest Fault) → Result KeptRest Fault
-applied (Changed n value) count now rest = if nat_lt count most_changes then with_kept (record { code = n; value = value }) (rest (suc count) now) else Err TooLarge
-applied Skipped count now rest = rest count now
-applied (Timed time place) count now rest = if nat_lt time now then Err (TimeBack place) else (if time == now then rest count now else with_kept_step time (rest count time))
+abbrev pub with_item : Item → ℕ → ℕ → (ℕ → ℕ → Result KeptRest Fault) → Result KeptRest Fault
+with_item (Changed n value) count now rest = if nat_lt count most_changes then with_kept (record { code = n; value = value }) (rest (suc count) now) else Err TooLarge
+with_item Skipped count now rest = rest count now
+with_item (Timed time place) count now rest = if nat_lt time now then Err (TimeBack place) else (if time == now then rest count now else with_kept_step time (rest count time))
 
 -- what a reader that found an item, and where it ends, goes on to give
-abbrev pub continued : Result (Option (Item × ℕ)) Fault → ℕ → ℕ → (ℕ → ℕ → ℕ → Result KeptRest Fault) → Result KeptRest Fault
-continued (Err fault) count now go = Err fault
-continued (Ok None) count now go = Ok ([], [])
-continued (Ok (Some (item, end))) count now go = applied item count now (λ c n. go c n end)
+abbrev pub with_next_item : Result (Option (Item × ℕ)) Fault → ℕ → ℕ → (ℕ → ℕ → ℕ → Result KeptRest Fault) → Result KeptRest Fault
+with_next_item (Err fault) count now go = Err fault
+with_next_item (Ok None) count now go = Ok ([], [])
+with_next_item (Ok (Some (item, end))) count now go = with_item item count now (λ c n. go c n end)
 
 abbrev pub code_item : Option ℕ → List ℕ → ℕ → ℕ → Result Item Fault
-code_item None text value place = Err (missing text place)
+code_item None text value place = Err (missing_fault text place)
 code_item (Some n) text value place = Ok (Changed n value)
 
 -- what a scalar says with this text behind its digit
 abbrev pub scalar_item : List (List ℕ) → ℕ → List ℕ → ℕ → ℕ → Result Item Fault
-scalar_item declared len [] value place = Err (codeless place len)
+scalar_item declared len [] value place = Err (codeless_fault place len)
 scalar_item declared len (c ∷ text) value place = code_item (place_of declared (c ∷ text)) (c ∷ text) value place
 
 -- the list is the other one with more behind it

@@ -4,8 +4,8 @@ use Rattle.vcd_reader.specs.declared.codes.Entry.{Entry}
 use Rattle.vcd_reader.specs.Variables.{place_of}
 
 -- the bytes of a number, the lowest first
-unfoldable pub unpacked : ℕ → List ℕ
-unpacked n =
+unfoldable pub unpacked_code : ℕ → List ℕ
+unpacked_code n =
     if nat_lt n 256 then n ∷ []
     else (if nat_lt n 65536 then n % 256 ∷ n / 256 ∷ []
     else (if nat_lt n 16777216 then n % 256 ∷ n / 256 % 256 ∷ n / 65536 ∷ []
@@ -16,7 +16,7 @@ no_entry = record { packed = 0; number = 0 }
 
 -- an entry has the number of its code
 abbrev pub IsKnown : List (List ℕ) → Entry → Type 0
-IsKnown texts e = 0 < e.packed → place_of texts (unpacked e.packed) ≡ Some e.number
+IsKnown texts e = 0 < e.packed → place_of texts (unpacked_code e.packed) ≡ Some e.number
 
 abbrev pub AreKnown : List (List ℕ) → List Entry → Type 0
 AreKnown texts es = (i : ℕ) → IsKnown texts (get_or es i no_entry)

@@ -7,8 +7,8 @@ use Rattle.vcd_reader.specs.declared.header.Section.TheVariants.{Ended, Opened, 
 use Rattle.vcd_reader.specs.declared.header.VarHead.{VarHead}
 use Rattle.vcd_reader.specs.Tokens.{Token, tokens}
 use Rattle.vcd_reader.specs.Variables as variables
-use Rattle.vcd_reader.specs.Stored.{declared_in}
-use Rattle.vcd_reader.specs.Header.{Header, Head, header, outer}
+use Rattle.vcd_reader.specs.Stored.{declaration_in}
+use Rattle.vcd_reader.specs.Header.{Header, Head, header, outer_scopes}
 
 abbrev pub text_at : List ℕ → Span → List ℕ
 text_at bytes s = slice_range bytes s.from s.end
@@ -21,12 +21,12 @@ abbrev pub head_at : List ℕ → VarHead → Head
 head_at bytes h = record { type = text_at bytes h.kind; size = h.size; code = text_at bytes h.code }
 
 -- what stands behind a section that was read
-abbrev pub stated : Section → List (List ℕ) → List variables.Declared → List ℕ → Result Header Fault
-stated (Ended end) scopes vars bytes = Ok (vars, tokens_at bytes end)
-stated (Opened name end) scopes vars bytes = header (scopes ++ text_at bytes name ∷ []) vars (tokens_at bytes end)
-stated (Closed end) scopes vars bytes = header (outer scopes) vars (tokens_at bytes end)
-stated (Declared v end) scopes vars bytes = header scopes (vars ++ declared_in scopes v ∷ []) (tokens_at bytes end)
-stated (Skipped end) scopes vars bytes = header scopes vars (tokens_at bytes end)
+abbrev pub stated_header : Section → List (List ℕ) → List variables.Declared → List ℕ → Result Header Fault
+stated_header (Ended end) scopes vars bytes = Ok (vars, tokens_at bytes end)
+stated_header (Opened name end) scopes vars bytes = header (scopes ++ text_at bytes name ∷ []) vars (tokens_at bytes end)
+stated_header (Closed end) scopes vars bytes = header (outer_scopes scopes) vars (tokens_at bytes end)
+stated_header (Declared v end) scopes vars bytes = header scopes (vars ++ declaration_in scopes v ∷ []) (tokens_at bytes end)
+stated_header (Skipped end) scopes vars bytes = header scopes vars (tokens_at bytes end)
 
 abbrev pub end_of : Section → ℕ
 end_of (Ended end) = end

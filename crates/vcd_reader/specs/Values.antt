@@ -19,16 +19,16 @@ padding [] = 48
 padding (d ∷ ds) = if d == 49 then 48 else d
 
 -- the digits with as many on the left as the size lacks
-abbrev pub extended : ℕ → List ℕ → List ℕ
-extended size digits = replicate (size - length digits) (padding digits) ++ digits
+abbrev pub extended_digits : ℕ → List ℕ → List ℕ
+extended_digits size digits = replicate (size - length digits) (padding digits) ++ digits
 
 -- as many digits as the size says: extended on the left, or cut on the left
-abbrev pub fitted : ℕ → List ℕ → List ℕ
-fitted size digits = drop (length digits - size) (extended size digits)
+abbrev pub fitted_digits : ℕ → List ℕ → List ℕ
+fitted_digits size digits = drop (length digits - size) (extended_digits size digits)
 
 -- the number that the digits stand for in a variable of the size; x and z count as 0
 unfoldable pub digits_value : ℕ → List ℕ → ℕ
-digits_value size digits = bits_from 0 (fitted size digits)
+digits_value size digits = bits_from 0 (fitted_digits size digits)
 
 abbrev pub or_else : {A : Type 0} → Option A → Option A → Option A
 or_else None o = o

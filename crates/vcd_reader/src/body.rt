@@ -1,17 +1,17 @@
 //! The times and changes of a dump.
 
 ghost use Rattle.std.specs.Prelude.{◌≡◌, ℕ, ◌<◌, ◌≤◌, ◌+◌, ◌++◌, List, map, length, drop, Ok, Err, Some, IfOk, IfSome, slice_range, Result, Option, nat_lt};
-ghost use Rattle.std.specs.List.{list_all};
-ghost use Rattle.vcd_reader.specs.Faults.{Gives, resumed};
-ghost use Rattle.vcd_reader.specs.Variables.{is_code_byte, place_of};
+ghost use Rattle.vcd_reader.specs.Faults.{Gives, read_on};
+ghost use Rattle.vcd_reader.specs.Variables.{place_of};
 ghost use Rattle.vcd_reader.specs.Index.{codes_in};
 ghost use Rattle.vcd_reader.specs.Stored.{stored_change, stored_step};
-ghost use Rattle.vcd_reader.specs.Body.{kind_of, is_lone_word, missing, most_changes, body, section, steps_of};
-ghost use Rattle.vcd_reader.specs.Kept.{seen, kept, kept_steps, continued, code_item, scalar_item, Extends};
+ghost use Rattle.vcd_reader.specs.Body.{kind_of, is_lone_word, missing_fault, most_changes, body, section, steps_of};
+ghost use Rattle.vcd_reader.specs.Kept.{seen_kind, kept_result, kept_steps, with_next_item, code_item, scalar_item, Extends};
 ghost use Rattle.vcd_reader.specs.Sections.{tokens_at};
 
 use crate::codes::Codes;
 use crate::fault::{Fault, ReadError};
+use crate::header::is_code;
 use crate::item::{Item, Seen};
 use crate::number::{bit_value, bits, decimal, is_bit_digit};
 use crate::packed::find_code;
@@ -31,7 +31,7 @@ fn is_lone(text: &[u8]) -> bool
 
 #[tactic(auto, unfolding(crate::specs::Body::kind_of))]
 fn classify(text: &[u8]) -> Seen
-    ensures { result ≡ seen (kind_of text.now) }
+    ensures { result ≡ seen_kind (kind_of text.now) }
 {
     match text {
         [] => Seen::Bad,
@@ -67,7 +67,7 @@ fn section_end(bytes: &[u8], start: usize, place: usize) -> Result<usize, Fault>
     requires { start ≤ length bytes.now }
     ensures high { IfOk result (λ end. (start < end) × (end ≤ length bytes.now)) }
     ensures section { (declared : List (List ℕ)) (len count now : ℕ) → section declared len count now place (tokens_at bytes.now start)
-        ≡ resumed result (λ end. body declared len count now (tokens_at bytes.now end)) }
+        ≡ read_on result (λ end. body declared len count now (tokens_at bytes.now end)) }
 {
     let mut at = start;
     'sections: loop {
@@ -81,15 +81,9 @@ fn section_end(bytes: &[u8], start: usize, place: usize) -> Result<usize, Fault>
     }
 }
 
-fn is_code(text: &[u8]) -> bool
-    ensures { result ≡ list_all is_code_byte text.now }
-{
-    text.iter().all(|b| *b >= 33 && *b <= 126)
-}
-
 /// Why the code is not the header's.
 fn missing_code(code: &[u8], place: usize) -> Fault
-    ensures { result ≡ missing code.now place }
+    ensures { result ≡ missing_fault code.now place }
 {
     if is_code(code) {
         Fault::UnknownCode(place)
@@ -135,8 +129,8 @@ fn scalar_change(
 fn next_item(bytes: &[u8], at: usize, codes: &Codes) -> Result<Option<(Item, usize)>, Fault>
     requires { at ≤ length bytes.now }
     ensures high { IfOk result (λ r. IfSome r (λ p. (at < p.1) × (p.1 ≤ length bytes.now))) }
-    ensures item { (count now : ℕ) → kept (body (codes_in codes.now.variables.now) (length bytes.now) count now (tokens_at bytes.now at))
-        ≡ continued result count now (λ c n end. kept (body (codes_in codes.now.variables.now) (length bytes.now) c n (tokens_at bytes.now end))) }
+    ensures item { (count now : ℕ) → kept_result (body (codes_in codes.now.variables.now) (length bytes.now) count now (tokens_at bytes.now at))
+        ≡ with_next_item result count now (λ c n end. kept_result (body (codes_in codes.now.variables.now) (length bytes.now) c n (tokens_at bytes.now end))) }
 {
     let Some((from, end)) = next_token(bytes, at) else {
         return Ok(None);
@@ -179,7 +173,7 @@ pub(crate) fn has_room(count: u32) -> bool
 }
 
 /// The change as it is stored; the high part of a value from 2^64 on goes into `high`.
-fn stored(high: &mut Vec<u64>, code: u32, value: u128) -> Result<Change, AllocError>
+fn new_change(high: &mut Vec<u64>, code: u32, value: u128) -> Result<Change, AllocError>
     requires { length high.old.items < 4294967295 }
     ensures grows { IfOk result (λ c. Extends high.old.items high.new.items) }
     ensures bound { length high.new.items ≤ length high.old.items + 1 }
@@ -231,7 +225,7 @@ pub(crate) fn read_body(
                         if !has_room(count) {
                             return Err(ReadError::Fault(Fault::TooLarge));
                         }
-                        let change = stored(&mut high, code, value)?;
+                        let change = new_change(&mut high, code, value)?;
                         changes.push(change)?;
                         count += 1;
                         continue;

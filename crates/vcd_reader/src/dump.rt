@@ -2,6 +2,7 @@
 
 ghost use Rattle.vcd_reader.specs.declared.places.Part.TheVariants.{Path};
 ghost use Rattle.vcd_reader.specs.Scopes.{IsTree};
+ghost use Rattle.vcd_reader.specs.Stored.{SaysSomething};
 ghost use Rattle.vcd_reader.specs.Index.{texts_in, codes_in, IsIndex};
 
 use crate::places::Places;
@@ -21,4 +22,5 @@ pub struct Dump {
     ghost tree: { IsTree scopes.items },
     ghost path_index: { IsIndex (texts_in Path scopes.items variables.items) paths },
     ghost code_index: { IsIndex (codes_in variables.items) codes },
+    ghost says: { ∥ SaysSomething scopes.items variables.items steps.items high.items ∥₁ },
 }

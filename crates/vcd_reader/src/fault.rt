@@ -7,7 +7,7 @@ use std::alloc::{AllocError, AllocFailed};
 use thiserror::Error;
 
 /// What is wrong with the bytes, and at which byte.
-#[derive(Clone, Copy, Debug, PartialEq, Eq)]
+#[derive(Clone, Copy)]
 pub enum Fault {
     BadToken(usize),
     UnknownCode(usize),
@@ -19,7 +19,7 @@ pub enum Fault {
 }
 
 /// Why bytes are no dump: want of memory, or their first fault.
-#[derive(Debug, Drop)]
+#[derive(Drop)]
 pub enum ReadError {
     Memory,
     Fault(Fault),

@@ -3,12 +3,12 @@
 ghost use Rattle.std.specs.Prelude.{◌≡◌, ℕ, ◌<◌, ◌≤◌, ◌++◌, ◌∷◌, [], List, Result, map, length, drop, slice_range, IfOk, MatchResult};
 ghost use Rattle.std.specs.List.{list_all};
 ghost use Rattle.vcd_reader.specs.Tokens.{Token};
-ghost use Rattle.vcd_reader.specs.Faults.{Gives, Fails, resumed};
+ghost use Rattle.vcd_reader.specs.Faults.{Gives, Fails, read_on};
 ghost use Rattle.vcd_reader.specs.Variables as variables;
-ghost use Rattle.vcd_reader.specs.Stored.{declared, declared_in};
+ghost use Rattle.vcd_reader.specs.Stored.{declaration_of, declaration_in};
 ghost use Rattle.vcd_reader.specs.Scopes.{IsTree};
-ghost use Rattle.vcd_reader.specs.Header.{Header, Head, is_end, word_of, field, close, header, skipped, scope_type, var_type, var_reference, variable};
-ghost use Rattle.vcd_reader.specs.Sections.{text_at, tokens_at, head_at, stated, end_of, IsInside, IsAt};
+ghost use Rattle.vcd_reader.specs.Header.{Header, Head, is_end, word_of, field, close, header, skipped_section, scope_type, var_type, var_reference, variable};
+ghost use Rattle.vcd_reader.specs.Sections.{text_at, tokens_at, head_at, stated_header, end_of, IsInside, IsAt};
 
 use crate::fault::{Fault, ReadError};
 use crate::name::reference_name;
@@ -22,7 +22,7 @@ use std::alloc::Global;
 use std::collections::HashMap;
 
 /// What opens a section, by its word.
-#[derive(Clone, Copy, Debug, PartialEq, Eq)]
+#[derive(Clone, Copy)]
 pub(crate) enum Word {
     Ends,
     Scope,
@@ -81,7 +81,8 @@ fn section_word(text: &[u8]) -> Word
     }
 }
 
-fn is_code(text: &[u8]) -> bool
+/// Whether a code may be written so.
+pub(crate) fn is_code(text: &[u8]) -> bool
     ensures { result ≡ list_all variables.is_code_byte text.now }
 {
     text.iter().all(|b| *b >= 33 && *b <= 126)
@@ -92,7 +93,7 @@ fn next_field(bytes: &[u8], at: usize, word: usize) -> Result<Span, Fault>
     requires { at ≤ length bytes.now }
     ensures high { IfOk result (λ s. (at < s.end) × (s.end ≤ length bytes.now)) }
     ensures field { (opener : List ℕ) (go : Token → List Token → Result Header Fault) → field (record { text = opener; place = word }) (tokens_at bytes.now at) go
-        ≡ resumed result (λ s. go (record { text = text_at bytes.now s; place = s.from }) (tokens_at bytes.now s.end)) }
+        ≡ read_on result (λ s. go (record { text = text_at bytes.now s; place = s.from }) (tokens_at bytes.now s.end)) }
 {
     let Some((from, end)) = next_token(bytes, at) else {
         return Err(Fault::UnclosedSection(word));
@@ -108,7 +109,7 @@ fn section_end(bytes: &[u8], at: usize, word: usize) -> Result<usize, Fault>
     requires { at ≤ length bytes.now }
     ensures high { IfOk result (λ end. (at < end) × (end ≤ length bytes.now)) }
     ensures close { (opener : List ℕ) (go : List Token → Result Header Fault) → close (record { text = opener; place = word }) (tokens_at bytes.now at) go
-        ≡ resumed result (λ end. go (tokens_at bytes.now end)) }
+        ≡ read_on result (λ end. go (tokens_at bytes.now end)) }
 {
     let Some((from, end)) = next_token(bytes, at) else {
         return Err(Fault::UnclosedSection(word));
@@ -123,8 +124,8 @@ fn section_end(bytes: &[u8], at: usize, word: usize) -> Result<usize, Fault>
 fn skipped_end(bytes: &[u8], start: usize, word: usize) -> Result<usize, Fault>
     requires { start ≤ length bytes.now }
     ensures high { IfOk result (λ end. (start < end) × (end ≤ length bytes.now)) }
-    ensures skipped { (opener : List ℕ) (scopes : List (List ℕ)) (vars : List variables.Declared) → skipped scopes vars (record { text = opener; place = word }) (tokens_at bytes.now start)
-        ≡ resumed result (λ end. header scopes vars (tokens_at bytes.now end)) }
+    ensures skipped { (opener : List ℕ) (scopes : List (List ℕ)) (vars : List variables.Declared) → skipped_section scopes vars (record { text = opener; place = word }) (tokens_at bytes.now start)
+        ≡ read_on result (λ end. header scopes vars (tokens_at bytes.now end)) }
 {
     let mut at = start;
     'words: loop {
@@ -143,7 +144,7 @@ fn read_scope(bytes: &[u8], at: usize, word: usize) -> Result<(Span, usize), Fau
     requires { at ≤ length bytes.now }
     ensures high { IfOk result (λ r. (at < r.1) × (r.1 ≤ length bytes.now) × (r.0.end ≤ length bytes.now)) }
     ensures scope { (opener : List ℕ) (scopes : List (List ℕ)) (vars : List variables.Declared) → scope_type scopes vars (record { text = opener; place = word }) (tokens_at bytes.now at)
-        ≡ resumed result (λ r. header (scopes ++ text_at bytes.now r.0 ∷ []) vars (tokens_at bytes.now r.1)) }
+        ≡ read_on result (λ r. header (scopes ++ text_at bytes.now r.0 ∷ []) vars (tokens_at bytes.now r.1)) }
 {
     match next_field(bytes, at, word) {
         Err(fault) => Err(fault),
@@ -162,7 +163,7 @@ fn read_var_head(bytes: &[u8], at: usize, word: usize) -> Result<VarHead, Fault>
     requires { at ≤ length bytes.now }
     ensures high { IfOk result (λ h. (at < h.end) × (h.end ≤ length bytes.now) × (h.kind.end ≤ length bytes.now) × (h.code.end ≤ length bytes.now)) }
     ensures head { (opener : List ℕ) (scopes : List (List ℕ)) (vars : List variables.Declared) → var_type scopes vars (record { text = opener; place = word }) (tokens_at bytes.now at)
-        ≡ resumed result (λ h. var_reference scopes vars (record { text = opener; place = word }) (head_at bytes.now h) (tokens_at bytes.now h.end)) }
+        ≡ read_on result (λ h. var_reference scopes vars (record { text = opener; place = word }) (head_at bytes.now h) (tokens_at bytes.now h.end)) }
 {
     match next_field(bytes, at, word) {
         Err(fault) => Err(fault),
@@ -233,7 +234,7 @@ fn read_variable(
     ensures high { IfOk result (λ r. (at < r.1) × (r.1 ≤ length bytes.now)) }
     ensures place { IfOk result (λ r. r.0.scope ≡ scope) }
     ensures variable { (opener : List ℕ) (scopes : List (List ℕ)) (vars : List variables.Declared) → MatchResult result
-        (λ r. var_type scopes vars (record { text = opener; place = word }) (tokens_at bytes.now at) ≡ header scopes (vars ++ declared_in scopes r.0 ∷ []) (tokens_at bytes.now r.1))
+        (λ r. var_type scopes vars (record { text = opener; place = word }) (tokens_at bytes.now at) ≡ header scopes (vars ++ declaration_in scopes r.0 ∷ []) (tokens_at bytes.now r.1))
         (λ e. Fails e (var_type scopes vars (record { text = opener; place = word }) (tokens_at bytes.now at))) }
 {
     match read_var_head(bytes, at, word) {
@@ -272,7 +273,7 @@ fn read_section(
     ensures name { IfOk result (λ s. IsInside s (length bytes.now)) }
     ensures place { IfOk result (IsAt scope) }
     ensures section { (scopes : List (List ℕ)) (vars : List variables.Declared) → MatchResult result
-        (λ s. header scopes vars (record { text = slice_range bytes.now from end; place = from } ∷ tokens_at bytes.now end) ≡ stated s scopes vars bytes.now)
+        (λ s. header scopes vars (record { text = slice_range bytes.now from end; place = from } ∷ tokens_at bytes.now end) ≡ stated_header s scopes vars bytes.now)
         (λ e. Fails e (header scopes vars (record { text = slice_range bytes.now from end; place = from } ∷ tokens_at bytes.now end))) }
 {
     match section_word(&bytes[from..end]) {
@@ -312,7 +313,7 @@ pub(crate) struct Declarations {
 pub(crate) fn read_header(alloc: Global, bytes: &[u8]) -> Result<Declarations, ReadError>
     ensures high { IfOk result (λ d. d.end ≤ length bytes.now) }
     ensures tree { IfOk result (λ d. IsTree d.scopes.items) }
-    ensures header { Gives (λ d. (map (declared d.scopes.items) d.variables.items, tokens_at bytes.now d.end)) result (header [] [] (tokens_at bytes.now 0)) }
+    ensures header { Gives (λ d. (map (declaration_of d.scopes.items) d.variables.items, tokens_at bytes.now d.end)) result (header [] [] (tokens_at bytes.now 0)) }
 {
     let mut variables = Vec::new(alloc);
     let mut scopes: Vec<Scope> = Vec::new(alloc);

@@ -1,7 +1,7 @@
 //! What the tokens of a body say.
 
 /// What a token is by its own text: scalars and vectors by the number of their last 128 digits.
-#[derive(Clone, Copy, Debug, PartialEq, Eq)]
+#[derive(Clone, Copy)]
 pub(crate) enum Seen {
     Time(u64),
     Scalar(u128),
@@ -13,7 +13,7 @@ pub(crate) enum Seen {
 }
 
 /// What a few tokens of the body say.
-#[derive(Clone, Copy, Debug, PartialEq, Eq)]
+#[derive(Clone, Copy)]
 pub(crate) enum Item {
     Timed(u64, usize),
     Changed(u32, u128),

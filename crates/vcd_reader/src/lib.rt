@@ -19,8 +19,6 @@ mod scope;
 mod scopes;
 mod span;
 mod step;
-#[cfg(test)]
-mod tests;
 mod token;
 mod variable;
 

@@ -3,7 +3,7 @@
 ghost use Rattle.std.specs.Prelude.{◌≡◌, ℕ, ◌<◌, ◌≤◌, List, length, IfOk};
 ghost use Rattle.vcd_reader.specs.Variables.{place_of};
 ghost use Rattle.vcd_reader.specs.Index.{codes_in, IsIndex};
-ghost use Rattle.vcd_reader.specs.Packed.{unpacked, AreKnown};
+ghost use Rattle.vcd_reader.specs.Packed.{unpacked_code, AreKnown};
 
 use crate::codes::{Codes, Entry};
 use crate::places::{Part, Places, find_text};
@@ -24,7 +24,7 @@ const BLANK: Entry = Entry {
 /// The number of a code of one to four bytes, or 0.
 #[tactic(auto, using(crate::proofs::PackedLaws::packs))]
 fn packed_code(code: &[u8]) -> u32
-    ensures { 0 < result → unpacked result ≡ code.now }
+    ensures { 0 < result → unpacked_code result ≡ code.now }
 {
     match code {
         [a] => u32::from(*a),

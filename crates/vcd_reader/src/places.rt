@@ -4,7 +4,7 @@ ghost use Rattle.std.specs.Prelude.{◌≡◌, ℕ, ◌<◌, ◌^◌, length, If
 ghost use Rattle.std.specs.Str.{bytes_eq};
 ghost use Rattle.vcd_reader.specs.Keys.{key_of};
 ghost use Rattle.vcd_reader.specs.Variables.{path_of, place_of};
-ghost use Rattle.vcd_reader.specs.Scopes.{opened, IsTree};
+ghost use Rattle.vcd_reader.specs.Scopes.{open_scopes, IsTree};
 ghost use Rattle.vcd_reader.specs.Index.{place_in, own_in, text_in, texts_in, IsIndex};
 
 use crate::key::key_behind;
@@ -15,7 +15,7 @@ use std::alloc::{AllocError, Global};
 use std::collections::HashMap;
 
 /// One of the texts of a variable.
-#[derive(Clone, Copy, Debug, PartialEq, Eq)]
+#[derive(Clone, Copy)]
 pub(crate) enum Part {
     Path,
     Code,
@@ -51,7 +51,7 @@ fn own_part(variable: &Variable, part: Part) -> &[u8]
 /// A key of the text whose own part stands at the place.
 fn text_key(scopes: &[Scope], place: u32, own: &[u8]) -> u64
     requires { IsTree scopes.now }
-    ensures { result ≡ key_of (path_of (opened scopes.now place) own.now) }
+    ensures { result ≡ key_of (path_of (open_scopes scopes.now place) own.now) }
 {
     key_behind(front_key(scopes, place), own)
 }
@@ -59,7 +59,7 @@ fn text_key(scopes: &[Scope], place: u32, own: &[u8]) -> u64
 /// Whether the variable has the text whose own part stands at the place.
 fn has_text(scopes: &[Scope], variable: &Variable, part: Part, place: u32, own: &[u8]) -> bool
     requires { IsTree scopes.now }
-    ensures { result ≡ bytes_eq (text_in part scopes.now variable.now) (path_of (opened scopes.now place) own.now) }
+    ensures { result ≡ bytes_eq (text_in part scopes.now variable.now) (path_of (open_scopes scopes.now place) own.now) }
 {
     is_same_path(
         scopes,
@@ -80,7 +80,7 @@ fn first_place(
 ) -> Option<usize>
     requires { IsTree scopes.now }
     ensures inside { IfSome result (λ i. i < length variables.now) }
-    ensures place { result ≡ place_of (texts_in part scopes.now variables.now) (path_of (opened scopes.now place) own.now) }
+    ensures place { result ≡ place_of (texts_in part scopes.now variables.now) (path_of (open_scopes scopes.now place) own.now) }
 {
     for (i, variable) in variables.iter().enumerate() {
         if has_text(scopes, variable, part, place, own) {
@@ -102,7 +102,7 @@ fn find_place(
     requires tree { IsTree scopes.now }
     requires index { IsIndex (texts_in part scopes.now variables.now) places.now }
     ensures inside { IfSome result (λ i. i < length variables.now) }
-    ensures place { result ≡ place_of (texts_in part scopes.now variables.now) (path_of (opened scopes.now place) own.now) }
+    ensures place { result ≡ place_of (texts_in part scopes.now variables.now) (path_of (open_scopes scopes.now place) own.now) }
 {
     let Some(hint) = places.hints.get(&text_key(scopes, place, own)) else {
         return None;

@@ -7,7 +7,7 @@ ghost use Rattle.vcd_reader.specs.Stored.{stored_step};
 ghost use Rattle.vcd_reader.specs.Body.{body, steps_of};
 ghost use Rattle.vcd_reader.specs.Kept.{kept_steps};
 ghost use Rattle.vcd_reader.specs.Sections.{tokens_at};
-ghost use Rattle.vcd_reader.specs.Dump.{dump_of, line_of, located, Gave, Stands};
+ghost use Rattle.vcd_reader.specs.Dump.{dump_of, line_of, fault_at_line, Stands};
 ghost use Rattle.vcd_reader.specs.Held.{Parses, ReadsAs};
 
 use crate::body::read_body;
@@ -75,7 +75,7 @@ fn line_at(bytes: &[u8], place: usize) -> usize
 
 fn with_line(bytes: &[u8], fault: Fault) -> VcdFault
     requires { length bytes.now < 2 ^ 62 }
-    ensures { result ≡ located bytes.now fault }
+    ensures { result ≡ fault_at_line bytes.now fault }
 {
     match fault {
         Fault::BadToken(place) => VcdFault::BadToken(line_at(bytes, place)),
@@ -92,11 +92,10 @@ fn with_line(bytes: &[u8], fault: Fault) -> VcdFault
 pub fn read_dump<S: Source>(alloc: Global, source: &mut S) -> Result<Dump, VcdFault>
     // What is accepted is what the grammar says of all the bytes that the source had.
     ensures accepted { IfOk result (ReadsAs (S.remaining source.old) (S.remaining source.new)) }
-    // No input that is longer than a dump may be is accepted.
-    ensures bounded { IfOk result (λ _. (bytes : List ℕ) × Gave (S.remaining source.old) (S.remaining source.new) bytes × (length bytes ≤ 2 ^ 48)) }
     ensures counted { OnOk result (S.failures source.new ≡ S.failures source.old) }
     // What is refused has the fault, the first one, or the source failed, or it gave too much.
-    ensures refused { IfErr result (Stands (S.remaining source.old) (S.remaining source.new) (S.failures source.old) (S.failures source.new)) }
+    ensures refused { IfErr result (Stands (S.remaining source.old) (S.remaining source.new)
+        (S.failures source.old) (S.failures source.new)) }
 {
     let bytes = match read_all(alloc, source, MOST_BYTES) {
         Ok(bytes) => bytes,

@@ -2,11 +2,11 @@
 
 ghost use Rattle.std.specs.Prelude.{◌≡◌, ℕ, ◌-◌, ◌<◌, ◌≤◌, ◌++◌, ◌∷◌, [], List, length, take, false, reverse, IfOk, IfSome, MatchOption, ◌⊎◌};
 ghost use Rattle.std.specs.Str.{bytes_eq};
-ghost use Rattle.vcd_reader.specs.Header.{outer};
+ghost use Rattle.vcd_reader.specs.Header.{outer_scopes};
 ghost use Rattle.vcd_reader.specs.Keys.{key_from, key_of};
 ghost use Rattle.vcd_reader.specs.Variables.{path_of};
 ghost use Rattle.vcd_reader.specs.declared.scope.Scope.{Scope};
-ghost use Rattle.vcd_reader.specs.Scopes.{opened, front_of, IsNode, IsTree};
+ghost use Rattle.vcd_reader.specs.Scopes.{open_scopes, front_of, IsNode, IsTree};
 
 use crate::key::key_behind;
 use crate::scope::Scope;
@@ -16,7 +16,7 @@ use std::collections::HashMap;
 /// The scope in which a place is; none outside of all scopes.
 fn scope_at(scopes: &[Scope], place: u32) -> Option<&Scope>
     requires { IsTree scopes.now }
-    ensures { MatchOption result (opened scopes.now place ≡ []) (λ s. (place ≤ length scopes.now) × IsNode scopes.now place s.now) }
+    ensures { MatchOption result (open_scopes scopes.now place ≡ []) (λ s. (place ≤ length scopes.now) × IsNode scopes.now place s.now) }
 {
     let place = place as usize;
     if place == 0 {
@@ -32,7 +32,7 @@ fn scope_at(scopes: &[Scope], place: u32) -> Option<&Scope>
 pub(crate) fn outer_place(scopes: &[Scope], place: u32) -> u32
     requires { IsTree scopes.now }
     ensures inside { result ≤ length scopes.now }
-    ensures outer { opened scopes.now result ≡ outer (opened scopes.now place) }
+    ensures outer { open_scopes scopes.now result ≡ outer_scopes (open_scopes scopes.now place) }
 {
     match scope_at(scopes, place) {
         None => 0,
@@ -82,7 +82,7 @@ pub(crate) fn is_same_path<'a>(
     right_name: &'a [u8],
 ) -> bool
     requires { IsTree scopes.now }
-    ensures { result ≡ bytes_eq (path_of (opened scopes.now left_place) left_name.now) (path_of (opened scopes.now right_place) right_name.now) }
+    ensures { result ≡ bytes_eq (path_of (open_scopes scopes.now left_place) left_name.now) (path_of (open_scopes scopes.now right_place) right_name.now) }
 {
     let mut left_at = left_place;
     let mut left = left_name;
@@ -173,7 +173,7 @@ pub(crate) fn open_scope(
     ensures tree { IfOk result (λ _. IsTree scopes.new.items) }
     ensures grown { IfOk result (λ _. (s : Scope) × (scopes.new.items ≡ scopes.old.items ++ s ∷ [])) }
     ensures inside { IfOk result (λ place. place ≤ length scopes.new.items) }
-    ensures opened { IfOk result (λ place. opened scopes.new.items place ≡ opened scopes.old.items parent ++ name.now ∷ []) }
+    ensures opened { IfOk result (λ place. open_scopes scopes.new.items place ≡ open_scopes scopes.old.items parent ++ name.now ∷ []) }
 {
     let Ok(last) = u32::try_from(scopes.len()) else {
         return Err(AllocError);
@@ -213,7 +213,7 @@ pub(crate) fn path_text(
     name: &[u8],
 ) -> Result<Vec<u8>, AllocError>
     requires { IsTree scopes.now }
-    ensures { IfOk result (λ path. path.items ≡ path_of (opened scopes.now place) name.now) }
+    ensures { IfOk result (λ path. path.items ≡ path_of (open_scopes scopes.now place) name.now) }
 {
     let mut path = Vec::new(alloc);
     push_reversed(&mut path, name)?;

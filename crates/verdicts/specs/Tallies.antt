@@ -1,5 +1,5 @@
 -- What the verdicts on the attempts of an assertion come to.
-use Rattle.std.specs.Prelude.{ℕ, zero, suc, ◌==◌, List, [], ◌∷◌, ◌++◌, Bool, true, false, length, count_by, if◌then◌else◌}
+use Rattle.std.specs.Prelude.{◌≡◌, ℕ, zero, suc, ◌≤◌, ◌==◌, List, [], ◌∷◌, ◌++◌, Bool, true, false, max, length, count_by, if◌then◌else◌}
 use Rattle.signals.specs.declared.verdict.Verdict.{Verdict}
 use Rattle.signals.specs.declared.verdict.Verdict.TheVariants.{Holds, Vacuous, Fails, Disabled, Open}
 use Rattle.verdicts.specs.declared.line.Counts.{Counts}
@@ -69,6 +69,24 @@ unfoldable pub failing_in : ℕ → ℕ → List Verdict → List Failure
 failing_in first zero vs = []
 failing_in first (suc count) vs = failing_at first 0 vs ++ failing_in (suc first) count vs
 
--- those that fail, by clock, then start: no attempt is decided later than the last clock
+-- the clock behind a failure's; 0 behind another verdict's
+abbrev pub clock_behind : Verdict → ℕ
+clock_behind (Holds t) = 0
+clock_behind (Vacuous t) = 0
+clock_behind (Fails t) = suc t
+clock_behind (Disabled t) = 0
+clock_behind Open = 0
+
+-- the first clock that is behind all failures
+unfoldable pub end_of : List Verdict → ℕ
+end_of [] = 0
+end_of (v ∷ vs) = max (clock_behind v) (end_of vs)
+
+-- all those that fail, by clock, then start
 abbrev pub failing_of : List Verdict → List Failure
-failing_of vs = failing_in 0 (length vs) vs
+failing_of vs = failing_in 0 (end_of vs) vs
+
+-- one more verdict, on the attempt that begins at start: those that fail before become those with it
+abbrev pub TakesIn : List Failure → List Failure → ℕ → Verdict → Type 0
+TakesIn old new start v = (vs : List Verdict) (clocks : ℕ) → clock_behind v ≤ clocks
+    → length vs ≡ start → old ≡ failing_in 0 clocks vs → new ≡ failing_in 0 clocks (vs ++ v ∷ [])

@@ -1,8 +1,10 @@
-//! The bytes of a report, and a device that fails on the way.
+//! The bytes of a report, and devices that fail on the way or keep bytes back.
 
 use crate::{Counts, Failure, Line, Report, ReportFault, write_report};
 use signals::{Counted, CutWriter, Sink, Verdict};
 use std::alloc::{AllocError, Global};
+use std::io;
+use std::io::Write;
 use std::test::Fail;
 
 /// A report over three clocks: `first` with two failures out of their order, and `second` without attempts that failed.
@@ -55,16 +57,52 @@ fn cut_reports(rt: HostRuntime) -> Result<(), Fail> {
     Ok(())
 }
 
+/// Keeps the bytes back until it is flushed.
+#[derive(Drop)]
+struct SlowWriter {
+    kept: Vec<u8>,
+    written: Vec<u8>,
+}
+
+impl Write for SlowWriter {
+    fn write(&mut self, buf: &[u8]) -> io::Result<usize> {
+        self.kept.extend_from_slice(buf)?;
+        Ok(buf.len())
+    }
+
+    fn flush(&mut self) -> io::Result<()> {
+        self.written.extend_from_slice(&self.kept)?;
+        self.kept.clear();
+        Ok(())
+    }
+}
+
+/// The whole report is on a device that hands on what it took only once it is flushed.
+#[test]
+fn report_is_flushed(rt: HostRuntime) -> Result<(), Fail> {
+    let report = report(rt.alloc())?;
+    let mut out = Counted::new(SlowWriter {
+        kept: Vec::new(rt.alloc()),
+        written: Vec::new(rt.alloc()),
+    });
+    assert!(rt; write_report(rt.alloc(), &report, &mut out).is_ok());
+    assert_eq!(rt; out.inner.written.as_slice(), TEXT);
+    assert_eq!(rt; out.failed_calls(), 0);
+    Ok(())
+}
+
+/// By clock, then start, also where a clock lies behind the verdicts.
 #[test]
 fn failures_in_order(rt: HostRuntime) -> Result<(), Fail> {
-    let verdicts = [Verdict::Fails(2), Verdict::Fails(1), Verdict::Fails(2)];
+    let verdicts = [Verdict::Fails(9), Verdict::Fails(1), Verdict::Fails(9)];
     let line = line(rt.alloc(), "first", verdicts.as_slice())?;
     let want = [
         Failure { start: 1, clock: 1 },
-        Failure { start: 0, clock: 2 },
-        Failure { start: 2, clock: 2 },
+        Failure { start: 0, clock: 9 },
+        Failure { start: 2, clock: 9 },
     ];
     assert_eq!(rt; line.fails.as_slice(), want.as_slice());
+    assert_eq!(rt; line.counts.fails, 3);
     Ok(())
 }
 

@@ -1,18 +1,16 @@
 use Rattle.std.proofs.Common.{◌≡◌, ◌∙◌, ℕ, ◌+◌, [], ◌∷◌, ◌++◌, List, length, map, take, sym, ap, subst, add-one}
 use Rattle.std.proofs.Math.Seq.{take-suc}
 use Rattle.std.proofs.lemmas.List.{map-append}
-use Rattle.types.specs.declared.assertion.Assertion.{Assertion}
-use Rattle.values.specs.Traces.{samples_of}
+use Rattle.assertions.specs.declared.assertion.Assertion.{Assertion}
 use Rattle.verdicts.specs.Lines.{LineData, line}
-use Rattle.cli.specs.Judged.{AreLines}
-use Rattle.cli.proofs.SameLaws.{more_lines}
+use Rattle.cli.specs.Judged.{AreLinesOver, IsLineOver}
+use Rattle.cli.proofs.LineLaws.{more_lines}
 use Rattle.cli.proofs.lines.lines_of.Goals as goal
 
 pub loop-assertion-preserved : goal.loop-assertion-preserved
 loop-assertion-preserved c =
-    let bs = c.args.suite.now.booleans.items in
-    let t = samples_of c.args.rows.now in
-    let n = length c.args.rows.now.signals in
+    let suite = c.args.suite.now in
+    let signals = c.args.rows.now.signals in
     let all = c.args.suite.now.assertions.items in
     let items = c.deref-assertion-items.result.now in
     let i = c.loop-assertion.assertion-index in
@@ -24,6 +22,6 @@ loop-assertion-preserved c =
     let more : take (i + 1) all ≡ take i all ++ a ∷ [] =
     ap (take (i + 1)) (sym c.deref-assertion-items.ensures.value) ∙ front ∙ ap (λ (seen : List Assertion). take i seen ++ a ∷ []) c.deref-assertion-items.ensures.value in
     let last : map line c.push.new.self.items ≡ map line lines ++ line l ∷ [] = ap (map line) c.in_ok-push.ensures.items ∙ map-append line lines (l ∷ []) in
-    let pushed = more_lines bs t n a (line l) c.in_ok-line.ensures (take i all) (map line lines) c.loop-assertion.invariant in
-    subst (λ (seen : List Assertion). AreLines bs t n seen (map line c.push.new.self.items)) (sym more)
-    (subst (λ (ls : List LineData). AreLines bs t n (take i all ++ a ∷ []) ls) (sym last) pushed)
+    let pushed = more_lines (IsLineOver suite signals) a (line l) c.in_ok-line.ensures (take i all) (map line lines) c.loop-assertion.invariant in
+    subst (λ (seen : List Assertion). AreLinesOver suite signals seen (map line c.push.new.self.items)) (sym more)
+    (subst (λ (ls : List LineData). AreLinesOver suite signals (take i all ++ a ∷ []) ls) (sym last) pushed)

@@ -1,7 +1,7 @@
 use Rattle.std.proofs.Common.{◌≡◌, ℕ, List, Some, sym, ap, ◌∙◌}
 use Rattle.std.proofs.lemmas.Result.{on_ok_weaker}
-use Rattle.typing.specs.Entries.{with_entry}
-use Rattle.typing.specs.Views.{names_in}
+use Rattle.types_expressions.specs.Entries.{with_entry}
+use Rattle.types_expressions.specs.Views.{names_in}
 use Rattle.vcd_reader.specs.Variables.{variable_named}
 use Rattle.vcd_reader.specs.Held.{variables_of}
 use Rattle.cli.specs.Named.{width_named, with_named}

@@ -1,5 +1,5 @@
 use Rattle.std.proofs.Common.{◌≡◌, ◌∙◌, ℕ, suc, ◌+◌, ◌∷◌, List, map, drop, sym, ap, add-one, drop-cons}
-use Rattle.typing.specs.Views.{names_in}
+use Rattle.types_expressions.specs.Views.{names_in}
 use Rattle.vcd_reader.specs.declared.variable.Name.{Name}
 use Rattle.vcd_reader.specs.Variables.{Named}
 use Rattle.vcd_reader.specs.Held.{variables_of}

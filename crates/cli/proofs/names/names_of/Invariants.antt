@@ -1,7 +1,7 @@
 use Rattle.std.proofs.Common.{◌≡◌, ℕ, List, map, drop}
-use Rattle.typing.specs.Scopes.{found}
-use Rattle.typing.specs.Views.{names_in}
-use Rattle.typing.proofs.EntryLaws.{first_of}
+use Rattle.types_expressions.specs.Scopes.{found}
+use Rattle.types_expressions.specs.Views.{names_in}
+use Rattle.types_expressions.proofs.EntryLaws.{first_of}
 use Rattle.vcd_reader.specs.declared.variable.Name.{Name}
 use Rattle.vcd_reader.specs.Held.{variables_of}
 use Rattle.cli.specs.Named.{width_named}

@@ -1,27 +1,22 @@
-use Rattle.std.proofs.Common.{◌≡◌, ◌∙◌, ℕ, List, length, map, ap, subst}
-use Rattle.values.specs.declared.counter.Counter.{Counter}
-use Rattle.values.specs.Laws.{AgreeTo}
-use Rattle.values.specs.Tables.{column}
-use Rattle.values.specs.Counters.{counted}
-use Rattle.values.specs.Traces.{samples_of}
+use Rattle.std.proofs.Common.{◌∙◌, ℕ, List, length, map, ap, subst}
+use Rattle.expressions.specs.declared.counter.Counter.{Counter}
+use Rattle.expressions.specs.Rows.{HasCounts}
 use Rattle.verdicts.specs.Lines.{line, report_of}
-use Rattle.cli.specs.Judged.{AreLines}
-use Rattle.cli.proofs.SameLaws.{same_lines}
+use Rattle.cli.specs.Judged.{AreLinesOver}
 use Rattle.cli.proofs.report.report_over.Goals as goal
+
+pub lines_of-requires : goal.lines_of-requires
+lines_of-requires c =
+    subst (λ (all : List Counter). HasCounts all c.in_ok-rows.rows) c.as_slice.ensures.value c.in_ok-rows.ensures.counters
 
 pub returns : goal.returns
 returns c =
     let suite = c.args.suite.now in
     let rows = c.in_ok-rows.rows in
-    let t = samples_of rows in
-    let bs = suite.booleans.items in
-    let n = length c.args.signals in
     let lines = map line c.in_ok-lines.lines.items in
-    let same : length rows.signals ≡ n = ap length c.in_ok-rows.ensures.signals in
-    let agree = subst (λ (all : List Counter). AgreeTo n t (counted (column c.args.signals) all)) c.as_slice.ensures.value c.in_ok-rows.ensures.counters in
     record {
       lines = lines;
-      judged = same_lines bs t (counted (column c.args.signals) suite.counters.items) n agree suite.assertions.items lines
-          (subst (λ (k : ℕ). AreLines bs t k suite.assertions.items lines) same c.in_ok-lines.ensures);
-      is = c.new.ensures ∙ ap (λ (k : ℕ). report_of k lines) (c.len.ensures.len ∙ same);
+      judged = subst (λ (signals : List (List ℕ)). AreLinesOver suite signals suite.assertions.items lines)
+          c.in_ok-rows.ensures.signals c.in_ok-lines.ensures;
+      is = c.new.ensures ∙ ap (λ (k : ℕ). report_of k lines) (c.len.ensures.len ∙ ap length c.in_ok-rows.ensures.signals);
     }

@@ -10,7 +10,6 @@ loop-alloc-init c = record {
     same_clock = sym (ap clock_in c.in-Ok.ensures.columns ∙ c.requires.clock);
     clocks = c.requires.clocks;
     over = λ contents holds. c.in-Ok.ensures.over contents (c.requires.columns contents holds);
-    held = c.requires.held;
   };
   columns = c.in-Ok.ensures.columns;
   size = c.in-Ok.ensures.size;

@@ -1,12 +1,12 @@
 use Rattle.std.proofs.Common.{◌≡◌, ◌+◌, ◌-◌, max, ℕ, List, Bool, refl, sym, ◌∙◌, subst, arith}
 use Rattle.std.proofs.lemmas.Bool.{or_right}
 use Rattle.std.proofs.lemmas.Result.{IfOk-weaker}
-use Rattle.types.specs.declared.sequence.Boolean.{Boolean}
-use Rattle.types.specs.declared.sequence.Boolean.TheVariants.{One}
-use Rattle.types.specs.declared.sequence.Sequence.{Sequence}
-use Rattle.types.specs.Segments.{is_match}
-use Rattle.types.specs.Written.{one_of, after}
-use Rattle.types.specs.Shapes.{shape}
+use Rattle.assertions.specs.declared.sequence.Boolean.{Boolean}
+use Rattle.assertions.specs.declared.sequence.Boolean.TheVariants.{One}
+use Rattle.assertions.specs.declared.sequence.Sequence.{Sequence}
+use Rattle.assertions.specs.Segments.{is_match}
+use Rattle.assertions.specs.Written.{one_of, after}
+use Rattle.assertions.specs.Shapes.{shape}
 use Rattle.judging.specs.Tables.{held_at, IsRelation}
 use Rattle.judging.proofs.FormLaws.{no_starts, and_law, repeat_law, behind_law, delay_law, lead_law, lies_moved}
 use Rattle.judging.proofs.ends.+ends.Goals as goal
@@ -32,9 +32,9 @@ ends_from-returns-in_ok-bodies-in-Repeat t c =
     let body = subst (λ (s : Sequence). IsRelation (is_match h (shape s)) c.as_slice.result.now bodies) c.deref-in-Repeat.ensures c.in_ok-bodies-in-Repeat.ensures in
     let body_is = subst (λ (l : List Bool). IsRelation (is_match h (shape c.in-Repeat.body.value)) l bodies) c.as_slice.ensures.value body in
     rw c.in-Repeat.is
-    (IfOk-weaker c.repeated.result _ _
+    (IfOk-weaker c.repetition_of.result _ _
     (λ v all. repeat_law Boolean h (shape c.in-Repeat.body.value) c.in-Repeat.least c.in-Repeat.most c.args.starts.now every bodies v c.in_ok-every-in-Repeat.ensures.long (λ k below. c.in_ok-every-in-Repeat.ensures.each k below) body_is all)
-    c.repeated.ensures)
+    c.repetition_of.ensures)
 
 pub ends_from-returns-in_ok-others-in-And : goal.ends_from-returns-in_ok-others-in-And
 ends_from-returns-in_ok-others-in-And t c =
@@ -50,9 +50,9 @@ pub ends_behind-returns : goal.ends_behind-returns
 ends_behind-returns t c =
     let test : ℕ → ℕ → Bool = is_match (held_at c.args.seen.now.values) (shape c.args.rest.now) in
     let rest = subst (λ (l : List Bool). IsRelation test l c.in_ok-rests.rests) c.as_slice.ensures.value c.in_ok-rests.ensures in
-    IfOk-weaker c.joined_behind.result _ _
+    IfOk-weaker c.composition_behind.result _ _
     (λ v all. behind_law test c.args.starts.now c.in_ok-begins.begins.items c.args.apart.now c.args.together.now c.in_ok-rests.rests v c.in_ok-begins.ensures.long c.in_ok-begins.ensures.moved c.in_ok-begins.ensures.shared rest all)
-    c.joined_behind.ensures
+    c.composition_behind.ensures
 
 pub ends_delayed-returns : goal.ends_delayed-returns
 ends_delayed-returns t c =

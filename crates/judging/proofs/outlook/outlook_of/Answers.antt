@@ -1,6 +1,6 @@
 use Rattle.std.proofs.Common.{◌≡◌, ℕ, ◌+◌, ◌≤◌, ◌&&◌, ◌||◌, not, Bool, List, sym, ap, ◌∙◌, arith}
-use Rattle.types.specs.Quantifiers.{some_in, each_in}
-use Rattle.types.proofs.Quantifiers.{some_in-snoc, each_in-snoc}
+use Rattle.assertions.specs.Quantifiers.{some_in, each_in}
+use Rattle.assertions.proofs.Quantifiers.{some_in-snoc, each_in-snoc}
 use Rattle.judging.specs.Tables.{marks, links}
 use Rattle.judging.proofs.outlook.outlook_of.Goals as goal
 

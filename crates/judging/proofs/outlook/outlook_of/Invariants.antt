@@ -1,5 +1,5 @@
 use Rattle.std.proofs.Common.{◌≡◌, ℕ, ◌+◌, ◌&&◌, ◌||◌, not}
-use Rattle.types.specs.Quantifiers.{some_in, each_in}
+use Rattle.assertions.specs.Quantifiers.{some_in, each_in}
 use Rattle.judging.specs.Tables.{marks, links}
 use Rattle.judging.proofs.outlook.outlook_of.Given as goal
 

@@ -1,5 +1,5 @@
 use Rattle.std.proofs.Common.{ℕ, ◌+◌, ◌&&◌, ◌||◌}
-use Rattle.types.specs.Quantifiers.{some_in}
+use Rattle.assertions.specs.Quantifiers.{some_in}
 use Rattle.judging.specs.Tables.{links}
 use Rattle.judging.proofs.RowLaws.{IsRowsOf}
 use Rattle.judging.proofs.relation.both.Given as goal

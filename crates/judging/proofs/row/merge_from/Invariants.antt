@@ -8,5 +8,5 @@ pub record IsMerged (old new more : List Bool) (from place : ℕ) : Type 0 where
   pub merged : (k : ℕ) → from ≤ k → k < place → marks new k ≡ (marks old k || marks more k)
   pub after : (k : ℕ) → place ≤ k → marks new k ≡ marks old k
 
-abbrev pub invariant-loop-j : goal.invariant-loop-j
-invariant-loop-j l = IsMerged l.initial.row.items l.row.items l.more l.from l.j
+abbrev pub invariant-loop-place : goal.invariant-loop-place
+invariant-loop-place l = IsMerged l.initial.row.items l.row.items l.more l.from l.place

@@ -1,5 +1,5 @@
 use Rattle.std.proofs.Common.{◌≡◌}
-use Rattle.types.specs.Quantifiers.{some_in}
+use Rattle.assertions.specs.Quantifiers.{some_in}
 use Rattle.judging.specs.Tables.{marks}
 use Rattle.judging.proofs.row.some_mark.Given as goal
 

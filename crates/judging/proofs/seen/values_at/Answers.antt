@@ -1,8 +1,8 @@
 use Rattle.std.proofs.Common.{false, sym, ◌∙◌, ap, arith, inl, inr}
 use Rattle.std.proofs.lemmas.Option.{slice_get_past}
 use Rattle.std.proofs.lemmas.Bool.{cases_lt}
-use Rattle.types.specs.Shapes.{is_true_at, expression_at}
-use Rattle.values.specs.Traces.{samples_of}
+use Rattle.assertions.specs.Shapes.{is_true_at, expression_at}
+use Rattle.expressions.specs.Rows.{samples_of}
 use Rattle.judging.proofs.RowLaws.{get_or_past}
 use Rattle.judging.proofs.seen.values_at.Goals as goal
 

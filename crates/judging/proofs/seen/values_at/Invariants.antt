@@ -1,7 +1,7 @@
 use Rattle.std.proofs.Common.{◌≡◌, ℕ, ◌<◌, length}
 use Rattle.std.specs.Prelude.{slice_get}
-use Rattle.types.specs.Shapes.{is_true_at, expression_at}
-use Rattle.values.specs.Traces.{samples_of}
+use Rattle.assertions.specs.Shapes.{is_true_at, expression_at}
+use Rattle.expressions.specs.Rows.{samples_of}
 use Rattle.judging.specs.Tables.{marks}
 use Rattle.judging.proofs.seen.values_at.Given as goal
 

@@ -1,15 +1,16 @@
 use Rattle.std.proofs.Common.{◌≡◌, ◌∙◌, ◌+◌, ℕ, Bool, List, length, ap, subst}
 use Rattle.std.specs.Prelude.{Option}
 use Rattle.signals.specs.declared.verdict.Verdict.{Verdict}
-use Rattle.types.specs.declared.sequence.Boolean.{Boolean}
-use Rattle.types.specs.declared.decision.Decision.{Decision}
-use Rattle.types.specs.Quantifiers.{first_in}
-use Rattle.types.specs.Segments.{Seq}
-use Rattle.types.specs.Attempts.{verdict, verdict_by, decision}
-use Rattle.types.specs.Shapes.{value_in, off_in}
-use Rattle.types.proofs.Verdicts.{IsVerdict-at}
-use Rattle.values.specs.declared.expr.Expr.{Expr}
-use Rattle.values.specs.Terms.{Samples}
+use Rattle.assertions.specs.declared.sequence.Boolean.{Boolean}
+use Rattle.assertions.specs.declared.decision.Decision.{Decision}
+use Rattle.assertions.specs.Quantifiers.{first_in}
+use Rattle.assertions.specs.Segments.{Seq}
+use Rattle.assertions.specs.Attempts.{verdict, verdict_by, decision}
+use Rattle.assertions.specs.Shapes.{value_in, off_in}
+use Rattle.assertions.proofs.Verdicts.{IsVerdict-at}
+use Rattle.assertions.proofs.AgreeLaws.{verdict_over}
+use Rattle.expressions.specs.declared.expr.Expr.{Expr}
+use Rattle.expressions.specs.Terms.{Samples}
 use Rattle.judging.specs.Tables.{off_at, last_of, HasSeen}
 use Rattle.judging.proofs.DecisionLaws.{verdict_seen}
 use Rattle.judging.proofs.verdict.judge.Goals as goal
@@ -22,12 +23,8 @@ verdict_found all places t d r s rows end c values found v len seen long is at =
     subst (λ k. v ≡ verdict (value_in all places t) (off_in all places t d) r s k c) len
     (at ∙ verdict_seen all places t c end values d found seen long ∙ ap (verdict_by (off_in all places t d) c end) is)
 
-pub returns-clause-computed : goal.returns-clause-computed
-returns-clause-computed c =
+pub returns : goal.returns
+returns c =
     let ensured = c.in_ok-course.ensures in
-    verdict_found _ _ _ _ _ _ _ _ _ _ _ _ c.len-end.ensures.len ensured.seen ensured.long ensured.found c.verdict_from.ensures
-
-pub returns-clause-meaning : goal.returns-clause-meaning
-returns-clause-meaning c =
-    let ensured = c.in_ok-course.ensures in
-    IsVerdict-at Boolean _ _ _ _ _ _ _ (verdict_found _ _ _ _ _ _ _ _ _ _ _ _ c.len-end.ensures.len ensured.seen ensured.long ensured.found c.verdict_from.ensures)
+    verdict_over c.args.suite.now c.args.rows.now c.args.assertion.now c.args.tick _ c.requires.counted
+    (IsVerdict-at Boolean _ _ _ _ _ _ _ (verdict_found _ _ _ _ _ _ _ _ _ _ _ _ c.len-end.ensures.len ensured.seen ensured.long ensured.found c.verdict_from.ensures))

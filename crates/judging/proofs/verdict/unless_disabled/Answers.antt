@@ -1,6 +1,6 @@
 use Rattle.std.proofs.Common.{sym, ap}
-use Rattle.types.specs.Attempts.{disabled_or}
-use Rattle.types.proofs.Quantifiers.{first_true-never}
+use Rattle.assertions.specs.Attempts.{disabled_or}
+use Rattle.assertions.proofs.Quantifiers.{first_true-never}
 use Rattle.judging.proofs.verdict.unless_disabled.Goals as goal
 
 pub returns-in_default : goal.returns-in_default

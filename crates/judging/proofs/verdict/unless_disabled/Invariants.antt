@@ -1,5 +1,5 @@
 use Rattle.std.proofs.Common.{◌≡◌}
-use Rattle.types.specs.Quantifiers.{first_true}
+use Rattle.assertions.specs.Quantifiers.{first_true}
 use Rattle.judging.specs.Tables.{off_at}
 use Rattle.judging.proofs.verdict.unless_disabled.Given as goal
 

@@ -1,6 +1,6 @@
 use Rattle.std.proofs.Common.{ap, ◌∙◌}
-use Rattle.types.specs.Attempts.{disabled_or}
-use Rattle.types.specs.Quantifiers.{first_true}
+use Rattle.assertions.specs.Attempts.{disabled_or}
+use Rattle.assertions.specs.Quantifiers.{first_true}
 use Rattle.judging.specs.Tables.{off_at}
 use Rattle.judging.proofs.verdict.verdict_from.Goals as goal
 

@@ -1,7 +1,7 @@
 use Rattle.std.proofs.Common.{suc, ◌+◌, ◌*◌, ◌≤◌, map, length, Some}
 use Rattle.grammar.specs.declared.terminal.Terminal.TheVariants.{Comma}
 use Rattle.grammar.specs.Terminals.{is}
-use Rattle.grammar.specs.Marks.{so_loose}
+use Rattle.grammar.specs.Marks.{has_precedence}
 use Rattle.grammar.specs.Readers.{◌>>=◌}
 use Rattle.grammar.specs.ReadExpressions.{operand, expression}
 use Rattle.parser.specs.Views.{tree_of, link_of}
@@ -45,7 +45,7 @@ abbrev pub decreases-read_unary : goal.decreases-read_unary
 decreases-read_unary l = 100 * l.depth
 
 abbrev pub invariant-read_links-links : goal.invariant-read_links-links
-invariant-read_links-links l = (length l.left ≤ length l.tokens) × Turns (so_loose (suc l.level)) (λ t us. operand l.depth l.level us >>= λ p. Some ((t, p.0), p.1)) l.tokens (map link_of l.found.items) l.left
+invariant-read_links-links l = (length l.left ≤ length l.tokens) × Turns (has_precedence (suc l.level)) (λ t us. operand l.depth l.level us >>= λ p. Some ((t, p.0), p.1)) l.tokens (map link_of l.found.items) l.left
 
 abbrev pub decreases-read_links-links : goal.decreases-read_links-links
 decreases-read_links-links l = length l.left

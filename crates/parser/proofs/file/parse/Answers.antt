@@ -6,21 +6,21 @@ use Rattle.parser.proofs.FileLaws.{no-end, other-end, behind-end, found, no-asse
 use Rattle.parser.proofs.file.parse.Goals as goal
 
 pub returns-in-Err-clause-err : goal.returns-in-Err-clause-err
-returns-in-Err-clause-err c = nothing-read _ _ c.in-Err.ensures
+returns-in-Err-clause-err c = nothing-read _ _ c.in-Err.ensures.read
 
 pub returns-in_default-clause-err : goal.returns-in_default-clause-err
-returns-in_default-clause-err c = no-end _ _ _ c.in-Ok.ensures _ c.in_default.ensures
+returns-in_default-clause-err c = no-end _ _ _ c.in-Ok.ensures.read _ c.in_default.ensures
 
 pub returns-then-not-is-clause-err : goal.returns-then-not-is-clause-err
-returns-then-not-is-clause-err c = other-end _ _ _ c.in-Ok.ensures _ _ c.in-Some.ensures _ c.if-not-is.ensures
+returns-then-not-is-clause-err c = other-end _ _ _ c.in-Ok.ensures.read _ _ c.in-Some.ensures _ c.if-not-is.ensures
 
 pub returns-in-Some-first-clause-err : goal.returns-in-Some-first-clause-err
-returns-in-Some-first-clause-err c = behind-end _ _ _ c.in-Ok.ensures _ _ c.in-Some.ensures _ (λ none. let more = sym c.in-Some-first.ensures ∙ none in absurd cc)
+returns-in-Some-first-clause-err c = behind-end _ _ _ c.in-Ok.ensures.read _ _ c.in-Some.ensures _ (λ none. let more = sym c.in-Some-first.ensures ∙ none in absurd cc)
 
 pub returns-then-not-has_assertion-clause-err : goal.returns-then-not-has_assertion-clause-err
-returns-then-not-has_assertion-clause-err c = no-assertion _ _ _ c.in-Ok.ensures _ (c.if-not-has_assertion.ensures ∙ ap (λ (xs : List Item). asserts (map item_of xs)) c.as_slice.ensures.value)
+returns-then-not-has_assertion-clause-err c = no-assertion _ _ _ c.in-Ok.ensures.read _ (c.if-not-has_assertion.ensures ∙ ap (λ (xs : List Item). asserts (map item_of xs)) c.as_slice.ensures.value)
 
 pub returns-clause-ok : goal.returns-clause-ok
 returns-clause-ok c =
-    found _ _ _ c.in-Ok.ensures _ _ c.in-Some.ensures c.if-not-is.ensures c.in_default-first.ensures
+    found _ _ _ c.in-Ok.ensures.read _ _ c.in-Some.ensures c.if-not-is.ensures c.in_default-first.ensures
     (c.if-not-has_assertion.ensures ∙ ap (λ (xs : List Item). asserts (map item_of xs)) c.as_slice.ensures.value)

@@ -1,11 +1,11 @@
-use Rattle.std.proofs.Common.{◌∷◌, map, length}
+use Rattle.std.proofs.Common.{◌∷◌, ◌≤◌, map, length}
 use Rattle.grammar.specs.ReadFiles.{is_more, item}
 use Rattle.parser.specs.Views.{item_of}
 use Rattle.parser.proofs.LoopLaws.{Turns}
 use Rattle.parser.proofs.file.read_items.Given as goal
 
 abbrev pub invariant-items : goal.invariant-items
-invariant-items l = Turns is_more (λ t us. item (t ∷ us)) l.tokens (map item_of l.found.items) l.left
+invariant-items l = (length l.left ≤ length l.tokens) × Turns is_more (λ t us. item (t ∷ us)) l.tokens (map item_of l.found.items) l.left
 
 abbrev pub decreases-items : goal.decreases-items
 decreases-items l = length l.left

@@ -5,9 +5,9 @@ use Rattle.vcd_reader.specs.declared.scope.Scope.{Scope}
 use Rattle.vcd_reader.specs.declared.variable.Variable.{Variable}
 use Rattle.vcd_reader.specs.Tokens.{Token}
 use Rattle.vcd_reader.specs.Variables.{Declared}
-use Rattle.vcd_reader.specs.Stored.{declared, declared_in}
+use Rattle.vcd_reader.specs.Stored.{declaration_of, declaration_in}
 use Rattle.vcd_reader.specs.Header.{Header, header}
-use Rattle.vcd_reader.specs.Scopes.{opened, IsTree}
+use Rattle.vcd_reader.specs.Scopes.{open_scopes, IsTree}
 use Rattle.vcd_reader.specs.Sections.{text_at, tokens_at}
 use Rattle.vcd_reader.proofs.HeaderLaws.{header-none, fails-along}
 use Rattle.vcd_reader.proofs.ScopeLaws.{opened-top, opened-kept, tree-none}
@@ -20,7 +20,7 @@ sections-init c = record {
   inside = omega arith;
   same = λ more.
       ap (λ (xs : List (List ℕ)). header xs [] (tokens_at c.args.bytes.now 0)) (sym (opened-top c.new-scopes.result.items))
-      ∙ ap (λ (vs : List Variable). header (opened c.new-scopes.result.items 0) (map (declared (c.new-scopes.result.items ++ more)) vs) (tokens_at c.args.bytes.now 0)) (sym c.new-variables.ensures.items);
+      ∙ ap (λ (vs : List Variable). header (open_scopes c.new-scopes.result.items 0) (map (declaration_of (c.new-scopes.result.items ++ more)) vs) (tokens_at c.args.bytes.now 0)) (sym c.new-variables.ensures.items);
 }
 
 pub returns-in_default-clause-header : goal.returns-in_default-clause-header
@@ -28,22 +28,22 @@ returns-in_default-clause-header c = c.sections.invariant.same [] ∙ header-non
 
 pub returns-in-Err-clause-header : goal.returns-in-Err-clause-header
 returns-in-Err-clause-header c =
-    let scopes = opened c.sections.scopes.items c.sections.scope in
-    let vars = map (declared (c.sections.scopes.items ++ [])) c.sections.variables.items in
+    let scopes = open_scopes c.sections.scopes.items c.sections.scope in
+    let vars = map (declaration_of (c.sections.scopes.items ++ [])) c.sections.variables.items in
     fails-along c.in-Err.e (c.sections.invariant.same [] ∙ ap (λ (ts : List Token). header scopes vars ts) c.in-Some.ensures.tokens) (c.in-Err.ensures.section scopes vars)
 
 pub returns-in-Ok-Ended-clause-header : goal.returns-in-Ok-Ended-clause-header
 returns-in-Ok-Ended-clause-header c =
-    let scopes = opened c.sections.scopes.items c.sections.scope in
-    let vars = map (declared (c.sections.scopes.items ++ [])) c.sections.variables.items in
+    let scopes = open_scopes c.sections.scopes.items c.sections.scope in
+    let vars = map (declaration_of (c.sections.scopes.items ++ [])) c.sections.variables.items in
     c.sections.invariant.same [] ∙ ap (λ (ts : List Token). header scopes vars ts) c.in-Some.ensures.tokens ∙ (rw c.in-Ok-Ended.field-0-is at c.in-Ok-Ended.ensures.section scopes vars)
-    ∙ ap (λ (ss : List Scope). let r : Result Header Fault = Ok (map (declared ss) c.sections.variables.items, tokens_at c.args.bytes.now c.in-Ok-Ended.stop) in r) (append-nil c.sections.scopes.items)
+    ∙ ap (λ (ss : List Scope). let r : Result Header Fault = Ok (map (declaration_of ss) c.sections.variables.items, tokens_at c.args.bytes.now c.in-Ok-Ended.stop) in r) (append-nil c.sections.scopes.items)
 
 pub sections-preserved-in-Ok-Opened : goal.sections-preserved-in-Ok-Opened
 sections-preserved-in-Ok-Opened c =
     let old = c.sections.scopes.items in
     let new = c.open_scope.new.scopes.items in
-    let scopes = opened old c.sections.scope in
+    let scopes = open_scopes old c.sections.scope in
     let name = text_at c.args.bytes.now c.in-Ok-Opened.name in
     let rest = tokens_at c.args.bytes.now c.in-Ok-Opened.stop in
     let grown = c.in_ok-scope-in-Ok-Opened.ensures.grown in
@@ -53,17 +53,17 @@ sections-preserved-in-Ok-Opened c =
       tree = c.in_ok-scope-in-Ok-Opened.ensures.tree;
       inside = c.in_ok-scope-in-Ok-Opened.ensures.inside;
       same = λ more.
-          let vars = map (declared (old ++ grown.0 ∷ more)) c.sections.variables.items in
+          let vars = map (declaration_of (old ++ grown.0 ∷ more)) c.sections.variables.items in
           let longer : old ++ grown.0 ∷ more ≡ new ++ more = sym (append_assoc old (grown.0 ∷ []) more) ∙ ap (λ (ss : List Scope). ss ++ more) (sym grown.1) in
           c.sections.invariant.same (grown.0 ∷ more) ∙ ap (λ (ts : List Token). header scopes vars ts) c.in-Some.ensures.tokens ∙ (rw c.in-Ok-Opened.field-0-is at c.in-Ok-Opened.ensures.section scopes vars)
           ∙ ap (λ (xs : List (List ℕ)). header xs vars rest) (sym c.in_ok-scope-in-Ok-Opened.ensures.opened)
-          ∙ ap (λ (ss : List Scope). header (opened new c.in_ok-scope-in-Ok-Opened.scope) (map (declared ss) c.sections.variables.items) rest) longer;
+          ∙ ap (λ (ss : List Scope). header (open_scopes new c.in_ok-scope-in-Ok-Opened.scope) (map (declaration_of ss) c.sections.variables.items) rest) longer;
     }
 
 pub sections-preserved-in-Ok-Declared : goal.sections-preserved-in-Ok-Declared
 sections-preserved-in-Ok-Declared c =
     let old = c.sections.scopes.items in
-    let scopes = opened old c.sections.scope in
+    let scopes = open_scopes old c.sections.scope in
     let v = c.in-Ok-Declared.variable in
     let rest = tokens_at c.args.bytes.now c.in-Ok-Declared.stop in
     let place = rw c.in-Ok-Declared.field-0-is at c.in-Ok-Declared.ensures.place in
@@ -73,10 +73,10 @@ sections-preserved-in-Ok-Declared c =
       tree = c.sections.invariant.tree;
       inside = c.sections.invariant.inside;
       same = λ more.
-          let vars = map (declared (old ++ more)) c.sections.variables.items in
-          let one : declared_in scopes v ≡ declared (old ++ more) v = ap (λ (xs : List (List ℕ)). declared_in xs v) (sym (opened-kept old more c.sections.scope c.sections.invariant.inside) ∙ ap (opened (old ++ more)) (sym place)) in
-          let all : vars ++ declared_in scopes v ∷ [] ≡ map (declared (old ++ more)) c.push.new.self.items =
-          ap (λ (d : Declared). vars ++ d ∷ []) one ∙ sym (map-append (declared (old ++ more)) c.sections.variables.items (v ∷ [])) ∙ ap (λ (vs : List Variable). map (declared (old ++ more)) vs) (sym c.in_ok-push-in-Ok-Declared.ensures.items) in
+          let vars = map (declaration_of (old ++ more)) c.sections.variables.items in
+          let one : declaration_in scopes v ≡ declaration_of (old ++ more) v = ap (λ (xs : List (List ℕ)). declaration_in xs v) (sym (opened-kept old more c.sections.scope c.sections.invariant.inside) ∙ ap (open_scopes (old ++ more)) (sym place)) in
+          let all : vars ++ declaration_in scopes v ∷ [] ≡ map (declaration_of (old ++ more)) c.push.new.self.items =
+          ap (λ (d : Declared). vars ++ d ∷ []) one ∙ sym (map-append (declaration_of (old ++ more)) c.sections.variables.items (v ∷ [])) ∙ ap (λ (vs : List Variable). map (declaration_of (old ++ more)) vs) (sym c.in_ok-push-in-Ok-Declared.ensures.items) in
           c.sections.invariant.same more ∙ ap (λ (ts : List Token). header scopes vars ts) c.in-Some.ensures.tokens ∙ (rw c.in-Ok-Declared.field-0-is at c.in-Ok-Declared.ensures.section scopes vars)
           ∙ ap (λ (ds : List Declared). header scopes ds rest) all;
     }

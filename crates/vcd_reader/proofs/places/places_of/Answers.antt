@@ -3,7 +3,7 @@ use Rattle.std.proofs.lemmas.List.{length-map, length-take}
 use Rattle.vcd_reader.specs.Variables.{place_of}
 use Rattle.vcd_reader.specs.Keys.{key_of}
 use Rattle.vcd_reader.specs.Variables.{path_of}
-use Rattle.vcd_reader.specs.Scopes.{opened}
+use Rattle.vcd_reader.specs.Scopes.{open_scopes}
 use Rattle.vcd_reader.specs.Index.{place_in, text_in, texts_in}
 use Rattle.vcd_reader.proofs.PlaceLaws.{text-parts, place-known, place-fresh, texts-more, index-more}
 use Rattle.vcd_reader.proofs.places.places_of.Goals as goal
@@ -16,8 +16,8 @@ loop-i-preserved c =
     let ts = texts_in c.args.part ss (take c.loop-i.i vs) in
     let v = c.index-variables-i.result in
     let t = text_in c.args.part ss v in
-    let text : path_of (opened ss c.place_of_part-scope.result) c.own_part-own.result.now ≡ t =
-    ap (λ (n : ℕ). path_of (opened ss n) c.own_part-own.result.now) c.place_of_part-scope.ensures ∙ ap (λ (xs : List ℕ). path_of (opened ss (place_in c.args.part v)) xs) c.own_part-own.ensures ∙ text-parts c.args.part ss v in
+    let text : path_of (open_scopes ss c.place_of_part-scope.result) c.own_part-own.result.now ≡ t =
+    ap (λ (n : ℕ). path_of (open_scopes ss n) c.own_part-own.result.now) c.place_of_part-scope.ensures ∙ ap (λ (xs : List ℕ). path_of (open_scopes ss (place_in c.args.part v)) xs) c.own_part-own.ensures ∙ text-parts c.args.part ss v in
     let lt : c.loop-i.i < length vs = omega arith in
     let mapped : length ts ≡ length (take c.loop-i.i vs) = rw length-map refl in
     let long : length ts ≡ c.loop-i.i = omega (arith, length-take c.loop-i.i vs, mapped) in

@@ -37,3 +37,9 @@ invariant_of-result-clause-path_index c =
     let d = c.in_ok-scopes.field-0 in
     subst (λ (vs : List Variable). IsIndex (texts_in Path d.scopes.items vs) c.in_ok-paths.paths) c.deref-2.ensures.value
     (subst (λ (ss : List Scope). IsIndex (texts_in Path ss c.deref-2.result.now) c.in_ok-paths.paths) c.deref.ensures.value c.in_ok-paths.ensures)
+
+pub invariant_of-result-clause-says : goal.invariant_of-result-clause-says
+invariant_of-result-clause-says c =
+    let d = c.in_ok-scopes.field-0 in
+    let s = dump-says c.args.bytes.now d.scopes.items d.variables.items _ c.in_ok-scopes.ensures.header _ (rw c.deref-5.ensures.value at c.in_ok-steps.ensures) in
+    ∣ (s.contents, record { same_variables = s.variables; same_steps = s.steps }) ∣₁

@@ -13,4 +13,4 @@ index-requires c =
 pub returns : goal.returns
 unfolding end_in columns_in IsOver AreColumnsOf
 returns c = λ c' over.
-    c.deref.ensures.value ∙ row-at (λ r. r.items) (row_of c' (places_in c.args.self.now.columns)) c.args.self.now.columns.rows.items (ticks_of c' (clock_in c.args.self.now.columns)) c.args.clock c.index.result.now over (omega (arith, c.requires.high, c.args.self.now.inside)) c.index.ensures
+    c.deref.ensures.value ∙ row-at (λ r. r.items) (row_of c' (places_in c.args.self.now.columns)) c.args.self.now.columns.rows.items (ticks_of c' (clock_in c.args.self.now.columns)) c.args.tick c.index.result.now over (omega (arith, c.requires.high, c.args.self.now.inside)) c.index.ensures

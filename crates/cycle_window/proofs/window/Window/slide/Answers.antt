@@ -1,6 +1,12 @@
-use Rattle.std.proofs.Common.{◌≡◌, ◌∙◌, ℕ, List, length, vec_len, ap, arith, refl}
+use Rattle.std.proofs.Common.{◌≡◌, ◌∙◌, ◌≤◌, ℕ, List, length, vec_len, ap, arith, refl}
+use Rattle.std.proofs.Math.Logic.{∥∥₁_elim}
+use Rattle.std.proofs.Math.Bridge.{le_prop}
+use Rattle.vcd_reader.specs.declared.dump.Dump.{Dump}
+use Rattle.vcd_reader.proofs.HeldLaws.{says-something}
+use Rattle.cycle_window.specs.declared.clocks.Clocks.{Clocks}
+use Rattle.cycle_window.specs.declared.window.Window.{Window}
 use Rattle.cycle_window.specs.Ticks.{ticks_of, row_of}
-use Rattle.cycle_window.specs.Held.{ticks_in, code_in, places_in, clock_in, columns_in, size_in, first_in, end_in, AreColumnsOf, IsOver}
+use Rattle.cycle_window.specs.Held.{ticks_in, places_in, clock_in, columns_in, size_in, first_in, end_in, AreColumnsOf, IsOver, IsWindowOf}
 use Rattle.cycle_window.proofs.HeldLaws.{rows-many}
 use Rattle.cycle_window.proofs.window.Window.slide.Goals as goal
 
@@ -10,19 +16,27 @@ overflow_sub-len c =
     let long : vec_len c.args.clocks.now.ticks ≡ length c.args.clocks.now.ticks.items = c.args.clocks.now.ticks.ok.0 in
     omega (arith, c.requires.remain, c.len.ensures)
 
+-- the columns have a row for each tick
+many-rows : (d : Dump) (k : Clocks) (w : Window) → IsWindowOf w d k → length (ticks_in k) ≤ length w.columns.rows.items
+unfolding ticks_in columns_in clock_in places_in IsOver AreColumnsOf
+many-rows d k w same =
+    ∥∥₁_elim (says-something d) le_prop (λ says.
+    let row = row_of says.0 (places_in w.columns) in
+    let ticks = ticks_of says.0 (clock_in w.columns) in
+    let rows : length w.columns.rows.items ≡ length ticks = rows-many (λ r. r.items) row w.columns.rows.items ticks (same.over says.0 says.1) in
+    let clocks : length k.ticks.items ≡ length ticks = ap (λ (xs : List ℕ). length xs) (same.clocks says.0 says.1 ∙ ap (ticks_of says.0) same.same_clock) in
+    omega (arith, rows, clocks))
+
 pub invariant_of-self : goal.invariant_of-self
-unfolding end_in ticks_in code_in columns_in clock_in places_in IsOver AreColumnsOf
+unfolding end_in ticks_in
 invariant_of-self c =
     let long : vec_len c.args.clocks.now.ticks ≡ length c.args.clocks.now.ticks.items = c.args.clocks.now.ticks.ok.0 in
-    let held = c.requires.same.held in
-    let over = c.requires.same.over held.0 held.1 in
-    let many = rows-many (λ r. r.items) (row_of held.0 (places_in c.args.self.now.columns)) c.args.self.now.columns.rows.items (ticks_of held.0 (clock_in c.args.self.now.columns)) over in
-    let clocks : length c.args.clocks.now.ticks.items ≡ length (ticks_of held.0 (clock_in c.args.self.now.columns)) = ap (λ (xs : List ℕ). length xs) (c.requires.same.clocks held.0 held.1 ∙ ap (ticks_of held.0) c.requires.same.same_clock) in
-    record { ordered = omega arith; inside = omega (arith, c.requires.remain, c.len.ensures, c.min.ensures) }
+    let many = many-rows c.args.dump.now c.args.clocks.now c.args.self.now c.requires.same in
+    record { ordered = omega arith; inside = omega (arith, c.requires.remain, c.len.ensures, c.min.ensures, many) }
 
 pub returns-clause-same : goal.returns-clause-same
 unfolding columns_in IsOver
-returns-clause-same c = record { same_clock = c.requires.same.same_clock; clocks = c.requires.same.clocks; over = c.requires.same.over; held = c.requires.same.held }
+returns-clause-same c = record { same_clock = c.requires.same.same_clock; clocks = c.requires.same.clocks; over = c.requires.same.over }
 
 pub returns-clause-columns : goal.returns-clause-columns
 unfolding columns_in

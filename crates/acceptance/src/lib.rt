@@ -1,0 +1,9 @@
+//! Tests of `cli` through bytes: what reports say, each refusal and its line, devices that fail.
+//!
+//! They stand above `cli`, so that the gate proves that crate once, and not once more beside its tests.
+#![tactic(auto)]
+
+#[cfg(test)]
+mod profile;
+#[cfg(test)]
+mod reports;

@@ -1,0 +1,56 @@
+//! Assertions, with a bound on what they weigh.
+
+ghost use Rattle.std.specs.Prelude.{◌≡◌, ◌≤◌, ◌⊎◌, MatchOption};
+ghost use Rattle.assertions.specs.Written.{weight, IsOrdered};
+ghost use Rattle.assertions.specs.Shapes.{written, IsUnfit};
+ghost use Rattle.assertions.specs.Ordered.{IsOrdered-prop};
+
+use crate::sequence::{Boolean, Sequence};
+use crate::weight::weight_of;
+
+/// An assertion `antecedent |-> consequent`: from the last tick of each match of the antecedent that
+/// isn't empty the consequent must match. Neither weighs more than 127.
+#[derive(Drop)]
+pub struct Assertion {
+    /// Its label, or `assert_N` where it has none.
+    pub name: String,
+    /// The antecedent of `|->`.
+    pub antecedent: Sequence,
+    pub consequent: Sequence,
+    /// An attempt that sees this true is disabled.
+    pub disabling: Option<Boolean>,
+    /// For each place that a boolean may name, the place of its expression in the suite.
+    pub booleans: Vec<usize>,
+    pub ghost antecedent_ordered: { IsOrdered (written antecedent) } by { IsOrdered-prop (written antecedent) },
+    pub ghost antecedent_bound: { weight (written antecedent) ≤ 127 },
+    pub ghost consequent_ordered: { IsOrdered (written consequent) } by { IsOrdered-prop (written consequent) },
+    pub ghost consequent_bound: { weight (written consequent) ≤ 127 },
+}
+
+impl Assertion {
+    /// An assertion, or none where the first of a range is over the second, or a side weighs more than 127.
+    pub fn new(
+        name: String,
+        antecedent: Sequence,
+        consequent: Sequence,
+        disabling: Option<Boolean>,
+        booleans: Vec<usize>,
+    ) -> Option<Assertion>
+        ensures { MatchOption result
+            (IsUnfit (written antecedent) ⊎ IsUnfit (written consequent))
+            (λ made. (made.name ≡ name) × (made.antecedent ≡ antecedent)
+            × (made.consequent ≡ consequent) × (made.disabling ≡ disabling)
+            × (made.booleans ≡ booleans)) }
+    {
+        if weight_of(&antecedent).is_none() || weight_of(&consequent).is_none() {
+            return None;
+        }
+        Some(Assertion {
+            name,
+            antecedent,
+            consequent,
+            disabling,
+            booleans,
+        })
+    }
+}

@@ -1,0 +1,115 @@
+//! The happy path of each public function, and the bound on what is weighed.
+
+use crate::{
+    Assertion, Boolean, Sequence, Signal, Suite, degenerate_law, empty_law, match_law, verdict_law,
+    weight_law, weight_of,
+};
+use std::alloc::{AllocError, Global};
+use std::test::Fail;
+
+/// One tick at which a boolean of the list is true.
+fn boolean(place: usize) -> Sequence {
+    Sequence::Boolean(Boolean::Listed(place))
+}
+
+/// `a[*count]`
+fn repeated(alloc: Global, count: u8) -> Result<Sequence, AllocError> {
+    Ok(Sequence::Repeat(Box::new(alloc, boolean(0))?, count, count))
+}
+
+/// `first ##ticks second`
+fn delayed(
+    alloc: Global,
+    first: Sequence,
+    ticks: u8,
+    second: Sequence,
+) -> Result<Sequence, AllocError> {
+    let first = Box::new(alloc, first)?;
+    let second = Box::new(alloc, second)?;
+    Ok(Sequence::Delay(first, ticks, ticks, second))
+}
+
+#[test]
+fn repetitions_weigh(rt: HostRuntime) -> Result<(), Fail> {
+    let alloc = rt.alloc();
+    assert_eq!(rt; weight_of(&boolean(0)), Some(1));
+    assert_eq!(rt; weight_of(&repeated(alloc, 0)?), Some(0));
+    assert_eq!(rt; weight_of(&repeated(alloc, 127)?), Some(127));
+    assert_eq!(rt; weight_of(&repeated(alloc, 128)?), None);
+    let light = delayed(alloc, repeated(alloc, 63)?, 1, repeated(alloc, 63)?)?;
+    assert_eq!(rt; weight_of(&light), Some(127));
+    let heavy = delayed(alloc, repeated(alloc, 64)?, 1, repeated(alloc, 64)?)?;
+    assert_eq!(rt; weight_of(&heavy), None);
+    Ok(())
+}
+
+#[test]
+fn sides_of_and_multiply(rt: HostRuntime) -> Result<(), Fail> {
+    let alloc = rt.alloc();
+    // (a throughout (b ##2 c)) and (d ##1 e)
+    let body = delayed(alloc, boolean(1), 2, boolean(2))?;
+    let long = Sequence::Throughout(Boolean::Listed(0), Box::new(alloc, body)?);
+    let short = delayed(alloc, boolean(3), 1, boolean(4))?;
+    let both = Sequence::And(Box::new(alloc, long)?, Box::new(alloc, short)?);
+    assert_eq!(rt; weight_of(&both), Some(20));
+    // ##[1:3] ((a and b) or c) weighs 3 + (2 * 2 + 1)
+    let both = Sequence::And(Box::new(alloc, boolean(0))?, Box::new(alloc, boolean(1))?);
+    let either = Sequence::Or(Box::new(alloc, both)?, Box::new(alloc, boolean(2))?);
+    let later = Sequence::Lead(1, 3, Box::new(alloc, either)?);
+    assert_eq!(rt; weight_of(&later), Some(8));
+    Ok(())
+}
+
+#[test]
+fn ranges_are_in_order(rt: HostRuntime) -> Result<(), Fail> {
+    let alloc = rt.alloc();
+    let backwards = Sequence::Lead(3, 1, Box::new(alloc, boolean(0))?);
+    assert_eq!(rt; weight_of(&backwards), None);
+    let hidden = Sequence::Repeat(Box::new(alloc, backwards)?, 0, 0);
+    assert_eq!(rt; weight_of(&hidden), None);
+    Ok(())
+}
+
+#[test]
+fn assertions_are_bounded(rt: HostRuntime) -> Result<(), Fail> {
+    for (antecedent, consequent, fits) in [(127, 127, true), (128, 1, false), (1, 128, false)] {
+        let alloc = rt.alloc();
+        let name = String::from_str(alloc, "bounded")?;
+        let antecedent = repeated(alloc, antecedent)?;
+        let consequent = repeated(alloc, consequent)?;
+        let list = vec![in alloc; 7, 8]?;
+        let made = Assertion::new(name, antecedent, consequent, None, list);
+        assert_eq!(rt; made.is_some(), fits);
+        if let Some(assertion) = made {
+            assert_eq!(rt; weight_of(&assertion.antecedent), Some(127));
+            assert_eq!(rt; weight_of(&assertion.consequent), Some(127));
+            assert_eq!(rt; assertion.booleans.as_slice(), [7, 8].as_slice());
+        }
+    }
+    Ok(())
+}
+
+#[test]
+fn a_suite_is_made(rt: HostRuntime) -> Result<(), Fail> {
+    let alloc = rt.alloc();
+    let mut names = Vec::new(alloc);
+    names.push(Signal {
+        path: String::from_str(alloc, "top.a")?,
+        width: 8,
+    })?;
+    let suite = Suite {
+        clock: String::from_str(alloc, "top.clk")?,
+        names,
+        counters: Vec::new(alloc),
+        booleans: Vec::new(alloc),
+        assertions: Vec::new(alloc),
+    };
+    assert_eq!(rt; suite.clock(), "top.clk");
+    assert!(rt; suite.assertions().is_empty());
+    match_law();
+    verdict_law();
+    weight_law();
+    empty_law();
+    degenerate_law();
+    Ok(())
+}

@@ -1,0 +1,77 @@
+//! Reads a dump and builds its rows, and prints how long each took: `bench_dumps FILE CLOCK`.
+#![tactic(auto)]
+
+use anyhow::{Result, bail};
+use cycle_window::{Clocks, Columns, Signal};
+use signals::Counted;
+use std::alloc::Global;
+use std::fs::File;
+use std::time::Instant;
+use std::{env, str};
+use vcd_reader::{Dump, Name, read_dump};
+
+/// How many changes a dump has.
+fn changes_of(dump: &Dump) -> u64 {
+    let mut changes = 0u64;
+    for step in dump.steps() {
+        changes = changes.saturating_add(step.changes.len() as u64);
+    }
+    changes
+}
+
+/// The signals of all names that are text.
+fn signals_of(alloc: Global, names: &[Name]) -> Result<Vec<Signal<'_>>> {
+    let mut signals = Vec::new(alloc);
+    for name in names {
+        if let Ok(path) = str::from_utf8(&name.path) {
+            signals.push(Signal {
+                path,
+                width: name.width,
+            })?;
+        }
+    }
+    Ok(signals)
+}
+
+/// Builds the rows of all signals at the ticks of a clock, and says how many ticks there are.
+fn rows_of(alloc: Global, dump: &Dump, clock: &str) -> Result<u64> {
+    let clocks = match Clocks::of(alloc, dump, clock) {
+        Ok(clocks) => clocks,
+        Err(fault) => bail!("{fault}"),
+    };
+    let names = dump.names(alloc)?;
+    let signals = signals_of(alloc, &names)?;
+    match Columns::bind(alloc, dump, &clocks, &signals) {
+        Ok(_columns) => Ok(clocks.len()),
+        Err(fault) => bail!("{fault}"),
+    }
+}
+
+fn main(rt: HostRuntime) -> Result<()> {
+    let mut args = env::args(&rt)?;
+    let _name = args.next();
+    let Some(path) = args.next() else {
+        println!(rt; "bench_dumps FILE [CLOCK]")?;
+        return Ok(());
+    };
+    let start = Instant::now(&rt)?;
+    let mut source = Counted::new(File::open(&rt, path.as_str())?);
+    let dump = match read_dump(rt.alloc(), &mut source) {
+        Ok(dump) => dump,
+        Err(fault) => bail!("{fault}"),
+    };
+    let took = start.elapsed(&rt)?;
+    let micros = took.as_micros();
+    let steps = dump.steps().len();
+    let changes = changes_of(&dump);
+    println!(rt; "read {micros} us steps {steps} changes {changes}")?;
+    let Some(clock) = args.next() else {
+        return Ok(());
+    };
+    let start = Instant::now(&rt)?;
+    let ticks = rows_of(rt.alloc(), &dump, clock.as_str())?;
+    let took = start.elapsed(&rt)?;
+    let micros = took.as_micros();
+    println!(rt; "rows {micros} us ticks {ticks}")?;
+    Ok(())
+}

@@ -1,9 +1,0 @@
-use Rattle.std.proofs.Common.{◌≡◌, map, drop}
-use Rattle.parser.specs.Views.{item_of}
-use Rattle.typing.specs.Faults.{earlier, least}
-use Rattle.checker.specs.Texts.{assertions_of, differing}
-use Rattle.checker.proofs.clocks.first_other_clock.Given as goal
-
-abbrev pub invariant-loop-item : goal.invariant-loop-item
-invariant-loop-item l =
-    earlier l.fault (least (differing l.clock (assertions_of (map item_of (drop l.item-index l.items))))) ≡ least (differing l.clock (assertions_of (map item_of l.items)))

@@ -1,7 +1,0 @@
-use Rattle.std.proofs.Common.{map}
-use Rattle.sequences.specs.Views.{draft_of}
-use Rattle.checker.specs.Cycles.{IsFirstCycle}
-use Rattle.checker.proofs.cycles.first_cycle.Given as goal
-
-abbrev pub invariant-loop-place : goal.invariant-loop-place
-invariant-loop-place l = IsFirstCycle (map draft_of l.bodies) l.bytes l.place l.fault

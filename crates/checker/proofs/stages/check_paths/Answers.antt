@@ -1,9 +1,0 @@
-use Rattle.std.proofs.Common.{map, sym}
-use Rattle.parser.specs.Views.{item_of}
-use Rattle.typing.specs.Views.{scope_of}
-use Rattle.checker.proofs.StageLaws.{clear_start, first_1}
-use Rattle.checker.proofs.stages.check_paths.Goals as goal
-
-pub returns-in-Ok-Some-clause-err : goal.returns-in-Ok-Some-clause-err
-returns-in-Ok-Some-clause-err c =
-    first_1 (scope_of c.args.scope.now) (map item_of c.args.items.now) c.in-Ok-Some.at (clear_start (scope_of c.args.scope.now) (map item_of c.args.items.now)) (sym (rw c.in-Ok-Some.field-0-is at c.in-Ok-Some.ensures))

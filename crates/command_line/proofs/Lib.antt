@@ -1,0 +1,2 @@
+mod CommandLaws
+mod WindowLaws

@@ -1,0 +1,70 @@
+//! The commands and their options.
+
+ghost use Rattle.std.specs.Prelude.{◌≡◌, Some, IfOk, false};
+ghost use Rattle.clap.specs.Words.{app_of, rule_of};
+ghost use Rattle.clap.specs.declared.builder.value_parser.ValueParser.TheVariants.{Unsigned};
+ghost use Rattle.command_line.specs.Words.{file_rule, window_rule, check_app, judge_app, svamon_app};
+
+use clap::{Arg, Command, value_parser};
+use std::alloc::{AllocError, Global};
+
+/// An option with one value that has to be there.
+fn file_option<'a>(alloc: Global, name: &'a str, help: &'a str) -> Arg<'a>
+    ensures rule { rule_of result ≡ file_rule name.entry.now }
+    ensures local { result.global ≡ false }
+{
+    Arg::new(alloc, name)
+        .long(name)
+        .value_name("FILE")
+        .required(true)
+        .help(help)
+}
+
+/// The option with a number from 1 to 65,536 as its value.
+fn within_sizes<'a>(option: Arg<'a>) -> Arg<'a>
+    ensures { result ≡ record option.entry { value_parser = Some (Unsigned 1 65536) } }
+{
+    option.value_parser(value_parser!(u64).range(1..65537))
+}
+
+fn window_option<'a>(alloc: Global) -> Arg<'a>
+    ensures rule { rule_of result ≡ window_rule }
+    ensures local { result.global ≡ false }
+{
+    let option = Arg::new(alloc, "window")
+        .long("window")
+        .value_name("CLOCKS")
+        .default_value("1024")
+        .help("How many clocks a window holds, from 1 to 65,536");
+    within_sizes(option)
+}
+
+fn check_command<'a>(alloc: Global) -> Result<Command<'a>, AllocError>
+    ensures { IfOk result (λ c. app_of c ≡ check_app) }
+{
+    Command::new(alloc, "check")
+        .about("Judges assertions over a dump and prints the report")
+        .arg(file_option(alloc, "vcd", "The dump, in VCD"))?
+        .arg(file_option(alloc, "sva", "The assertions"))?
+        .arg(window_option(alloc))
+}
+
+fn judge_command<'a>(alloc: Global) -> Result<Command<'a>, AllocError>
+    ensures { IfOk result (λ c. app_of c ≡ judge_app) }
+{
+    Command::new(alloc, "judge")
+        .about("Prints the same report by the slow judge")
+        .arg(file_option(alloc, "vcd", "The dump, in VCD"))?
+        .arg(file_option(alloc, "sva", "The assertions"))
+}
+
+/// svamon's commands.
+pub(crate) fn svamon_command<'a>(alloc: Global) -> Result<Command<'a>, AllocError>
+    ensures { IfOk result (λ c. app_of c ≡ svamon_app) }
+{
+    Command::new(alloc, "svamon")
+        .about("Checks SystemVerilog assertions over recorded waveforms")
+        .subcommand_required(true)
+        .subcommand(check_command(alloc)?)?
+        .subcommand(judge_command(alloc)?)
+}

@@ -1,0 +1,18 @@
+//! What the words of a command line ask for.
+
+/// What the words ask for. Paths are as they were given.
+#[derive(Debug, Drop, PartialEq)]
+pub enum Request {
+    /// Judges the assertions of a text over a dump, through windows of so many clocks.
+    Check {
+        vcd: String,
+        sva: String,
+        /// From 1 to 65,536.
+        window: u64,
+    },
+    /// Judges them by the slow judge.
+    Judge {
+        vcd: String,
+        sva: String,
+    },
+}

@@ -1,0 +1,9 @@
+pub mod Operators
+pub mod Terms
+pub mod Nodes
+pub mod Expressions
+pub mod Tables
+pub mod Rows
+pub mod Chains
+pub mod Counters
+pub mod Laws

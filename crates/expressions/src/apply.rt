@@ -1,0 +1,117 @@
+//! Operators on values.
+
+ghost use Rattle.std.specs.Prelude.{◌≡◌, ◌≤◌, ◌%◌, ◌^◌};
+ghost use Rattle.signals.specs.Tests.{one_if};
+ghost use Rattle.expressions.specs.Operators.{arithmetic, shifted, compared, connected, reduced, change_of};
+
+use crate::operator::{Arithmetic, Change, Comparison, Connective, Reduction, Shift};
+use signals::Bits;
+
+/// One bit, 1 where the test passes.
+fn flag(test: bool) -> Bits
+    ensures width { result.width ≡ 1 }
+    ensures value { result.value ≡ one_if test }
+{
+    Bits {
+        width: 1,
+        value: u128::from(test),
+    }
+}
+
+/// The low bits of a number.
+pub(crate) fn cut(width: u8, value: u128) -> Bits
+    requires some_bits { 1 ≤ width }
+    requires at_most_128 { width ≤ 128 }
+    ensures width { result.width ≡ width }
+    ensures value { result.value ≡ value % 2 ^ width }
+{
+    let value = if width < 128 {
+        value % (1u128 << width)
+    } else {
+        value
+    };
+    Bits { width, value }
+}
+
+/// Two values of one width.
+pub(crate) fn combine(op: Arithmetic, a: Bits, b: Bits) -> Bits
+    requires { a.width ≡ b.width }
+    ensures width { result.width ≡ a.width }
+    ensures value { result.value ≡ arithmetic op a.width a.value b.value }
+{
+    match op {
+        Arithmetic::Add => a.add(b),
+        Arithmetic::Sub => a.sub(b),
+        Arithmetic::And => a.and(b),
+        Arithmetic::Or => a.or(b),
+        Arithmetic::Xor => a.xor(b),
+        Arithmetic::Xnor => a.xor(b).not(),
+    }
+}
+
+/// The value moved by a count of any width.
+pub(crate) fn shift(op: Shift, a: Bits, count: Bits) -> Bits
+    ensures width { result.width ≡ a.width }
+    ensures value { result.value ≡ shifted op a.width a.value count.value }
+{
+    match op {
+        Shift::Left => a.shl(count),
+        Shift::Right => a.shr(count),
+    }
+}
+
+/// Two values, each extended to the larger width.
+pub(crate) fn compare(op: Comparison, a: Bits, b: Bits) -> Bits
+    ensures width { result.width ≡ 1 }
+    ensures value { result.value ≡ compared op a.value b.value }
+{
+    match op {
+        Comparison::Equal => flag(a.value == b.value),
+        Comparison::Differs => flag(a.value != b.value),
+        Comparison::Less => flag(a.value < b.value),
+        Comparison::AtMost => flag(a.value <= b.value),
+        Comparison::Greater => flag(a.value > b.value),
+        Comparison::AtLeast => flag(a.value >= b.value),
+    }
+}
+
+/// Two values of any widths, each true where it is not 0.
+pub(crate) fn connect(op: Connective, a: Bits, b: Bits) -> Bits
+    ensures width { result.width ≡ 1 }
+    ensures value { result.value ≡ connected op a.value b.value }
+{
+    match op {
+        Connective::Both => flag(a.value != 0 && b.value != 0),
+        Connective::Either => flag(a.value != 0 || b.value != 0),
+    }
+}
+
+/// A test of all bits.
+pub(crate) fn reduce(op: Reduction, a: Bits) -> Bits
+    ensures width { result.width ≡ 1 }
+    ensures value { result.value ≡ reduced op a.width a.value }
+{
+    match op {
+        Reduction::Zero => flag(a.value == 0),
+        Reduction::NonZero => a.red_or(),
+        Reduction::AllOnes => a.red_and(),
+        Reduction::NotAllOnes => a.red_and().not(),
+        Reduction::Odd => a.red_xor(),
+        Reduction::Even => a.red_xor().not(),
+        Reduction::OneHot => a.onehot(),
+        Reduction::OneHotOrZero => a.onehot0(),
+    }
+}
+
+/// A comparison of a value with an earlier one.
+pub(crate) fn change(op: Change, now: Bits, before: Bits) -> Bits
+    ensures width { result.width ≡ 1 }
+    ensures value { result.value ≡ change_of op now.value before.value }
+{
+    match op {
+        Change::Rose => flag(now.value % 2 == 1 && before.value % 2 == 0),
+        Change::Fell => flag(now.value % 2 == 0 && before.value % 2 == 1),
+        Change::Stable => flag(now.value == before.value),
+        Change::Changed => flag(now.value != before.value),
+    }
+}

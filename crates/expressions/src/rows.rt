@@ -1,0 +1,10 @@
+//! What is known of a run.
+
+use crate::table::Table;
+
+/// The sampled signals and the counters, each with a row for each tick.
+#[derive(Drop)]
+pub struct Rows {
+    pub signals: Table,
+    pub counters: Table,
+}

@@ -1,8 +1,0 @@
-use Rattle.std.proofs.Common.{ℕ, ◌&&◌}
-use Rattle.types.specs.Quantifiers.{each_in}
-use Rattle.judging.specs.Tables.{links, held_at}
-use Rattle.judging.proofs.RowLaws.{IsRowsOf}
-use Rattle.judging.proofs.relation.kept.Given as goal
-
-abbrev pub invariant-loop-place : goal.invariant-loop-place
-invariant-loop-place l = IsRowsOf (λ (i j : ℕ). links l.body i j && each_in i j (held_at l.seen.values l.boolean)) l.starts l.place l.all

@@ -1,0 +1,111 @@
+//! Reads expressions and prints their values: for each line `value`, the own width and the value at each tick.
+#![tactic(auto)]
+
+mod words;
+
+use anyhow::{Context, Result, bail};
+use expressions::{Counter, Expr, Rows, Rule, Table, count, value};
+use std::alloc::Global;
+use std::fs;
+use std::io::Print;
+
+/// A row of numbers.
+fn row_of(alloc: Global, line: &str) -> Result<Vec<u128>> {
+    let mut row = Vec::new(alloc);
+    for word in line.split(' ') {
+        row.push(word.parse::<u128>()?)?;
+    }
+    Ok(row)
+}
+
+/// The rule on top: its condition and its number.
+fn rule_of(stack: &mut Vec<Expr>) -> Result<Option<Rule>> {
+    let by = words::pop(stack)?;
+    let when = words::pop(stack)?;
+    Ok(Some(Rule { when, by }))
+}
+
+/// A counter: its width, and its clauses.
+fn counter_of(alloc: Global, line: &str) -> Result<Counter> {
+    let (width, clauses) = line.split_once(' ').unwrap_or((line, ""));
+    let width = width.parse::<u8>()?;
+    if width == 0 || width > 128 {
+        bail!("no such width");
+    }
+    let mut stack = Vec::new(alloc);
+    let (mut clear, mut load, mut add, mut sub) = (None, None, None, None);
+    for word in clauses.split_whitespace() {
+        match word {
+            "clear" => clear = Some(words::pop(&mut stack)?),
+            "load" => load = rule_of(&mut stack)?,
+            "add" => add = rule_of(&mut stack)?,
+            "sub" => sub = rule_of(&mut stack)?,
+            _ => words::apply(alloc, &mut stack, word)?,
+        }
+    }
+    Ok(Counter {
+        width,
+        clear,
+        load,
+        add,
+        sub,
+    })
+}
+
+/// The expression that the words make.
+fn expression_of(alloc: Global, line: &str) -> Result<Expr> {
+    let mut stack = Vec::new(alloc);
+    for word in line.split(' ') {
+        words::apply(alloc, &mut stack, word)?;
+    }
+    words::pop(&mut stack)
+}
+
+/// Prints the own width and the value at each tick, in a context of so many bits or, where that is 0, of the own width.
+fn show<R: Print + AllocGlobal>(rt: &R, line: &str, rows: &Rows) -> Result<()> {
+    let (context, words) = line.split_once(' ').context("no expression")?;
+    let expr = expression_of(rt.alloc(), words)?;
+    let own = expr.width();
+    let context = match context.parse::<u8>()? {
+        0 => own,
+        context => context,
+    };
+    if context < own || context > 128 {
+        bail!("no such context");
+    }
+    print!(rt; "{own}")?;
+    for tick in 0..rows.signals.len() {
+        let bits = value(&expr, rows, tick, context);
+        print!(rt; " {}", bits.value)?;
+    }
+    println!(rt; "")?;
+    Ok(())
+}
+
+/// Reads the lines of one trace and prints its values.
+fn show_trace<R: Print + AllocGlobal>(rt: &R, text: &str) -> Result<()> {
+    let mut signals = Table::new(rt.alloc());
+    let mut counters = Vec::new(rt.alloc());
+    for line in text.lines() {
+        if let Some(row) = line.strip_prefix("row ") {
+            signals.push(row_of(rt.alloc(), row)?)?;
+        } else if let Some(counter) = line.strip_prefix("counter ") {
+            counters.push(counter_of(rt.alloc(), counter)?)?;
+        }
+    }
+    let rows = count(rt.alloc(), signals, counters.as_slice())?;
+    for line in text.lines() {
+        if let Some(expression) = line.strip_prefix("value ") {
+            show(rt, expression, &rows)?;
+        }
+    }
+    Ok(())
+}
+
+fn main(rt: HostRuntime) -> Result<()> {
+    let text = fs::read_to_string(&rt, "expressions.txt")?;
+    for trace in text.split("trace\n") {
+        show_trace(&rt, trace)?;
+    }
+    Ok(())
+}

@@ -1,7 +1,0 @@
-use Rattle.types.specs.Shapes.{written}
-use Rattle.sequences.proofs.SameLaws.{says_delay}
-use Rattle.sequences.proofs.make.delayed.Goals as goal
-
-pub returns : goal.returns
-returns c = λ v w h a b.
-    rw c.in_ok-new.ensures.ok (says_delay v w (written c.in-Some.first.value) (written c.in-Some-second.second.value) c.args.least c.args.most c.requires (rw c.in-Some.is at a) (rw c.in-Some-second.is at b))

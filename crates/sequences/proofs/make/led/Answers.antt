@@ -1,7 +1,0 @@
-use Rattle.types.specs.Shapes.{written}
-use Rattle.sequences.proofs.SameLaws.{says_lead}
-use Rattle.sequences.proofs.make.led.Goals as goal
-
-pub returns : goal.returns
-returns c = λ w h b.
-    rw c.in_ok-new.ensures.ok (says_lead w (written c.in-Some.body.value) c.args.least c.args.most c.requires (rw c.in-Some.is at b))

@@ -1,0 +1,260 @@
+-- Faults are looked for by their kinds, in order.
+use Rattle.std.proofs.Common.{◌≡◌, inl, inr, ℕ, ◌+◌, ◌≤◌, min, List, [], ◌∷◌, Option, Some, None, Result, Ok, Err, IfErr, refl, sym, subst, ◌∙◌, arith}
+use Rattle.std.specs.Result.{IsErrAnd}
+use Rattle.std.proofs.lemmas.Option.{none-some}
+use Rattle.std.proofs.lemmas.Bool.{cases_eq, cases_lt}
+use Rattle.grammar.specs.Trees.{Item}
+use Rattle.types_sequences.specs.Drafts.{IsIn}
+use Rattle.types_expressions.specs.declared.own.Sought.{Sought}
+use Rattle.types_expressions.specs.declared.own.Sought.TheVariants.{Unknown, Wide, OutOfRange}
+use Rattle.types_expressions.specs.Scopes.{Scope}
+use Rattle.types_expressions.specs.Faults.{file_faults, earlier, least}
+use Rattle.types.specs.declared.fault.TypeFault.{TypeFault}
+use Rattle.types.specs.declared.fault.TypeFault.TheVariants.{UnknownName, Duplicate, WiderThan128, SliceRange, Degenerate, AdmitsEmpty as Empty, OtherClock, CyclicSequence, TooWide, Memory}
+use Rattle.types.specs.Texts.{assertions_of, duplicates, other_clocks}
+use Rattle.types.specs.Faults.{Stands, CycleAt, WideAt, DegenerateAt, EmptyAt, rank, byte_of, IsFirst, IsRefused, ClearTo}
+
+-- where a list has no least place it has no place, and each place is at least the least
+least_of_more : (x : ℕ) (o : Option ℕ) → earlier (Some x) o ≡ None → ⊥
+least_of_more x None e = none-some x (sym e)
+least_of_more x (Some y) e = none-some (min x y) (sym e)
+
+pub nowhere : (xs : List ℕ) → least xs ≡ None → (at : ℕ) → IsIn at xs → ⊥
+nowhere [] e at i = elim i [ ]
+nowhere (x ∷ xs) e at i = least_of_more x (least xs) e
+
+-- a least place stands in the list, and none is below it
+pub record IsLeast (xs : List ℕ) (at : ℕ) : Type 0 where
+  pub stands : IsIn at xs
+  pub lowest : (other : ℕ) → IsIn other xs → at ≤ other
+
+least_with : (x at : ℕ) (xs : List ℕ) (o : Option ℕ) → o ≡ least xs → ((b : ℕ) → o ≡ Some b → IsLeast xs b) → earlier (Some x) o ≡ Some at → IsLeast (x ∷ xs) at
+least_with x at xs None is below e =
+    let same : x ≡ at = cc in
+    record {
+      stands = inl (sym same);
+      lowest = λ other i.
+          elim i [
+            | inl h ↦ omega (arith, h, same)
+            | inr there ↦ absurd (nowhere xs (sym is) other there)
+          ];
+    }
+least_with x at xs (Some y) is below e =
+    let same : min x y ≡ at = cc in
+    let rest = below y refl in
+    record {
+      stands =
+          elim (cases_lt y x) [
+            | inl lt ↦ inr (subst (λ (z : ℕ). IsIn z xs) (let h : y ≡ at = omega (arith, same, lt) in h) rest.stands)
+            | inr ge ↦ inl (omega (arith, same, ge))
+          ];
+      lowest = λ other i.
+          elim i [
+            | inl h ↦ omega (arith, h, same)
+            | inr there ↦ omega (arith, same, rest.lowest other there)
+          ];
+    }
+
+pub least_stands : (xs : List ℕ) (at : ℕ) → least xs ≡ Some at → IsLeast xs at
+least_stands [] at e = absurd (none-some at e)
+least_stands (x ∷ xs) at e = least_with x at xs (least xs) refl (λ b h. least_stands xs b h) e
+
+pub clear_start : (s : Scope) (items : List Item) → ClearTo s items 0
+clear_start s items (UnknownName at) h = omega arith
+clear_start s items (Duplicate at) h = omega arith
+clear_start s items (WiderThan128 at) h = omega arith
+clear_start s items (SliceRange at) h = omega arith
+clear_start s items (Degenerate at) h = omega arith
+clear_start s items (Empty at) h = omega arith
+clear_start s items (OtherClock at) h = omega arith
+clear_start s items (CyclicSequence at) h = omega arith
+clear_start s items (TooWide at) h = omega arith
+clear_start s items Memory h = elim h [ ]
+
+pub of_1 : (s : Scope) (items : List Item) (fault : TypeFault) → rank fault ≡ 1 → Stands s items fault → IsIn (byte_of fault) (file_faults s Unknown items)
+of_1 s items (UnknownName at) r h = h
+of_1 s items (Duplicate at) r h = absurd (omega (arith, r))
+of_1 s items (WiderThan128 at) r h = absurd (omega (arith, r))
+of_1 s items (SliceRange at) r h = absurd (omega (arith, r))
+of_1 s items (Degenerate at) r h = absurd (omega (arith, r))
+of_1 s items (Empty at) r h = absurd (omega (arith, r))
+of_1 s items (OtherClock at) r h = absurd (omega (arith, r))
+of_1 s items (CyclicSequence at) r h = absurd (omega (arith, r))
+of_1 s items (TooWide at) r h = absurd (omega (arith, r))
+of_1 s items Memory r h = elim h [ ]
+
+pub of_2 : (s : Scope) (items : List Item) (fault : TypeFault) → rank fault ≡ 2 → Stands s items fault → IsIn (byte_of fault) (duplicates items)
+of_2 s items (UnknownName at) r h = absurd (omega (arith, r))
+of_2 s items (Duplicate at) r h = h
+of_2 s items (WiderThan128 at) r h = absurd (omega (arith, r))
+of_2 s items (SliceRange at) r h = absurd (omega (arith, r))
+of_2 s items (Degenerate at) r h = absurd (omega (arith, r))
+of_2 s items (Empty at) r h = absurd (omega (arith, r))
+of_2 s items (OtherClock at) r h = absurd (omega (arith, r))
+of_2 s items (CyclicSequence at) r h = absurd (omega (arith, r))
+of_2 s items (TooWide at) r h = absurd (omega (arith, r))
+of_2 s items Memory r h = elim h [ ]
+
+pub of_3 : (s : Scope) (items : List Item) (fault : TypeFault) → rank fault ≡ 3 → Stands s items fault → IsIn (byte_of fault) (file_faults s Wide items)
+of_3 s items (UnknownName at) r h = absurd (omega (arith, r))
+of_3 s items (Duplicate at) r h = absurd (omega (arith, r))
+of_3 s items (WiderThan128 at) r h = h
+of_3 s items (SliceRange at) r h = absurd (omega (arith, r))
+of_3 s items (Degenerate at) r h = absurd (omega (arith, r))
+of_3 s items (Empty at) r h = absurd (omega (arith, r))
+of_3 s items (OtherClock at) r h = absurd (omega (arith, r))
+of_3 s items (CyclicSequence at) r h = absurd (omega (arith, r))
+of_3 s items (TooWide at) r h = absurd (omega (arith, r))
+of_3 s items Memory r h = elim h [ ]
+
+pub of_4 : (s : Scope) (items : List Item) (fault : TypeFault) → rank fault ≡ 4 → Stands s items fault → IsIn (byte_of fault) (file_faults s OutOfRange items)
+of_4 s items (UnknownName at) r h = absurd (omega (arith, r))
+of_4 s items (Duplicate at) r h = absurd (omega (arith, r))
+of_4 s items (WiderThan128 at) r h = absurd (omega (arith, r))
+of_4 s items (SliceRange at) r h = h
+of_4 s items (Degenerate at) r h = absurd (omega (arith, r))
+of_4 s items (Empty at) r h = absurd (omega (arith, r))
+of_4 s items (OtherClock at) r h = absurd (omega (arith, r))
+of_4 s items (CyclicSequence at) r h = absurd (omega (arith, r))
+of_4 s items (TooWide at) r h = absurd (omega (arith, r))
+of_4 s items Memory r h = elim h [ ]
+
+pub of_8 : (s : Scope) (items : List Item) (fault : TypeFault) → rank fault ≡ 8 → Stands s items fault → DegenerateAt s items (byte_of fault)
+of_8 s items (UnknownName at) r h = absurd (omega (arith, r))
+of_8 s items (Duplicate at) r h = absurd (omega (arith, r))
+of_8 s items (WiderThan128 at) r h = absurd (omega (arith, r))
+of_8 s items (SliceRange at) r h = absurd (omega (arith, r))
+of_8 s items (Degenerate at) r h = h
+of_8 s items (Empty at) r h = absurd (omega (arith, r))
+of_8 s items (OtherClock at) r h = absurd (omega (arith, r))
+of_8 s items (CyclicSequence at) r h = absurd (omega (arith, r))
+of_8 s items (TooWide at) r h = absurd (omega (arith, r))
+of_8 s items Memory r h = elim h [ ]
+
+pub of_9 : (s : Scope) (items : List Item) (fault : TypeFault) → rank fault ≡ 9 → Stands s items fault → EmptyAt s items (byte_of fault)
+of_9 s items (UnknownName at) r h = absurd (omega (arith, r))
+of_9 s items (Duplicate at) r h = absurd (omega (arith, r))
+of_9 s items (WiderThan128 at) r h = absurd (omega (arith, r))
+of_9 s items (SliceRange at) r h = absurd (omega (arith, r))
+of_9 s items (Degenerate at) r h = absurd (omega (arith, r))
+of_9 s items (Empty at) r h = h
+of_9 s items (OtherClock at) r h = absurd (omega (arith, r))
+of_9 s items (CyclicSequence at) r h = absurd (omega (arith, r))
+of_9 s items (TooWide at) r h = absurd (omega (arith, r))
+of_9 s items Memory r h = elim h [ ]
+
+pub of_5 : (s : Scope) (items : List Item) (fault : TypeFault) → rank fault ≡ 5 → Stands s items fault → IsIn (byte_of fault) (other_clocks (assertions_of items))
+of_5 s items (UnknownName at) r h = absurd (omega (arith, r))
+of_5 s items (Duplicate at) r h = absurd (omega (arith, r))
+of_5 s items (WiderThan128 at) r h = absurd (omega (arith, r))
+of_5 s items (SliceRange at) r h = absurd (omega (arith, r))
+of_5 s items (Degenerate at) r h = absurd (omega (arith, r))
+of_5 s items (Empty at) r h = absurd (omega (arith, r))
+of_5 s items (OtherClock at) r h = h
+of_5 s items (CyclicSequence at) r h = absurd (omega (arith, r))
+of_5 s items (TooWide at) r h = absurd (omega (arith, r))
+of_5 s items Memory r h = elim h [ ]
+
+pub of_6 : (s : Scope) (items : List Item) (fault : TypeFault) → rank fault ≡ 6 → Stands s items fault → CycleAt s items (byte_of fault)
+of_6 s items (UnknownName at) r h = absurd (omega (arith, r))
+of_6 s items (Duplicate at) r h = absurd (omega (arith, r))
+of_6 s items (WiderThan128 at) r h = absurd (omega (arith, r))
+of_6 s items (SliceRange at) r h = absurd (omega (arith, r))
+of_6 s items (Degenerate at) r h = absurd (omega (arith, r))
+of_6 s items (Empty at) r h = absurd (omega (arith, r))
+of_6 s items (OtherClock at) r h = absurd (omega (arith, r))
+of_6 s items (CyclicSequence at) r h = h
+of_6 s items (TooWide at) r h = absurd (omega (arith, r))
+of_6 s items Memory r h = elim h [ ]
+
+pub of_7 : (s : Scope) (items : List Item) (fault : TypeFault) → rank fault ≡ 7 → Stands s items fault → WideAt s items (byte_of fault)
+of_7 s items (UnknownName at) r h = absurd (omega (arith, r))
+of_7 s items (Duplicate at) r h = absurd (omega (arith, r))
+of_7 s items (WiderThan128 at) r h = absurd (omega (arith, r))
+of_7 s items (SliceRange at) r h = absurd (omega (arith, r))
+of_7 s items (Degenerate at) r h = absurd (omega (arith, r))
+of_7 s items (Empty at) r h = absurd (omega (arith, r))
+of_7 s items (OtherClock at) r h = absurd (omega (arith, r))
+of_7 s items (CyclicSequence at) r h = absurd (omega (arith, r))
+of_7 s items (TooWide at) r h = h
+of_7 s items Memory r h = elim h [ ]
+
+pub clear_next : (s : Scope) (items : List Item) (n : ℕ) → ClearTo s items n → ((fault : TypeFault) → rank fault ≡ n + 1 → Stands s items fault → ⊥) → ClearTo s items (n + 1)
+clear_next s items n clear none fault h =
+    elim (cases_eq (rank fault) (n + 1)) [
+      | inl e ↦ absurd (none fault e h)
+      | inr d ↦ omega (arith, clear fault h, d)
+    ]
+
+pub first_at : (s : Scope) (items : List Item) (n : ℕ) (fault : TypeFault) → ClearTo s items n → rank fault ≡ n + 1 → Stands s items fault →
+    ((other : TypeFault) → rank other ≡ n + 1 → Stands s items other → byte_of fault ≤ byte_of other) → IsFirst s items fault
+first_at s items n fault clear r h low =
+    record {
+      stands = h;
+      first = λ other k.
+          elim (cases_eq (rank other) (n + 1)) [
+            | inl e ↦ inr (r ∙ sym e, low other e k)
+            | inr d ↦ inl (omega (arith, clear other k, d, r))
+          ];
+    }
+
+pub clear_1 : (s : Scope) (items : List Item) → ClearTo s items 0 → least (file_faults s Unknown items) ≡ None → ClearTo s items 1
+clear_1 s items clear e = clear_next s items 0 clear (λ fault r h. nowhere (file_faults s Unknown items) e (byte_of fault) (of_1 s items fault r h))
+
+pub first_1 : (s : Scope) (items : List Item) (at : ℕ) → ClearTo s items 0 → least (file_faults s Unknown items) ≡ Some at → IsFirst s items (UnknownName at)
+first_1 s items at clear e =
+    let l = least_stands (file_faults s Unknown items) at e in
+    first_at s items 0 (UnknownName at) clear (omega arith) l.stands (λ other r h. l.lowest (byte_of other) (of_1 s items other r h))
+
+pub clear_2 : (s : Scope) (items : List Item) → ClearTo s items 1 → least (duplicates items) ≡ None → ClearTo s items 2
+clear_2 s items clear e = clear_next s items 1 clear (λ fault r h. nowhere (duplicates items) e (byte_of fault) (of_2 s items fault r h))
+
+pub first_2 : (s : Scope) (items : List Item) (at : ℕ) → ClearTo s items 1 → least (duplicates items) ≡ Some at → IsFirst s items (Duplicate at)
+first_2 s items at clear e =
+    let l = least_stands (duplicates items) at e in
+    first_at s items 1 (Duplicate at) clear (omega arith) l.stands (λ other r h. l.lowest (byte_of other) (of_2 s items other r h))
+
+pub clear_3 : (s : Scope) (items : List Item) → ClearTo s items 2 → least (file_faults s Wide items) ≡ None → ClearTo s items 3
+clear_3 s items clear e = clear_next s items 2 clear (λ fault r h. nowhere (file_faults s Wide items) e (byte_of fault) (of_3 s items fault r h))
+
+pub first_3 : (s : Scope) (items : List Item) (at : ℕ) → ClearTo s items 2 → least (file_faults s Wide items) ≡ Some at → IsFirst s items (WiderThan128 at)
+first_3 s items at clear e =
+    let l = least_stands (file_faults s Wide items) at e in
+    first_at s items 2 (WiderThan128 at) clear (omega arith) l.stands (λ other r h. l.lowest (byte_of other) (of_3 s items other r h))
+
+pub clear_4 : (s : Scope) (items : List Item) → ClearTo s items 3 → least (file_faults s OutOfRange items) ≡ None → ClearTo s items 4
+clear_4 s items clear e = clear_next s items 3 clear (λ fault r h. nowhere (file_faults s OutOfRange items) e (byte_of fault) (of_4 s items fault r h))
+
+pub first_4 : (s : Scope) (items : List Item) (at : ℕ) → ClearTo s items 3 → least (file_faults s OutOfRange items) ≡ Some at → IsFirst s items (SliceRange at)
+first_4 s items at clear e =
+    let l = least_stands (file_faults s OutOfRange items) at e in
+    first_at s items 3 (SliceRange at) clear (omega arith) l.stands (λ other r h. l.lowest (byte_of other) (of_4 s items other r h))
+
+pub clear_5 : (s : Scope) (items : List Item) → ClearTo s items 4 → least (other_clocks (assertions_of items)) ≡ None → ClearTo s items 5
+clear_5 s items clear e = clear_next s items 4 clear (λ fault r h. nowhere (other_clocks (assertions_of items)) e (byte_of fault) (of_5 s items fault r h))
+
+pub first_5 : (s : Scope) (items : List Item) (at : ℕ) → ClearTo s items 4 → least (other_clocks (assertions_of items)) ≡ Some at → IsFirst s items (OtherClock at)
+first_5 s items at clear e =
+    let l = least_stands (other_clocks (assertions_of items)) at e in
+    first_at s items 4 (OtherClock at) clear (omega arith) l.stands (λ other r h. l.lowest (byte_of other) (of_5 s items other r h))
+
+pub ruleset for_stages = (clear_start, clear_1, clear_2, clear_3, clear_4, clear_5, first_1, first_2, first_3, first_4, first_5)
+
+-- Behind the first five kinds, the expressions of a text have no fault.
+nothing_in : (xs : List ℕ) → ((at : ℕ) → IsIn at xs → ⊥) → xs ≡ []
+nothing_in [] none = refl
+nothing_in (x ∷ xs) none = absurd (none x (inl refl))
+
+pub clear_sound : (s : Scope) (items : List Item) → ClearTo s items 5 → (k : Sought) → file_faults s k items ≡ []
+clear_sound s items clear Unknown = nothing_in (file_faults s Unknown items) (λ at i. omega (arith, clear (UnknownName at) i))
+clear_sound s items clear Wide = nothing_in (file_faults s Wide items) (λ at i. omega (arith, clear (WiderThan128 at) i))
+clear_sound s items clear OutOfRange = nothing_in (file_faults s OutOfRange items) (λ at i. omega (arith, clear (SliceRange at) i))
+
+-- a refusal that `?` passes on
+pub refused_memory : {X : Type 0} (s : Scope) (items : List Item) (r : Result X TypeFault) → IsErrAnd r (λ e. e ≡ Memory) → IfErr r (IsRefused s items)
+refused_memory s items (Ok x) h = elim h [ ]
+refused_memory s items (Err e) h = rw h tt
+
+pub refused_same : {X : Type 0} (s : Scope) (items : List Item) (f : TypeFault) (r : Result X TypeFault) → IsErrAnd r (λ e. e ≡ f) → IsRefused s items f → IfErr r (IsRefused s items)
+refused_same s items f (Ok x) h g = elim h [ ]
+refused_same s items f (Err e) h g = rw h g

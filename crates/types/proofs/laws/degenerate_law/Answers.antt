@@ -1,6 +1,0 @@
-use Rattle.types.specs.declared.sequence.Boolean.{Boolean}
-use Rattle.types.proofs.EmptinessLaws.{degenerate-none, none-degenerate}
-use Rattle.types.proofs.laws.degenerate_law.Goals as goal
-
-pub returns : goal.returns
-returns c = λ true_one r ordered. (degenerate-none Boolean true_one r ordered, none-degenerate Boolean true_one r ordered)

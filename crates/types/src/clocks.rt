@@ -1,0 +1,59 @@
+//! Clocks.
+
+ghost use Rattle.std.specs.Prelude.{◌≡◌, map, IfOk, string_bytes};
+ghost use Rattle.parser.specs.Views.{item_of, path_of};
+ghost use Rattle.types_expressions.specs.Faults.{least};
+ghost use Rattle.types_expressions.specs.Scopes.{first_byte};
+ghost use Rattle.types.specs.Texts.{assertions_of, differing, clock_of};
+
+use crate::least::earlier;
+use parser::{Item, Path};
+use std::alloc::{AllocError, Global};
+use types_expressions::path_string;
+
+/// The path of the first assertion's clock, and no text where there is no assertion.
+pub(crate) fn first_clock(alloc: Global, items: &[Item]) -> Result<String, AllocError>
+    ensures { IfOk result (λ clock. string_bytes clock ≡ clock_of (assertions_of (map item_of items.now))) }
+{
+    for item in items {
+        match item {
+            Item::Counter(_) => continue,
+            Item::Declaration(_) => continue,
+            Item::Assertion(assertion) => return path_string(alloc, &assertion.clock),
+        }
+    }
+    Ok(String::new(alloc))
+}
+
+/// The byte at which a path begins.
+fn byte_of(path: &Path) -> usize
+    ensures { result ≡ first_byte (path_of path.now) }
+{
+    path.first.at
+}
+
+/// The first clock that is another: the byte where its path begins.
+pub(crate) fn first_other_clock(
+    alloc: Global,
+    clock: &str,
+    items: &[Item],
+) -> Result<Option<usize>, AllocError>
+    ensures { IfOk result (λ r. r ≡ least (differing clock.now (assertions_of (map item_of items.now)))) }
+{
+    let mut fault = None;
+    for item in items {
+        match item {
+            Item::Counter(_) => continue,
+            Item::Declaration(_) => continue,
+            Item::Assertion(assertion) => {
+                let path = path_string(alloc, &assertion.clock)?;
+                if path.as_str() == clock {
+                    continue;
+                }
+                fault = earlier(fault, Some(byte_of(&assertion.clock)));
+                continue;
+            }
+        }
+    }
+    Ok(fault)
+}

@@ -1,0 +1,103 @@
+//! Names that are declared again.
+
+ghost use Rattle.std.specs.Prelude.{◌≡◌, ◌<◌, ◌++◌, ◌+◌, map, IfOk, OnOk, string_bytes, option_map, codes};
+ghost use Rattle.parser.specs.Views.{assertion_of, item_of};
+ghost use Rattle.types_expressions.specs.Faults.{least};
+ghost use Rattle.types.specs.Texts.{label_text, label_byte, name_made, assertions_after, duplicates};
+
+use crate::least::earlier;
+use lexer::Token;
+use parser::{Assertion, Item};
+use std::alloc::{AllocError, Global};
+use std::fmt::Write;
+use types_expressions::Names;
+
+/// A name with the byte where it stands.
+#[derive(Drop)]
+pub(crate) struct Made {
+    pub text: String,
+    pub at: usize,
+}
+
+/// The name of an assertion, before which so many stand.
+pub(crate) fn label_string(
+    alloc: Global,
+    before: usize,
+    label: Option<Token>,
+) -> Result<String, AllocError>
+    requires { before < 18446744073709551615 }
+    ensures { IfOk result (λ s. string_bytes s ≡ label_text before label.entry) }
+{
+    match label {
+        Some(token) => String::from_str(alloc, token.text),
+        None => {
+            let mut text = String::new(alloc);
+            let number = before + 1;
+            write!(text, "assert_{number}")?;
+            Ok(text)
+        }
+    }
+}
+
+/// The name that an item makes.
+fn name_of(alloc: Global, before: usize, item: &Item) -> Result<Made, AllocError>
+    requires { before < 18446744073709551615 }
+    ensures text { IfOk result (λ m. string_bytes m.text ≡ (name_made before (item_of item.now)).0) }
+    ensures at { IfOk result (λ m. m.at ≡ (name_made before (item_of item.now)).1) }
+{
+    match item {
+        Item::Counter(counter) => Ok(Made {
+            text: String::from_str(alloc, counter.name.text)?,
+            at: counter.name.at,
+        }),
+        Item::Declaration(declaration) => Ok(Made {
+            text: String::from_str(alloc, declaration.name.text)?,
+            at: declaration.name.at,
+        }),
+        Item::Assertion(assertion) => Ok(Made {
+            text: label_string(alloc, before, assertion.label)?,
+            at: label_at(assertion),
+        }),
+    }
+}
+
+/// Where an assertion's name stands.
+fn label_at(assertion: &Assertion) -> usize
+    ensures { result ≡ label_byte (assertion_of assertion.now) assertion.now.label }
+{
+    match assertion.label {
+        Some(token) => token.at,
+        None => assertion.verb.at,
+    }
+}
+
+/// How many assertions stand before the next item.
+fn assertions_after(before: usize, item: &Item) -> usize
+    requires { before < 18446744073709551615 }
+    ensures { result ≡ assertions_after before (item_of item.now) }
+{
+    match item {
+        Item::Counter(_) => before,
+        Item::Declaration(_) => before,
+        Item::Assertion(_) => before + 1,
+    }
+}
+
+/// The first name that is declared again: the byte where it stands.
+pub(crate) fn first_duplicate(alloc: Global, items: &[Item]) -> Result<Option<usize>, AllocError>
+    ensures { IfOk result (λ r. r ≡ least (duplicates (map item_of items.now))) }
+{
+    let mut known = Names::new(alloc);
+    let mut before = 0usize;
+    let mut fault = None;
+    for item in items {
+        let made = name_of(alloc, before, item)?;
+        before = assertions_after(before, item);
+        if known.width(made.text.as_str()).is_some() {
+            fault = earlier(fault, Some(made.at));
+            continue;
+        }
+        known.push(alloc, made.text.as_str(), 1)?;
+    }
+    Ok(fault)
+}

@@ -1,0 +1,54 @@
+//! Sides of assertions, and what is wrong with them.
+
+ghost use Rattle.std.specs.Prelude.{◌≡◌};
+ghost use Rattle.types_expressions.specs.Faults.{least};
+ghost use Rattle.types.specs.Sides.{places_where, is_wide, is_degenerate, is_empty};
+
+use crate::least::earlier;
+use types_sequences::Facts;
+
+/// What is known of an antecedent or a consequent, with the byte of its first token but brackets.
+#[derive(Clone, Copy, Debug)]
+pub(crate) struct Side {
+    pub facts: Facts,
+    pub at: usize,
+}
+
+/// The first side that weighs over 127.
+pub(crate) fn first_wide(sides: &[Side]) -> Option<usize>
+    ensures { result ≡ least (places_where is_wide sides.now) }
+{
+    let mut fault = None;
+    for side in sides {
+        if side.facts.weight > 127 {
+            fault = earlier(fault, Some(side.at));
+        }
+    }
+    fault
+}
+
+/// The first side that matches no tick.
+pub(crate) fn first_degenerate(sides: &[Side]) -> Option<usize>
+    ensures { result ≡ least (places_where is_degenerate sides.now) }
+{
+    let mut fault = None;
+    for side in sides {
+        if !side.facts.ticks {
+            fault = earlier(fault, Some(side.at));
+        }
+    }
+    fault
+}
+
+/// The first side that matches an empty segment.
+pub(crate) fn first_empty(sides: &[Side]) -> Option<usize>
+    ensures { result ≡ least (places_where is_empty sides.now) }
+{
+    let mut fault = None;
+    for side in sides {
+        if side.facts.empty {
+            fault = earlier(fault, Some(side.at));
+        }
+    }
+    fault
+}

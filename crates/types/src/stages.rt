@@ -1,0 +1,155 @@
+//! Faults in their order.
+
+ghost use Rattle.std.specs.Prelude.{◌≡◌, ◌<◌, ℕ, true, false, map, length, IfOk, IfErr};
+ghost use Rattle.parser.specs.Views.{item_of};
+ghost use Rattle.types_expressions.specs.Views.{scope_of};
+ghost use Rattle.types.specs.Texts.{assertions_of, clock_of};
+ghost use Rattle.types.specs.Faults.{Where, Text, outlines_of, sides_of, consequents_of, ClearTo, IsFaultless, IsRefused};
+ghost use Rattle.types.specs.Cycles.{AreOutlined};
+ghost use Rattle.types.specs.Sides.{AreWeighed, AreLight};
+ghost use Rattle.types_sequences.specs.Cycles.{ReachesCycle};
+ghost use Rattle.types_sequences.specs.Entries.{IsTable, has_entry};
+ghost use Rattle.types_sequences.specs.Views.{draft_of};
+
+use crate::clocks::first_other_clock;
+use crate::cycles::{first_cycle, has_all};
+use crate::fault::TypeFault;
+use crate::names::first_duplicate;
+use crate::side::{Side, first_degenerate, first_empty, first_wide};
+use parser::Item;
+use std::alloc::{AllocError, Global};
+use types_expressions::{Scope, Sought, first_fault};
+use types_sequences::{Draft, Entry};
+
+/// Looks for unknown names (Y1).
+#[tactic(auto, using(crate::proofs::StageLaws::clear_1, crate::proofs::StageLaws::first_1, crate::proofs::StageLaws::clear_start))]
+fn check_paths(alloc: Global, scope: &Scope, items: &[Item]) -> Result<(), TypeFault>
+    ensures ok { IfOk result (λ _. ClearTo (scope_of scope.now) (map item_of items.now) 1) }
+    ensures err { IfErr result (IsRefused (scope_of scope.now) (map item_of items.now)) }
+{
+    match first_fault(alloc, scope, Sought::Unknown, items) {
+        Ok(None) => Ok(()),
+        Ok(Some(at)) => Err(TypeFault::UnknownName(at)),
+        Err(AllocError) => Err(TypeFault::Memory),
+    }
+}
+
+/// Looks for names that are declared again (Y2).
+#[tactic(auto, using(crate::proofs::StageLaws::clear_2, crate::proofs::StageLaws::first_2))]
+fn check_names(alloc: Global, scope: &Scope, items: &[Item]) -> Result<(), TypeFault>
+    requires clear { ClearTo (scope_of scope.now) (map item_of items.now) 1 }
+    ensures ok { IfOk result (λ _. ClearTo (scope_of scope.now) (map item_of items.now) 2) }
+    ensures err { IfErr result (IsRefused (scope_of scope.now) (map item_of items.now)) }
+{
+    match first_duplicate(alloc, items) {
+        Ok(None) => Ok(()),
+        Ok(Some(at)) => Err(TypeFault::Duplicate(at)),
+        Err(AllocError) => Err(TypeFault::Memory),
+    }
+}
+
+/// Looks for wide concatenations (Y3).
+#[tactic(auto, using(crate::proofs::StageLaws::clear_3, crate::proofs::StageLaws::first_3))]
+fn check_concatenations(alloc: Global, scope: &Scope, items: &[Item]) -> Result<(), TypeFault>
+    requires clear { ClearTo (scope_of scope.now) (map item_of items.now) 2 }
+    ensures ok { IfOk result (λ _. ClearTo (scope_of scope.now) (map item_of items.now) 3) }
+    ensures err { IfErr result (IsRefused (scope_of scope.now) (map item_of items.now)) }
+{
+    match first_fault(alloc, scope, Sought::Wide, items) {
+        Ok(None) => Ok(()),
+        Ok(Some(at)) => Err(TypeFault::WiderThan128(at)),
+        Err(AllocError) => Err(TypeFault::Memory),
+    }
+}
+
+/// Looks for selects out of range (Y4).
+#[tactic(auto, using(crate::proofs::StageLaws::clear_4, crate::proofs::StageLaws::first_4))]
+fn check_selects(alloc: Global, scope: &Scope, items: &[Item]) -> Result<(), TypeFault>
+    requires clear { ClearTo (scope_of scope.now) (map item_of items.now) 3 }
+    ensures ok { IfOk result (λ _. ClearTo (scope_of scope.now) (map item_of items.now) 4) }
+    ensures err { IfErr result (IsRefused (scope_of scope.now) (map item_of items.now)) }
+{
+    match first_fault(alloc, scope, Sought::OutOfRange, items) {
+        Ok(None) => Ok(()),
+        Ok(Some(at)) => Err(TypeFault::SliceRange(at)),
+        Err(AllocError) => Err(TypeFault::Memory),
+    }
+}
+
+/// Looks for other clocks (Y7).
+#[tactic(auto, using(crate::proofs::StageLaws::clear_5, crate::proofs::StageLaws::first_5))]
+fn check_clocks(alloc: Global, scope: &Scope, items: &[Item], clock: &str) -> Result<(), TypeFault>
+    requires clear { ClearTo (scope_of scope.now) (map item_of items.now) 4 }
+    requires clock { clock.now ≡ clock_of (assertions_of (map item_of items.now)) }
+    ensures ok { IfOk result (λ _. ClearTo (scope_of scope.now) (map item_of items.now) 5) }
+    ensures err { IfErr result (IsRefused (scope_of scope.now) (map item_of items.now)) }
+{
+    match first_other_clock(alloc, clock, items) {
+        Ok(None) => Ok(()),
+        Ok(Some(at)) => Err(TypeFault::OtherClock(at)),
+        Err(AllocError) => Err(TypeFault::Memory),
+    }
+}
+
+/// Looks for faults of names, widths and clocks, Y1 to Y4 and Y7, in this order.
+pub(crate) fn check_expressions(
+    alloc: Global,
+    scope: &Scope,
+    items: &[Item],
+    clock: &str,
+) -> Result<(), TypeFault>
+    requires { clock.now ≡ clock_of (assertions_of (map item_of items.now)) }
+    ensures ok { IfOk result (λ _. ClearTo (scope_of scope.now) (map item_of items.now) 5) }
+    ensures err { IfErr result (IsRefused (scope_of scope.now) (map item_of items.now)) }
+{
+    check_paths(alloc, scope, items)?;
+    check_names(alloc, scope, items)?;
+    check_concatenations(alloc, scope, items)?;
+    check_selects(alloc, scope, items)?;
+    check_clocks(alloc, scope, items, clock)
+}
+
+/// Looks for sequences that reach themselves (Y8), where these are the entries of the named sequences.
+pub(crate) fn check_cycles(
+    alloc: Global,
+    bodies: &[Draft],
+    bytes: &[usize],
+    table: &[Option<Entry>],
+) -> Result<(), TypeFault>
+    requires bytes { length bytes.now ≡ length bodies.now }
+    requires long { length table.now ≡ length bodies.now }
+    requires entries { IsTable (map draft_of bodies.now) table.now }
+    requires cyclic { (p : ℕ) → p < length bodies.now → has_entry table.now p ≡ false → ReachesCycle (map draft_of bodies.now) p }
+    ensures entries { IfOk result (λ _. (p : ℕ) → p < length bodies.now → has_entry table.now p ≡ true) }
+    ensures ok { (s : Where) (items : Text) → AreOutlined s items (map draft_of bodies.now) bytes.now → ClearTo s items 5 → IfOk result (λ _. ClearTo s items 6) }
+    ensures err { (s : Where) (items : Text) → AreOutlined s items (map draft_of bodies.now) bytes.now → ClearTo s items 5 → IfErr result (IsRefused s items) }
+{
+    if has_all(table) {
+        return Ok(());
+    }
+    match first_cycle(alloc, bodies, bytes) {
+        Ok(Some(at)) => Err(TypeFault::CyclicSequence(at)),
+        Ok(None) => Ok(()),
+        Err(AllocError) => Err(TypeFault::Memory),
+    }
+}
+
+/// Looks for faults of antecedents and consequents, Y9, Y5 and Y6, in this order.
+pub(crate) fn check_sides(sides: &[Side], consequents: &[Side]) -> Result<(), TypeFault>
+    ensures light { IfOk result (λ _. AreLight sides.now) }
+    ensures ok { (s : Where) (items : Text) → ClearTo s items 6 → AreWeighed (outlines_of s items) (sides_of s (assertions_of items)) sides.now
+        → AreWeighed (outlines_of s items) (consequents_of s (assertions_of items)) consequents.now → IfOk result (λ _. IsFaultless s items) }
+    ensures err { (s : Where) (items : Text) → ClearTo s items 6 → AreWeighed (outlines_of s items) (sides_of s (assertions_of items)) sides.now
+        → AreWeighed (outlines_of s items) (consequents_of s (assertions_of items)) consequents.now → IfErr result (IsRefused s items) }
+{
+    if let Some(at) = first_wide(sides) {
+        return Err(TypeFault::TooWide(at));
+    }
+    if let Some(at) = first_degenerate(sides) {
+        return Err(TypeFault::Degenerate(at));
+    }
+    if let Some(at) = first_empty(consequents) {
+        return Err(TypeFault::AdmitsEmpty(at));
+    }
+    Ok(())
+}

@@ -1,0 +1,151 @@
+//! What names stand for in a text over a dump.
+
+ghost use Rattle.std.specs.Prelude.{◌≡◌, map, option_map, IfOk, OnOk, IsTrue};
+ghost use Rattle.parser.specs.Views.{item_of, path_of, tree_of};
+ghost use Rattle.types_expressions.specs.Scopes.{found, owns, is_narrow, bits_of, meaning, meaning_by, scope_for, sequence_named, place_of};
+ghost use Rattle.types_expressions.specs.Entries.{with_entry};
+ghost use Rattle.types_expressions.specs.Views.{names_in, entries_in, scope_of};
+
+use crate::declared::Declared;
+use crate::names::Names;
+use crate::own::{Meaning, Own};
+use crate::path::path_string;
+use crate::width::Width;
+use indexmap::IndexMap;
+use parser::{Expr, Item, Path};
+use std::alloc::{AllocError, Global};
+
+/// The names of a text and the paths of a dump. The text's own names come before the dump's paths, and with a name declared twice the first
+/// declaration counts.
+#[derive(Drop)]
+pub struct Scope<'n> {
+    pub(crate) own: IndexMap<String, Declared>,
+    pub(crate) names: &'n Names,
+}
+
+/// Adds a name, unless it is there.
+fn declare(
+    alloc: Global,
+    names: &mut IndexMap<String, Declared>,
+    name: &str,
+    declared: Declared,
+) -> Result<(), AllocError>
+    ensures { OnOk result (entries_in names.new ≡ with_entry (entries_in names.old) name.now declared.own) }
+{
+    if names.contains_key(name) {
+        return Ok(());
+    }
+    let key = String::from_str(alloc, name)?;
+    names.insert(key, declared)?;
+    Ok(())
+}
+
+/// The names that the items declare.
+fn owns_of(alloc: Global, items: &[Item]) -> Result<IndexMap<String, Declared>, AllocError>
+    ensures { IfOk result (λ m. found (entries_in m) ≡ found (owns (map item_of items.now))) }
+{
+    let mut names = IndexMap::new(alloc);
+    let mut counters = 0usize;
+    let mut sequences = 0usize;
+    for item in items {
+        match item {
+            Item::Counter(counter) => {
+                let width = Width::within(counter.width.value);
+                let own = Own::Counter(counters, width.bits);
+                declare(alloc, &mut names, counter.name.text, Declared { own })?;
+                counters += 1;
+                continue;
+            }
+            Item::Declaration(declaration) => {
+                let own = Own::Sequence(sequences);
+                declare(alloc, &mut names, declaration.name.text, Declared { own })?;
+                sequences += 1;
+                continue;
+            }
+            Item::Assertion(_) => continue,
+        }
+    }
+    Ok(names)
+}
+
+/// The bits of what an expression can read, a signal or a counter.
+pub(crate) fn bits_of(means: Option<Meaning>) -> Option<u8>
+    ensures { result ≡ bits_of means }
+{
+    match means {
+        Some(Meaning::Signal(width)) => Some(width),
+        Some(Meaning::Own(Own::Counter(_, width))) => Some(width),
+        Some(Meaning::Own(Own::Sequence(_))) => None,
+        None => None,
+    }
+}
+
+/// The place of a named sequence.
+fn place_of(means: Option<Meaning>) -> Option<usize>
+    ensures { result ≡ place_of means }
+{
+    match means {
+        Some(Meaning::Signal(_)) => None,
+        Some(Meaning::Own(Own::Counter(_, _))) => None,
+        Some(Meaning::Own(Own::Sequence(place))) => Some(place),
+        None => None,
+    }
+}
+
+impl<'n> Scope<'n> {
+    /// The scope of a text over a dump.
+    pub fn of(alloc: Global, names: &'n Names, items: &[Item]) -> Result<Scope<'n>, AllocError>
+        ensures { IfOk result (λ s. scope_of s ≡ scope_for (map item_of items.now) (names_in names.now)) }
+    {
+        let own = owns_of(alloc, items)?;
+        Ok(Scope { own, names })
+    }
+
+    /// What a text stands for, as a path.
+    pub(crate) fn meaning_of(&self, text: &str) -> Option<Meaning>
+        ensures means { result ≡ meaning_by ((scope_of self.now).own text.now) ((scope_of self.now).dump text.now) }
+        ensures narrow { IsTrue (is_narrow (bits_of result)) }
+    {
+        if let Some(declared) = self.own.get(text) {
+            return Some(Meaning::Own(declared.own));
+        }
+        match self.names.width(text) {
+            Some(width) => Some(Meaning::Signal(width.bits)),
+            None => None,
+        }
+    }
+
+    /// What a path stands for.
+    pub fn meaning(&self, alloc: Global, path: &Path) -> Result<Option<Meaning>, AllocError>
+        ensures means { IfOk result (λ m. m ≡ meaning (scope_of self.now) (path_of path.now)) }
+        ensures narrow { IfOk result (λ m. IsTrue (is_narrow (bits_of m))) }
+    {
+        if path.more.is_empty() {
+            return Ok(self.meaning_of(path.first.text));
+        }
+        let text = path_string(alloc, path)?;
+        Ok(self.meaning_of(text.as_str()))
+    }
+
+    /// The width of a path of the dump.
+    pub fn signal_width(&self, path: &str) -> Option<Width>
+        ensures { option_map (λ w. w.bits) result ≡ (scope_of self.now).dump path.now }
+    {
+        self.names.width(path)
+    }
+
+    /// The place of the named sequence that an expression is the name of, where it stands as a boolean of a sequence.
+    pub fn sequence_named(&self, expr: &Expr) -> Option<usize>
+        ensures { result ≡ sequence_named (scope_of self.now) (tree_of expr.now) }
+    {
+        match expr {
+            Expr::Path(path, None) => {
+                if !path.more.is_empty() {
+                    return None;
+                }
+                place_of(self.meaning_of(path.first.text))
+            }
+            _ => None,
+        }
+    }
+}

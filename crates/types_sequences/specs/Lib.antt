@@ -1,0 +1,9 @@
+pub mod Drafts
+pub mod Views
+pub mod Marks
+pub mod Sweeps
+pub mod Cycles
+pub mod Entries
+pub mod Placed
+pub mod Outlines
+pub mod Implications

@@ -1,0 +1,28 @@
+-- Sequences whose booleans are numbered for one assertion.
+use Rattle.std.specs.Prelude.{◌≡◌, ℕ, ◌++◌, List, Bool, true, slice_get}
+use Rattle.expressions.specs.declared.expr.Expr.{Expr}
+use Rattle.expressions.specs.Terms.{Samples}
+use Rattle.assertions.specs.declared.sequence.Boolean.{Boolean}
+use Rattle.assertions.specs.declared.sequence.Boolean.TheVariants.{One, Listed}
+use Rattle.assertions.specs.Segments.{sat}
+use Rattle.assertions.specs.Written.{Written, kernel}
+use Rattle.assertions.specs.Shapes.{is_true_at, value_in}
+use Rattle.types_sequences.specs.Entries.{Alike}
+
+-- whether a boolean that has its place among a suite's expressions is true at a tick
+abbrev pub atom_true : List Expr → Samples → Boolean → ℕ → Bool
+atom_true booleans t One k = true
+atom_true booleans t (Listed p) k = is_true_at t (slice_get booleans p) k
+
+-- The second matches by an assertion's list of places what the first matches by the places among the suite's expressions, however much was seen.
+abbrev pub IsPlaced : List Expr → List ℕ → Written Boolean → Written Boolean → Type 0
+IsPlaced booleans places w u = (t : Samples) (n : ℕ) → Alike (sat (atom_true booleans t) n) (sat (value_in booleans places t) n) (kernel One w) (kernel One u)
+
+-- the same of one boolean
+abbrev pub IsPlacedBoolean : List Expr → List ℕ → Boolean → Boolean → Type 0
+IsPlacedBoolean booleans places a b = (t : Samples) (k : ℕ) → atom_true booleans t a k ≡ value_in booleans places t b k
+
+-- more behind what was there
+pub record Extends {A : Type 0} (before after : List A) : Type 0 where
+  pub added : List A
+  pub is : after ≡ before ++ added

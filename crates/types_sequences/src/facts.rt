@@ -1,0 +1,128 @@
+//! What the form of a sequence tells.
+
+ghost use Rattle.std.specs.Prelude.{◌≡◌, ◌+◌, ◌||◌, ◌&&◌, nat_le, min};
+ghost use Rattle.assertions.specs.declared.sequence.Boolean.{Boolean};
+ghost use Rattle.assertions.specs.Written.{Written, boolean, delay, lead, repeat, or, and, throughout};
+ghost use Rattle.types_sequences.specs.Entries.{IsFacts};
+
+/// What the form of a sequence tells, with its names written out.
+#[derive(Clone, Copy, Debug)]
+pub struct Facts {
+    /// What it weighs, or 128 where that is more.
+    pub weight: u8,
+    /// Whether it matches an empty segment.
+    pub empty: bool,
+    /// Whether it matches a tick or more, were every boolean true.
+    pub ticks: bool,
+}
+
+/// The number, or 128 where it is over that.
+fn cap(weight: usize) -> u8
+    ensures { result ≡ min weight 128 }
+{
+    weight.min(128) as u8
+}
+
+/// Whether 1 is in the range.
+fn spans_one(least: u8, most: usize) -> bool
+    ensures { result ≡ (nat_le least 1 && nat_le 1 most) }
+{
+    least <= 1 && most >= 1
+}
+
+impl Facts {
+    /// Of a boolean.
+    pub(crate) fn boolean() -> Facts
+        ensures { (b : Boolean) → IsFacts (boolean b) result }
+    {
+        Facts {
+            weight: 1,
+            empty: false,
+            ticks: true,
+        }
+    }
+
+    /// Whether it matches anything, were every boolean true.
+    fn matches(self) -> bool
+        ensures { result ≡ (self.empty || self.ticks) }
+    {
+        self.empty || self.ticks
+    }
+
+    /// Whether both match, and one takes a tick, were every boolean true.
+    fn takes_with(self, second: Facts) -> bool
+        ensures { result ≡ ((self.ticks && (second.empty || second.ticks)) || ((self.empty || self.ticks) && second.ticks)) }
+    {
+        (self.ticks && second.matches()) || (self.matches() && second.ticks)
+    }
+
+    /// Whether the delay of two takes a tick, were every boolean true.
+    fn delay_takes(self, least: u8, most: usize, second: Facts) -> bool
+        ensures { result ≡ ((nat_le least 0 && (self.ticks && second.ticks))
+            || ((nat_le least 1 && nat_le 1 most) && ((self.ticks && (second.empty || second.ticks)) || ((self.empty || self.ticks) && second.ticks)))
+            || (nat_le 2 most && ((self.empty || self.ticks) && (second.empty || second.ticks)))) }
+    {
+        let shared = least == 0 && self.ticks && second.ticks;
+        let next = spans_one(least, most) && self.takes_with(second);
+        let later = most >= 2 && self.matches() && second.matches();
+        shared || next || later
+    }
+
+    /// Of `self ##[least:least + extra] second`.
+    pub(crate) fn delay(self, least: u8, extra: u8, second: Facts) -> Facts
+        ensures { (v w : Written Boolean) → IsFacts v self → IsFacts w second → IsFacts (delay v least (least + extra) w) result }
+    {
+        let most = usize::from(least) + usize::from(extra);
+        Facts {
+            weight: cap(usize::from(self.weight) + usize::from(second.weight) + most),
+            empty: spans_one(least, most) && (self.empty && second.empty),
+            ticks: self.delay_takes(least, most, second),
+        }
+    }
+
+    /// Of `##[least:least + extra] self`, with nothing before it.
+    pub(crate) fn lead(self, least: u8, extra: u8) -> Facts
+        ensures { (w : Written Boolean) → IsFacts w self → IsFacts (lead least (least + extra) w) result }
+    {
+        let most = usize::from(least) + usize::from(extra);
+        Facts {
+            weight: cap(usize::from(self.weight) + most),
+            empty: least == 0 && self.empty,
+            ticks: (least == 0 && self.ticks) || (1 <= most && self.matches()),
+        }
+    }
+
+    /// Of `self[*least:least + extra]`.
+    pub(crate) fn repeat(self, least: u8, extra: u8) -> Facts
+        ensures { (w : Written Boolean) → IsFacts w self → IsFacts (repeat w least (least + extra)) result }
+    {
+        let most = usize::from(least) + usize::from(extra);
+        Facts {
+            weight: cap(most * usize::from(self.weight)),
+            empty: least == 0 || self.empty,
+            ticks: 1 <= most && self.ticks,
+        }
+    }
+
+    /// Of `self or second`.
+    pub(crate) fn or(self, second: Facts) -> Facts
+        ensures { (v w : Written Boolean) → IsFacts v self → IsFacts w second → IsFacts (or v w) result }
+    {
+        Facts {
+            weight: cap(usize::from(self.weight) + usize::from(second.weight)),
+            empty: self.empty || second.empty,
+            ticks: self.ticks || second.ticks,
+        }
+    }
+
+    /// Of `self and second`.
+    pub(crate) fn and(self, second: Facts) -> Facts
+        ensures { (v w : Written Boolean) → IsFacts v self → IsFacts w second → IsFacts (and v w) result }
+    {
+        Facts {
+            weight: cap((usize::from(self.weight) + 1) * (usize::from(second.weight) + 1)),
+            empty: self.empty && second.empty,
+            ticks: self.takes_with(second),
+        }
+    }
+}

@@ -1,0 +1,35 @@
+//! The two implications.
+
+ghost use Rattle.std.specs.Prelude.{◌≡◌, IfOk};
+ghost use Rattle.assertions.specs.declared.sequence.Boolean.TheVariants.{One};
+ghost use Rattle.types_sequences.specs.Implications.{rewritten};
+ghost use Rattle.types_sequences.specs.Views.{draft_of};
+
+use crate::draft::Draft;
+use std::alloc::{AllocError, Global};
+
+/// Where the consequent of an implication begins (IEEE 1800-2017, 16.12.7).
+#[derive(Clone, Copy, PartialEq, Eq, Debug)]
+pub enum Implication {
+    /// `|->`: at the last tick of the antecedent.
+    Overlapped,
+    /// `|=>`: at the tick behind it.
+    NonOverlapped,
+}
+
+/// The antecedent of `|->` that says what this one says before the implication.
+pub fn rewrite_antecedent(
+    alloc: Global,
+    antecedent: Box<Draft>,
+    implication: Implication,
+) -> Result<Box<Draft>, AllocError>
+    ensures { IfOk result (λ d. draft_of d.value ≡ rewritten One implication (draft_of antecedent.value)) }
+{
+    match implication {
+        Implication::Overlapped => Ok(antecedent),
+        Implication::NonOverlapped => {
+            let one = Box::new(alloc, Draft::One)?;
+            Ok(Box::new(alloc, Draft::Delay(antecedent, 1, 0, one))?)
+        }
+    }
+}

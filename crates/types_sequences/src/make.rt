@@ -1,0 +1,174 @@
+//! Sequences from their parts.
+
+ghost use Rattle.std.specs.Prelude.{◌≡◌, ◌+◌, ◌≤◌, true, false, IfOk};
+ghost use Rattle.assertions.specs.declared.sequence.Boolean.{Boolean};
+ghost use Rattle.assertions.specs.declared.sequence.Boolean.TheVariants.{One};
+ghost use Rattle.assertions.specs.Shapes.{written};
+ghost use Rattle.assertions.specs.Written.{Written, boolean, delay, lead, repeat, or, and, throughout, weight, IsOrdered};
+ghost use Rattle.assertions.specs.Emptiness.{admits_empty};
+ghost use Rattle.types_sequences.specs.Entries.{Says, HasSame};
+
+use assertions::{Boolean, Sequence};
+use std::alloc::{AllocError, Global};
+
+/// The empty segment alone: `1[*0]`.
+fn empty_segment(alloc: Global) -> Result<Box<Sequence>, AllocError>
+    ensures { IfOk result (λ b. written b.value ≡ repeat (boolean One) 0 0) }
+{
+    let one = Box::new(alloc, Sequence::Boolean(Boolean::One))?;
+    Ok(Box::new(alloc, Sequence::Repeat(one, 0, 0))?)
+}
+
+/// What weighs nothing: the empty segment, or no segment.
+#[tactic(auto, using(crate::proofs::SameLaws::says_empty, crate::proofs::SameLaws::says_never))]
+pub(crate) fn weightless(alloc: Global, empty: bool) -> Result<Box<Sequence>, AllocError>
+    ensures { IfOk result (λ b. (w : Written Boolean) → IsOrdered w → weight w ≡ 0 → admits_empty w ≡ empty → Says w (written b.value)) }
+{
+    let first = empty_segment(alloc)?;
+    if empty {
+        return Ok(first);
+    }
+    let second = empty_segment(alloc)?;
+    Ok(Box::new(alloc, Sequence::Delay(first, 0, 0, second))?)
+}
+
+/// A copy of a sequence.
+pub(crate) fn copy_of(alloc: Global, sequence: &Sequence) -> Result<Box<Sequence>, AllocError>
+    ensures { IfOk result (λ b. written b.value ≡ written sequence.now) }
+{
+    let copy = match sequence {
+        Sequence::Boolean(boolean) => Sequence::Boolean(*boolean),
+        Sequence::Delay(first, least, most, second) => {
+            let first = copy_of(alloc, first)?;
+            Sequence::Delay(first, *least, *most, copy_of(alloc, second)?)
+        }
+        Sequence::Lead(least, most, body) => Sequence::Lead(*least, *most, copy_of(alloc, body)?),
+        Sequence::Repeat(body, least, most) => {
+            Sequence::Repeat(copy_of(alloc, body)?, *least, *most)
+        }
+        Sequence::Or(first, second) => {
+            let first = copy_of(alloc, first)?;
+            Sequence::Or(first, copy_of(alloc, second)?)
+        }
+        Sequence::And(first, second) => {
+            let first = copy_of(alloc, first)?;
+            Sequence::And(first, copy_of(alloc, second)?)
+        }
+        Sequence::Throughout(boolean, body) => {
+            Sequence::Throughout(*boolean, copy_of(alloc, body)?)
+        }
+    };
+    Ok(Box::new(alloc, copy)?)
+}
+
+/// A delay of the two, where both are there and the largest count is at most 127.
+pub(crate) fn delay_of(
+    alloc: Global,
+    first: Option<Box<Sequence>>,
+    least: u8,
+    most: usize,
+    second: Option<Box<Sequence>>,
+) -> Result<Option<Box<Sequence>>, AllocError>
+    requires { least ≤ most }
+    ensures { IfOk result (λ o. (v w : Written Boolean) → most ≤ 127 → HasSame v first → HasSame w second → HasSame (delay v least most w) o) }
+{
+    if most > 127 {
+        return Ok(None);
+    }
+    let Some(first) = first else {
+        return Ok(None);
+    };
+    let Some(second) = second else {
+        return Ok(None);
+    };
+    Ok(Some(Box::new(alloc, Sequence::Delay(first, least, most as u8, second))?))
+}
+
+/// A delay with nothing before it, where the body is there and the largest count is at most 127.
+pub(crate) fn lead_of(
+    alloc: Global,
+    least: u8,
+    most: usize,
+    body: Option<Box<Sequence>>,
+) -> Result<Option<Box<Sequence>>, AllocError>
+    requires { least ≤ most }
+    ensures { IfOk result (λ o. (w : Written Boolean) → most ≤ 127 → HasSame w body → HasSame (lead least most w) o) }
+{
+    if most > 127 {
+        return Ok(None);
+    }
+    let Some(body) = body else {
+        return Ok(None);
+    };
+    Ok(Some(Box::new(alloc, Sequence::Lead(least, most as u8, body))?))
+}
+
+/// A repetition, where the body is there and the largest count is at most 127.
+pub(crate) fn repetition_of(
+    alloc: Global,
+    body: Option<Box<Sequence>>,
+    least: u8,
+    most: usize,
+) -> Result<Option<Box<Sequence>>, AllocError>
+    requires { least ≤ most }
+    ensures { IfOk result (λ o. (w : Written Boolean) → most ≤ 127 → HasSame w body → HasSame (repeat w least most) o) }
+{
+    if most > 127 {
+        return Ok(None);
+    }
+    let Some(body) = body else {
+        return Ok(None);
+    };
+    Ok(Some(Box::new(alloc, Sequence::Repeat(body, least, most as u8))?))
+}
+
+/// Either of the two, where both are there.
+#[tactic(auto, using(crate::proofs::SameLaws::says_or))]
+pub(crate) fn either(
+    alloc: Global,
+    first: Option<Box<Sequence>>,
+    second: Option<Box<Sequence>>,
+) -> Result<Option<Box<Sequence>>, AllocError>
+    ensures { IfOk result (λ o. (v w : Written Boolean) → HasSame v first → HasSame w second → HasSame (or v w) o) }
+{
+    let Some(first) = first else {
+        return Ok(None);
+    };
+    let Some(second) = second else {
+        return Ok(None);
+    };
+    Ok(Some(Box::new(alloc, Sequence::Or(first, second))?))
+}
+
+/// Both of the two, where both are there.
+#[tactic(auto, using(crate::proofs::SameLaws::says_and))]
+pub(crate) fn both(
+    alloc: Global,
+    first: Option<Box<Sequence>>,
+    second: Option<Box<Sequence>>,
+) -> Result<Option<Box<Sequence>>, AllocError>
+    ensures { IfOk result (λ o. (v w : Written Boolean) → HasSame v first → HasSame w second → HasSame (and v w) o) }
+{
+    let Some(first) = first else {
+        return Ok(None);
+    };
+    let Some(second) = second else {
+        return Ok(None);
+    };
+    Ok(Some(Box::new(alloc, Sequence::And(first, second))?))
+}
+
+/// The body with a boolean throughout, where the body is there.
+#[tactic(auto, using(crate::proofs::SameLaws::says_throughout))]
+pub(crate) fn throughout(
+    alloc: Global,
+    boolean: Boolean,
+    body: Option<Box<Sequence>>,
+) -> Result<Option<Box<Sequence>>, AllocError>
+    ensures { IfOk result (λ o. (w : Written Boolean) → HasSame w body → HasSame (throughout boolean w) o) }
+{
+    let Some(body) = body else {
+        return Ok(None);
+    };
+    Ok(Some(Box::new(alloc, Sequence::Throughout(boolean, body))?))
+}

@@ -1,0 +1,72 @@
+//! Booleans numbered for one assertion.
+
+ghost use Rattle.std.specs.Prelude.{◌≡◌, ◌++◌, ℕ, List, IfOk, OnOk};
+ghost use Rattle.expressions.specs.declared.expr.Expr.{Expr};
+ghost use Rattle.assertions.specs.Shapes.{written};
+ghost use Rattle.assertions.specs.Written.{weight, IsOrdered};
+ghost use Rattle.types_sequences.specs.Placed.{IsPlaced, IsPlacedBoolean, Extends};
+
+use assertions::{Boolean, Sequence};
+use std::alloc::{AllocError, Global};
+
+/// A boolean with a place of its own in an assertion's list.
+pub fn place_boolean(boolean: Boolean, places: &mut Vec<usize>) -> Result<Boolean, AllocError>
+    ensures grows { OnOk result (Extends places.old.items places.new.items) }
+    ensures placed { (booleans : List Expr) (more : List ℕ) → IfOk result (λ b. IsPlacedBoolean booleans (places.new.items ++ more) boolean b) }
+{
+    match boolean {
+        Boolean::One => Ok(Boolean::One),
+        Boolean::Listed(place) => {
+            let local = places.len();
+            places.push(place)?;
+            Ok(Boolean::Listed(local))
+        }
+    }
+}
+
+/// A sequence in which each boolean has a place of its own in an assertion's list.
+pub fn place_sequence(
+    alloc: Global,
+    sequence: &Sequence,
+    places: &mut Vec<usize>,
+) -> Result<Box<Sequence>, AllocError>
+    ensures grows { OnOk result (Extends places.old.items places.new.items) }
+    ensures placed { (booleans : List Expr) (more : List ℕ) → IfOk result (λ b. IsPlaced booleans (places.new.items ++ more) (written sequence.now) (written b.value)) }
+    ensures weighs { IfOk result (λ b. weight (written b.value) ≡ weight (written sequence.now)) }
+    ensures ordered { IfOk result (λ b. IsOrdered (written sequence.now) → IsOrdered (written b.value)) }
+{
+    match sequence {
+        Sequence::Boolean(boolean) => {
+            let boolean = place_boolean(*boolean, places)?;
+            Ok(Box::new(alloc, Sequence::Boolean(boolean))?)
+        }
+        Sequence::Delay(first, least, most, second) => {
+            let first = place_sequence(alloc, first, places)?;
+            let second = place_sequence(alloc, second, places)?;
+            Ok(Box::new(alloc, Sequence::Delay(first, *least, *most, second))?)
+        }
+        Sequence::Lead(least, most, body) => {
+            let body = place_sequence(alloc, body, places)?;
+            Ok(Box::new(alloc, Sequence::Lead(*least, *most, body))?)
+        }
+        Sequence::Repeat(body, least, most) => {
+            let body = place_sequence(alloc, body, places)?;
+            Ok(Box::new(alloc, Sequence::Repeat(body, *least, *most))?)
+        }
+        Sequence::Or(first, second) => {
+            let first = place_sequence(alloc, first, places)?;
+            let second = place_sequence(alloc, second, places)?;
+            Ok(Box::new(alloc, Sequence::Or(first, second))?)
+        }
+        Sequence::And(first, second) => {
+            let first = place_sequence(alloc, first, places)?;
+            let second = place_sequence(alloc, second, places)?;
+            Ok(Box::new(alloc, Sequence::And(first, second))?)
+        }
+        Sequence::Throughout(boolean, body) => {
+            let boolean = place_boolean(*boolean, places)?;
+            let body = place_sequence(alloc, body, places)?;
+            Ok(Box::new(alloc, Sequence::Throughout(boolean, body))?)
+        }
+    }
+}

@@ -1,0 +1,60 @@
+"""Stamps that say that a crate's must-fail edits were tried (crates/NAME/must-fail/TRIED.md)."""
+import hashlib
+import os
+import re
+import subprocess
+
+ROOT = os.path.dirname(os.path.dirname(os.path.realpath(__file__)))
+TEXT = """Each edit of this folder was tried, and the prover refused it: `make edits NAME={name}` wrote this.
+docs/PROOFS.md says what the two lines say, and what they don't.
+
+tree: {tree}
+rt: {kit}
+"""
+
+
+def kit():
+    """The toolchain's line of `rt version`."""
+    return subprocess.run(["rt", "version"], capture_output=True, text=True, check=True).stdout.strip()
+
+
+def files_of(crate):
+    """The files of a crate that its edits stand on, in order."""
+    for part in ("src", "specs", "proofs", "must-fail"):
+        for at, folders, files in os.walk(f"{crate}/{part}"):
+            folders.sort()
+            yield from (f"{at}/{it}" for it in sorted(files) if it.endswith((".rt", ".antt", ".edit")))
+
+
+def tree_of(crate):
+    """The hash of a crate's sources, definitions, proofs and edits, by their paths and bytes."""
+    whole = hashlib.sha256()
+    for file in files_of(crate):
+        with open(file, "rb") as it:
+            text = it.read()
+        whole.update(f"{os.path.relpath(file, crate)} {len(text)}\n".encode() + text)
+    return whole.hexdigest()
+
+
+def edits_of(crate):
+    """The files of a crate's edits, in order."""
+    folder = f"{crate}/must-fail"
+    names = sorted(os.listdir(folder)) if os.path.isdir(folder) else []
+    return [f"{folder}/{it}" for it in names if it.endswith(".edit")]
+
+
+def is_tried(crate, kit_line):
+    """Whether the crate has a stamp that says of it as it stands, and of this toolchain, that its edits were tried."""
+    try:
+        with open(f"{crate}/must-fail/TRIED.md") as it:
+            said = dict(re.findall(r"(?m)^(tree|rt): (.*)$", it.read()))
+    except OSError:
+        return False
+    return said == {"tree": tree_of(crate), "rt": kit_line}
+
+
+def write_stamp(crate, tree, kit_line):
+    """Writes that the edits of this text of the crate were refused by this toolchain."""
+    name = os.path.basename(crate)
+    with open(f"{crate}/must-fail/TRIED.md", "w") as it:
+        it.write(TEXT.format(name=name, tree=tree, kit=kit_line))
