@@ -41,7 +41,7 @@ fn dump_of(rt: &impl AllocGlobal, ticks: usize, all: &[Values<'_>]) -> Result<St
 }
 
 /// What `svamon judge` writes on a text over a dump: the report, or the line of a fault.
-fn judged(rt: &impl AllocGlobal, dump: &str, text: &str) -> Result<String, Fail> {
+fn report_judged(rt: &impl AllocGlobal, dump: &str, text: &str) -> Result<String, Fail> {
     let alloc = rt.alloc();
     let mut source = Counted::new(dump.as_bytes());
     let mut out = Counted::new(CutWriter::new(alloc, 10_000)?);
@@ -54,7 +54,7 @@ fn judged(rt: &impl AllocGlobal, dump: &str, text: &str) -> Result<String, Fail>
 }
 
 /// What is written on an assertion `r` of what stands behind its clock, with other items before it.
-fn asserted(
+fn assertion_judged(
     rt: &impl AllocGlobal,
     items: &str,
     property: &str,
@@ -63,7 +63,7 @@ fn asserted(
 ) -> Result<String, Fail> {
     let dump = dump_of(rt, ticks, all)?;
     let text = format!(in rt.alloc(); "{items}r: assert property (@(posedge clk) {property});\n")?;
-    judged(rt, dump.as_str(), text.as_str())
+    report_judged(rt, dump.as_str(), text.as_str())
 }
 
 /// The report on the assertion `r` with these counts and lines of failures.
@@ -97,7 +97,7 @@ fn next_tick_holds(rt: HostRuntime) -> Result<(), Fail> {
         ("x |=> y", 0, "x", "x", [0, 0, 0, 0, 0], ""),
     ] {
         let all = [("x", 1, x), ("y", 1, y)];
-        let written = asserted(&rt, "", property, ticks, all.as_slice())?;
+        let written = assertion_judged(&rt, "", property, ticks, all.as_slice())?;
         let want = report(&rt, ticks, counts, fails)?;
         assert_eq!(rt; written.as_str(), want.as_str(), "{property} over {x}, {y}");
     }
@@ -118,7 +118,7 @@ fn delay_range_shared(rt: HostRuntime) -> Result<(), Fail> {
         (1, "1", "0", [0, 0, 0, 0, 1], ""),
     ] {
         let all = [("a", 1, a), ("b", 1, b)];
-        let written = asserted(&rt, "", "a |-> ##[1:3] b", ticks, all.as_slice())?;
+        let written = assertion_judged(&rt, "", "a |-> ##[1:3] b", ticks, all.as_slice())?;
         let want = report(&rt, ticks, counts, fails)?;
         assert_eq!(rt; written.as_str(), want.as_str(), "over {a}, {b}");
     }
@@ -132,7 +132,7 @@ fn several_ends(rt: HostRuntime) -> Result<(), Fail> {
         ("c", 1, "0 1 1 1"),
         ("d", 1, "1 1 0 1"),
     ];
-    let written = asserted(&rt, "", "(a[*1:3] ##1 c) |-> d", 4, all.as_slice())?;
+    let written = assertion_judged(&rt, "", "(a[*1:3] ##1 c) |-> d", 4, all.as_slice())?;
     let fails = "fail r start 0 clock 2\nfail r start 1 clock 2\n";
     let want = report(&rt, 4, [1, 1, 2, 0, 0], fails)?;
     assert_eq!(rt; written.as_str(), want.as_str());
@@ -142,16 +142,16 @@ fn several_ends(rt: HostRuntime) -> Result<(), Fail> {
 #[test]
 fn empty_front(rt: HostRuntime) -> Result<(), Fail> {
     let all = [("a", 1, "0"), ("b", 1, "1"), ("c", 1, "0")];
-    let written = asserted(&rt, "", "(a[*0:1] ##1 b) |-> c", 1, all.as_slice())?;
+    let written = assertion_judged(&rt, "", "(a[*0:1] ##1 b) |-> c", 1, all.as_slice())?;
     let want = report(&rt, 1, [0, 0, 1, 0, 0], "fail r start 0 clock 0\n")?;
     assert_eq!(rt; written.as_str(), want.as_str());
     Ok(())
 }
 
 /// A dump of one tick, at which a, b and c are 0.
-fn refused(rt: &impl AllocGlobal, items: &str, property: &str) -> Result<String, Fail> {
+fn refusal_of(rt: &impl AllocGlobal, items: &str, property: &str) -> Result<String, Fail> {
     let all = [("a", 1, "0"), ("b", 1, "0"), ("c", 1, "0")];
-    asserted(rt, items, property, 1, all.as_slice())
+    assertion_judged(rt, items, property, 1, all.as_slice())
 }
 
 #[test]
@@ -162,10 +162,10 @@ fn degenerate_and_empty(rt: HostRuntime) -> Result<(), Fail> {
         ("a[*0] |-> b", "svamon: Y5 Degenerate 35"),
         ("a[*0:1] and b[*0]", "svamon: Y6 AdmitsEmpty 35"),
     ] {
-        assert_eq!(rt; refused(&rt, "", property)?.as_str(), line, "{property}");
+        assert_eq!(rt; refusal_of(&rt, "", property)?.as_str(), line, "{property}");
     }
     let all = [("a", 1, "1 1"), ("b", 1, "1 1"), ("c", 1, "0 0")];
-    let written = asserted(&rt, "", "1 |-> (a ##1 a ##0 b[*0]) or c", 2, all.as_slice())?;
+    let written = assertion_judged(&rt, "", "1 |-> (a ##1 a ##0 b[*0]) or c", 2, all.as_slice())?;
     let fails = "fail r start 0 clock 0\nfail r start 1 clock 1\n";
     let want = report(&rt, 2, [0, 0, 2, 0, 0], fails)?;
     assert_eq!(rt; written.as_str(), want.as_str());
@@ -174,7 +174,7 @@ fn degenerate_and_empty(rt: HostRuntime) -> Result<(), Fail> {
 
 /// Before, at and after the tick that would decide the attempt at the first tick.
 #[test]
-fn disabled(rt: HostRuntime) -> Result<(), Fail> {
+fn disabled_attempts(rt: HostRuntime) -> Result<(), Fail> {
     for (property, a, b, x, counts) in [
         ("a |-> b", "1 0 0", "0 0 0", "1 0 0", [0, 2, 0, 1, 0]),
         ("a |-> ##2 b", "1 1 0", "0 0 0", "0 1 0", [0, 1, 0, 2, 0]),
@@ -186,7 +186,7 @@ fn disabled(rt: HostRuntime) -> Result<(), Fail> {
     ] {
         let all = [("a", 1, a), ("b", 1, b), ("x", 1, x)];
         let property = format!(in rt.alloc(); "disable iff (x) {property}")?;
-        let written = asserted(&rt, "", property.as_str(), 3, all.as_slice())?;
+        let written = assertion_judged(&rt, "", property.as_str(), 3, all.as_slice())?;
         let want = report(&rt, 3, counts, "")?;
         assert_eq!(rt;
             written.as_str(),
@@ -209,7 +209,7 @@ fn past_before_first_tick(rt: HostRuntime) -> Result<(), Fail> {
         ("$rose(v)", [2, 0, 1, 0, 0], "fail r start 1 clock 1\n"),
     ] {
         let all = [("v", 8, "101 110 111")];
-        let written = asserted(&rt, "", property, 3, all.as_slice())?;
+        let written = assertion_judged(&rt, "", property, 3, all.as_slice())?;
         let want = report(&rt, 3, counts, fails)?;
         assert_eq!(rt; written.as_str(), want.as_str(), "{property}");
     }
@@ -234,7 +234,7 @@ fn context_widths(rt: HostRuntime) -> Result<(), Fail> {
         ("1 - 2 < 0", [0, 0, 1, 0, 0], "fail r start 0 clock 0\n"),
     ] {
         let all = [("a", 1, "0")];
-        let written = asserted(&rt, "", property, 1, all.as_slice())?;
+        let written = assertion_judged(&rt, "", property, 1, all.as_slice())?;
         let want = report(&rt, 1, counts, fails)?;
         assert_eq!(rt; written.as_str(), want.as_str(), "{property}");
     }
@@ -263,7 +263,7 @@ fn saturating_counter(rt: HostRuntime) -> Result<(), Fail> {
         ),
     ] {
         let all = [("n", 3, "0 1 10 11 100 101")];
-        let written = asserted(&rt, items, property, 6, all.as_slice())?;
+        let written = assertion_judged(&rt, items, property, 6, all.as_slice())?;
         let want = report(&rt, 6, counts, fails)?;
         assert_eq!(rt; written.as_str(), want.as_str(), "{items}{property}");
     }
@@ -282,7 +282,11 @@ fn weight_limit(rt: HostRuntime) -> Result<(), Fail> {
         ("a[*126] |=> b", "svamon: Y9 TooWide 35"),
         ("(a[*127] ##1 a[*127])[*0] ##1 b", want.as_str()),
     ] {
-        assert_eq!(rt; refused(&rt, "", property)?.as_str(), written, "{property}");
+        assert_eq!(rt;
+            refusal_of(&rt, "", property)?.as_str(),
+            written,
+            "{property}"
+        );
     }
     Ok(())
 }
@@ -305,7 +309,7 @@ fn and_of_lengths(rt: HostRuntime) -> Result<(), Fail> {
             ("d", 1, "1 0 0"),
             ("e", 1, e),
         ];
-        let written = asserted(&rt, "", property, 3, all.as_slice())?;
+        let written = assertion_judged(&rt, "", property, 3, all.as_slice())?;
         let want = report(&rt, 3, counts, fails)?;
         assert_eq!(rt; written.as_str(), want.as_str(), "over {a}, {e}");
     }
@@ -324,7 +328,7 @@ fn cyclic_sequence(rt: HostRuntime) -> Result<(), Fail> {
             "svamon: Y8 CyclicSequence 36",
         ),
     ] {
-        assert_eq!(rt; refused(&rt, items, "s")?.as_str(), line, "{items}");
+        assert_eq!(rt; refusal_of(&rt, items, "s")?.as_str(), line, "{items}");
     }
     Ok(())
 }
@@ -396,7 +400,7 @@ fn empty_parts(rt: HostRuntime) -> Result<(), Fail> {
         ("a[*0] ##1 b", "0 0", "1 0", "0 0", [1, 0, 1, 0, 0], second),
     ] {
         let all = [("a", 1, a), ("b", 1, b), ("c", 1, c)];
-        let written = asserted(&rt, "", property, 2, all.as_slice())?;
+        let written = assertion_judged(&rt, "", property, 2, all.as_slice())?;
         let want = report(&rt, 2, counts, fails)?;
         assert_eq!(rt;
             written.as_str(),
@@ -415,7 +419,7 @@ fn several_assertions(rt: HostRuntime) -> Result<(), Fail> {
     let text = "sequence s; a ##1 t; endsequence : s\nsequence t; b; endsequence\n\
         assert property (@(posedge clk) (a |-> s)); q: assume property (@(posedge clk) v[1:0] == 2'b01);\n\
         assert property (@(posedge clk) {a, b} |-> v != $past(v));";
-    let written = judged(&rt, dump.as_str(), text)?;
+    let written = report_judged(&rt, dump.as_str(), text)?;
     let want = "svamon 1\nclocks 2\n\
         monitor assert_1 holds 1 vacuous 1 fails 0 disabled 0 open 0\n\
         monitor q holds 1 vacuous 0 fails 1 disabled 0 open 0\nfail q start 1 clock 1\n\
@@ -453,7 +457,7 @@ fn refused_texts(rt: HostRuntime) -> Result<(), Fail> {
         ("", "`z", "svamon: L1 BadCharacter 35"),
     ] {
         assert_eq!(rt;
-            refused(&rt, items, property)?.as_str(),
+            refusal_of(&rt, items, property)?.as_str(),
             line,
             "{items}{property}"
         );
@@ -478,7 +482,11 @@ fn refused_clocks(rt: HostRuntime) -> Result<(), Fail> {
             "svamon: Y5 Degenerate 30",
         ),
     ] {
-        assert_eq!(rt; judged(&rt, dump.as_str(), text)?.as_str(), line, "{text}");
+        assert_eq!(rt;
+            report_judged(&rt, dump.as_str(), text)?.as_str(),
+            line,
+            "{text}"
+        );
     }
     Ok(())
 }

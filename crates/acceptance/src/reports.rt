@@ -33,7 +33,7 @@ struct Outcome<'a> {
 }
 
 /// The bytes that a device took.
-fn taken(rt: &impl AllocGlobal, out: &CutWriter) -> Result<Vec<u8>, AllocError> {
+fn text_taken(rt: &impl AllocGlobal, out: &CutWriter) -> Result<Vec<u8>, AllocError> {
     Vec::from_slice(rt.alloc(), out.as_slice())
 }
 
@@ -50,7 +50,7 @@ fn run<'a>(
     let answer = check_one(rt.alloc(), &mut source, text, window, &mut out);
     Ok(Outcome {
         answer,
-        written: taken(rt, &out.inner)?,
+        written: text_taken(rt, &out.inner)?,
         failed_reads: source.failed_calls(),
         failed_writes: out.failed_calls(),
     })

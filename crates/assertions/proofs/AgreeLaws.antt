@@ -19,7 +19,7 @@ use Rattle.expressions.specs.declared.expr.Expr.{Expr}
 use Rattle.expressions.specs.declared.rows.Rows.{Rows}
 use Rattle.expressions.specs.Terms.{Samples, width_of}
 use Rattle.expressions.specs.Tables.{column}
-use Rattle.expressions.specs.Counters.{counted}
+use Rattle.expressions.specs.Counters.{counter_samples}
 use Rattle.expressions.specs.Rows.{samples_of, HasCounts}
 use Rattle.expressions.specs.Expressions.{term_of}
 use Rattle.expressions.specs.Laws.{AgreeTo}
@@ -139,4 +139,4 @@ same_verdict_on booleans t u ticks a clock v agree h =
 pub verdict_over : (suite : Suite) (rows : Rows) (a : Assertion) (clock : ℕ) (v : Verdict) → HasCounts suite.counters.items rows
     → IsVerdictOn suite.booleans.items (samples_of rows) (length rows.signals) a clock v → IsVerdictOver suite rows.signals a clock v
 verdict_over suite rows a clock v counts h =
-    same_verdict_on suite.booleans.items (samples_of rows) (counted (column rows.signals) suite.counters.items) (length rows.signals) a clock v counts h
+    same_verdict_on suite.booleans.items (samples_of rows) (counter_samples (column rows.signals) suite.counters.items) (length rows.signals) a clock v counts h

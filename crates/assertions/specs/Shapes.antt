@@ -11,18 +11,18 @@ use Rattle.expressions.specs.Terms.{Samples, is_true}
 use Rattle.expressions.specs.Expressions.{term_of}
 
 -- the sequence that a tree says, as it is written
-abbrev pub written : Sequence → Written Boolean
-written (form.Boolean b) = boolean b
-written (form.Delay' p r least most q s) = delay (written r) least most (written s)
-written (form.Lead' least most p s) = lead least most (written s)
-written (form.Repeat' p r least most) = repeat (written r) least most
-written (form.Or' p r q s) = or (written r) (written s)
-written (form.And' p r q s) = and (written r) (written s)
-written (form.Throughout' b p r) = throughout b (written r)
+abbrev pub written_form : Sequence → Written Boolean
+written_form (form.Boolean b) = boolean b
+written_form (form.Delay' p r least most q s) = delay (written_form r) least most (written_form s)
+written_form (form.Lead' least most p s) = lead least most (written_form s)
+written_form (form.Repeat' p r least most) = repeat (written_form r) least most
+written_form (form.Or' p r q s) = or (written_form r) (written_form s)
+written_form (form.And' p r q s) = and (written_form r) (written_form s)
+written_form (form.Throughout' b p r) = throughout b (written_form r)
 
 -- the kernel that it stands for
 abbrev pub shape : Sequence → Seq Boolean
-shape s = kernel One (written s)
+shape s = kernel One (written_form s)
 
 -- It can be no side of an assertion: it weighs over 127, or the first of a range is over the second.
 abbrev pub IsUnfit : {B : Type 0} → Written B → Type 0

@@ -4,7 +4,7 @@ use Rattle.signals.specs.declared.verdict.Verdict.{Verdict}
 use Rattle.expressions.specs.declared.expr.Expr.{Expr}
 use Rattle.expressions.specs.Terms.{Samples}
 use Rattle.expressions.specs.Tables.{column}
-use Rattle.expressions.specs.Counters.{counted}
+use Rattle.expressions.specs.Counters.{counter_samples}
 use Rattle.assertions.specs.declared.assertion.Assertion.{Assertion}
 use Rattle.assertions.specs.declared.suite.Suite.{Suite}
 use Rattle.assertions.specs.Attempts.{IsVerdict}
@@ -27,5 +27,5 @@ abbrev pub IsVerdictOver : Suite → List (List ℕ) → Assertion → ℕ → V
 IsVerdictOver suite signals =
     IsVerdictOn
     suite.booleans.items
-    (counted (column signals) suite.counters.items)
+    (counter_samples (column signals) suite.counters.items)
     (length signals)

@@ -2,7 +2,7 @@
 
 ghost use Rattle.std.specs.Prelude.{◌≡◌, ◌≤◌, ◌⊎◌, MatchOption};
 ghost use Rattle.assertions.specs.Written.{weight, IsOrdered};
-ghost use Rattle.assertions.specs.Shapes.{written, IsUnfit};
+ghost use Rattle.assertions.specs.Shapes.{written_form, IsUnfit};
 ghost use Rattle.assertions.specs.Ordered.{IsOrdered-prop};
 
 use crate::sequence::{Boolean, Sequence};
@@ -21,10 +21,10 @@ pub struct Assertion {
     pub disabling: Option<Boolean>,
     /// For each place that a boolean may name, the place of its expression in the suite.
     pub booleans: Vec<usize>,
-    pub ghost antecedent_ordered: { IsOrdered (written antecedent) } by { IsOrdered-prop (written antecedent) },
-    pub ghost antecedent_bound: { weight (written antecedent) ≤ 127 },
-    pub ghost consequent_ordered: { IsOrdered (written consequent) } by { IsOrdered-prop (written consequent) },
-    pub ghost consequent_bound: { weight (written consequent) ≤ 127 },
+    pub ghost antecedent_ordered: { IsOrdered (written_form antecedent) } by { IsOrdered-prop (written_form antecedent) },
+    pub ghost antecedent_bound: { weight (written_form antecedent) ≤ 127 },
+    pub ghost consequent_ordered: { IsOrdered (written_form consequent) } by { IsOrdered-prop (written_form consequent) },
+    pub ghost consequent_bound: { weight (written_form consequent) ≤ 127 },
 }
 
 impl Assertion {
@@ -37,7 +37,7 @@ impl Assertion {
         booleans: Vec<usize>,
     ) -> Option<Assertion>
         ensures { MatchOption result
-            (IsUnfit (written antecedent) ⊎ IsUnfit (written consequent))
+            (IsUnfit (written_form antecedent) ⊎ IsUnfit (written_form consequent))
             (λ made. (made.name ≡ name) × (made.antecedent ≡ antecedent)
             × (made.consequent ≡ consequent) × (made.disabling ≡ disabling)
             × (made.booleans ≡ booleans)) }

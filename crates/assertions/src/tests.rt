@@ -13,12 +13,12 @@ fn boolean(place: usize) -> Sequence {
 }
 
 /// `a[*count]`
-fn repeated(alloc: Global, count: u8) -> Result<Sequence, AllocError> {
+fn repetition(alloc: Global, count: u8) -> Result<Sequence, AllocError> {
     Ok(Sequence::Repeat(Box::new(alloc, boolean(0))?, count, count))
 }
 
 /// `first ##ticks second`
-fn delayed(
+fn delay(
     alloc: Global,
     first: Sequence,
     ticks: u8,
@@ -33,12 +33,12 @@ fn delayed(
 fn repetitions_weigh(rt: HostRuntime) -> Result<(), Fail> {
     let alloc = rt.alloc();
     assert_eq!(rt; weight_of(&boolean(0)), Some(1));
-    assert_eq!(rt; weight_of(&repeated(alloc, 0)?), Some(0));
-    assert_eq!(rt; weight_of(&repeated(alloc, 127)?), Some(127));
-    assert_eq!(rt; weight_of(&repeated(alloc, 128)?), None);
-    let light = delayed(alloc, repeated(alloc, 63)?, 1, repeated(alloc, 63)?)?;
+    assert_eq!(rt; weight_of(&repetition(alloc, 0)?), Some(0));
+    assert_eq!(rt; weight_of(&repetition(alloc, 127)?), Some(127));
+    assert_eq!(rt; weight_of(&repetition(alloc, 128)?), None);
+    let light = delay(alloc, repetition(alloc, 63)?, 1, repetition(alloc, 63)?)?;
     assert_eq!(rt; weight_of(&light), Some(127));
-    let heavy = delayed(alloc, repeated(alloc, 64)?, 1, repeated(alloc, 64)?)?;
+    let heavy = delay(alloc, repetition(alloc, 64)?, 1, repetition(alloc, 64)?)?;
     assert_eq!(rt; weight_of(&heavy), None);
     Ok(())
 }
@@ -47,9 +47,9 @@ fn repetitions_weigh(rt: HostRuntime) -> Result<(), Fail> {
 fn sides_of_and_multiply(rt: HostRuntime) -> Result<(), Fail> {
     let alloc = rt.alloc();
     // (a throughout (b ##2 c)) and (d ##1 e)
-    let body = delayed(alloc, boolean(1), 2, boolean(2))?;
+    let body = delay(alloc, boolean(1), 2, boolean(2))?;
     let long = Sequence::Throughout(Boolean::Listed(0), Box::new(alloc, body)?);
-    let short = delayed(alloc, boolean(3), 1, boolean(4))?;
+    let short = delay(alloc, boolean(3), 1, boolean(4))?;
     let both = Sequence::And(Box::new(alloc, long)?, Box::new(alloc, short)?);
     assert_eq!(rt; weight_of(&both), Some(20));
     // ##[1:3] ((a and b) or c) weighs 3 + (2 * 2 + 1)
@@ -75,8 +75,8 @@ fn assertions_are_bounded(rt: HostRuntime) -> Result<(), Fail> {
     for (antecedent, consequent, fits) in [(127, 127, true), (128, 1, false), (1, 128, false)] {
         let alloc = rt.alloc();
         let name = String::from_str(alloc, "bounded")?;
-        let antecedent = repeated(alloc, antecedent)?;
-        let consequent = repeated(alloc, consequent)?;
+        let antecedent = repetition(alloc, antecedent)?;
+        let consequent = repetition(alloc, consequent)?;
         let list = vec![in alloc; 7, 8]?;
         let made = Assertion::new(name, antecedent, consequent, None, list);
         assert_eq!(rt; made.is_some(), fits);

@@ -2,7 +2,7 @@
 
 ghost use Rattle.std.specs.Prelude.{◌≡◌, ◌+◌, ◌*◌, ◌≤◌, ◌↔◌, min, IsTrue, MatchOption};
 ghost use Rattle.assertions.specs.Written.{weight, IsOrdered};
-ghost use Rattle.assertions.specs.Shapes.{written, IsUnfit};
+ghost use Rattle.assertions.specs.Shapes.{written_form, IsUnfit};
 
 use crate::sequence::Sequence;
 
@@ -11,7 +11,7 @@ pub const HEAVIEST: usize = 127;
 
 /// Whether in each range the least comes first.
 fn is_ordered(sequence: &Sequence) -> bool
-    ensures { IsTrue result ↔ IsOrdered (written sequence.now) }
+    ensures { IsTrue result ↔ IsOrdered (written_form sequence.now) }
 {
     match sequence {
         Sequence::Boolean(_) => true,
@@ -35,7 +35,7 @@ fn cap(weight: usize) -> usize
 
 /// What the sequence weighs, or 128 where that is more.
 fn capped_weight(sequence: &Sequence) -> usize
-    ensures { result ≡ min (weight (written sequence.now)) 128 }
+    ensures { result ≡ min (weight (written_form sequence.now)) 128 }
 {
     match sequence {
         Sequence::Boolean(_) => 1,
@@ -55,8 +55,8 @@ fn capped_weight(sequence: &Sequence) -> usize
 /// What the sequence weighs, or none where that is over 127 or the first of a range is over the second.
 pub fn weight_of(sequence: &Sequence) -> Option<usize>
     ensures { MatchOption result
-        (IsUnfit (written sequence.now))
-        (λ weight_is. (weight_is ≡ weight (written sequence.now)) × (weight_is ≤ 127) × IsOrdered (written sequence.now)) }
+        (IsUnfit (written_form sequence.now))
+        (λ weight_is. (weight_is ≡ weight (written_form sequence.now)) × (weight_is ≤ 127) × IsOrdered (written_form sequence.now)) }
 {
     let weight = capped_weight(sequence);
     if weight > HEAVIEST || !is_ordered(sequence) {

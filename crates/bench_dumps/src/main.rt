@@ -2,7 +2,7 @@
 #![tactic(auto)]
 
 use anyhow::{Result, bail};
-use cycle_window::{Clocks, Columns, Signal};
+use cycle_window::{Clocks, Columns, WatchedSignal};
 use signals::Counted;
 use std::alloc::Global;
 use std::fs::File;
@@ -20,11 +20,11 @@ fn changes_of(dump: &Dump) -> u64 {
 }
 
 /// The signals of all names that are text.
-fn signals_of(alloc: Global, names: &[Name]) -> Result<Vec<Signal<'_>>> {
+fn signals_of(alloc: Global, names: &[Name]) -> Result<Vec<WatchedSignal<'_>>> {
     let mut signals = Vec::new(alloc);
     for name in names {
         if let Ok(path) = str::from_utf8(&name.path) {
-            signals.push(Signal {
+            signals.push(WatchedSignal {
                 path,
                 width: name.width,
             })?;

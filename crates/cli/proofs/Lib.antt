@@ -5,8 +5,3 @@ pub mod SampledLaws
 pub mod ReportLaws
 pub mod RunLaws
 pub mod TextLaws
-pub mod ItemLaws
-pub mod OneReport
-pub mod TokenLaws
-pub mod LexLaws
-pub mod Unrefused

@@ -8,11 +8,11 @@ use Rattle.std.proofs.lemmas.Str.{IsUtf8-from_is_utf8, is_utf8-from_IsUtf8}
 use Rattle.std.specs.Cmp.Lexicographic.{bytes_decides}
 use Rattle.std.proofs.lemmas.List.{length-map}
 use Rattle.std.proofs.lemmas.Bool.{eq-eqb}
-use Rattle.types_expressions.specs.Scopes.{found}
+use Rattle.types_expressions.specs.Scopes.{look_up}
 use Rattle.types_expressions.specs.Entries.{with_entry}
 use Rattle.types_expressions.proofs.EntryLaws.{first_of, found-with_entry}
 use Rattle.vcd_reader.specs.declared.variable.Name.{Name}
-use Rattle.vcd_reader.specs.Held.{named}
+use Rattle.vcd_reader.specs.Held.{named_of}
 use Rattle.vcd_reader.specs.Variables.{Declared, Named, no_variable, variable_at_place, place_of, paths_of, is_bindable, size_of, variable_named, if_bindable, is_place, names_from, names_of}
 use Rattle.vcd_reader.proofs.PlaceLaws.{place_of-at}
 use Rattle.vcd_reader.proofs.LookupLaws.{names-step}
@@ -47,25 +47,25 @@ same_text : (vs : List Declared) (q n : List ℕ) (o : Option ℕ) → width_nam
 same_text vs q n o is e = ap (width_named vs) ((bytes_decides q n).0 e) ∙ is
 
 stepped : (vs : List Declared) (es : List (List ℕ × ℕ)) (n : List ℕ) (rest : List (List ℕ)) (q : List ℕ) (o : Option ℕ) → width_named vs n ≡ o
-    → first_of (found (with_named es n o) q) (known vs rest q) ≡ first_of (found es q) (known vs (n ∷ rest) q)
-stepped vs es n rest q None is = ap (first_of (found es q)) (skipped (bytes_eq q n) (list_any (bytes_eq q) rest) (width_named vs q) (same_text vs q n None is))
+    → first_of (look_up (with_named es n o) q) (known vs rest q) ≡ first_of (look_up es q) (known vs (n ∷ rest) q)
+stepped vs es n rest q None is = ap (first_of (look_up es q)) (skipped (bytes_eq q n) (list_any (bytes_eq q) rest) (width_named vs q) (same_text vs q n None is))
 stepped vs es n rest q (Some v) is =
-    let one : found (with_entry es n v) q ≡ first_of (found es q) (cond (bytes_eq q n) (Some v) None) = sym (first-none (found (with_entry es n v) q)) ∙ found-with_entry es n v [] q in
+    let one : look_up (with_entry es n v) q ≡ first_of (look_up es q) (cond (bytes_eq q n) (Some v) None) = sym (first-none (look_up (with_entry es n v) q)) ∙ found-with_entry es n v [] q in
     ap (λ (o : Option ℕ). first_of o (known vs rest q)) one
-    ∙ behind (found es q) (bytes_eq q n) (list_any (bytes_eq q) rest) v (width_named vs q) (same_text vs q n (Some v) is)
+    ∙ behind (look_up es q) (bytes_eq q n) (list_any (bytes_eq q) rest) v (width_named vs q) (same_text vs q n (Some v) is)
 
 -- a turn of the loop that adds paths: what is left decides
 pub name_step : (vs : List Declared) (es fs : List (List ℕ × ℕ)) (n : List ℕ) (left rest : List (List ℕ)) → fs ≡ with_named es n (width_named vs n) → left ≡ n ∷ rest
-    → ((q : List ℕ) → first_of (found es q) (known vs left q) ≡ width_named vs q) → (q : List ℕ) → first_of (found fs q) (known vs rest q) ≡ width_named vs q
+    → ((q : List ℕ) → first_of (look_up es q) (known vs left q) ≡ width_named vs q) → (q : List ℕ) → first_of (look_up fs q) (known vs rest q) ≡ width_named vs q
 name_step vs es fs n left rest is begins h q =
-    ap (λ (gs : List (List ℕ × ℕ)). first_of (found gs q) (known vs rest q)) is
+    ap (λ (gs : List (List ℕ × ℕ)). first_of (look_up gs q) (known vs rest q)) is
     ∙ stepped vs es n rest q (width_named vs n) refl
-    ∙ ap (λ (ps : List (List ℕ)). first_of (found es q) (known vs ps q)) (sym begins)
+    ∙ ap (λ (ps : List (List ℕ)). first_of (look_up es q) (known vs ps q)) (sym begins)
     ∙ h q
 
-pub name_end : (vs : List Declared) (es : List (List ℕ × ℕ)) (left : List (List ℕ)) → left ≡ [] → ((q : List ℕ) → first_of (found es q) (known vs left q) ≡ width_named vs q) → found es ≡ width_named vs
+pub name_end : (vs : List Declared) (es : List (List ℕ × ℕ)) (left : List (List ℕ)) → left ≡ [] → ((q : List ℕ) → first_of (look_up es q) (known vs left q) ≡ width_named vs q) → look_up es ≡ width_named vs
 name_end vs es left none h =
-    let each : (q : List ℕ) → found es q ≡ width_named vs q = λ q. sym (first-none (found es q)) ∙ ap (λ (ps : List (List ℕ)). first_of (found es q) (known vs ps q)) (sym none) ∙ h q in
+    let each : (q : List ℕ) → look_up es q ≡ width_named vs q = λ q. sym (first-none (look_up es q)) ∙ ap (λ (ps : List (List ℕ)). first_of (look_up es q) (known vs ps q)) (sym none) ∙ h q in
     λ j q. each q j
 
 -- each path that names a variable is among the dump's names
@@ -116,10 +116,10 @@ any_from vs q n (suc m) i inside path names at =
 
 any_named : (vs : List Declared) (q : List ℕ) (n : ℕ) → variable_named vs q ≡ Some n → list_any (bytes_eq q) (map (λ (d : Named). d.path) (names_of vs)) ≡ true
 unfolding names_of
-any_named vs q n named =
-    let at = place_of-at (paths_of vs) q n (placed vs q n named) in
+any_named vs q n named_of =
+    let at = place_of-at (paths_of vs) q n (placed vs q n named_of) in
     let long : length (paths_of vs) ≡ length vs = rw length-map refl in
-    any_from vs q n n 0 (omega (arith, at.0)) (path-at vs n ∙ at.1) named (omega arith)
+    any_from vs q n n 0 (omega (arith, at.0)) (path-at vs n ∙ at.1) named_of (omega arith)
 
 all_known : (vs : List Declared) (q : List ℕ) (o : Option ℕ) → variable_named vs q ≡ o → known vs (map (λ (d : Named). d.path) (names_of vs)) q ≡ width_named vs q
 all_known vs q None e =
@@ -128,14 +128,14 @@ all_known vs q None e =
 all_known vs q (Some n) e = ap (λ (b : Bool). cond b (width_named vs q) None) (any_named vs q n e)
 
 -- at first all names are left
-pub name_init : (vs : List Declared) (es : List (List ℕ × ℕ)) (left : List (List ℕ)) → es ≡ [] → left ≡ map (λ (d : Named). d.path) (names_of vs) → (q : List ℕ) → first_of (found es q) (known vs left q) ≡ width_named vs q
+pub name_init : (vs : List Declared) (es : List (List ℕ × ℕ)) (left : List (List ℕ)) → es ≡ [] → left ≡ map (λ (d : Named). d.path) (names_of vs) → (q : List ℕ) → first_of (look_up es q) (known vs left q) ≡ width_named vs q
 name_init vs es left none all q =
-    ap (λ (gs : List (List ℕ × ℕ)). first_of (found gs q) (known vs left q)) none
+    ap (λ (gs : List (List ℕ × ℕ)). first_of (look_up gs q) (known vs left q)) none
     ∙ ap (λ (ps : List (List ℕ)). known vs ps q) all
     ∙ all_known vs q (variable_named vs q) refl
 
 -- all paths, as they are listed
-pub listed_paths : (ns : List Name) → map (λ (n : Name). n.path.items) ns ≡ map (λ (d : Named). d.path) (map named ns)
+pub listed_paths : (ns : List Name) → map (λ (n : Name). n.path.items) ns ≡ map (λ (d : Named). d.path) (map named_of ns)
 listed_paths [] = refl
 listed_paths (n ∷ ns) = ap (λ (ps : List (List ℕ)). n.path.items ∷ ps) (listed_paths ns)
 

@@ -12,7 +12,7 @@ use Rattle.cycle_window.specs.declared.fault.WindowFault.{WindowFault}
 use Rattle.cycle_window.specs.declared.fault.WindowFault.TheVariants as windows
 use Rattle.cycle_window.specs.Ticks.{ticks_of, row_of}
 use Rattle.verdicts.specs.Lines.{ReportData}
-use Rattle.cli.specs.Named.{AreNamed, wanted_of}
+use Rattle.cli.specs.Named.{AreNamed, wanted_in_suite}
 use Rattle.cli.specs.Reported.{OverRows, Reports, rows_of}
 
 -- the variables that signals' paths name
@@ -58,10 +58,10 @@ fits : (vs : List Declared) (o : Option ℕ) (w : ℕ) → option_map (size_of v
 fits vs None w e = absurd cc
 fits vs (Some v) w e = let same : size_of vs v ≡ w = cc in ap (λ (b : Bool). cond b None (Some Misfit.OtherWidth)) (eq-eqb (size_of vs v) w same)
 
-pub none_refused : (vs : List Declared) (ss : List Signal) → AreNamed vs ss → first_refused vs (map wanted_of ss) ≡ None
+pub none_refused : (vs : List Declared) (ss : List Signal) → AreNamed vs ss → first_refused vs (map wanted_in_suite ss) ≡ None
 none_refused vs [] h = refl
 none_refused vs (s ∷ ss) h =
-    ap (λ (m : Option Misfit). or_refused m (string_bytes s.path) (first_refused vs (map wanted_of ss))) (fits vs (variable_named vs (string_bytes s.path)) s.width h.0) ∙ none_refused vs ss h.1
+    ap (λ (m : Option Misfit). or_refused m (string_bytes s.path) (first_refused vs (map wanted_in_suite ss))) (fits vs (variable_named vs (string_bytes s.path)) s.width h.0) ∙ none_refused vs ss h.1
 
 -- so only memory can lack
 pub memory_alone : (vs : List Declared) (asked : List Wanted) (e : WindowFault) → first_refused vs asked ≡ None → IsSignalFault vs asked e → e ≡ windows.Memory
@@ -72,12 +72,12 @@ memory_alone vs asked (windows.NoSignal p) none h = absurd cc
 memory_alone vs asked (windows.SignalWidth p) none h = absurd cc
 memory_alone vs asked windows.Memory none h = refl
 
-wanted_places : (vs : List Declared) (ss : List Signal) → places_of vs (map wanted_of ss) ≡ named_by vs ss
+wanted_places : (vs : List Declared) (ss : List Signal) → places_of vs (map wanted_in_suite ss) ≡ named_by vs ss
 wanted_places vs [] = refl
 wanted_places vs (s ∷ ss) = ap (λ (os : List (Option ℕ)). variable_named vs (string_bytes s.path) ∷ os) (wanted_places vs ss)
 
 -- the places of columns that are bound to the signals
-pub column_places : (vs : List Declared) (ss : List Signal) (asked : List Wanted) (ps signals : List ℕ) → map (λ (v : ℕ). Some v) ps ≡ places_of vs asked → asked ≡ map wanted_of ss → named_by vs ss ≡ map (λ (v : ℕ). Some v) signals → ps ≡ signals
+pub column_places : (vs : List Declared) (ss : List Signal) (asked : List Wanted) (ps signals : List ℕ) → map (λ (v : ℕ). Some v) ps ≡ places_of vs asked → asked ≡ map wanted_in_suite ss → named_by vs ss ≡ map (λ (v : ℕ). Some v) signals → ps ≡ signals
 column_places vs ss asked ps signals bound is named = same_places ps signals (bound ∙ ap (places_of vs) is ∙ wanted_places vs ss ∙ named)
 
 -- the report over the rows of the variables that a suite's paths name

@@ -10,13 +10,13 @@ use Rattle.vcd_reader.specs.Dump.{Contents, GaveDump, Stands}
 use Rattle.cli.specs.Faults.{vcd_fault}
 use Rattle.cli.specs.declared.fault.Fault.{Fault}
 use Rattle.cli.specs.declared.fault.Fault.TheVariants.{Vcd, Lex, Parse, Typing, Window, Report, NoAssertion, NotText, Words, File, Memory}
-use Rattle.cli.specs.Outcomes.{Run, WhyNoReport, IsRefusedReport, IsUnwritten, WhyRefused}
+use Rattle.cli.specs.Outcomes.{Run, WhyNoReport, IsRefusedReport, IsUnwritten, WhyRunRefused}
 
 module _ (r : Run) (c : Contents) (gave : GaveDump r.given_old r.given_new c) (reads : r.reads_new ≡ r.reads_old) (unwritten : IsUnwritten r) where
   refused : (e : Fault) → WhyNoReport c r.text e → IsRefusedReport r e
   refused e h = record { contents = c; gave = gave; why = h; reads = reads; unwritten = unwritten }
 
-  refused_form : (e : ParseFault) → WhyNoReport c r.text (Parse e) → WhyRefused r (Parse e)
+  refused_form : (e : ParseFault) → WhyNoReport c r.text (Parse e) → WhyRunRefused r (Parse e)
   refused_form (parsing.Expected what at) h = refused (Parse (parsing.Expected what at)) h
   refused_form (parsing.OutsideProfile word at) h = refused (Parse (parsing.OutsideProfile word at)) h
   refused_form (parsing.TooDeep at) h = refused (Parse (parsing.TooDeep at)) h
@@ -24,7 +24,7 @@ module _ (r : Run) (c : Contents) (gave : GaveDump r.given_old r.given_new c) (r
   refused_form parsing.Memory h = h
 
   -- a fault of the text refuses the run
-  pub refused_run : (e : Fault) → WhyNoReport c r.text e → WhyRefused r e
+  pub refused_run : (e : Fault) → WhyNoReport c r.text e → WhyRunRefused r e
   refused_run (Vcd e) h = absurd h
   refused_run (Lex e) h = refused (Lex e) h
   refused_run (Parse e) h = refused_form e h
@@ -38,7 +38,7 @@ module _ (r : Run) (c : Contents) (gave : GaveDump r.given_old r.given_new c) (r
   refused_run Memory h = record { reads = reads; unwritten = unwritten }
 
 -- a dump that wasn't read refuses the run
-pub unread : (r : Run) → IsUnwritten r → (e : VcdFault) → Stands r.given_old r.given_new r.reads_old r.reads_new e → WhyRefused r (vcd_fault e)
+pub unread : (r : Run) → IsUnwritten r → (e : VcdFault) → Stands r.given_old r.given_new r.reads_old r.reads_new e → WhyRunRefused r (vcd_fault e)
 unread r unwritten (dumps.BadToken at) h = record { stands = h; unwritten = unwritten }
 unread r unwritten (dumps.UnknownCode at) h = record { stands = h; unwritten = unwritten }
 unread r unwritten (dumps.TimeBack at) h = record { stands = h; unwritten = unwritten }

@@ -4,4 +4,3 @@ pub mod Reported
 pub mod Statuses
 pub mod Faults
 pub mod Outcomes
-pub mod Laws

@@ -5,10 +5,12 @@ use Rattle.signals.specs.Source.{after_failure}
 use Rattle.signals.specs.Sink.{AppendsFront}
 use Rattle.lexer.specs.declared.token.Token.{Token}
 use Rattle.lexer.specs.Covering.{IsFaulty}
-use Rattle.grammar.specs.Trees.{Item}
+use Rattle.grammar.specs.Trees.{ItemForm}
 use Rattle.grammar.specs.Files.{IsFile}
 use Rattle.assertions.specs.declared.suite.Suite.{Suite}
+use Rattle.parser.specs.declared.fault.ParseFault.{ParseFault}
 use Rattle.parser.specs.declared.fault.ParseFault.TheVariants as parsing
+use Rattle.parser.specs.Faults.{IsPlaced}
 use Rattle.types.specs.declared.fault.TypeFault.{TypeFault}
 use Rattle.types.specs.declared.fault.TypeFault.TheVariants as types
 use Rattle.types.specs.Faults.{IsFirst}
@@ -25,7 +27,7 @@ use Rattle.verdicts.specs.Texts.{report_text}
 use Rattle.cli.specs.declared.fault.Fault.{Fault}
 use Rattle.cli.specs.declared.fault.Fault.TheVariants.{Vcd, Lex, Parse, Typing, Window, Report, Memory}
 use Rattle.cli.specs.Named.{scope_over}
-use Rattle.cli.specs.Reported.{AreTokens, HasItems, Says, IsReport}
+use Rattle.cli.specs.Reported.{AreTokens, HasItems, SaysSuite, IsReport}
 
 -- the counts of a report's last line, in its order
 abbrev pub totals_of : Counts → List ℕ
@@ -73,34 +75,35 @@ pub record IsUnwritten (r : Run) : Type 0 where
   pub held : r.held_new ≡ r.held_old
   pub counted : r.writes_new ≡ r.writes_old
 
--- the text has tokens, and no file spells them
-pub record HasNoItems (text : List ℕ) : Type 0 where
+-- the text has tokens, no file spells them, and the fault stands at one of them
+pub record HasNoItems (text : List ℕ) (fault : ParseFault) : Type 0 where
   pub tokens : List Token
   pub cut : AreTokens text tokens
-  pub none : (items : List Item) → IsFile items tokens → ⊥
+  pub none : (items : List ItemForm) → IsFile items tokens → ⊥
+  pub placed : IsPlaced tokens fault
 
 -- The text spells items, and the fault is the first of types in them.
 pub record IsMistyped (c : Contents) (text : List ℕ) (fault : TypeFault) : Type 0 where
-  pub items : List Item
+  pub items : List ItemForm
   pub spelled : HasItems text items
   pub first : IsFirst (scope_over c.variables items) items fault
 
 -- the text says a suite whose clock is none
 pub record HasNoClock (c : Contents) (text : List ℕ) (fault : WindowFault) : Type 0 where
   pub suite : Suite
-  pub says : Says c text suite
+  pub says : SaysSuite c text suite
   pub why : IsClockFault c.variables (string_bytes suite.clock) fault
 
 -- why a text has no items
 abbrev pub WhyNoItems : List ℕ → Fault → Type 0
 WhyNoItems text (Lex e) = IsFaulty 0 text e
 WhyNoItems text (Parse parsing.Memory) = ⊥
-WhyNoItems text (Parse e) = HasNoItems text
+WhyNoItems text (Parse e) = HasNoItems text e
 WhyNoItems text Memory = Unit {0}
 WhyNoItems text _ = ⊥
 
 -- why items say no suite
-abbrev pub WhyNotTyped : Contents → List Item → TypeFault → Type 0
+abbrev pub WhyNotTyped : Contents → List ItemForm → TypeFault → Type 0
 WhyNotTyped c items types.Memory = Unit {0}
 WhyNotTyped c items fault = IsFirst (scope_over c.variables items) items fault
 
@@ -108,7 +111,7 @@ WhyNotTyped c items fault = IsFirst (scope_over c.variables items) items fault
 abbrev pub WhyNoReport : Contents → List ℕ → Fault → Type 0
 WhyNoReport c text (Lex e) = IsFaulty 0 text e
 WhyNoReport c text (Parse parsing.Memory) = ⊥
-WhyNoReport c text (Parse e) = HasNoItems text
+WhyNoReport c text (Parse e) = HasNoItems text e
 WhyNoReport c text (Typing e) = IsMistyped c text e
 WhyNoReport c text (Window windows.NoClock) = HasNoClock c text windows.NoClock
 WhyNoReport c text (Window windows.ClockWidth) = HasNoClock c text windows.ClockWidth
@@ -144,18 +147,18 @@ pub record IsOutOfMemory (r : Run) : Type 0 where
   pub unwritten : IsUnwritten r
 
 -- why there is no report, or not all of it
-abbrev pub WhyRefused : Run → Fault → Type 0
-WhyRefused r (Vcd dumps.Memory) = ⊥
-WhyRefused r (Vcd e) = IsUnread r e
-WhyRefused r (Report reports.Write) = IsCutShort r
-WhyRefused r (Report reports.Memory) = ⊥
-WhyRefused r (Lex e) = IsRefusedReport r (Lex e)
-WhyRefused r (Parse parsing.Memory) = ⊥
-WhyRefused r (Parse e) = IsRefusedReport r (Parse e)
-WhyRefused r (Typing e) = IsRefusedReport r (Typing e)
-WhyRefused r (Window e) = IsRefusedReport r (Window e)
-WhyRefused r Memory = IsOutOfMemory r
-WhyRefused r _ = ⊥
+abbrev pub WhyRunRefused : Run → Fault → Type 0
+WhyRunRefused r (Vcd dumps.Memory) = ⊥
+WhyRunRefused r (Vcd e) = IsUnread r e
+WhyRunRefused r (Report reports.Write) = IsCutShort r
+WhyRunRefused r (Report reports.Memory) = ⊥
+WhyRunRefused r (Lex e) = IsRefusedReport r (Lex e)
+WhyRunRefused r (Parse parsing.Memory) = ⊥
+WhyRunRefused r (Parse e) = IsRefusedReport r (Parse e)
+WhyRunRefused r (Typing e) = IsRefusedReport r (Typing e)
+WhyRunRefused r (Window e) = IsRefusedReport r (Window e)
+WhyRunRefused r Memory = IsOutOfMemory r
+WhyRunRefused r _ = ⊥
 
 -- the window's size is out of range, and nothing was read or written
 pub record IsOutOfRange (window : ℕ) (r : Run) : Type 0 where
@@ -167,4 +170,4 @@ pub record IsOutOfRange (window : ℕ) (r : Run) : Type 0 where
 -- why nothing was checked, or not all of the report written
 abbrev pub WhyNotChecked : ℕ → Run → Fault → Type 0
 WhyNotChecked window r (Window windows.BadSize) = IsOutOfRange window r
-WhyNotChecked window r fault = WhyRefused r fault
+WhyNotChecked window r fault = WhyRunRefused r fault

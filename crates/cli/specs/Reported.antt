@@ -2,7 +2,7 @@
 use Rattle.std.specs.Prelude.{◌≡◌, ℕ, ◌≤◌, List, length, map, Some, Ok, string_bytes}
 use Rattle.lexer.specs.declared.token.Token.{Token}
 use Rattle.lexer.specs.Cutting.{cut_of, tokens_of}
-use Rattle.grammar.specs.Trees.{Item}
+use Rattle.grammar.specs.Trees.{ItemForm}
 use Rattle.grammar.specs.Files.{IsFile}
 use Rattle.assertions.specs.declared.suite.Suite.{Suite}
 use Rattle.types.specs.Faults.{IsFaultless}
@@ -19,19 +19,19 @@ abbrev pub AreTokens : List ℕ → List Token → Type 0
 AreTokens text tokens = tokens_of text ≡ Ok (map cut_of tokens)
 
 -- The items that a text spells.
-pub record HasItems (text : List ℕ) (items : List Item) : Type 0 where
+pub record HasItems (text : List ℕ) (items : List ItemForm) : Type 0 where
   pub tokens : List Token
   pub cut : AreTokens text tokens
   pub spelled : IsFile items tokens
 
 -- The suite that items say over the contents of a dump. No fault of types stands.
-pub record IsTyped (c : Contents) (items : List Item) (suite : Suite) : Type 0 where
+pub record IsTyped (c : Contents) (items : List ItemForm) (suite : Suite) : Type 0 where
   pub faultless : IsFaultless (scope_over c.variables items) items
   pub says : IsSuite (scope_over c.variables items) items suite
 
 -- The suite that a text says over the contents of a dump.
-pub record Says (c : Contents) (text : List ℕ) (suite : Suite) : Type 0 where
-  pub items : List Item
+pub record SaysSuite (c : Contents) (text : List ℕ) (suite : Suite) : Type 0 where
+  pub items : List ItemForm
   pub spelled : HasItems text items
   pub typed : IsTyped c items suite
 
@@ -62,7 +62,7 @@ pub record Reports (c : Contents) (suite : Suite) (report : ReportData) : Type 0
 -- The report on a text over the contents of a dump: that on a suite that the text says.
 pub record HasReport (c : Contents) (text : List ℕ) (report : ReportData) : Type 0 where
   pub suite : Suite
-  pub says : Says c text suite
+  pub says : SaysSuite c text suite
   pub reports : Reports c suite report
 
 -- The report on the bytes of a dump and the bytes of a text.

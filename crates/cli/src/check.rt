@@ -4,7 +4,7 @@ ghost use Rattle.std.specs.Prelude.{◌≡◌, ◌↔◌, Err, IfOk, IfErr};
 ghost use Rattle.cycle_window.specs.declared.fault.WindowFault.TheVariants.{BadSize};
 ghost use Rattle.cycle_window.specs.Bound.{IsBadSize};
 ghost use Rattle.cli.specs.declared.fault.Fault.TheVariants.{Window};
-ghost use Rattle.cli.specs.Outcomes.{IsAnswered, WhyRefused, WhyNotChecked, run_of};
+ghost use Rattle.cli.specs.Outcomes.{IsAnswered, WhyRunRefused, WhyNotChecked, run_of};
 
 use crate::fault::Fault;
 use crate::run::run_through;
@@ -53,7 +53,7 @@ pub fn judge_one<'a, S: Source, W: Sink>(
     out: &mut W,
 ) -> Result<[u64; 5], Fault<'a>>
     ensures answered { IfOk result (IsAnswered (run_of text.entry.now (S.remaining source.old) (S.remaining source.new) (S.failures source.old) (S.failures source.new) (W.contents out.old) (W.contents out.new) (W.failures out.old) (W.failures out.new))) }
-    ensures refused { IfErr result (WhyRefused (run_of text.entry.now (S.remaining source.old) (S.remaining source.new) (S.failures source.old) (S.failures source.new) (W.contents out.old) (W.contents out.new) (W.failures out.old) (W.failures out.new))) }
+    ensures refused { IfErr result (WhyRunRefused (run_of text.entry.now (S.remaining source.old) (S.remaining source.new) (S.failures source.old) (S.failures source.new) (W.contents out.old) (W.contents out.new) (W.failures out.old) (W.failures out.new))) }
 {
     run_through(alloc, source, text, 1024, out)
 }

@@ -3,7 +3,6 @@
 
 mod check;
 mod fault;
-mod laws;
 mod lines;
 mod names;
 mod report;
@@ -14,4 +13,3 @@ mod text;
 pub use check::{check_one, judge_one};
 pub use command_line::{Request, WordsFault, read_words};
 pub use fault::{Fault, fault_line, status};
-pub use laws::{refusal_law, report_law};

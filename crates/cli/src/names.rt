@@ -1,7 +1,7 @@
 //! The paths of a dump.
 
 ghost use Rattle.std.specs.Prelude.{◌≡◌, IfOk, OnOk};
-ghost use Rattle.types_expressions.specs.Scopes.{found};
+ghost use Rattle.types_expressions.specs.Scopes.{look_up};
 ghost use Rattle.types_expressions.specs.Views.{names_in};
 ghost use Rattle.vcd_reader.specs.Held.{variables_of};
 ghost use Rattle.cli.specs.Named.{width_named, with_named};
@@ -26,7 +26,7 @@ fn add_path(alloc: Global, dump: &Dump, names: &mut Names, path: &[u8]) -> Resul
 
 /// The paths of a dump that are text and can be bound, with their widths.
 pub(crate) fn names_of(alloc: Global, dump: &Dump) -> Result<Names, AllocError>
-    ensures { IfOk result (λ ns. found (names_in ns) ≡ width_named (variables_of dump.now)) }
+    ensures { IfOk result (λ ns. look_up (names_in ns) ≡ width_named (variables_of dump.now)) }
 {
     let paths = dump.names(alloc)?;
     let mut names = Names::new(alloc);

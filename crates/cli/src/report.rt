@@ -3,20 +3,20 @@
 ghost use Rattle.std.specs.Prelude.{◌≡◌, ℕ, ◌≤◌, List, Some, map, string_bytes, IfOk, IfErr};
 ghost use Rattle.vcd_reader.specs.Variables.{variable_named};
 ghost use Rattle.vcd_reader.specs.Dump.{Contents};
-ghost use Rattle.vcd_reader.specs.Held.{Holds, variables_of};
+ghost use Rattle.vcd_reader.specs.Held.{HoldsContents, variables_of};
 ghost use Rattle.cycle_window.specs.Bound.{IsClockFault};
 ghost use Rattle.cycle_window.specs.Held.{AreClocksOf, code_in};
-ghost use Rattle.cycle_window.specs.Signals.{wanted};
+ghost use Rattle.cycle_window.specs.Signals.{wanted_of};
 ghost use Rattle.cycle_window.specs.Ticks.{ticks_of, row_of};
-ghost use Rattle.verdicts.specs.Shown.{shown};
+ghost use Rattle.verdicts.specs.Shown.{data_of};
 ghost use Rattle.cycle_window.specs.declared.fault.WindowFault.TheVariants.{Memory};
-ghost use Rattle.cli.specs.Named.{AreNamed, wanted_of};
+ghost use Rattle.cli.specs.Named.{AreNamed, wanted_in_suite};
 ghost use Rattle.cli.specs.Reported.{OverRows, Reports};
 
 use crate::lines::lines_of;
 use crate::sampled::rows_through;
 use assertions::Suite;
-use cycle_window::{Clocks, Columns, Signal, WindowFault};
+use cycle_window::{Clocks, Columns, WatchedSignal, WindowFault};
 use expressions::{Table, count};
 use std::alloc::{AllocError, Global};
 use vcd_reader::Dump;
@@ -24,7 +24,7 @@ use verdicts::Report;
 
 /// The report on a suite over the rows of its signals.
 fn report_over(alloc: Global, suite: &Suite, signals: Table) -> Result<Report, AllocError>
-    ensures { IfOk result (λ r. OverRows suite.now signals (shown r)) }
+    ensures { IfOk result (λ r. OverRows suite.now signals (data_of r)) }
 {
     let rows = count(alloc, signals, suite.counters.as_slice())?;
     let lines = lines_of(alloc, suite, &rows)?;
@@ -35,12 +35,12 @@ fn report_over(alloc: Global, suite: &Suite, signals: Table) -> Result<Report, A
 fn signals_of<'s>(
     alloc: Global,
     names: &'s [assertions::Signal],
-) -> Result<Vec<Signal<'s>>, AllocError>
-    ensures { IfOk result (λ ss. map wanted ss.items ≡ map wanted_of names.entry.now) }
+) -> Result<Vec<WatchedSignal<'s>>, AllocError>
+    ensures { IfOk result (λ ss. map wanted_of ss.items ≡ map wanted_in_suite names.entry.now) }
 {
     let mut signals = Vec::with_capacity(alloc, names.len())?;
     for name in names {
-        signals.push(Signal {
+        signals.push(WatchedSignal {
             path: name.path.as_str(),
             width: u32::from(name.width),
         })?;
@@ -70,7 +70,7 @@ fn rows_of(
     requires most { size ≤ 65536 }
     requires clocks { AreClocksOf dump.now clocks.now }
     requires named { AreNamed (variables_of dump.now) suite.now.names.items }
-    ensures { (c : Contents) (signals : List ℕ) → Holds dump.now c → map (λ s. variable_named (variables_of dump.now) (string_bytes s.path)) suite.now.names.items ≡ map (λ v. Some v) signals
+    ensures { (c : Contents) (signals : List ℕ) → HoldsContents dump.now c → map (λ s. variable_named (variables_of dump.now) (string_bytes s.path)) suite.now.names.items ≡ map (λ v. Some v) signals
         → IfOk result (λ rows. rows ≡ map (row_of c signals) (ticks_of c (code_in clocks.now))) }
 {
     let signals = signals_of(alloc, suite.names.as_slice())?;
@@ -90,8 +90,8 @@ pub(crate) fn report_on(
     requires some { 1 ≤ size }
     requires most { size ≤ 65536 }
     requires named { AreNamed (variables_of dump.now) suite.now.names.items }
-    ensures ok { (c : Contents) → Holds dump.now c → IfOk result (λ r. Reports c suite.now (shown r)) }
-    ensures err { (c : Contents) → Holds dump.now c → IfErr result (IsClockFault c.variables (string_bytes suite.now.clock)) }
+    ensures ok { (c : Contents) → HoldsContents dump.now c → IfOk result (λ r. Reports c suite.now (data_of r)) }
+    ensures err { (c : Contents) → HoldsContents dump.now c → IfErr result (IsClockFault c.variables (string_bytes suite.now.clock)) }
 {
     let clocks = match Clocks::of(alloc, dump, suite.clock.as_str()) {
         Ok(clocks) => clocks,

@@ -2,10 +2,10 @@
 
 ghost use Rattle.std.specs.Prelude.{◌≡◌, ◌≤◌, IfOk, IfErr};
 ghost use Rattle.vcd_reader.specs.Dump.{Contents};
-ghost use Rattle.vcd_reader.specs.Held.{Holds};
-ghost use Rattle.verdicts.specs.Shown.{shown};
+ghost use Rattle.vcd_reader.specs.Held.{HoldsContents};
+ghost use Rattle.verdicts.specs.Shown.{data_of};
 ghost use Rattle.cli.specs.Reported.{HasReport};
-ghost use Rattle.cli.specs.Outcomes.{WhyNoReport, IsAnswered, WhyRefused, run_of, totals_of};
+ghost use Rattle.cli.specs.Outcomes.{WhyNoReport, IsAnswered, WhyRunRefused, run_of, totals_of};
 
 use crate::fault::Fault;
 use crate::report::report_on;
@@ -16,12 +16,17 @@ use vcd_reader::{Dump, read_dump};
 use verdicts::{Report, ReportFault, write_report};
 
 /// The report on a text over a dump.
-fn judged<'a>(alloc: Global, dump: &Dump, text: &'a str, size: usize) -> Result<Report, Fault<'a>>
+fn report_judged<'a>(
+    alloc: Global,
+    dump: &Dump,
+    text: &'a str,
+    size: usize,
+) -> Result<Report, Fault<'a>>
     requires some { 1 ≤ size }
     requires most { size ≤ 65536 }
-    requires held { (c : Contents) × Holds dump.now c }
-    ensures ok { (c : Contents) → Holds dump.now c → IfOk result (λ r. HasReport c text.entry.now (shown r)) }
-    ensures err { (c : Contents) → Holds dump.now c → IfErr result (WhyNoReport c text.entry.now) }
+    requires held { (c : Contents) × HoldsContents dump.now c }
+    ensures ok { (c : Contents) → HoldsContents dump.now c → IfOk result (λ r. HasReport c text.entry.now (data_of r)) }
+    ensures err { (c : Contents) → HoldsContents dump.now c → IfErr result (WhyNoReport c text.entry.now) }
 {
     let file = match file_of(alloc, text) {
         Ok(file) => file,
@@ -56,10 +61,10 @@ pub(crate) fn run_through<'a, S: Source, W: Sink>(
     requires some { 1 ≤ size }
     requires most { size ≤ 65536 }
     ensures answered { IfOk result (IsAnswered (run_of text.entry.now (S.remaining source.old) (S.remaining source.new) (S.failures source.old) (S.failures source.new) (W.contents out.old) (W.contents out.new) (W.failures out.old) (W.failures out.new))) }
-    ensures refused { IfErr result (WhyRefused (run_of text.entry.now (S.remaining source.old) (S.remaining source.new) (S.failures source.old) (S.failures source.new) (W.contents out.old) (W.contents out.new) (W.failures out.old) (W.failures out.new))) }
+    ensures refused { IfErr result (WhyRunRefused (run_of text.entry.now (S.remaining source.old) (S.remaining source.new) (S.failures source.old) (S.failures source.new) (W.contents out.old) (W.contents out.new) (W.failures out.old) (W.failures out.new))) }
 {
     let dump = read_dump(alloc, source)?;
-    let report = match judged(alloc, &dump, text, size) {
+    let report = match report_judged(alloc, &dump, text, size) {
         Ok(report) => report,
         Err(fault) => return Err(fault),
     };

@@ -2,7 +2,7 @@
 
 ghost use Rattle.std.specs.Prelude.{◌≡◌, ℕ, ◌+◌, ◌<◌, ◌≤◌, IfOk, OnOk, map, take, length};
 ghost use Rattle.vcd_reader.specs.Dump.{Contents};
-ghost use Rattle.vcd_reader.specs.Held.{Holds};
+ghost use Rattle.vcd_reader.specs.Held.{HoldsContents};
 ghost use Rattle.cycle_window.specs.Ticks.{ticks_of, row_of};
 ghost use Rattle.cycle_window.specs.Held.{ticks_in, code_in, places_in, clock_in, columns_in, first_in, end_in, AreClocksOf, AreColumnsOf, IsOver};
 
@@ -40,8 +40,8 @@ pub(crate) fn rows_through(
     requires most { size ≤ 65536 }
     requires clocks { AreClocksOf dump.now clocks.now }
     requires clock { clock_in columns ≡ code_in clocks.now }
-    requires columns { (c : Contents) → Holds dump.now c → AreColumnsOf columns c }
-    ensures { IfOk result (λ rows. (c : Contents) → Holds dump.now c → rows ≡ map (row_of c (places_in columns)) (ticks_of c (code_in clocks.now))) }
+    requires columns { (c : Contents) → HoldsContents dump.now c → AreColumnsOf columns c }
+    ensures { IfOk result (λ rows. (c : Contents) → HoldsContents dump.now c → rows ≡ map (row_of c (places_in columns)) (ticks_of c (code_in clocks.now))) }
 {
     let Ok(mut window) = Window::new(size, columns) else {
         unreachable!()

@@ -3,7 +3,7 @@
 ghost use Rattle.std.specs.Prelude.{IfOk, IfErr};
 ghost use Rattle.parser.specs.Views.{items_of};
 ghost use Rattle.vcd_reader.specs.Dump.{Contents};
-ghost use Rattle.vcd_reader.specs.Held.{Holds};
+ghost use Rattle.vcd_reader.specs.Held.{HoldsContents};
 ghost use Rattle.cli.specs.Reported.{HasItems, IsTyped};
 ghost use Rattle.cli.specs.Outcomes.{WhyNoItems, WhyNotTyped};
 
@@ -27,8 +27,8 @@ pub(crate) fn file_of<'a>(alloc: Global, text: &'a str) -> Result<File<'a>, Faul
 
 /// The suite of a text's items over a dump.
 pub(crate) fn suite_of(alloc: Global, dump: &Dump, file: &File) -> Result<Suite, TypeFault>
-    ensures ok { (c : Contents) → Holds dump.now c → IfOk result (IsTyped c (items_of file.now)) }
-    ensures err { (c : Contents) → Holds dump.now c → IfErr result (WhyNotTyped c (items_of file.now)) }
+    ensures ok { (c : Contents) → HoldsContents dump.now c → IfOk result (IsTyped c (items_of file.now)) }
+    ensures err { (c : Contents) → HoldsContents dump.now c → IfErr result (WhyNotTyped c (items_of file.now)) }
 {
     let names = match names_of(alloc, dump) {
         Ok(names) => names,

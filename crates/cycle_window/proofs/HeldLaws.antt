@@ -12,7 +12,7 @@ use Rattle.vcd_reader.specs.Numbers.{bits_value}
 use Rattle.vcd_reader.specs.Values.{ValueChange, Moment, or_else, last_digits, changes_before, value_or_zero, value_at}
 use Rattle.vcd_reader.specs.Stored.{StoredChange, StoredStep, stored_value, stored_change, stored_step, kept_change, kept_step}
 use Rattle.vcd_reader.specs.Dump.{Contents}
-use Rattle.vcd_reader.specs.Held.{Holds, steps_in, high_of, value_in, variables_of}
+use Rattle.vcd_reader.specs.Held.{HoldsContents, steps_in, high_of, value_of_change, variables_of}
 use Rattle.vcd_reader.specs.Variables.{code_number, size_of}
 use Rattle.cycle_window.specs.Ticks.{is_tick, sample}
 use Rattle.cycle_window.specs.Held.{changes_to, last_of}
@@ -50,37 +50,37 @@ kept-flat [] = refl
 kept-flat (x ∷ xs) = ap (λ (ys : List StoredChange). map kept_change x.changes ++ ys) (kept-flat xs) ∙ sym (map-append kept_change x.changes (flat_map (λ (m : Moment). m.changes) xs))
 
 -- the last change of a code has the number of the last digits
-pub held-last : (d : Dump) (c : Contents) → Holds d c → (code k : ℕ) → option_map (value_in d) (last_of code (changes_to (steps_in d) k)) ≡ option_map bits_value (last_digits code (changes_before c.steps k))
-unfolding value_in changes_to changes_before
+pub held-last : (d : Dump) (c : Contents) → HoldsContents d c → (code k : ℕ) → option_map (value_of_change d) (last_of code (changes_to (steps_in d) k)) ≡ option_map bits_value (last_digits code (changes_before c.steps k))
+unfolding value_of_change changes_to changes_before
 held-last d c h code k =
     let front : map (stored_step (high_of d)) (take k (steps_in d)) ≡ map kept_step (take k c.steps) = sym (take-map (stored_step (high_of d)) k (steps_in d)) ∙ ap (take k) h.steps ∙ take-map kept_step k c.steps in
     sym (from-changes (high_of d) code (flat_map (λ (s : Step). s.changes.items) (take k (steps_in d))))
     ∙ ap (last_stored code) (sym (stored-flat (high_of d) (take k (steps_in d))) ∙ ap (flat_map (λ (s : StoredStep). s.changes)) front ∙ kept-flat (take k c.steps))
     ∙ from-digits code (flat_map (λ (m : Moment). m.changes) (take k c.steps))
 
-pub held-length : (d : Dump) (c : Contents) → Holds d c → length (steps_in d) ≡ length c.steps
+pub held-length : (d : Dump) (c : Contents) → HoldsContents d c → length (steps_in d) ≡ length c.steps
 held-length d c h =
     let a : length (map (stored_step (high_of d)) (steps_in d)) ≡ length (steps_in d) = rw length-map refl in
     let b : length (map kept_step c.steps) ≡ length c.steps = rw length-map refl in
     sym a ∙ ap (λ (xs : List StoredStep). length xs) h.steps ∙ b
 
 -- an edge between two last changes is a tick
-pub edge-tick : (d : Dump) (c : Contents) → Holds d c → (code k size : ℕ) (before after : Option Change) (edge : Bool) → size ≡ 1 → before ≡ last_of code (changes_to (steps_in d) k) → after ≡ last_of code (changes_to (steps_in d) (k + 1))
-    → ((b a : Option (List ℕ)) → option_map (value_in d) before ≡ option_map bits_value b → option_map (value_in d) after ≡ option_map bits_value a → edge ≡ (is_some b && (eqb (value_or_zero size b) 0) && (eqb (value_or_zero size a) 1)))
+pub edge-tick : (d : Dump) (c : Contents) → HoldsContents d c → (code k size : ℕ) (before after : Option Change) (edge : Bool) → size ≡ 1 → before ≡ last_of code (changes_to (steps_in d) k) → after ≡ last_of code (changes_to (steps_in d) (k + 1))
+    → ((b a : Option (List ℕ)) → option_map (value_of_change d) before ≡ option_map bits_value b → option_map (value_of_change d) after ≡ option_map bits_value a → edge ≡ (is_some b && (eqb (value_or_zero size b) 0) && (eqb (value_or_zero size a) 1)))
     → edge ≡ is_tick c.steps code k
 unfolding is_tick value_at
 edge-tick d c h code k size before after edge one b a tells =
     tells (last_digits code (changes_before c.steps k)) (last_digits code (changes_before c.steps (suc k)))
-    (ap (option_map (value_in d)) b ∙ held-last d c h code k)
-    (ap (option_map (value_in d)) a ∙ ap (λ (n : ℕ). option_map (value_in d) (last_of code (changes_to (steps_in d) n))) (add-one k) ∙ held-last d c h code (suc k))
+    (ap (option_map (value_of_change d)) b ∙ held-last d c h code k)
+    (ap (option_map (value_of_change d)) a ∙ ap (λ (n : ℕ). option_map (value_of_change d) (last_of code (changes_to (steps_in d) n))) (add-one k) ∙ held-last d c h code (suc k))
     ∙ rw one refl
 
 -- the value behind a last change is the sample
-pub sample-is : (d : Dump) (c : Contents) → Holds d c → (k v value : ℕ) (last : Option Change) → last ≡ last_of (code_number (variables_of d) v) (changes_to (steps_in d) k)
-    → ((o : Option (List ℕ)) → option_map (value_in d) last ≡ option_map bits_value o → value ≡ value_or_zero (size_of (variables_of d) v) o) → value ≡ sample c k v
+pub sample-is : (d : Dump) (c : Contents) → HoldsContents d c → (k v value : ℕ) (last : Option Change) → last ≡ last_of (code_number (variables_of d) v) (changes_to (steps_in d) k)
+    → ((o : Option (List ℕ)) → option_map (value_of_change d) last ≡ option_map bits_value o → value ≡ value_or_zero (size_of (variables_of d) v) o) → value ≡ sample c k v
 unfolding value_at
 sample-is d c h k v value last is tells =
-    tells (last_digits (code_number (variables_of d) v) (changes_before c.steps k)) (ap (option_map (value_in d)) is ∙ held-last d c h (code_number (variables_of d) v) k)
+    tells (last_digits (code_number (variables_of d) v) (changes_before c.steps k)) (ap (option_map (value_of_change d)) is ∙ held-last d c h (code_number (variables_of d) v) k)
     ∙ rw h.variables refl
 
 -- a row with one more value

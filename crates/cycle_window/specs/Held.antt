@@ -6,7 +6,7 @@ use Rattle.vcd_reader.specs.declared.step.Step.{Step}
 use Rattle.vcd_reader.specs.declared.step.Change.{Change}
 use Rattle.vcd_reader.specs.Values.{or_else}
 use Rattle.vcd_reader.specs.Dump.{Contents}
-use Rattle.vcd_reader.specs.Held.{Holds}
+use Rattle.vcd_reader.specs.Held.{HoldsContents}
 use Rattle.cycle_window.specs.declared.clocks.Clocks.{Clocks}
 use Rattle.cycle_window.specs.declared.columns.Columns.{Columns}
 use Rattle.cycle_window.specs.declared.window.Window.{Window}
@@ -22,7 +22,7 @@ code_in k = k.code
 
 -- the clocks are of this dump: its ticks of their code
 abbrev pub AreClocksOf : Dump → Clocks → Type 0
-AreClocksOf d k = (c : Contents) → Holds d c → ticks_in k ≡ ticks_of c (code_in k)
+AreClocksOf d k = (c : Contents) → HoldsContents d c → ticks_in k ≡ ticks_of c (code_in k)
 
 -- the places of the columns' variables, and the code of their clock
 unfoldable pub places_in : Columns → List ℕ
@@ -56,7 +56,7 @@ IsOver w c = AreColumnsOf w.columns c
 pub record IsWindowOf (w : Window) (d : Dump) (k : Clocks) : Type 0 where
   pub same_clock : code_in k ≡ clock_in (columns_in w)
   pub clocks : AreClocksOf d k
-  pub over : (c : Contents) → Holds d c → IsOver w c
+  pub over : (c : Contents) → HoldsContents d c → IsOver w c
 
 -- all changes of the steps before the step k, as they are stored
 unfoldable pub changes_to : List Step → ℕ → List Change

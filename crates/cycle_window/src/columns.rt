@@ -5,11 +5,11 @@ ghost use Rattle.vcd_reader.specs.Variables.{variable_named, is_bindable, code_n
 ghost use Rattle.vcd_reader.specs.declared.variable.VarId.{VarId};
 ghost use Rattle.vcd_reader.specs.declared.step.Change.{Change};
 ghost use Rattle.vcd_reader.specs.Dump.{Contents};
-ghost use Rattle.vcd_reader.specs.Held.{Holds, variables_of, steps_in, IsOf};
+ghost use Rattle.vcd_reader.specs.Held.{HoldsContents, variables_of, steps_in, IsOf};
 ghost use Rattle.cycle_window.specs.Ticks.{ticks_of, row_of};
 ghost use Rattle.cycle_window.specs.Held.{changes_to, IsTable};
 ghost use Rattle.cycle_window.specs.Bound.{misfit, IsMisfit, first_refused, places_of, IsSignalFault};
-ghost use Rattle.cycle_window.specs.Signals.{wanted};
+ghost use Rattle.cycle_window.specs.Signals.{wanted_of};
 
 use crate::clocks::Clocks;
 use crate::fault::WindowFault;
@@ -19,7 +19,7 @@ use vcd_reader::{Change, Dump, VarId};
 
 /// A path and the width that its variable must have, in bits.
 #[derive(Clone, Copy, Debug)]
-pub struct Signal<'a> {
+pub struct WatchedSignal<'a> {
     pub path: &'a str,
     pub width: u32,
 }
@@ -33,7 +33,11 @@ pub struct Columns {
 }
 
 /// The variable of a signal.
-fn signal_variable(alloc: Global, dump: &Dump, signal: &Signal<'_>) -> Result<VarId, WindowFault>
+fn signal_variable(
+    alloc: Global,
+    dump: &Dump,
+    signal: &WatchedSignal<'_>,
+) -> Result<VarId, WindowFault>
     ensures place { IfOk result (λ v. variable_named (variables_of dump.now) signal.now.path.now ≡ Some v.place) }
     ensures of { IfOk result (IsOf dump.now) }
     ensures fits { IfOk result (λ _. misfit (variables_of dump.now) (variable_named (variables_of dump.now) signal.now.path.now) signal.now.width ≡ None) }
@@ -55,12 +59,12 @@ fn signal_variable(alloc: Global, dump: &Dump, signal: &Signal<'_>) -> Result<Va
 pub(crate) fn signal_variables(
     alloc: Global,
     dump: &Dump,
-    signals: &[Signal<'_>],
+    signals: &[WatchedSignal<'_>],
 ) -> Result<Vec<VarId>, WindowFault>
-    ensures places { IfOk result (λ vs. map (λ v. Some v.place) vs.items ≡ places_of (variables_of dump.now) (map wanted signals.now)) }
+    ensures places { IfOk result (λ vs. map (λ v. Some v.place) vs.items ≡ places_of (variables_of dump.now) (map wanted_of signals.now)) }
     ensures bindable { IfOk result (λ vs. (i : ℕ) (d : VarId) → i < length vs.items → IsOf dump.now (get_or vs.items i d)) }
-    ensures fits { IfOk result (λ _. first_refused (variables_of dump.now) (map wanted signals.now) ≡ None) }
-    ensures fault { IfErr result (IsSignalFault (variables_of dump.now) (map wanted signals.now)) }
+    ensures fits { IfOk result (λ _. first_refused (variables_of dump.now) (map wanted_of signals.now) ≡ None) }
+    ensures fault { IfErr result (IsSignalFault (variables_of dump.now) (map wanted_of signals.now)) }
 {
     let mut variables = Vec::new(alloc);
     for signal in signals {
@@ -109,7 +113,7 @@ pub(crate) fn sampled_row(
     requires bindable { (i : ℕ) (d : VarId) → i < length variables.now → IsOf dump.now (get_or variables.now i d) }
     requires inside { (i : ℕ) (d : VarId) → i < length variables.now → code_number (variables_of dump.now) (get_or variables.now i d).place < length last.now }
     requires codes { (code : ℕ) (change : Change) → code < length last.now → get_or last.now code None ≡ Some change → change.code ≡ code }
-    ensures { (c : Contents) (k : ℕ) → Holds dump.now c → IsTable last.now (changes_to (steps_in dump.now) k) → IfOk result (λ r. r.items ≡ row_of c (map (λ v. v.place) variables.now) k) }
+    ensures { (c : Contents) (k : ℕ) → HoldsContents dump.now c → IsTable last.now (changes_to (steps_in dump.now) k) → IfOk result (λ r. r.items ≡ row_of c (map (λ v. v.place) variables.now) k) }
 {
     let mut row = Vec::new(alloc);
     for variable in variables {
@@ -130,7 +134,7 @@ fn filled_rows(
     requires bindable { (i : ℕ) (d : VarId) → i < length variables.now → IsOf dump.now (get_or variables.now i d) }
     requires wide { (i : ℕ) (d : VarId) → i < length variables.now → code_number (variables_of dump.now) (get_or variables.now i d).place < length last.old }
     requires blank { IsTable last.old [] }
-    ensures { (c : Contents) (code : ℕ) → Holds dump.now c → ticks.now ≡ ticks_of c code → IfOk result (λ rs. map (λ r. r.items) rs.items ≡ map (row_of c (map (λ v. v.place) variables.now)) ticks.now) }
+    ensures { (c : Contents) (code : ℕ) → HoldsContents dump.now c → ticks.now ≡ ticks_of c code → IfOk result (λ rs. map (λ r. r.items) rs.items ≡ map (row_of c (map (λ v. v.place) variables.now)) ticks.now) }
 {
     let steps = dump.steps();
     let mut rows = Vec::new(alloc);
@@ -151,7 +155,7 @@ fn rows_at(
     ticks: &[usize],
 ) -> Result<Vec<Vec<u128>>, AllocError>
     requires { (i : ℕ) (d : VarId) → i < length variables.now → IsOf dump.now (get_or variables.now i d) }
-    ensures { (c : Contents) (code : ℕ) → Holds dump.now c → ticks.now ≡ ticks_of c code → IfOk result (λ rs. map (λ r. r.items) rs.items ≡ map (row_of c (map (λ v. v.place) variables.now)) ticks.now) }
+    ensures { (c : Contents) (code : ℕ) → HoldsContents dump.now c → ticks.now ≡ ticks_of c code → IfOk result (λ rs. map (λ r. r.items) rs.items ≡ map (row_of c (map (λ v. v.place) variables.now)) ticks.now) }
 {
     let mut last = blank_table(alloc, table_len(dump, variables))?;
     filled_rows(alloc, dump, variables, ticks, &mut last)
@@ -166,14 +170,14 @@ impl Columns {
         alloc: Global,
         dump: &Dump,
         clocks: &Clocks,
-        signals: &[Signal<'_>],
+        signals: &[WatchedSignal<'_>],
     ) -> Result<Columns, WindowFault>
         requires { AreClocksOf dump.now clocks.now }
-        ensures places { IfOk result (λ cs. map Some (places_in cs) ≡ places_of (variables_of dump.now) (map wanted signals.now)) }
-        ensures fits { IfOk result (λ _. first_refused (variables_of dump.now) (map wanted signals.now) ≡ None) }
+        ensures places { IfOk result (λ cs. map Some (places_in cs) ≡ places_of (variables_of dump.now) (map wanted_of signals.now)) }
+        ensures fits { IfOk result (λ _. first_refused (variables_of dump.now) (map wanted_of signals.now) ≡ None) }
         ensures clock { IfOk result (λ cs. clock_in cs ≡ code_in clocks.now) }
-        ensures rows { (c : Contents) → Holds dump.now c → IfOk result (λ cs. AreColumnsOf cs c) }
-        ensures fault { IfErr result (IsSignalFault (variables_of dump.now) (map wanted signals.now)) }
+        ensures rows { (c : Contents) → HoldsContents dump.now c → IfOk result (λ cs. AreColumnsOf cs c) }
+        ensures fault { IfErr result (IsSignalFault (variables_of dump.now) (map wanted_of signals.now)) }
     {
         let variables = match signal_variables(alloc, dump, signals) {
             Err(fault) => return Err(fault),

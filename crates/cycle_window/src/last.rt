@@ -6,7 +6,7 @@ ghost use Rattle.vcd_reader.specs.declared.step.Change.{Change};
 ghost use Rattle.vcd_reader.specs.Numbers.{bits_value};
 ghost use Rattle.vcd_reader.specs.Values.{value_or_zero};
 ghost use Rattle.vcd_reader.specs.Variables.{size_of};
-ghost use Rattle.vcd_reader.specs.Held.{variables_of, value_in, IsOf, IsChangeOf};
+ghost use Rattle.vcd_reader.specs.Held.{variables_of, value_of_change, IsOf, IsChangeOf};
 ghost use Rattle.cycle_window.specs.Held.{changes_to, last_of, IsTable};
 
 use vcd_reader::{Change, Dump, Step, VarId};
@@ -28,7 +28,7 @@ pub(crate) fn last_change(before: Option<Change>, code: usize, changes: &[Change
 pub(crate) fn value_behind(dump: &Dump, last: Option<Change>, var: VarId) -> u128
     requires of { IsOf dump.now var }
     requires code { ForSome last (λ c. IsChangeOf dump.now c var) }
-    ensures { (digits : Option (List ℕ)) → option_map (value_in dump.now) last ≡ option_map bits_value digits
+    ensures { (digits : Option (List ℕ)) → option_map (value_of_change dump.now) last ≡ option_map bits_value digits
         → result ≡ value_or_zero (size_of (variables_of dump.now) var.place) digits }
 {
     match last {

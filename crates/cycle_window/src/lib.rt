@@ -10,7 +10,7 @@ mod sampling;
 mod window;
 
 pub use clocks::Clocks;
-pub use columns::{Columns, Signal};
+pub use columns::{Columns, WatchedSignal};
 pub use fault::WindowFault;
 pub use laws::ticks_law;
 pub use window::Window;

@@ -2,7 +2,7 @@
 
 ghost use Rattle.std.specs.Prelude.{◌≡◌, ℕ, ◌+◌, ◌<◌, ◌≤◌, IfOk, IfErr, length, min, slice_index};
 ghost use Rattle.vcd_reader.specs.Dump.{Contents};
-ghost use Rattle.vcd_reader.specs.Held.{Holds};
+ghost use Rattle.vcd_reader.specs.Held.{HoldsContents};
 ghost use Rattle.cycle_window.specs.declared.fault.WindowFault.TheVariants.{BadSize};
 ghost use Rattle.cycle_window.specs.Ticks.{ticks_of, row_of};
 ghost use Rattle.cycle_window.specs.Bound.{IsBadSize};

@@ -9,10 +9,10 @@ use Rattle.expressions.specs.declared.name.Name.{Name}
 use Rattle.expressions.specs.declared.expr.Expr.{Expr}
 use Rattle.expressions.specs.declared.rule.Rule.{Rule}
 use Rattle.expressions.specs.declared.counter.Counter.{Counter}
-use Rattle.expressions.specs.Terms.{Term, Samples, constant, named, slice, group, concat, inverse, reduce, combine, shift, compare, connect, choose, past, change, width_of, held, name_at, value_of, is_true}
-use Rattle.expressions.specs.Operators.{complement, reduced}
+use Rattle.expressions.specs.Terms.{Term, Samples, constant, named, slice, group, concat, inverse, reduce, combine, shift, compare, connect, choose, past, change, width_of, sample_at, name_at, value_of, is_true}
+use Rattle.expressions.specs.Operators.{complement, reduction_value}
 use Rattle.expressions.specs.Expressions.{term_of}
-use Rattle.expressions.specs.Counters.{holds, ruled, next_count, next_of, counts_to, counter_at, counted}
+use Rattle.expressions.specs.Counters.{holds, rule_value, next_count, next_of, counts_to, counter_at, counter_samples}
 use Rattle.expressions.specs.Laws.{AgreeTo, ValuesAreCausal, CountsByRule}
 use Rattle.expressions.proofs.Fits.{cut_fits}
 
@@ -22,7 +22,7 @@ sooner t u k j le h = record {
   counters = λ place i below. h.counters place i (omega arith);
 }
 
-same_held : (t u : Samples) (origin : Origin) (place k : ℕ) → AgreeTo k t u → held t origin place k ≡ held u origin place k
+same_held : (t u : Samples) (origin : Origin) (place k : ℕ) → AgreeTo k t u → sample_at t origin place k ≡ sample_at u origin place k
 same_held t u Signal place k h = h.signals place k (omega arith)
 same_held t u Counting place k h = h.counters place k (omega arith)
 
@@ -36,7 +36,7 @@ same_value t u (slice part) k w h = ap (λ n. n / 2 ^ part.low % 2 ^ (part.high 
 same_value t u (group e) k w h = same_value t u e k (width_of e) h
 same_value t u (concat a b) k w h = rw (same_value t u a k (width_of a) h, same_value t u b k (width_of b) h) refl
 same_value t u (inverse e) k w h = ap (complement w) (same_value t u e k w h)
-same_value t u (reduce op e) k w h = ap (reduced op (width_of e)) (same_value t u e k (width_of e) h)
+same_value t u (reduce op e) k w h = ap (reduction_value op (width_of e)) (same_value t u e k (width_of e) h)
 same_value t u (combine op a b) k w h = rw (same_value t u a k w h, same_value t u b k w h) refl
 same_value t u (shift op a b) k w h = rw (same_value t u a k w h, same_value t u b k (width_of b) h) refl
 same_value t u (compare op a b) k w h = rw (same_value t u a k (max (width_of a) (width_of b)) h, same_value t u b k (max (width_of a) (width_of b)) h) refl
@@ -57,7 +57,7 @@ same_holds : (t u : Samples) (o : Option Expr) (k : ℕ) → AgreeTo k t u → h
 same_holds t u None k h = refl
 same_holds t u (Some e) k h = same_true t u (term_of e) k h
 
-same_ruled : (t u : Samples) (w : ℕ) (o : Option Rule) (k : ℕ) → AgreeTo k t u → ruled t w o k ≡ ruled u w o k
+same_ruled : (t u : Samples) (w : ℕ) (o : Option Rule) (k : ℕ) → AgreeTo k t u → rule_value t w o k ≡ rule_value u w o k
 same_ruled t u w None k h = refl
 same_ruled t u w (Some r) k h =
     rw (same_value t u (term_of r.when) k (width_of (term_of r.when)) h, same_value t u (term_of r.by) k (max w (width_of (term_of r.by))) h) refl
@@ -76,19 +76,19 @@ counts_stay s cs (suc k) i j le =
       | inr beyond ↦ let e : j ≡ suc k = omega (arith, leb-false j k beyond) in rw e refl
     ]
 
-counted_agrees : (s : ℕ → ℕ → ℕ) (cs : List Counter) (k : ℕ) → AgreeTo k (record { signal_at = s; counter_at = counts_to s cs k }) (counted s cs)
+counted_agrees : (s : ℕ → ℕ → ℕ) (cs : List Counter) (k : ℕ) → AgreeTo k (record { signal_at = s; counter_at = counts_to s cs k }) (counter_samples s cs)
 counted_agrees s cs k = record {
   signals = λ place j le. refl;
   counters = λ place j le. counts_stay s cs k place j le;
 }
 
-counts_next : (s : ℕ → ℕ → ℕ) (cs : List Counter) (i k : ℕ) → counter_at s cs i (suc k) ≡ next_of (counted s cs) (slice_get cs i) (counter_at s cs i k) k
+counts_next : (s : ℕ → ℕ → ℕ) (cs : List Counter) (i k : ℕ) → counter_at s cs i (suc k) ≡ next_of (counter_samples s cs) (slice_get cs i) (counter_at s cs i k) k
 counts_next s cs i k =
     let later : nat_le (suc k) k ≡ false = lt-leb (suc k) k (omega arith) in
-    rw later (same_next (record { signal_at = s; counter_at = counts_to s cs k }) (counted s cs) (slice_get cs i) (counts_to s cs k i k) k (counted_agrees s cs k))
+    rw later (same_next (record { signal_at = s; counter_at = counts_to s cs k }) (counter_samples s cs) (slice_get cs i) (counts_to s cs k i k) k (counted_agrees s cs k))
 
 -- what is loaded fits, and what is held at the largest value fits
-loaded_fits : (t : Samples) (w : ℕ) (o : Option Rule) (k d : ℕ) → d < 2 ^ w → unwrap_or (ruled t w o k) d < 2 ^ w
+loaded_fits : (t : Samples) (w : ℕ) (o : Option Rule) (k d : ℕ) → d < 2 ^ w → unwrap_or (rule_value t w o k) d < 2 ^ w
 loaded_fits t w None k d h = h
 loaded_fits t w (Some r) k d h =
     elim (cases_Bool (is_true t (term_of r.when) k)) [
@@ -98,16 +98,16 @@ loaded_fits t w (Some r) k d h =
 
 next_fits : (t : Samples) (c : Counter) (now k : ℕ) → next_count t c now k < 2 ^ c.width
 next_fits t c now k =
-    let sum = (now + unwrap_or (ruled t c.width c.add k) 0) - unwrap_or (ruled t c.width c.sub k) 0 in
-    let held : min sum (2 ^ c.width - 1) < 2 ^ c.width = omega (arith, pow_pos c.width) in
+    let sum = (now + unwrap_or (rule_value t c.width c.add k) 0) - unwrap_or (rule_value t c.width c.sub k) 0 in
+    let sample_at : min sum (2 ^ c.width - 1) < 2 ^ c.width = omega (arith, pow_pos c.width) in
     elim (cases_Bool (holds t c.clear k)) [
       | inl so ↦ rw so (pow_pos c.width)
-      | inr other ↦ rw other (loaded_fits t c.width c.load k (min sum (2 ^ c.width - 1)) held)
+      | inr other ↦ rw other (loaded_fits t c.width c.load k (min sum (2 ^ c.width - 1)) sample_at)
     ]
 
 counter_fits : (s : ℕ → ℕ → ℕ) (cs : List Counter) (i k : ℕ) (c : Counter) → slice_get cs i ≡ Some c → counter_at s cs i k < 2 ^ c.width
 counter_fits s cs i zero c is = pow_pos c.width
-counter_fits s cs i (suc k) c is = rw (counts_next s cs i k, is) (next_fits (counted s cs) c (counter_at s cs i k) k)
+counter_fits s cs i (suc k) c is = rw (counts_next s cs i k, is) (next_fits (counter_samples s cs) c (counter_at s cs i k) k)
 
 pub counts_by_rule : (s : ℕ → ℕ → ℕ) (cs : List Counter) → CountsByRule s cs
 counts_by_rule s cs = record {

@@ -18,8 +18,8 @@ use Rattle.expressions.specs.declared.operator.Reduction.{Reduction}
 use Rattle.expressions.specs.declared.operator.Reduction.TheVariants.{Zero, NonZero, AllOnes, NotAllOnes, Odd, Even, OneHot, OneHotOrZero}
 use Rattle.expressions.specs.declared.operator.Change.{Change}
 use Rattle.expressions.specs.declared.operator.Change.TheVariants.{Rose, Fell, Stable, Changed}
-use Rattle.expressions.specs.Operators.{complement, arithmetic, shifted, compared, connected, reduced, change_of}
-use Rattle.expressions.specs.Terms.{constant, named, slice, group, concat, inverse, reduce, combine, shift, compare, connect, choose, past, change, width_of, held, name_at, value_of}
+use Rattle.expressions.specs.Operators.{complement, arithmetic, shift_value, comparison_value, connective_value, reduction_value, change_of}
+use Rattle.expressions.specs.Terms.{constant, named, slice, group, concat, inverse, reduce, combine, shift, compare, connect, choose, past, change, width_of, sample_at, name_at, value_of}
 use Rattle.expressions.specs.Laws.{ValuesFit}
 
 bit_small : (b : Bool) → one_if b ≤ 1
@@ -43,11 +43,11 @@ arithmetic_fits Or w a b g h = or_lt w a b g h
 arithmetic_fits Xor w a b g h = xor_lt w a b g h
 arithmetic_fits Xnor w a b g h = complement_fits w (bit_xor a b)
 
-shifted_fits : (op : Shift) (w a n : ℕ) → a < 2 ^ w → shifted op w a n < 2 ^ w
+shifted_fits : (op : Shift) (w a n : ℕ) → a < 2 ^ w → shift_value op w a n < 2 ^ w
 shifted_fits Left w a n g = cut_fits (a * 2 ^ n) w
 shifted_fits Right w a n g = omega (arith, shr_le a n)
 
-compared_small : (op : Comparison) (a b : ℕ) → compared op a b ≤ 1
+compared_small : (op : Comparison) (a b : ℕ) → comparison_value op a b ≤ 1
 compared_small Equal a b = bit_small (a == b)
 compared_small Differs a b = bit_small (not (a == b))
 compared_small Less a b = bit_small (nat_lt a b)
@@ -55,11 +55,11 @@ compared_small AtMost a b = bit_small (nat_le a b)
 compared_small Greater a b = bit_small (nat_lt b a)
 compared_small AtLeast a b = bit_small (nat_le b a)
 
-connected_small : (op : Connective) (a b : ℕ) → connected op a b ≤ 1
+connected_small : (op : Connective) (a b : ℕ) → connective_value op a b ≤ 1
 connected_small Both a b = bit_small (not (a == 0) && not (b == 0))
 connected_small Either a b = bit_small (not (a == 0) || not (b == 0))
 
-reduced_small : (op : Reduction) (w a : ℕ) → reduced op w a ≤ 1
+reduced_small : (op : Reduction) (w a : ℕ) → reduction_value op w a ≤ 1
 reduced_small Zero w a = bit_small (a == 0)
 reduced_small NonZero w a = bit_small (not (a == 0))
 reduced_small AllOnes w a = bit_small (a + 1 == 2 ^ w)
@@ -77,7 +77,7 @@ change_small Changed now before = bit_small (not (now == before))
 
 pub value_fits : ValuesFit
 value_fits t (constant bits) k w le = fits_wider bits.value bits.width w le bits.fits
-value_fits t (named name) k w le = fits_wider _ name.width w le (cut_fits (held t name.origin name.place k) name.width)
+value_fits t (named name) k w le = fits_wider _ name.width w le (cut_fits (sample_at t name.origin name.place k) name.width)
 value_fits t (slice part) k w le = fits_wider _ (part.high - part.low + 1) w le (cut_fits (name_at t part.name k / 2 ^ part.low) (part.high - part.low + 1))
 value_fits t (group e) k w le = fits_wider _ (width_of e) w le (value_fits t e k (width_of e) (omega arith))
 value_fits t (concat a b) k w le =

@@ -6,7 +6,7 @@ use Rattle.std.proofs.lemmas.Bool.{cases_lt}
 use Rattle.expressions.specs.declared.counter.Counter.{Counter}
 use Rattle.expressions.specs.Terms.{Samples}
 use Rattle.expressions.specs.Tables.{cell, column}
-use Rattle.expressions.specs.Counters.{next_of, counter_at, counted}
+use Rattle.expressions.specs.Counters.{next_of, counter_at, counter_samples}
 use Rattle.expressions.specs.Laws.{AgreeTo}
 use Rattle.expressions.proofs.Causality.{same_next, counts_by_rule}
 
@@ -23,9 +23,9 @@ get_or_past (y ∷ ys) d (suc i) h = get_or_past ys d i (omega arith)
 
 pub table_grows : (signals : List (List ℕ)) (all : List Counter) (table : List (List ℕ)) (row : List ℕ) (tick : ℕ) →
     length table ≡ tick + 1 →
-    AgreeTo tick (record { signal_at = column signals; counter_at = column table }) (counted (column signals) all) →
+    AgreeTo tick (record { signal_at = column signals; counter_at = column table }) (counter_samples (column signals) all) →
     ((i : ℕ) → slice_index_or row i 0 ≡ next_of (record { signal_at = column signals; counter_at = column table }) (slice_get all i) (cell table tick i) tick) →
-    AgreeTo (tick + 1) (record { signal_at = column signals; counter_at = column (table ++ row ∷ []) }) (counted (column signals) all)
+    AgreeTo (tick + 1) (record { signal_at = column signals; counter_at = column (table ++ row ∷ []) }) (counter_samples (column signals) all)
 table_grows signals all table row tick long held next = record {
   signals = λ place k le. refl;
   counters = λ i k le.
@@ -39,7 +39,7 @@ table_grows signals all table row tick long held next = record {
             (ap (λ r. slice_index_or r i 0) (get_or_end table row [] (tick + 1) (sym long))
             ∙ next i
             ∙ ap (λ now. next_of t (slice_get all i) now tick) (held.counters i tick (omega arith))
-            ∙ same_next t (counted s all) (slice_get all i) (counter_at s all i tick) tick held
+            ∙ same_next t (counter_samples s all) (slice_get all i) (counter_at s all i tick) tick held
             ∙ sym ((counts_by_rule s all).next i tick))
       ];
 }

@@ -4,7 +4,7 @@ use Rattle.expressions.specs.declared.operator.Arithmetic.{Arithmetic}
 use Rattle.expressions.specs.declared.operator.Shift.{Shift}
 use Rattle.expressions.specs.declared.operator.Comparison.{Comparison}
 use Rattle.expressions.specs.declared.operator.Connective.{Connective}
-use Rattle.expressions.specs.Operators.{arithmetic, shifted, compared, connected}
+use Rattle.expressions.specs.Operators.{arithmetic, shift_value, comparison_value, connective_value}
 use Rattle.expressions.specs.Terms.{Samples, width_of, value_of}
 use Rattle.expressions.specs.Nodes.{Seen}
 
@@ -16,17 +16,17 @@ sums_from t k w v (s ∷ rest) = sums_from t k w (arithmetic s.0 w v (value_of t
 -- shifts by counts at their own widths
 abbrev pub shifts_from : Samples → ℕ → ℕ → ℕ → List (Shift × Seen) → ℕ
 shifts_from t k w v [] = v
-shifts_from t k w v (s ∷ rest) = shifts_from t k w (shifted s.0 w v (value_of t s.1.term k (width_of s.1.term))) rest
+shifts_from t k w v (s ∷ rest) = shifts_from t k w (shift_value s.0 w v (value_of t s.1.term k (width_of s.1.term))) rest
 
 -- comparisons at the larger width, of which the value so far has w bits at first and then one
 abbrev pub compares_from : Samples → ℕ → ℕ → ℕ → List (Comparison × Seen) → ℕ
 compares_from t k w v [] = v
-compares_from t k w v (s ∷ rest) = compares_from t k 1 (compared s.0 v (value_of t s.1.term k (max w (width_of s.1.term)))) rest
+compares_from t k w v (s ∷ rest) = compares_from t k 1 (comparison_value s.0 v (value_of t s.1.term k (max w (width_of s.1.term)))) rest
 
 -- connectives of operands at their own widths
 abbrev pub connects_from : Samples → ℕ → ℕ → List (Connective × Seen) → ℕ
 connects_from t k v [] = v
-connects_from t k v (s ∷ rest) = connects_from t k (connected s.0 v (value_of t s.1.term k (width_of s.1.term))) rest
+connects_from t k v (s ∷ rest) = connects_from t k (connective_value s.0 v (value_of t s.1.term k (width_of s.1.term))) rest
 
 -- parts at their own widths
 abbrev pub concats_from : Samples → ℕ → ℕ → List Seen → ℕ

@@ -12,9 +12,9 @@ holds t None k = false
 holds t (Some e) k = is_true t (term_of e) k
 
 -- what a rule counts by, where its condition is true: the low w bits of its value at w bits, or at its own width where that is larger
-abbrev pub ruled : Samples → ℕ → Option Rule → ℕ → Option ℕ
-ruled t w None k = None
-ruled t w (Some r) k = if is_true t (term_of r.when) k then Some (value_of t (term_of r.by) k (max w (width_of (term_of r.by))) % 2 ^ w) else None
+abbrev pub rule_value : Samples → ℕ → Option Rule → ℕ → Option ℕ
+rule_value t w None k = None
+rule_value t w (Some r) k = if is_true t (term_of r.when) k then Some (value_of t (term_of r.by) k (max w (width_of (term_of r.by))) % 2 ^ w) else None
 
 -- The value at the next tick, from that at the tick k: 0 where it is cleared, else what is loaded, else plus what is added minus what is
 -- taken, as one whole number, held between 0 and the largest value.
@@ -23,8 +23,8 @@ next_count t c now k =
     if holds t c.clear k
     then 0
     else unwrap_or
-    (ruled t c.width c.load k)
-    (min ((now + unwrap_or (ruled t c.width c.add k) 0) - unwrap_or (ruled t c.width c.sub k) 0) (2 ^ c.width - 1))
+    (rule_value t c.width c.load k)
+    (min ((now + unwrap_or (rule_value t c.width c.add k) 0) - unwrap_or (rule_value t c.width c.sub k) 0) (2 ^ c.width - 1))
 
 -- the same of a counter by its number
 abbrev pub next_of : Samples → Option Counter → ℕ → ℕ → ℕ
@@ -44,5 +44,5 @@ abbrev pub counter_at : (ℕ → ℕ → ℕ) → List Counter → ℕ → ℕ �
 counter_at signal_at counters i k = counts_to signal_at counters k i k
 
 -- the signals, and what the counters count over them
-abbrev pub counted : (ℕ → ℕ → ℕ) → List Counter → Samples
-counted signal_at counters = record { signal_at = signal_at; counter_at = counter_at signal_at counters }
+abbrev pub counter_samples : (ℕ → ℕ → ℕ) → List Counter → Samples
+counter_samples signal_at counters = record { signal_at = signal_at; counter_at = counter_at signal_at counters }

@@ -2,10 +2,10 @@
 use Rattle.std.specs.Prelude.{◌≡◌, ℕ, ◌+◌, ◌/◌, ◌%◌, ◌^◌, ◌<◌, ◌≤◌, max, List, Some, slice_get}
 use Rattle.expressions.specs.declared.operator.Shift.{Shift}
 use Rattle.expressions.specs.declared.operator.Comparison.{Comparison}
-use Rattle.expressions.specs.Operators.{compared}
+use Rattle.expressions.specs.Operators.{comparison_value}
 use Rattle.expressions.specs.declared.counter.Counter.{Counter}
 use Rattle.expressions.specs.Terms.{Term, Samples, concat, shift, compare, width_of, value_of}
-use Rattle.expressions.specs.Counters.{next_of, counter_at, counted}
+use Rattle.expressions.specs.Counters.{next_of, counter_at, counter_samples}
 
 -- A value in a context of w bits has w bits.
 abbrev pub ValuesFit : Type 0
@@ -24,7 +24,7 @@ ValuesAreCausal = (t u : Samples) (e : Term) (k w : ℕ) → AgreeTo k t u → v
 pub record CountsByRule (signal_at : ℕ → ℕ → ℕ) (counters : List Counter) : Type 0 where
   pub first : (i : ℕ) → counter_at signal_at counters i 0 ≡ 0
   pub next : (i k : ℕ) →
-      counter_at signal_at counters i (k + 1) ≡ next_of (counted signal_at counters) (slice_get counters i) (counter_at signal_at counters i k) k
+      counter_at signal_at counters i (k + 1) ≡ next_of (counter_samples signal_at counters) (slice_get counters i) (counter_at signal_at counters i k) k
   pub fits : (i k : ℕ) (c : Counter) → slice_get counters i ≡ Some c → counter_at signal_at counters i k < 2 ^ c.width
 
 abbrev pub CountersCount : Type 0
@@ -35,7 +35,7 @@ abbrev pub ChainsCompareBits : Type 0
 ChainsCompareBits =
     (t : Samples) (first second : Comparison) (a b c : Term) (k w : ℕ) →
     value_of t (compare second (compare first a b) c) k w
-    ≡ compared second (value_of t (compare first a b) k 1) (value_of t c k (max 1 (width_of c)))
+    ≡ comparison_value second (value_of t (compare first a b) k 1) (value_of t c k (max 1 (width_of c)))
 
 -- In {a, b} each part stands as it does alone: b in the low bits, a above.
 pub record PartsStandAlone (t : Samples) (a b : Term) (k w : ℕ) : Type 0 where

@@ -11,13 +11,13 @@ pub record Seen : Type 0 where
   pub is_typed : Bool
 
 -- operators are applied from the left (11.3.2)
-abbrev pub chained : {O : Type 0} → (O → Term → Term → Term) → Term → List (O × Seen) → Term
-chained make first [] = first
-chained make first (s ∷ rest) = chained make (make s.0 first s.1.term) rest
+abbrev pub chain_term : {O : Type 0} → (O → Term → Term → Term) → Term → List (O × Seen) → Term
+chain_term make first [] = first
+chain_term make first (s ∷ rest) = chain_term make (make s.0 first s.1.term) rest
 
-abbrev pub joined : Term → List Seen → Term
-joined first [] = first
-joined first (part ∷ rest) = joined (concat first part.term) rest
+abbrev pub concatenation_term : Term → List Seen → Term
+concatenation_term first [] = first
+concatenation_term first (part ∷ rest) = concatenation_term (concat first part.term) rest
 
 abbrev pub all_typed : {O : Type 0} → List (O × Seen) → Bool
 all_typed [] = true
@@ -51,8 +51,8 @@ kept_one make kept e = record { term = make e.term; is_typed = e.is_typed && kee
 abbrev pub kept_chain : {O : Type 0} → (O → Term → Term → Term) → ℕ → Seen → List (O × Seen) → Seen
 kept_chain make kept first steps =
     record {
-      term = chained make first.term steps;
-      is_typed = first.is_typed && all_typed steps && keeps kept (width_of (chained make first.term steps));
+      term = chain_term make first.term steps;
+      is_typed = first.is_typed && all_typed steps && keeps kept (width_of (chain_term make first.term steps));
     }
 
 -- a node, from what is seen of its parts
@@ -63,8 +63,8 @@ seen_step (Node-F.Slice part) = record { term = slice part; is_typed = true }
 seen_step (Node-F.Group kept e) = kept_one group kept e.value
 seen_step (Node-F.Concat kept first parts) =
     record {
-      term = joined first.value.term parts.items;
-      is_typed = first.value.is_typed && all_parts_typed parts.items && has_part parts.items && keeps kept (width_of (joined first.value.term parts.items));
+      term = concatenation_term first.value.term parts.items;
+      is_typed = first.value.is_typed && all_parts_typed parts.items && has_part parts.items && keeps kept (width_of (concatenation_term first.value.term parts.items));
     }
 seen_step (Node-F.Complement kept e) = kept_one inverse kept e.value
 seen_step (Node-F.Reduce op e) = record { term = reduce op e.value.term; is_typed = e.value.is_typed }
@@ -72,12 +72,12 @@ seen_step (Node-F.Arithmetic kept first steps) = kept_chain combine kept first.v
 seen_step (Node-F.Shift kept first steps) = kept_chain shift kept first.value steps.items
 seen_step (Node-F.Compare kept first steps) =
     record {
-      term = chained compare first.value.term steps.items;
+      term = chain_term compare first.value.term steps.items;
       is_typed = first.value.is_typed && all_typed steps.items && keeps kept (width_compared first.value.term steps.items);
     }
 seen_step (Node-F.Connect first steps) =
     record {
-      term = chained connect first.value.term steps.items;
+      term = chain_term connect first.value.term steps.items;
       is_typed = first.value.is_typed && all_typed steps.items && has_some steps.items;
     }
 seen_step (Node-F.Choose kept c a b) =
@@ -88,22 +88,22 @@ seen_step (Node-F.Choose kept c a b) =
 seen_step (Node-F.Past kept e ticks) = kept_one (λ d. past d ticks) kept e.value
 seen_step (Node-F.Change op e) = record { term = change op e.value.term; is_typed = e.value.is_typed }
 
-abbrev pub seen : Node → Seen
-seen = fold-Node Seen seen_step
+abbrev pub seen_node : Node → Seen
+seen_node = fold-Node Seen seen_step
 
 -- the term that a tree stands for
-abbrev pub shape : Node → Term
-shape node = (seen node).term
+abbrev pub node_term : Node → Term
+node_term node = (seen_node node).term
 
 -- Each node keeps its width, which is 1 to 128.
 abbrev pub is_typed : Node → Bool
-is_typed node = (seen node).is_typed
+is_typed node = (seen_node node).is_typed
 
 -- an operator with what is seen of its operand
 abbrev pub step_of : {O : Type 0} → O × Node → O × Seen
-step_of s = (s.0, seen s.1)
+step_of s = (s.0, seen_node s.1)
 
 -- the tree of a term, each node with its width
 pub record IsTree (meant : Term) (node : Node) : Type 0 where
-  pub term : shape node ≡ meant
+  pub term : node_term node ≡ meant
   pub typed : IsTrue (is_typed node)

@@ -28,34 +28,34 @@ arithmetic Xor w a b = bit_xor a b
 arithmetic Xnor w a b = complement w (bit_xor a b)
 
 -- a number of w bits by any count; a count of w or more leaves 0 (11.4.10)
-abbrev pub shifted : Shift → ℕ → ℕ → ℕ → ℕ
-shifted Left w a count = a * 2 ^ count % 2 ^ w
-shifted Right w a count = a / 2 ^ count
+abbrev pub shift_value : Shift → ℕ → ℕ → ℕ → ℕ
+shift_value Left w a count = a * 2 ^ count % 2 ^ w
+shift_value Right w a count = a / 2 ^ count
 
 -- two numbers as they are (11.4.4, 11.4.5)
-abbrev pub compared : Comparison → ℕ → ℕ → ℕ
-compared Equal a b = one_if (a == b)
-compared Differs a b = one_if (not (a == b))
-compared Less a b = one_if (nat_lt a b)
-compared AtMost a b = one_if (nat_le a b)
-compared Greater a b = one_if (nat_lt b a)
-compared AtLeast a b = one_if (nat_le b a)
+abbrev pub comparison_value : Comparison → ℕ → ℕ → ℕ
+comparison_value Equal a b = one_if (a == b)
+comparison_value Differs a b = one_if (not (a == b))
+comparison_value Less a b = one_if (nat_lt a b)
+comparison_value AtMost a b = one_if (nat_le a b)
+comparison_value Greater a b = one_if (nat_lt b a)
+comparison_value AtLeast a b = one_if (nat_le b a)
 
 -- a number is true where it is not 0 (11.4.7)
-abbrev pub connected : Connective → ℕ → ℕ → ℕ
-connected Both a b = one_if (not (a == 0) && not (b == 0))
-connected Either a b = one_if (not (a == 0) || not (b == 0))
+abbrev pub connective_value : Connective → ℕ → ℕ → ℕ
+connective_value Both a b = one_if (not (a == 0) && not (b == 0))
+connective_value Either a b = one_if (not (a == 0) || not (b == 0))
 
 -- all bits of a number of w bits (11.4.7, 11.4.9, 20.9)
-abbrev pub reduced : Reduction → ℕ → ℕ → ℕ
-reduced Zero w a = one_if (a == 0)
-reduced NonZero w a = one_if (not (a == 0))
-reduced AllOnes w a = one_if (a + 1 == 2 ^ w)
-reduced NotAllOnes w a = one_if (not (a + 1 == 2 ^ w))
-reduced Odd w a = count_ones a % 2
-reduced Even w a = 1 - count_ones a % 2
-reduced OneHot w a = one_if (count_ones a == 1)
-reduced OneHotOrZero w a = one_if (nat_lt (count_ones a) 2)
+abbrev pub reduction_value : Reduction → ℕ → ℕ → ℕ
+reduction_value Zero w a = one_if (a == 0)
+reduction_value NonZero w a = one_if (not (a == 0))
+reduction_value AllOnes w a = one_if (a + 1 == 2 ^ w)
+reduction_value NotAllOnes w a = one_if (not (a + 1 == 2 ^ w))
+reduction_value Odd w a = count_ones a % 2
+reduction_value Even w a = 1 - count_ones a % 2
+reduction_value OneHot w a = one_if (count_ones a == 1)
+reduction_value OneHotOrZero w a = one_if (nat_lt (count_ones a) 2)
 
 -- a value and that of one tick before: the lowest bit, or the whole (16.9.3)
 abbrev pub change_of : Change → ℕ → ℕ → ℕ

@@ -11,7 +11,7 @@ use Rattle.expressions.specs.declared.operator.Comparison.{Comparison}
 use Rattle.expressions.specs.declared.operator.Connective.{Connective}
 use Rattle.expressions.specs.declared.operator.Reduction.{Reduction}
 use Rattle.expressions.specs.declared.operator.Change.{Change}
-use Rattle.expressions.specs.Operators.{complement, arithmetic, shifted, compared, connected, reduced, change_of}
+use Rattle.expressions.specs.Operators.{complement, arithmetic, shift_value, comparison_value, connective_value, reduction_value, change_of}
 
 -- an expression, each operator with its operands
 pub data Term : Type 0 where
@@ -64,12 +64,12 @@ pub record Samples : Type 0 where
   pub counter_at : ℕ → ℕ → ℕ
 
 -- the low bits of what a name's column holds (11.5.1)
-abbrev pub held : Samples → Origin → ℕ → ℕ → ℕ
-held t Signal place k = t.signal_at place k
-held t Counter place k = t.counter_at place k
+abbrev pub sample_at : Samples → Origin → ℕ → ℕ → ℕ
+sample_at t Signal place k = t.signal_at place k
+sample_at t Counter place k = t.counter_at place k
 
 abbrev pub name_at : Samples → Name → ℕ → ℕ
-name_at t name k = held t name.origin name.place k % 2 ^ name.width
+name_at t name k = sample_at t name.origin name.place k % 2 ^ name.width
 
 -- The value at the tick k in a context of w bits, which are no fewer than the own width. An operand that the context determines is taken
 -- at the context's width, both of a comparison at the larger of theirs, and any other at its own (11.6.1, 11.8.2). Of a condition the
@@ -81,11 +81,11 @@ value_of t (slice part) k w = name_at t part.name k / 2 ^ part.low % 2 ^ (part.h
 value_of t (group e) k w = value_of t e k (width_of e)
 value_of t (concat a b) k w = value_of t a k (width_of a) * 2 ^ width_of b + value_of t b k (width_of b)
 value_of t (inverse e) k w = complement w (value_of t e k w)
-value_of t (reduce op e) k w = reduced op (width_of e) (value_of t e k (width_of e))
+value_of t (reduce op e) k w = reduction_value op (width_of e) (value_of t e k (width_of e))
 value_of t (combine op a b) k w = arithmetic op w (value_of t a k w) (value_of t b k w)
-value_of t (shift op a b) k w = shifted op w (value_of t a k w) (value_of t b k (width_of b))
-value_of t (compare op a b) k w = compared op (value_of t a k (max (width_of a) (width_of b))) (value_of t b k (max (width_of a) (width_of b)))
-value_of t (connect op a b) k w = connected op (value_of t a k (width_of a)) (value_of t b k (width_of b))
+value_of t (shift op a b) k w = shift_value op w (value_of t a k w) (value_of t b k (width_of b))
+value_of t (compare op a b) k w = comparison_value op (value_of t a k (max (width_of a) (width_of b))) (value_of t b k (max (width_of a) (width_of b)))
+value_of t (connect op a b) k w = connective_value op (value_of t a k (width_of a)) (value_of t b k (width_of b))
 value_of t (choose c a b) k w = if value_of t c k (width_of c) == 0 then value_of t b k w else value_of t a k w
 value_of t (past e ticks) k w = if nat_le ticks k then value_of t e (k - ticks) (width_of e) else 0
 value_of t (change op e) k w = change_of op (value_of t e k (width_of e)) (if nat_le 1 k then value_of t e (k - 1) (width_of e) else 0)

@@ -2,7 +2,7 @@
 
 ghost use Rattle.std.specs.Prelude.{◌≡◌, ◌≤◌, ◌%◌, ◌^◌};
 ghost use Rattle.signals.specs.Tests.{one_if};
-ghost use Rattle.expressions.specs.Operators.{arithmetic, shifted, compared, connected, reduced, change_of};
+ghost use Rattle.expressions.specs.Operators.{arithmetic, shift_value, comparison_value, connective_value, reduction_value, change_of};
 
 use crate::operator::{Arithmetic, Change, Comparison, Connective, Reduction, Shift};
 use signals::Bits;
@@ -52,7 +52,7 @@ pub(crate) fn combine(op: Arithmetic, a: Bits, b: Bits) -> Bits
 /// The value moved by a count of any width.
 pub(crate) fn shift(op: Shift, a: Bits, count: Bits) -> Bits
     ensures width { result.width ≡ a.width }
-    ensures value { result.value ≡ shifted op a.width a.value count.value }
+    ensures value { result.value ≡ shift_value op a.width a.value count.value }
 {
     match op {
         Shift::Left => a.shl(count),
@@ -63,7 +63,7 @@ pub(crate) fn shift(op: Shift, a: Bits, count: Bits) -> Bits
 /// Two values, each extended to the larger width.
 pub(crate) fn compare(op: Comparison, a: Bits, b: Bits) -> Bits
     ensures width { result.width ≡ 1 }
-    ensures value { result.value ≡ compared op a.value b.value }
+    ensures value { result.value ≡ comparison_value op a.value b.value }
 {
     match op {
         Comparison::Equal => flag(a.value == b.value),
@@ -78,7 +78,7 @@ pub(crate) fn compare(op: Comparison, a: Bits, b: Bits) -> Bits
 /// Two values of any widths, each true where it is not 0.
 pub(crate) fn connect(op: Connective, a: Bits, b: Bits) -> Bits
     ensures width { result.width ≡ 1 }
-    ensures value { result.value ≡ connected op a.value b.value }
+    ensures value { result.value ≡ connective_value op a.value b.value }
 {
     match op {
         Connective::Both => flag(a.value != 0 && b.value != 0),
@@ -89,7 +89,7 @@ pub(crate) fn connect(op: Connective, a: Bits, b: Bits) -> Bits
 /// A test of all bits.
 pub(crate) fn reduce(op: Reduction, a: Bits) -> Bits
     ensures width { result.width ≡ 1 }
-    ensures value { result.value ≡ reduced op a.width a.value }
+    ensures value { result.value ≡ reduction_value op a.width a.value }
 {
     match op {
         Reduction::Zero => flag(a.value == 0),

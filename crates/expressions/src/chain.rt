@@ -2,7 +2,7 @@
 
 ghost use Rattle.std.specs.Prelude.{max, IfOk, IsTrue};
 ghost use Rattle.expressions.specs.Terms.{concat, combine, shift, compare, connect, width_of};
-ghost use Rattle.expressions.specs.Nodes.{keeps, shape, is_typed, IsTree};
+ghost use Rattle.expressions.specs.Nodes.{keeps, node_term, is_typed, IsTree};
 
 use crate::node::Node;
 use crate::operator::{Arithmetic, Comparison, Connective, Shift};
@@ -18,8 +18,8 @@ pub(crate) fn arithmetic_node(
 ) -> Result<Node, AllocError>
     requires left { IsTrue (is_typed left) }
     requires right { IsTrue (is_typed right) }
-    requires kept { IsTrue (keeps width (width_of (combine op (shape left) (shape right)))) }
-    ensures { IfOk result (IsTree (combine op (shape left) (shape right))) }
+    requires kept { IsTrue (keeps width (width_of (combine op (node_term left) (node_term right)))) }
+    ensures { IfOk result (IsTree (combine op (node_term left) (node_term right))) }
 {
     match left {
         Node::Arithmetic(_width, first, steps) => {
@@ -46,8 +46,8 @@ pub(crate) fn shift_node(
 ) -> Result<Node, AllocError>
     requires left { IsTrue (is_typed left) }
     requires right { IsTrue (is_typed right) }
-    requires kept { IsTrue (keeps width (width_of (shift op (shape left) (shape right)))) }
-    ensures { IfOk result (IsTree (shift op (shape left) (shape right))) }
+    requires kept { IsTrue (keeps width (width_of (shift op (node_term left) (node_term right)))) }
+    ensures { IfOk result (IsTree (shift op (node_term left) (node_term right))) }
 {
     match left {
         Node::Shift(_width, first, steps) => {
@@ -74,8 +74,8 @@ pub(crate) fn comparison_node(
 ) -> Result<Node, AllocError>
     requires left { IsTrue (is_typed left) }
     requires right { IsTrue (is_typed right) }
-    requires kept { IsTrue (keeps larger (max (width_of (shape left)) (width_of (shape right)))) }
-    ensures { IfOk result (IsTree (compare op (shape left) (shape right))) }
+    requires kept { IsTrue (keeps larger (max (width_of (node_term left)) (width_of (node_term right)))) }
+    ensures { IfOk result (IsTree (compare op (node_term left) (node_term right))) }
 {
     match left {
         Node::Compare(kept, first, steps) => {
@@ -101,7 +101,7 @@ pub(crate) fn connection_node(
 ) -> Result<Node, AllocError>
     requires left { IsTrue (is_typed left) }
     requires right { IsTrue (is_typed right) }
-    ensures { IfOk result (IsTree (connect op (shape left) (shape right))) }
+    ensures { IfOk result (IsTree (connect op (node_term left) (node_term right))) }
 {
     match left {
         Node::Connect(first, steps) => {
@@ -127,8 +127,8 @@ pub(crate) fn concat_node(
 ) -> Result<Node, AllocError>
     requires left { IsTrue (is_typed left) }
     requires right { IsTrue (is_typed right) }
-    requires kept { IsTrue (keeps width (width_of (concat (shape left) (shape right)))) }
-    ensures { IfOk result (IsTree (concat (shape left) (shape right))) }
+    requires kept { IsTrue (keeps width (width_of (concat (node_term left) (node_term right)))) }
+    ensures { IfOk result (IsTree (concat (node_term left) (node_term right))) }
 {
     match left {
         Node::Concat(_width, first, parts) => {

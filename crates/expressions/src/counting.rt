@@ -3,7 +3,7 @@
 ghost use Rattle.std.specs.Prelude.{◌≡◌, ◌≤◌, ℕ, ◌+◌, ◌-◌, ◌^◌, min, length, slice_get, slice_index_or, IfOk};
 ghost use Rattle.expressions.specs.Tables.{cell};
 ghost use Rattle.expressions.specs.Rows.{samples_of, HasCounts};
-ghost use Rattle.expressions.specs.Counters.{holds, ruled, next_count, next_of};
+ghost use Rattle.expressions.specs.Counters.{holds, rule_value, next_count, next_of};
 
 use crate::apply::cut;
 use crate::counter::Counter;
@@ -29,7 +29,7 @@ fn holds(condition: &Option<Expr>, rows: &Rows, tick: usize) -> bool
 fn amount_of(rule: &Option<Rule>, rows: &Rows, tick: usize, width: u8) -> Option<u128>
     requires some_bits { 1 ≤ width }
     requires at_most_128 { width ≤ 128 }
-    ensures { result ≡ ruled (samples_of rows.now) width rule.now tick }
+    ensures { result ≡ rule_value (samples_of rows.now) width rule.now tick }
 {
     match rule {
         None => None,

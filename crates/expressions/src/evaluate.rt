@@ -2,7 +2,7 @@
 
 ghost use Rattle.std.specs.Prelude.{◌≡◌, ◌≤◌, ◌-◌, ◌==◌, nat_le, if◌then◌else◌, not, map, IsTrue};
 ghost use Rattle.expressions.specs.Terms.{width_of, name_at, value_of, is_true};
-ghost use Rattle.expressions.specs.Nodes.{seen, shape, is_typed, step_of, all_typed, all_parts_typed};
+ghost use Rattle.expressions.specs.Nodes.{seen_node, node_term, is_typed, step_of, all_typed, all_parts_typed};
 ghost use Rattle.expressions.specs.Expressions.{term_of};
 ghost use Rattle.expressions.specs.Rows.{samples_of};
 ghost use Rattle.expressions.specs.Chains.{sums_from, shifts_from, compares_from, connects_from, concats_from, total_of, tested_width, AllNarrow};
@@ -32,10 +32,10 @@ fn name_at(name: &Name, rows: &Rows, tick: usize) -> Bits
 #[cycle(evaluation)]
 fn node_value(node: &Node, rows: &Rows, tick: usize, width: u8) -> Bits
     requires typed { IsTrue (is_typed node.now) }
-    requires context { width_of (shape node.now) ≤ width }
+    requires context { width_of (node_term node.now) ≤ width }
     requires at_most_128 { width ≤ 128 }
     ensures width { result.width ≡ width }
-    ensures value { result.value ≡ value_of (samples_of rows.now) (shape node.now) tick width }
+    ensures value { result.value ≡ value_of (samples_of rows.now) (node_term node.now) tick width }
 {
     match node {
         Node::Constant(bits) => bits.zext(width),
@@ -86,8 +86,8 @@ fn node_value(node: &Node, rows: &Rows, tick: usize, width: u8) -> Bits
 #[cycle(evaluation)]
 fn own_value(node: &Node, rows: &Rows, tick: usize) -> Bits
     requires { IsTrue (is_typed node.now) }
-    ensures width { result.width ≡ width_of (shape node.now) }
-    ensures value { result.value ≡ value_of (samples_of rows.now) (shape node.now) tick (width_of (shape node.now)) }
+    ensures width { result.width ≡ width_of (node_term node.now) }
+    ensures value { result.value ≡ value_of (samples_of rows.now) (node_term node.now) tick (width_of (node_term node.now)) }
 {
     node_value(node, rows, tick, width_of(node))
 }
@@ -96,8 +96,8 @@ fn own_value(node: &Node, rows: &Rows, tick: usize) -> Bits
 #[cycle(evaluation)]
 fn value_before(node: &Node, rows: &Rows, tick: usize, ticks: u8) -> Bits
     requires { IsTrue (is_typed node.now) }
-    ensures width { result.width ≡ width_of (shape node.now) }
-    ensures value { result.value ≡ (if nat_le ticks tick then value_of (samples_of rows.now) (shape node.now) (tick - ticks) (width_of (shape node.now)) else 0) }
+    ensures width { result.width ≡ width_of (node_term node.now) }
+    ensures value { result.value ≡ (if nat_le ticks tick then value_of (samples_of rows.now) (node_term node.now) (tick - ticks) (width_of (node_term node.now)) else 0) }
 {
     if usize::from(ticks) <= tick {
         own_value(node, rows, tick - usize::from(ticks))
@@ -171,10 +171,10 @@ fn connect_all(first: Bits, steps: &[(Connective, Node)], rows: &Rows, tick: usi
 /// The bits of each part behind those before.
 #[cycle(evaluation)]
 fn join_all(first: Bits, parts: &[Node], rows: &Rows, tick: usize) -> Bits
-    requires typed { IsTrue (all_parts_typed (map seen parts.now)) }
-    requires fits { total_of first.width (map seen parts.now) ≤ 128 }
-    ensures width { result.width ≡ total_of first.width (map seen parts.now) }
-    ensures value { result.value ≡ concats_from (samples_of rows.now) tick first.value (map seen parts.now) }
+    requires typed { IsTrue (all_parts_typed (map seen_node parts.now)) }
+    requires fits { total_of first.width (map seen_node parts.now) ≤ 128 }
+    ensures width { result.width ≡ total_of first.width (map seen_node parts.now) }
+    ensures value { result.value ≡ concats_from (samples_of rows.now) tick first.value (map seen_node parts.now) }
 {
     let mut bits = first;
     for part in parts {

@@ -24,7 +24,7 @@ impl Expr {
     ghost use Rattle.expressions.specs.Terms.{constant, named, slice, width_of};
     ghost use Rattle.expressions.specs.Terms.{group, concat, inverse, reduce, combine, shift};
     ghost use Rattle.expressions.specs.Terms.{compare, connect, choose, past, change};
-    ghost use Rattle.expressions.specs.Nodes.{shape};
+    ghost use Rattle.expressions.specs.Nodes.{node_term};
     ghost use Rattle.expressions.specs.Expressions.{term_of};
 
     /// A number.
@@ -66,7 +66,7 @@ impl Expr {
     /// The tree.
     pub fn node(&self) -> &Node
         ensures typed { IsTrue (is_typed result.now) }
-        ensures shape { shape result.now ≡ term_of self.now }
+        ensures node_term { node_term result.now ≡ term_of self.now }
     {
         &self.node
     }

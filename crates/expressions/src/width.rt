@@ -2,14 +2,14 @@
 
 ghost use Rattle.std.specs.Prelude.{◌≡◌, ◌≤◌, IsTrue};
 ghost use Rattle.expressions.specs.Terms.{width_of};
-ghost use Rattle.expressions.specs.Nodes.{shape, is_typed};
+ghost use Rattle.expressions.specs.Nodes.{node_term, is_typed};
 
 use crate::node::Node;
 
 /// The own width, which the node keeps.
 pub(crate) fn width_of(node: &Node) -> u8
     requires { IsTrue (is_typed node.now) }
-    ensures own { result ≡ width_of (shape node.now) }
+    ensures own { result ≡ width_of (node_term node.now) }
     ensures some_bits { 1 ≤ result }
     ensures at_most_128 { result ≤ 128 }
 {

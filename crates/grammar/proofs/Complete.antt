@@ -16,7 +16,7 @@ use Rattle.grammar.specs.Marks.{mark, mark_of_terminal, precedence, next_precede
 use Rattle.grammar.specs.Trees.{Tree, number, path, concatenation, past, call, unary, chain, choice, Links, end, link, Parts, no_part, part}
 use Rattle.grammar.specs.Expressions.{AreMembers, no_member, member, IsPath, name, IsSelected, whole, bit, bits, IsTicks, one_tick, some_ticks, Operand, is_number, is_path, is_concatenation, in_brackets, is_past, is_call, is_unary, is_tighter, is_chain, Follows, no_more, one_more, AreParts, no_parts, one_part, Spells, is_operand, is_choice}
 use Rattle.grammar.specs.Readers.{◌>>=◌, Reader, lead, expect, pick, optional, many, each}
-use Rattle.grammar.specs.ReadExpressions.{name_of, word_of, members, path_words, select, Inner, links_of, parts_of, named, bracketed, concatenated, passed, called, prefixing, prefixed_with, links, joined, climb, level, choice_with, expr_with, readers}
+use Rattle.grammar.specs.ReadExpressions.{name_of, word_of, members, path_words, select, Inner, links_of, parts_of, name_reader, bracket_reader, concatenation_reader, past_reader, call_reader, prefix_reader, prefixed_with, links, chain_of, climb, level, choice_with, expr_with, readers}
 use Rattle.grammar.proofs.TerminalLaws.{true-is}
 use Rattle.grammar.proofs.ReaderLaws.{bind-assoc, lead-true, lead-false, lead-nil, expect-is, expect-not, expect-precedence, pick-is, optional-none, optional-is, many-none, many-more, precedence-Dot, precedence-OpenSquare, precedence-Comma, precedence-Colon, precedence-CloseRound, precedence-CloseBrace}
 
@@ -35,11 +35,11 @@ pub level-zero : (b : Reader Tree) (ts : List Token) → level b zero ts ≡ b t
 unfolding level climb
 level-zero b ts = bind-some_self (b ts)
 
-pub level-suc : (b : Reader Tree) (l : ℕ) (ts : List Token) → level b (suc l) ts ≡ (level b l ts >>= λ p. links (level b l) l p.1 >>= λ q. Some (joined p.0 q.0, q.1))
+pub level-suc : (b : Reader Tree) (l : ℕ) (ts : List Token) → level b (suc l) ts ≡ (level b l ts >>= λ p. links (level b l) l p.1 >>= λ q. Some (chain_of p.0 q.0, q.1))
 unfolding level climb
-level-suc b l ts = sym (bind-assoc (b ts) (λ (p : Tree × List Token). climb b l p.0 p.1) (λ (p : Tree × List Token). links (level b l) l p.1 >>= λ q. Some (joined p.0 q.0, q.1)))
+level-suc b l ts = sym (bind-assoc (b ts) (λ (p : Tree × List Token). climb b l p.0 p.1) (λ (p : Tree × List Token). links (level b l) l p.1 >>= λ q. Some (chain_of p.0 q.0, q.1)))
 
-level-on : (b : Reader Tree) (l : ℕ) (e : Tree) (more : List (Token × Tree)) (ts us rest : List Token) → level b l ts ≡ Some (e, us) → links (level b l) l us ≡ Some (more, rest) → level b (suc l) ts ≡ Some (joined e more, rest)
+level-on : (b : Reader Tree) (l : ℕ) (e : Tree) (more : List (Token × Tree)) (ts us rest : List Token) → level b l ts ≡ Some (e, us) → links (level b l) l us ≡ Some (more, rest) → level b (suc l) ts ≡ Some (chain_of e more, rest)
 level-on b l e more ts us rest a k = level-suc b l ts ∙ rw (a, k) refl
 
 -- an expression is the loosest operand, and what makes a choice of it
@@ -71,11 +71,11 @@ unfolding list_of
 links_of-list end = refl
 links_of-list (link t e more) = ap (link t e) (links_of-list more)
 
-joined-list : (first : Tree) (t : Token) (e : Tree) (more : Links) → joined first (list_of (link t e more)) ≡ chain first (link t e more)
+joined-list : (first : Tree) (t : Token) (e : Tree) (more : Links) → chain_of first (list_of (link t e more)) ≡ chain first (link t e more)
 unfolding list_of
 joined-list first t e more = ap (λ (l : Links). chain first (link t e l)) (links_of-list more)
 
-joined-none : (first : Tree) → joined first (list_of end) ≡ first
+joined-none : (first : Tree) → chain_of first (list_of end) ≡ first
 unfolding list_of
 joined-none first = refl
 
@@ -136,12 +136,12 @@ selected-read (bits {left = left} {n = n} {colon = colon} {m = m} {right = right
     (rw (pick-is index i n (colon ∷ m ∷ right ∷ rest) k, optional-is Colon (pick index) colon (m ∷ right ∷ rest) j (right ∷ rest) l (pick-is index j m (right ∷ rest) h), expect-is CloseSquare right rest c) refl)
 
 named-read : (d : ℕ) (t : Token) (more : List Token) (s : Option Select) (ts us rest : List Token) → is_name t ≡ true → AreMembers more ts us → IsSelected d s us rest → 0 < next_precedence rest → base d (t ∷ ts) ≡ Some (path (t ∷ more) s, rest)
-unfolding prefixed_with named
+unfolding prefixed_with name_reader
 named-read d t more s ts us rest n m sel le = rw (name-mark t n, members-read m (selected-no_dot sel le), selected-read sel le) refl
 
 -- what stands inside, one deeper
-bracketed-read : (d : ℕ) (e : Tree) (right : Token) (ts rest : List Token) → expr d ts ≡ Some (e, right ∷ rest) → terminal right ≡ CloseRound → bracketed (readers (suc d)) ts ≡ Some (e, rest)
-unfolding bracketed readers
+bracketed-read : (d : ℕ) (e : Tree) (right : Token) (ts rest : List Token) → expr d ts ≡ Some (e, right ∷ rest) → terminal right ≡ CloseRound → bracket_reader (readers (suc d)) ts ≡ Some (e, rest)
+unfolding bracket_reader readers
 bracketed-read d e right ts rest h c = rw (h, expect-is CloseRound right rest c) refl
 
 brackets-read : (d : ℕ) (left right : Token) (e : Tree) (ts rest : List Token) → mark left ≡ marks.Opening → expr d ts ≡ Some (e, right ∷ rest) → terminal right ≡ CloseRound → base (suc d) (left ∷ ts) ≡ Some (e, rest)
@@ -150,7 +150,7 @@ brackets-read d left right e ts rest m h c = rw m (bracketed-read d e right ts r
 
 concatenation-read : (d : ℕ) (left right : Token) (e : Tree) (xs : List Tree) (ts us rest : List Token) → mark left ≡ marks.Brace → expr d ts ≡ Some (e, us) → each (is Comma) (λ comma. expr d) us ≡ Some (xs, right ∷ rest) → terminal right ≡ CloseBrace
     → base (suc d) (left ∷ ts) ≡ Some (concatenation left e (parts_of xs), rest)
-unfolding prefixed_with concatenated readers
+unfolding prefixed_with concatenation_reader readers
 concatenation-read d left right e xs ts us rest m h k c = rw (m, h, k, expect-is CloseBrace right rest c) refl
 
 ticks-read : {ticks : Option Bound} {ts : List Token} {right : Token} {rest : List Token} → IsTicks ticks ts (right ∷ rest) → terminal right ≡ CloseRound → optional Comma (pick (bound_within 1 64)) ts ≡ Some (ticks, right ∷ rest)
@@ -163,15 +163,15 @@ ticks-next (some_ticks {comma = comma} k h) c = precedence-Comma comma k
 
 past-read : (d : ℕ) (f left right : Token) (e : Tree) (ticks : Option Bound) (ts us rest : List Token) → mark f ≡ marks.Past → terminal left ≡ OpenRound → expr d ts ≡ Some (e, us) → optional Comma (pick (bound_within 1 64)) us ≡ Some (ticks, right ∷ rest) → terminal right ≡ CloseRound
     → base (suc d) (f ∷ left ∷ ts) ≡ Some (past f e ticks, rest)
-unfolding prefixed_with passed readers
+unfolding prefixed_with past_reader readers
 past-read d f left right e ticks ts us rest m o h k c = rw (m, expect-is OpenRound left ts o, h, k, expect-is CloseRound right rest c) refl
 
 call-read : (d : ℕ) (g : Function) (f left right : Token) (e : Tree) (ts rest : List Token) → mark f ≡ marks.Call g → terminal left ≡ OpenRound → expr d ts ≡ Some (e, right ∷ rest) → terminal right ≡ CloseRound → base (suc d) (f ∷ left ∷ ts) ≡ Some (call g f e, rest)
-unfolding prefixed_with called
+unfolding prefixed_with call_reader
 call-read d g f left right e ts rest m o h c = rw (m, expect-is OpenRound left ts o, bracketed-read d e right ts rest h c) refl
 
 unary-read : (d : ℕ) (t : Token) (e : Tree) (ts rest : List Token) → mark t ≡ marks.Prefix → base d ts ≡ Some (e, rest) → base (suc d) (t ∷ ts) ≡ Some (unary t e, rest)
-unfolding prefixed_with prefixing readers
+unfolding prefixed_with prefix_reader readers
 unary-read d t e ts rest m h = rw (m, h) refl
 
 -- lengths

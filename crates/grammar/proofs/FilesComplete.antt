@@ -8,14 +8,14 @@ use Rattle.grammar.specs.declared.terminal.Terminal.TheVariants.{OpenRound, Clos
 use Rattle.grammar.specs.Terminals.{terminal, names, is_name}
 use Rattle.grammar.specs.Bounds.{bound_within}
 use Rattle.grammar.specs.Marks.{mark, next_precedence}
-use Rattle.grammar.specs.Trees.{Tree, Property, Counter, Declaration, Assertion, Item, counter, declaration, assertion}
+use Rattle.grammar.specs.Trees.{Tree, PropertyForm, CounterForm, DeclarationForm, AssertionForm, ItemForm, counter, declaration, assertion}
 use Rattle.grammar.specs.Expressions.{IsPath, Spells}
 use Rattle.grammar.specs.Sequences.{IsProperty, is_plain, is_implication, bracketed}
-use Rattle.grammar.specs.Files.{in_one, in_two, IsClear, no_clear, clear, IsClause, no_clause, clause, IsCounter, is_counter, IsClosing, no_closing, closing, IsEnding, ending, with_semicolon, IsDeclaration, is_declaration, is_verb, IsDisable, no_disable, disable, IsLabel, no_label, label, IsAssertion, is_assertion, IsItem, a_counter, a_declaration, an_assertion, AreItems, no_item, one_item, HasAssertion, IsFile}
+use Rattle.grammar.specs.Files.{in_one, in_two, IsClear, no_clear, clear, IsClause, no_clause, clause, SpellsCounter, is_counter, IsClosing, no_closing, closing, IsEnding, ending, with_semicolon, SpellsDeclaration, is_declaration, is_verb, IsDisable, no_disable, disable, IsLabel, no_label, label, SpellsAssertion, is_assertion, SpellsItem, a_counter, a_declaration, an_assertion, AreItems, no_item, one_item, HasAssertion, IsFile}
 use Rattle.grammar.specs.Readers.{lead, expect, pick, optional, many, each}
 use Rattle.grammar.specs.ReadExpressions.{name_of, expression, prefixed_with}
 use Rattle.grammar.specs.ReadSequences.{body_with, during_with, whole_with, whole, property_with, property}
-use Rattle.grammar.specs.ReadFiles.{one_operand, two_operands, counter_head, counter_item, again_of, skip, ending_of, declaration_item, is_verb_token, opening, clock_of, disabling, property_end, assertion_item, labelled, declared, item, asserts, is_more, items, ReadsFile}
+use Rattle.grammar.specs.ReadFiles.{one_operand, two_operands, counter_head, counter_item, again_of, skip, ending_of, declaration_item, is_verb_token, opening_words, clock_words, disable_reader, property_end, assertion_item, label_reader, declaration_reader, item, asserts, is_more, items, ReadsFile}
 use Rattle.grammar.proofs.TerminalLaws.{true-is, false-is}
 use Rattle.grammar.proofs.ReaderLaws.{lead-true, lead-false, expect-is, expect-not, expect-some, pick-is, optional-none, optional-is, many-none, many-more, precedence-Comma, precedence-CloseRound, precedence-Semicolon, precedence-EndSequence}
 use Rattle.grammar.proofs.Complete.{path-read, path-shorter, spells-read, spells-shorter}
@@ -71,7 +71,7 @@ unfolding counter_head name_of
 head-read name left n right width rest a b c e =
     rw (pick-is name_of name name (left ∷ n ∷ right ∷ rest) (rw a refl), expect-is OpenSquare left (n ∷ right ∷ rest) b, pick-is (bound_within 1 128) width n (right ∷ rest) c, expect-is CloseSquare right rest e) refl
 
-counter-read : {c : Counter} {ts rest : List Token} → IsCounter c ts rest → item ts ≡ Some (counter c, rest)
+counter-read : {c : CounterForm} {ts rest : List Token} → SpellsCounter c ts rest → item ts ≡ Some (counter c, rest)
 unfolding counter_item
 counter-read (is_counter {w = w} {name = name} {left = left} {n = n} {right = right} {semicolon = semicolon} {width = width} {ts = ts} {rest = rest} k m o b c x y z v s) =
     let after_sub : (t : Terminal) → (Semicolon ≡ t → ⊥) → expect t (semicolon ∷ rest) ≡ None = λ t ne. expect-not t semicolon rest (λ e. ne (sym s ∙ e)) in
@@ -107,10 +107,10 @@ ending-next (ending {e = e} k c) = precedence-EndSequence e k
 ending-next (with_semicolon {semicolon = semicolon} s k c) = precedence-Semicolon semicolon s
 
 item-sequence : (w : Token) (ts : List Token) → terminal w ≡ word.Sequence → item (w ∷ ts) ≡ declaration_item ts
-unfolding item declared
+unfolding item declaration_reader
 item-sequence w ts h = rw (expect-not word.Counter w ts (λ e. absurd cc), expect-is word.Sequence w ts h) refl
 
-declaration-read : {s : Declaration} {ts rest : List Token} → IsDeclaration s ts rest → expect Colon rest ≡ None → item ts ≡ Some (declaration s, rest)
+declaration-read : {s : DeclarationForm} {ts rest : List Token} → SpellsDeclaration s ts rest → expect Colon rest ≡ None → item ts ≡ Some (declaration s, rest)
 unfolding declaration_item name_of
 declaration-read (is_declaration {w = w} {name = name} {semicolon = semicolon} {body = body} {ts = ts} {us = us} {rest = rest} k n s b e) h =
     item-sequence w (name ∷ semicolon ∷ ts) k
@@ -121,29 +121,29 @@ disable-none : (d : ℕ) (t : Token) (ts : List Token) → terminal t ≡ Disabl
 unfolding property property_with whole whole_with during_with body_with expression prefixed_with mark
 disable-none d t ts h = rw (expect-not OpenRound t ts (λ e. absurd cc), expect-not Delay t ts (λ e. absurd cc), expect-not OpenRound t ts (λ e. absurd cc), h) refl
 
-no_disable_by : (d : ℕ) (ts : List Token) (p : Property × List Token) → property d ts ≡ Some p → (o : Option (Token × List Token)) → expect Disable ts ≡ o → expect Disable ts ≡ None
+no_disable_by : (d : ℕ) (ts : List Token) (p : PropertyForm × List Token) → property d ts ≡ Some p → (o : Option (Token × List Token)) → expect Disable ts ≡ o → expect Disable ts ≡ None
 no_disable_by d ts p h None e = e
 no_disable_by d ts p h (Some q) e =
     let x = expect-some Disable ts q e in
     let none : property d ts ≡ None = ap (property d) x.parts ∙ disable-none d q.0 q.1 x.marked in
     absurd cc
 
-disable-read : {o : Option Tree} {ts us : List Token} → IsDisable o ts us → expect Disable us ≡ None → optional Disable disabling ts ≡ Some (o, us)
-unfolding disabling
-disable-read (no_disable {ts = ts}) h = optional-none Disable disabling ts h
+disable-read : {o : Option Tree} {ts us : List Token} → IsDisable o ts us → expect Disable us ≡ None → optional Disable disable_reader ts ≡ Some (o, us)
+unfolding disable_reader
+disable-read (no_disable {ts = ts}) h = optional-none Disable disable_reader ts h
 disable-read (disable {w = w} {iff = iff} {left = left} {right = right} {e = e} {ts = ts} {rest = rest} k i o s c) h =
-    optional-is Disable disabling w (iff ∷ left ∷ ts) e rest k (rw (expect-is Iff iff (left ∷ ts) i) (one-read in_two left right e ts rest o s c))
+    optional-is Disable disable_reader w (iff ∷ left ∷ ts) e rest k (rw (expect-is Iff iff (left ∷ ts) i) (one-read in_two left right e ts rest o s c))
 
 verb-token : (t : Token) → is_verb (terminal t) → is_verb_token t ≡ true
 unfolding is_verb_token
 verb-token t (inl h) = rw (true-is word.Assert t h) refl
 verb-token t (inr h) = rw (false-is word.Assert t (λ e. absurd cc), true-is word.Assume t h) refl
 
-assertion-read : (l : Option Token) (verb prop open_round at_sign round posedge right last semicolon : Token) (clock : List Token) (off : Option Tree) (p : Property) (us vs ws rest : List Token)
+assertion-read : (l : Option Token) (verb prop open_round at_sign round posedge right last semicolon : Token) (clock : List Token) (off : Option Tree) (p : PropertyForm) (us vs ws rest : List Token)
     → is_verb (terminal verb) → terminal prop ≡ word.Property → terminal open_round ≡ OpenRound → terminal at_sign ≡ AtSign → terminal round ≡ OpenRound → terminal posedge ≡ Posedge → IsPath clock us (right ∷ vs) → terminal right ≡ CloseRound
     → IsDisable off vs ws → IsProperty in_one p ws (last ∷ semicolon ∷ rest) → terminal last ≡ CloseRound → terminal semicolon ≡ Semicolon
     → assertion_item l (verb ∷ prop ∷ open_round ∷ at_sign ∷ round ∷ posedge ∷ us) ≡ Some (assertion (record { label = l; verb = verb; clock = clock; disable = off; property = p }), rest)
-unfolding assertion_item opening clock_of property_end
+unfolding assertion_item opening_words clock_words property_end
 assertion-read l verb prop open_round at_sign round posedge right last semicolon clock off p us vs ws rest v a b c e f g h i j k m =
     let read = property-read j (omega (arith, precedence-CloseRound last k)) in
     rw (
@@ -170,15 +170,15 @@ verb-no_name t (inl h) = no_name t word.Assert refl h
 verb-no_name t (inr h) = no_name t word.Assume refl h
 
 item-verb : (t : Token) (ts : List Token) → is_verb (terminal t) → item (t ∷ ts) ≡ assertion_item None (t ∷ ts)
-unfolding item declared labelled
+unfolding item declaration_reader label_reader
 item-verb t ts v =
     rw (expect-not word.Counter t ts (verb-not t word.Counter v (λ e. cc) (λ e. cc)), expect-not word.Sequence t ts (verb-not t word.Sequence v (λ e. cc) (λ e. cc)), lead-false is_name t ts (verb-no_name t v)) refl
 
-declared-label : (name colon : Token) (ts : List Token) → is_name name ≡ true → terminal colon ≡ Colon → declared (name ∷ colon ∷ ts) ≡ assertion_item (Some name) ts
-unfolding declared labelled
+declared-label : (name colon : Token) (ts : List Token) → is_name name ≡ true → terminal colon ≡ Colon → declaration_reader (name ∷ colon ∷ ts) ≡ assertion_item (Some name) ts
+unfolding declaration_reader label_reader
 declared-label name colon ts n k = rw (expect-not word.Sequence name (colon ∷ ts) (name-not name word.Sequence n refl), lead-true is_name name (colon ∷ ts) n, expect-is Colon colon ts k) refl
 
-item-label_by : (name colon : Token) (ts : List Token) → terminal colon ≡ Colon → (o : Option (Token × List Token)) → expect word.Counter (name ∷ colon ∷ ts) ≡ o → item (name ∷ colon ∷ ts) ≡ declared (name ∷ colon ∷ ts)
+item-label_by : (name colon : Token) (ts : List Token) → terminal colon ≡ Colon → (o : Option (Token × List Token)) → expect word.Counter (name ∷ colon ∷ ts) ≡ o → item (name ∷ colon ∷ ts) ≡ declaration_reader (name ∷ colon ∷ ts)
 unfolding item
 item-label_by name colon ts k None h = rw h refl
 item-label_by name colon ts k (Some q) h =
@@ -189,14 +189,14 @@ item-label_by name colon ts k (Some q) h =
 item-label : (name colon : Token) (ts : List Token) → is_name name ≡ true → terminal colon ≡ Colon → item (name ∷ colon ∷ ts) ≡ assertion_item (Some name) ts
 item-label name colon ts n k = item-label_by name colon ts k (expect word.Counter (name ∷ colon ∷ ts)) refl ∙ declared-label name colon ts n k
 
-assertion_item-read : {a : Assertion} {ts rest : List Token} → IsAssertion a ts rest → item ts ≡ Some (assertion a, rest)
+assertion_item-read : {a : AssertionForm} {ts rest : List Token} → SpellsAssertion a ts rest → item ts ≡ Some (assertion a, rest)
 assertion_item-read (is_assertion {verb = verb} {property = prop} {left = left} {at_sign = at_sign} {round = round} {posedge = posedge} {right = right} {last = last} {semicolon = semicolon} {clock = clock} {disable = off} {p = p} {us = us} {vs = vs} {ws = ws} {rest = rest} no_label v a b c e f g h i j k m) =
     item-verb verb (prop ∷ left ∷ at_sign ∷ round ∷ posedge ∷ us) v ∙ assertion-read None verb prop left at_sign round posedge right last semicolon clock off p us vs ws rest v a b c e f g h i j k m
 assertion_item-read (is_assertion {verb = verb} {property = prop} {left = left} {at_sign = at_sign} {round = round} {posedge = posedge} {right = right} {last = last} {semicolon = semicolon} {clock = clock} {disable = off} {p = p} {us = us} {vs = vs} {ws = ws} {rest = rest} (label {name = name} {colon = colon} n l) v a b c e f g h i j k m) =
     item-label name colon (verb ∷ prop ∷ left ∷ at_sign ∷ round ∷ posedge ∷ us) n l ∙ assertion-read (Some name) verb prop left at_sign round posedge right last semicolon clock off p us vs ws rest v a b c e f g h i j k m
 
 -- items
-item-read : {i : Item} {ts rest : List Token} → IsItem i ts rest → expect Colon rest ≡ None → item ts ≡ Some (i, rest)
+item-read : {i : ItemForm} {ts rest : List Token} → SpellsItem i ts rest → expect Colon rest ≡ None → item ts ≡ Some (i, rest)
 item-read (a_counter c) h = counter-read c
 item-read (a_declaration s) h = declaration-read s h
 item-read (an_assertion a) h = assertion_item-read a
@@ -209,7 +209,7 @@ pub record Begins (ts : List Token) : Type 0 where
   no_colon : terminal first ≡ Colon → ⊥
   no_end : terminal first ≡ End → ⊥
 
-item-begins : {i : Item} {ts rest : List Token} → IsItem i ts rest → Begins ts
+item-begins : {i : ItemForm} {ts rest : List Token} → SpellsItem i ts rest → Begins ts
 item-begins (a_counter (is_counter {w = w} {name = name} {left = left} {n = n} {right = right} {ts = ts} k m o b c x y z v s)) = record { first = w; more = name ∷ left ∷ n ∷ right ∷ ts; parts = refl; no_colon = λ e. absurd cc; no_end = λ e. absurd cc }
 item-begins (a_declaration (is_declaration {w = w} {name = name} {semicolon = semicolon} {ts = ts} k n s b e)) = record { first = w; more = name ∷ semicolon ∷ ts; parts = refl; no_colon = λ e. absurd cc; no_end = λ e. absurd cc }
 item-begins (an_assertion (is_assertion {verb = verb} {property = prop} {left = left} {at_sign = at_sign} {round = round} {posedge = posedge} {us = us} no_label v a b c e f g h i j k m)) =
@@ -217,7 +217,7 @@ item-begins (an_assertion (is_assertion {verb = verb} {property = prop} {left = 
 item-begins (an_assertion (is_assertion {verb = verb} {property = prop} {left = left} {at_sign = at_sign} {round = round} {posedge = posedge} {us = us} (label {name = name} {colon = colon} n l) v a b c e f g h i j k m)) =
     record { first = name; more = colon ∷ verb ∷ prop ∷ left ∷ at_sign ∷ round ∷ posedge ∷ us; parts = refl; no_colon = name-not name Colon n refl; no_end = name-not name End n refl }
 
-items-no_colon : {xs : List Item} {ts rest : List Token} → AreItems xs ts rest → expect Colon rest ≡ None → expect Colon ts ≡ None
+items-no_colon : {xs : List ItemForm} {ts rest : List Token} → AreItems xs ts rest → expect Colon rest ≡ None → expect Colon ts ≡ None
 items-no_colon no_item h = h
 items-no_colon (one_item i more) h = let b = item-begins i in ap (expect Colon) b.parts ∙ expect-not Colon b.first b.more b.no_colon
 
@@ -246,12 +246,12 @@ label-shorter : {o : Option Token} {ts us : List Token} → IsLabel o ts us → 
 label-shorter no_label = omega arith
 label-shorter (label n k) = omega arith
 
-property-shorter : {d : ℕ} {p : Property} {ts rest : List Token} → IsProperty d p ts rest → length rest < length ts
+property-shorter : {d : ℕ} {p : PropertyForm} {ts rest : List Token} → IsProperty d p ts rest → length rest < length ts
 property-shorter (is_plain w) = sequence-shorter w
 property-shorter (is_implication k v w) = omega (arith, sequence-shorter v, sequence-shorter w)
 property-shorter (bracketed o c w) = omega (arith, property-shorter w)
 
-item-shorter : {i : Item} {ts rest : List Token} → IsItem i ts rest → length rest < length ts
+item-shorter : {i : ItemForm} {ts rest : List Token} → SpellsItem i ts rest → length rest < length ts
 item-shorter (a_counter (is_counter k m o b c x y z v s)) = omega (arith, clear-shorter x, clause-shorter y, clause-shorter z, clause-shorter v)
 item-shorter (a_declaration (is_declaration k n s b e)) = omega (arith, sequence-shorter b, ending-shorter e)
 item-shorter (an_assertion (is_assertion l v a b c e f g h i j k m)) = omega (arith, label-shorter l, path-shorter g, disable-shorter i, property-shorter j)
@@ -260,7 +260,7 @@ more-token : (t : Token) → (terminal t ≡ End → ⊥) → is_more t ≡ true
 unfolding is_more
 more-token t h = rw (false-is End t h) refl
 
-items-many : {xs : List Item} {ts rest : List Token} → AreItems xs ts rest → (n : ℕ) → length ts ≤ n → lead is_more rest ≡ None → expect Colon rest ≡ None → many is_more (λ t us. item (t ∷ us)) n ts ≡ Some (xs, rest)
+items-many : {xs : List ItemForm} {ts rest : List Token} → AreItems xs ts rest → (n : ℕ) → length ts ≤ n → lead is_more rest ≡ None → expect Colon rest ≡ None → many is_more (λ t us. item (t ∷ us)) n ts ≡ Some (xs, rest)
 items-many (no_item {ts = ts}) n le h k = many-none is_more (λ t us. item (t ∷ us)) n ts h
 items-many (one_item i more) zero le h k = absurd (omega (arith, item-shorter i))
 items-many (one_item {i = i} {more = xs} {ts = ts} {us = us} {rest = rest} x more) (suc n) le h k =
@@ -273,13 +273,13 @@ no-more : (last : Token) → terminal last ≡ End → lead is_more (last ∷ []
 unfolding is_more
 no-more last h = lead-false is_more last [] (rw (true-is End last h) refl)
 
-asserts-true : (xs : List Item) → HasAssertion xs → asserts xs ≡ true
+asserts-true : (xs : List ItemForm) → HasAssertion xs → asserts xs ≡ true
 asserts-true [] h = absurd h
 asserts-true (counter c ∷ more) h = asserts-true more h
 asserts-true (declaration s ∷ more) h = asserts-true more h
 asserts-true (assertion a ∷ more) h = refl
 
-pub file-read : (xs : List Item) (tokens : List Token) → IsFile xs tokens → ReadsFile xs tokens
+pub file-read : (xs : List ItemForm) (tokens : List Token) → IsFile xs tokens → ReadsFile xs tokens
 unfolding items each
 file-read xs tokens f = record {
   last = f.last;

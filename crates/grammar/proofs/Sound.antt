@@ -20,7 +20,7 @@ use Rattle.grammar.specs.Marks.{mark, mark_of_terminal, mark_of_operator, preced
 use Rattle.grammar.specs.Trees.{Tree, number, path, concatenation, past, call, unary, choice, end}
 use Rattle.grammar.specs.Expressions.{AreMembers, no_member, member, IsPath, name, IsSelected, whole, bit, bits, IsTicks, one_tick, some_ticks, Operand, is_number, is_path, is_concatenation, in_brackets, is_past, is_call, is_unary, is_tighter, is_chain, Follows, no_more, one_more, AreParts, no_parts, one_part, Spells, is_operand, is_choice}
 use Rattle.grammar.specs.Readers.{◌>>=◌, Reader, lead, expect, pick, optional, each}
-use Rattle.grammar.specs.ReadExpressions.{name_of, word_of, members, path_words, select, links_of, parts_of, named, bracketed, concatenated, passed, called, prefixing, prefixed_by, prefixed_with, links, joined, level, choice_by, choice_with, expr_with, readers}
+use Rattle.grammar.specs.ReadExpressions.{name_of, word_of, members, path_words, select, links_of, parts_of, name_reader, bracket_reader, concatenation_reader, past_reader, call_reader, prefix_reader, prefixed_by, prefixed_with, links, chain_of, level, choice_by, choice_with, expr_with, readers}
 use Rattle.grammar.proofs.TerminalLaws.{is-true}
 use Rattle.grammar.proofs.ReaderLaws.{Reads, bind-some, lead-some, expect-some, pick-some, IsOptional, absent, present, optional-sound, each-sound}
 use Rattle.grammar.proofs.Complete.{level-zero, level-suc, expr-is}
@@ -143,8 +143,8 @@ abbrev pub IsSound : ℕ → Type 0
 IsSound zero = Unit {0}
 IsSound (suc d) = Reads (readers (suc d)).expr (λ e ts rest. Spells d e ts rest) × Reads (readers (suc d)).prefixed (λ e ts rest. Operand d zero e ts rest)
 
-named-sound : (d : ℕ) (t : Token) (ts : List Token) (p : Tree × List Token) → mark t ≡ marks.Name → named (readers d) t ts ≡ Some p → Operand d zero p.0 (t ∷ ts) p.1
-unfolding named
+named-sound : (d : ℕ) (t : Token) (ts : List Token) (p : Tree × List Token) → mark t ≡ marks.Name → name_reader (readers d) t ts ≡ Some p → Operand d zero p.0 (t ∷ ts) p.1
+unfolding name_reader
 named-sound d t ts p m h =
     let a = bind-some (members ts) (λ (p : List Token × List Token). optional OpenSquare (readers d).select p.1 >>= λ q. Some (path (t ∷ p.0) q.0, q.1)) p h in
     let b = bind-some (optional OpenSquare (readers d).select a.0.1) (λ (q : Option Select × List Token). Some (path (t ∷ a.0.0) q.0, q.1)) p a.2 in
@@ -157,8 +157,8 @@ record Brackets (d : ℕ) (e : Tree) (ts rest : List Token) : Type 0 where
   inside : Spells d e ts (right ∷ rest)
   marked : terminal right ≡ CloseRound
 
-bracketed-sound : (d : ℕ) → IsSound (suc d) → (ts : List Token) (p : Tree × List Token) → bracketed (readers (suc d)) ts ≡ Some p → Brackets d p.0 ts p.1
-unfolding bracketed
+bracketed-sound : (d : ℕ) → IsSound (suc d) → (ts : List Token) (p : Tree × List Token) → bracket_reader (readers (suc d)) ts ≡ Some p → Brackets d p.0 ts p.1
+unfolding bracket_reader
 bracketed-sound d inner ts p h =
     let a = bind-some ((readers (suc d)).expr ts) (λ (p : Tree × List Token). expect CloseRound p.1 >>= λ r. Some (p.0, r.1)) p h in
     let b = bind-some (expect CloseRound a.0.1) (λ (r : Token × List Token). Some (a.0.0, r.1)) p a.2 in
@@ -166,11 +166,11 @@ bracketed-sound d inner ts p h =
     let z = expect-some CloseRound a.0.1 b.0 b.1 in
     subst (λ (r : Tree × List Token). Brackets d r.0 ts r.1) same (record { right = b.0.0; inside = subst (λ (us : List Token). Spells d a.0.0 ts us) z.parts (inner.0 ts a.0 a.1); marked = z.marked })
 
-bracketed-zero : (ts : List Token) (p : Tree × List Token) → bracketed (readers zero) ts ≡ Some p → ⊥
-unfolding bracketed readers
+bracketed-zero : (ts : List Token) (p : Tree × List Token) → bracket_reader (readers zero) ts ≡ Some p → ⊥
+unfolding bracket_reader readers
 bracketed-zero ts p h = absurd cc
 
-opened-sound : (d : ℕ) → IsSound d → (t : Token) (ts : List Token) (p : Tree × List Token) → mark t ≡ marks.Opening → bracketed (readers d) ts ≡ Some p → Operand d zero p.0 (t ∷ ts) p.1
+opened-sound : (d : ℕ) → IsSound d → (t : Token) (ts : List Token) (p : Tree × List Token) → mark t ≡ marks.Opening → bracket_reader (readers d) ts ≡ Some p → Operand d zero p.0 (t ∷ ts) p.1
 opened-sound zero inner t ts p m h = absurd (bracketed-zero ts p h)
 opened-sound (suc d) inner t ts p m h = let b = bracketed-sound d inner ts p h in in_brackets m b.inside b.marked
 
@@ -179,8 +179,8 @@ parts-sound d r ok ts p h =
     each-sound (is Comma) (λ comma. r) (λ xs us vs. AreParts d (parts_of xs) us vs) (λ us. no_parts)
     (λ t a xs us vs rest is_comma read more. one_part (is-true Comma t is_comma) (ok us (a, vs) read) more) ts p h
 
-concatenated-sound : (d : ℕ) → IsSound d → (t : Token) (ts : List Token) (p : Tree × List Token) → mark t ≡ marks.Brace → concatenated (readers d) t ts ≡ Some p → Operand d zero p.0 (t ∷ ts) p.1
-unfolding concatenated readers
+concatenated-sound : (d : ℕ) → IsSound d → (t : Token) (ts : List Token) (p : Tree × List Token) → mark t ≡ marks.Brace → concatenation_reader (readers d) t ts ≡ Some p → Operand d zero p.0 (t ∷ ts) p.1
+unfolding concatenation_reader readers
 concatenated-sound zero inner t ts p m h = absurd cc
 concatenated-sound (suc d) inner t ts p m h =
     let r = (readers (suc d)).expr in
@@ -196,8 +196,8 @@ ticks-sound : (ts : List Token) (ticks : Option Bound) (rest : List Token) → I
 ticks-sound ts _ _ absent = one_tick
 ticks-sound ts _ rest (present {t = t} {us = us} {a = b} e k r) = let x = pick-some (bound_within 1 64) us (b, rest) r in rw (e, x.parts) (some_ticks k x.picked)
 
-passed-sound : (d : ℕ) → IsSound d → (t : Token) (ts : List Token) (p : Tree × List Token) → mark t ≡ marks.Past → passed (readers d) t ts ≡ Some p → Operand d zero p.0 (t ∷ ts) p.1
-unfolding passed readers
+passed-sound : (d : ℕ) → IsSound d → (t : Token) (ts : List Token) (p : Tree × List Token) → mark t ≡ marks.Past → past_reader (readers d) t ts ≡ Some p → Operand d zero p.0 (t ∷ ts) p.1
+unfolding past_reader readers
 passed-sound zero inner t ts p m h = let a = bind-some (expect OpenRound ts) (λ (o : Token × List Token). None) p h in absurd cc
 passed-sound (suc d) inner t ts p m h =
     let r = (readers (suc d)).expr in
@@ -212,21 +212,21 @@ passed-sound (suc d) inner t ts p m h =
     subst (λ (r : Tree × List Token). Operand (suc d) zero r.0 (t ∷ ts) r.1) same
     (subst (λ (us : List Token). Operand (suc d) zero (past t a.0.0 b.0.0) (t ∷ us) c.0.1) (sym y.parts) (is_past m y.marked (inner.0 o.0.1 a.0 a.1) (subst (λ (us : List Token). IsTicks b.0.0 a.0.1 us) z.parts ticks) z.marked))
 
-called-sound : (d : ℕ) → IsSound d → (g : Function) (t : Token) (ts : List Token) (p : Tree × List Token) → mark t ≡ marks.Call g → called (readers d) g t ts ≡ Some p → Operand d zero p.0 (t ∷ ts) p.1
-unfolding called
+called-sound : (d : ℕ) → IsSound d → (g : Function) (t : Token) (ts : List Token) (p : Tree × List Token) → mark t ≡ marks.Call g → call_reader (readers d) g t ts ≡ Some p → Operand d zero p.0 (t ∷ ts) p.1
+unfolding call_reader
 called-sound d inner g t ts p m h =
-    let o = bind-some (expect OpenRound ts) (λ (o : Token × List Token). bracketed (readers d) o.1 >>= λ p. Some (call g t p.0, p.1)) p h in
-    let a = bind-some (bracketed (readers d) o.0.1) (λ (p : Tree × List Token). Some (call g t p.0, p.1)) p o.2 in
+    let o = bind-some (expect OpenRound ts) (λ (o : Token × List Token). bracket_reader (readers d) o.1 >>= λ p. Some (call g t p.0, p.1)) p h in
+    let a = bind-some (bracket_reader (readers d) o.0.1) (λ (p : Tree × List Token). Some (call g t p.0, p.1)) p o.2 in
     let same : (call g t a.0.0, a.0.1) ≡ p = cc (a.2) in
     let y = expect-some OpenRound ts o.0 o.1 in
     subst (λ (r : Tree × List Token). Operand d zero r.0 (t ∷ ts) r.1) same (subst (λ (us : List Token). Operand d zero (call g t a.0.0) (t ∷ us) a.0.1) (sym y.parts) (by_depth d inner o.0.0 o.0.1 a.0 y.marked a.1))
   where
-    by_depth : (d : ℕ) → IsSound d → (left : Token) (us : List Token) (q : Tree × List Token) → terminal left ≡ OpenRound → bracketed (readers d) us ≡ Some q → Operand d zero (call g t q.0) (t ∷ left ∷ us) q.1
+    by_depth : (d : ℕ) → IsSound d → (left : Token) (us : List Token) (q : Tree × List Token) → terminal left ≡ OpenRound → bracket_reader (readers d) us ≡ Some q → Operand d zero (call g t q.0) (t ∷ left ∷ us) q.1
     by_depth zero inner left us q y k = absurd (bracketed-zero us q k)
     by_depth (suc d) inner left us q y k = let b = bracketed-sound d inner us q k in is_call m y b.inside b.marked
 
-prefixing-sound : (d : ℕ) → IsSound d → (t : Token) (ts : List Token) (p : Tree × List Token) → mark t ≡ marks.Prefix → prefixing (readers d) t ts ≡ Some p → Operand d zero p.0 (t ∷ ts) p.1
-unfolding prefixing readers
+prefixing-sound : (d : ℕ) → IsSound d → (t : Token) (ts : List Token) (p : Tree × List Token) → mark t ≡ marks.Prefix → prefix_reader (readers d) t ts ≡ Some p → Operand d zero p.0 (t ∷ ts) p.1
+unfolding prefix_reader readers
 prefixing-sound zero inner t ts p m h = absurd cc
 prefixing-sound (suc d) inner t ts p m h =
     let a = bind-some ((readers (suc d)).prefixed ts) (λ (p : Tree × List Token). Some (unary t p.0, p.1)) p h in
@@ -261,16 +261,16 @@ links-sound d l operand ok ts p h =
 follows-end : {d l : ℕ} {ts rest : List Token} → Follows d l end ts rest → ts ≡ rest
 follows-end no_more = refl
 
-joined-sound : (d l : ℕ) (first : Tree) (xs : List (Token × Tree)) (ts us rest : List Token) → Operand d l first ts us → Follows d l (links_of xs) us rest → Operand d (suc l) (joined first xs) ts rest
+joined-sound : (d l : ℕ) (first : Tree) (xs : List (Token × Tree)) (ts us rest : List Token) → Operand d l first ts us → Follows d l (links_of xs) us rest → Operand d (suc l) (chain_of first xs) ts rest
 joined-sound d l first [] ts us rest o f = subst (λ (vs : List Token). Operand d (suc l) first ts vs) (follows-end f) (is_tighter o)
 joined-sound d l first (x ∷ xs) ts us rest o f = is_chain o f
 
 level-sound : (d : ℕ) (b : Reader Tree) → Reads b (λ e ts rest. Operand d zero e ts rest) → (l : ℕ) → Reads (level b l) (λ e ts rest. Operand d l e ts rest)
 level-sound d b ok zero ts p h = ok ts p (sym (level-zero b ts) ∙ h)
 level-sound d b ok (suc l) ts p h =
-    let a = bind-some (level b l ts) (λ (p : Tree × List Token). links (level b l) l p.1 >>= λ q. Some (joined p.0 q.0, q.1)) p (sym (level-suc b l ts) ∙ h) in
-    let c = bind-some (links (level b l) l a.0.1) (λ (q : List (Token × Tree) × List Token). Some (joined a.0.0 q.0, q.1)) p a.2 in
-    let same : (joined a.0.0 c.0.0, c.0.1) ≡ p = cc (c.2) in
+    let a = bind-some (level b l ts) (λ (p : Tree × List Token). links (level b l) l p.1 >>= λ q. Some (chain_of p.0 q.0, q.1)) p (sym (level-suc b l ts) ∙ h) in
+    let c = bind-some (links (level b l) l a.0.1) (λ (q : List (Token × Tree) × List Token). Some (chain_of a.0.0 q.0, q.1)) p a.2 in
+    let same : (chain_of a.0.0 c.0.0, c.0.1) ≡ p = cc (c.2) in
     subst (λ (r : Tree × List Token). Operand d (suc l) r.0 ts r.1) same
     (joined-sound d l a.0.0 c.0.0 ts a.0.1 c.0.1 (level-sound d b ok l ts a.0 a.1) (links-sound d l (level b l) (level-sound d b ok l) a.0.1 c.0 c.1))
 

@@ -8,7 +8,7 @@ use Rattle.grammar.specs.declared.terminal.Terminal.TheVariants as word
 use Rattle.grammar.specs.declared.terminal.Terminal.TheVariants.{OpenRound, CloseRound, OpenSquare, CloseSquare, Comma, Semicolon, Colon, AtSign, Posedge, Disable, Iff, EndSequence, End}
 use Rattle.grammar.specs.Terminals.{terminal, is_name, is_word}
 use Rattle.grammar.specs.Bounds.{bound_within}
-use Rattle.grammar.specs.Trees.{Tree, Sequence, Property, Counter, Declaration, Assertion, Item, counter, declaration, assertion}
+use Rattle.grammar.specs.Trees.{Tree, SequenceForm, PropertyForm, CounterForm, DeclarationForm, AssertionForm, ItemForm, counter, declaration, assertion}
 use Rattle.grammar.specs.Expressions.{IsPath, Spells}
 use Rattle.grammar.specs.Sequences.{IsSequence, IsProperty}
 
@@ -36,11 +36,11 @@ pub data IsClause : Terminal → Option (Tree × Tree) → List Token → List T
 
 -- counter = "counter" NAME "[" NUM "]" ["clear" "(" expr ")"] ["load" "(" expr "," expr ")"]
 --           ["add" "(" expr "," expr ")"] ["sub" "(" expr "," expr ")"] ";", the width from 1 to 128
-pub data IsCounter : Counter → List Token → List Token → Type 0 where
+pub data SpellsCounter : CounterForm → List Token → List Token → Type 0 where
   is_counter : {w name left n right semicolon : Token} {width : Bound} {clear : Option Tree} {load add sub : Option (Tree × Tree)} {ts us vs ws rest : List Token}
       → terminal w ≡ word.Counter → is_name name ≡ true → terminal left ≡ OpenSquare → bound_within 1 128 n ≡ Some width → terminal right ≡ CloseSquare
       → IsClear clear ts us → IsClause word.Load load us vs → IsClause word.Add add vs ws → IsClause word.Sub sub ws (semicolon ∷ rest) → terminal semicolon ≡ Semicolon
-      → IsCounter (record { name = name; width = width; clear = clear; load = load; add = add; sub = sub }) (w ∷ name ∷ left ∷ n ∷ right ∷ ts) rest
+      → SpellsCounter (record { name = name; width = width; clear = clear; load = load; add = add; sub = sub }) (w ∷ name ∷ left ∷ n ∷ right ∷ ts) rest
 
 -- [":" NAME], the sequence's own
 pub data IsClosing : Token → List Token → List Token → Type 0 where
@@ -53,9 +53,9 @@ pub data IsEnding : Token → List Token → List Token → Type 0 where
   with_semicolon : {name semicolon e : Token} {ts rest : List Token} → terminal semicolon ≡ Semicolon → terminal e ≡ EndSequence → IsClosing name ts rest → IsEnding name (semicolon ∷ e ∷ ts) rest
 
 -- sequence = "sequence" NAME ";" seq [";"] "endsequence" [":" NAME]
-pub data IsDeclaration : Declaration → List Token → List Token → Type 0 where
-  is_declaration : {w name semicolon : Token} {body : Sequence} {ts us rest : List Token} → terminal w ≡ word.Sequence → is_name name ≡ true → terminal semicolon ≡ Semicolon → IsSequence most_open body ts us → IsEnding name us rest
-      → IsDeclaration (record { name = name; body = body }) (w ∷ name ∷ semicolon ∷ ts) rest
+pub data SpellsDeclaration : DeclarationForm → List Token → List Token → Type 0 where
+  is_declaration : {w name semicolon : Token} {body : SequenceForm} {ts us rest : List Token} → terminal w ≡ word.Sequence → is_name name ≡ true → terminal semicolon ≡ Semicolon → IsSequence most_open body ts us → IsEnding name us rest
+      → SpellsDeclaration (record { name = name; body = body }) (w ∷ name ∷ semicolon ∷ ts) rest
 
 -- "assert" | "assume"
 abbrev pub is_verb : Terminal → Type 0
@@ -73,32 +73,32 @@ pub data IsLabel : Option Token → List Token → List Token → Type 0 where
   label : {name colon : Token} {rest : List Token} → is_name name ≡ true → terminal colon ≡ Colon → IsLabel (Some name) (name ∷ colon ∷ rest) rest
 
 -- assertion = [NAME ":"] ("assert" | "assume") "property" "(" "@" "(" "posedge" path ")" ["disable" "iff" "(" expr ")"] prop ")" ";"
-pub data IsAssertion : Assertion → List Token → List Token → Type 0 where
-  is_assertion : {label : Option Token} {verb property left at_sign round posedge right last semicolon : Token} {clock : List Token} {disable : Option Tree} {p : Property} {ts us vs ws rest : List Token}
+pub data SpellsAssertion : AssertionForm → List Token → List Token → Type 0 where
+  is_assertion : {label : Option Token} {verb property left at_sign round posedge right last semicolon : Token} {clock : List Token} {disable : Option Tree} {p : PropertyForm} {ts us vs ws rest : List Token}
       → IsLabel label ts (verb ∷ property ∷ left ∷ at_sign ∷ round ∷ posedge ∷ us) → is_verb (terminal verb) → terminal property ≡ word.Property → terminal left ≡ OpenRound
       → terminal at_sign ≡ AtSign → terminal round ≡ OpenRound → terminal posedge ≡ Posedge → IsPath clock us (right ∷ vs) → terminal right ≡ CloseRound
       → IsDisable disable vs ws → IsProperty in_one p ws (last ∷ semicolon ∷ rest) → terminal last ≡ CloseRound → terminal semicolon ≡ Semicolon
-      → IsAssertion (record { label = label; verb = verb; clock = clock; disable = disable; property = p }) ts rest
+      → SpellsAssertion (record { label = label; verb = verb; clock = clock; disable = disable; property = p }) ts rest
 
 -- item = counter | sequence | assertion
-pub data IsItem : Item → List Token → List Token → Type 0 where
-  a_counter : {c : Counter} {ts rest : List Token} → IsCounter c ts rest → IsItem (counter c) ts rest
-  a_declaration : {s : Declaration} {ts rest : List Token} → IsDeclaration s ts rest → IsItem (declaration s) ts rest
-  an_assertion : {a : Assertion} {ts rest : List Token} → IsAssertion a ts rest → IsItem (assertion a) ts rest
+pub data SpellsItem : ItemForm → List Token → List Token → Type 0 where
+  a_counter : {c : CounterForm} {ts rest : List Token} → SpellsCounter c ts rest → SpellsItem (counter c) ts rest
+  a_declaration : {s : DeclarationForm} {ts rest : List Token} → SpellsDeclaration s ts rest → SpellsItem (declaration s) ts rest
+  an_assertion : {a : AssertionForm} {ts rest : List Token} → SpellsAssertion a ts rest → SpellsItem (assertion a) ts rest
 
 -- item*
-pub data AreItems : List Item → List Token → List Token → Type 0 where
+pub data AreItems : List ItemForm → List Token → List Token → Type 0 where
   no_item : {ts : List Token} → AreItems [] ts ts
-  one_item : {i : Item} {more : List Item} {ts us rest : List Token} → IsItem i ts us → AreItems more us rest → AreItems (i ∷ more) ts rest
+  one_item : {i : ItemForm} {more : List ItemForm} {ts us rest : List Token} → SpellsItem i ts us → AreItems more us rest → AreItems (i ∷ more) ts rest
 
-abbrev pub HasAssertion : List Item → Type 0
+abbrev pub HasAssertion : List ItemForm → Type 0
 HasAssertion [] = ⊥
 HasAssertion (counter c ∷ more) = HasAssertion more
 HasAssertion (declaration s ∷ more) = HasAssertion more
 HasAssertion (assertion a ∷ more) = Unit {0}
 
 -- file = item*, one of which is an assertion. The tokens end with that of the text's end.
-pub record IsFile (items : List Item) (tokens : List Token) : Type 0 where
+pub record IsFile (items : List ItemForm) (tokens : List Token) : Type 0 where
   pub last : Token
   pub ends : terminal last ≡ End
   pub spelled : AreItems items tokens (last ∷ [])

@@ -45,37 +45,37 @@ parts_of [] = no_part
 parts_of (x ∷ xs) = part x (parts_of xs)
 
 -- behind a path's first word
-unfoldable pub named : Inner → Token → Reader Tree
-named inner t ts = members ts >>= λ p. optional OpenSquare inner.select p.1 >>= λ q. Some (path (t ∷ p.0) q.0, q.1)
+unfoldable pub name_reader : Inner → Token → Reader Tree
+name_reader inner t ts = members ts >>= λ p. optional OpenSquare inner.select p.1 >>= λ q. Some (path (t ∷ p.0) q.0, q.1)
 
 -- behind "("
-unfoldable pub bracketed : Inner → Reader Tree
-bracketed inner ts = inner.expr ts >>= λ p. expect CloseRound p.1 >>= λ r. Some (p.0, r.1)
+unfoldable pub bracket_reader : Inner → Reader Tree
+bracket_reader inner ts = inner.expr ts >>= λ p. expect CloseRound p.1 >>= λ r. Some (p.0, r.1)
 
 -- behind "{"
-unfoldable pub concatenated : Inner → Token → Reader Tree
-concatenated inner t ts = inner.expr ts >>= λ p. each (is Comma) (λ comma. inner.expr) p.1 >>= λ q. expect CloseBrace q.1 >>= λ r. Some (concatenation t p.0 (parts_of q.0), r.1)
+unfoldable pub concatenation_reader : Inner → Token → Reader Tree
+concatenation_reader inner t ts = inner.expr ts >>= λ p. each (is Comma) (λ comma. inner.expr) p.1 >>= λ q. expect CloseBrace q.1 >>= λ r. Some (concatenation t p.0 (parts_of q.0), r.1)
 
 -- behind "$past"
-unfoldable pub passed : Inner → Token → Reader Tree
-passed inner t ts = expect OpenRound ts >>= λ o. inner.expr o.1 >>= λ p. optional Comma (pick (bound_within 1 64)) p.1 >>= λ q. expect CloseRound q.1 >>= λ r. Some (past t p.0 q.0, r.1)
+unfoldable pub past_reader : Inner → Token → Reader Tree
+past_reader inner t ts = expect OpenRound ts >>= λ o. inner.expr o.1 >>= λ p. optional Comma (pick (bound_within 1 64)) p.1 >>= λ q. expect CloseRound q.1 >>= λ r. Some (past t p.0 q.0, r.1)
 
 -- behind a function's name
-unfoldable pub called : Inner → Function → Token → Reader Tree
-called inner g t ts = expect OpenRound ts >>= λ o. bracketed inner o.1 >>= λ p. Some (call g t p.0, p.1)
+unfoldable pub call_reader : Inner → Function → Token → Reader Tree
+call_reader inner g t ts = expect OpenRound ts >>= λ o. bracket_reader inner o.1 >>= λ p. Some (call g t p.0, p.1)
 
 -- behind a unary operator
-unfoldable pub prefixing : Inner → Token → Reader Tree
-prefixing inner t ts = inner.prefixed ts >>= λ p. Some (unary t p.0, p.1)
+unfoldable pub prefix_reader : Inner → Token → Reader Tree
+prefix_reader inner t ts = inner.prefixed ts >>= λ p. Some (unary t p.0, p.1)
 
 abbrev pub prefixed_by : Inner → Mark → Token → Reader Tree
 prefixed_by inner marks.Number t ts = Some (number t, ts)
-prefixed_by inner marks.Name t ts = named inner t ts
-prefixed_by inner marks.Prefix t ts = prefixing inner t ts
-prefixed_by inner marks.Opening t ts = bracketed inner ts
-prefixed_by inner marks.Brace t ts = concatenated inner t ts
-prefixed_by inner marks.Past t ts = passed inner t ts
-prefixed_by inner (marks.Call g) t ts = called inner g t ts
+prefixed_by inner marks.Name t ts = name_reader inner t ts
+prefixed_by inner marks.Prefix t ts = prefix_reader inner t ts
+prefixed_by inner marks.Opening t ts = bracket_reader inner ts
+prefixed_by inner marks.Brace t ts = concatenation_reader inner t ts
+prefixed_by inner marks.Past t ts = past_reader inner t ts
+prefixed_by inner (marks.Call g) t ts = call_reader inner g t ts
 prefixed_by inner marks.Other t ts = None
 
 -- a primary, or a unary operator with its operand
@@ -87,9 +87,9 @@ prefixed_with inner (t ∷ ts) = prefixed_by inner (mark t) t ts
 unfoldable pub links : Reader Tree → ℕ → Reader (List (Token × Tree))
 links operand l ts = each (has_precedence (suc l)) (λ t us. operand us >>= λ p. Some ((t, p.0), p.1)) ts
 
-abbrev pub joined : Tree → List (Token × Tree) → Tree
-joined first [] = first
-joined first (x ∷ xs) = chain first (links_of (x ∷ xs))
+abbrev pub chain_of : Tree → List (Token × Tree) → Tree
+chain_of first [] = first
+chain_of first (x ∷ xs) = chain first (links_of (x ∷ xs))
 
 -- what goes on behind what the reader reads
 abbrev pub behind : Reader Tree → (Tree → Reader Tree) → Reader Tree
@@ -98,7 +98,7 @@ behind reader go ts = reader ts >>= λ p. go p.0 p.1
 -- the operators of the l tightest levels, behind a first operand
 unfoldable pub climb : Reader Tree → ℕ → Tree → Reader Tree
 climb base zero first ts = Some (first, ts)
-climb base (suc l) first ts = climb base l first ts >>= λ p. links (behind base (climb base l)) l p.1 >>= λ q. Some (joined p.0 q.0, q.1)
+climb base (suc l) first ts = climb base l first ts >>= λ p. links (behind base (climb base l)) l p.1 >>= λ q. Some (chain_of p.0 q.0, q.1)
 
 unfoldable pub level : Reader Tree → ℕ → Reader Tree
 level base l ts = behind base (climb base l) ts
@@ -123,8 +123,8 @@ unfoldable pub readers : ℕ → Inner
 readers zero = record { expr = refuse; prefixed = refuse; select = refuse }
 readers (suc d) = record { expr = expr_with (readers d) (prefixed_with (readers d)); prefixed = prefixed_with (readers d); select = select }
 
-unfoldable pub prefixed : ℕ → Reader Tree
-prefixed d ts = prefixed_with (readers d) ts
+unfoldable pub unary_reader : ℕ → Reader Tree
+unary_reader d ts = prefixed_with (readers d) ts
 
 -- an operand of a left operator looser than l, in which at most d brackets and unfinished operators are open at once
 unfoldable pub operand : ℕ → ℕ → Reader Tree

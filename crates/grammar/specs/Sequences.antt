@@ -7,7 +7,7 @@ use Rattle.grammar.specs.declared.terminal.Terminal.TheVariants.{OpenRound, Clos
 use Rattle.grammar.specs.Terminals.{terminal}
 use Rattle.grammar.specs.Bounds.{bound_within}
 use Rattle.grammar.specs.Marks.{precedence}
-use Rattle.grammar.specs.Trees.{Tree, Sequence, boolean, repeated, late, delayed, throughout, all, either, Steps, no_step, step, Others, no_other, other, Property, plain, implication}
+use Rattle.grammar.specs.Trees.{Tree, SequenceForm, boolean, repeated, late, delayed, throughout, all, either, Steps, no_step, step, Others, no_other, other, PropertyForm, plain, implication}
 use Rattle.grammar.specs.Expressions.{Spells}
 
 -- NUM, a bound of a delay or a repetition
@@ -15,7 +15,7 @@ abbrev pub bound : Token → Option Bound
 bound = bound_within 0 127
 
 -- What can't be read as an expression: where text can, it is one.
-abbrev pub IsNoExpression : Sequence → Type 0
+abbrev pub IsNoExpression : SequenceForm → Type 0
 IsNoExpression (boolean e) = ⊥
 IsNoExpression (repeated s n) = Unit {0}
 IsNoExpression (late t n s) = Unit {0}
@@ -38,57 +38,57 @@ pub data IsDelay : ℕ → Range → List Token → List Token → Type 0 where
 
 mutual
   -- expr | "(" seq ")"
-  pub data IsBody : ℕ → Sequence → List Token → List Token → Type 0 where
+  pub data IsBody : ℕ → SequenceForm → List Token → List Token → Type 0 where
     is_boolean : {d : ℕ} {e : Tree} {ts rest : List Token} → Spells d e ts rest → IsBody d (boolean e) ts rest
-    in_brackets : {d : ℕ} {left right : Token} {s : Sequence} {ts rest : List Token} → terminal left ≡ OpenRound → terminal right ≡ CloseRound → IsNoExpression s → IsSequence d s ts (right ∷ rest) → IsBody (suc d) s (left ∷ ts) rest
+    in_brackets : {d : ℕ} {left right : Token} {s : SequenceForm} {ts rest : List Token} → terminal left ≡ OpenRound → terminal right ≡ CloseRound → IsNoExpression s → IsSequence d s ts (right ∷ rest) → IsBody (suc d) s (left ∷ ts) rest
 
   -- rep = (expr | "(" seq ")") ["[*" NUM [":" NUM] "]"]
-  pub data IsRepetition : ℕ → Sequence → List Token → List Token → Type 0 where
-    is_once : {d : ℕ} {s : Sequence} {ts rest : List Token} → IsBody d s ts rest → IsRepetition d s ts rest
-    is_repeated : {d : ℕ} {n : Range} {s : Sequence} {ts us rest : List Token} → IsBody (suc d) s ts us → IsTimes n us rest → IsRepetition (suc d) (repeated s n) ts rest
+  pub data IsRepetition : ℕ → SequenceForm → List Token → List Token → Type 0 where
+    is_once : {d : ℕ} {s : SequenceForm} {ts rest : List Token} → IsBody d s ts rest → IsRepetition d s ts rest
+    is_repeated : {d : ℕ} {n : Range} {s : SequenceForm} {ts us rest : List Token} → IsBody (suc d) s ts us → IsTimes n us rest → IsRepetition (suc d) (repeated s n) ts rest
 
   -- [delay] rep
-  pub data IsHead : ℕ → Sequence → List Token → List Token → Type 0 where
-    is_prompt : {d : ℕ} {s : Sequence} {ts rest : List Token} → IsRepetition d s ts rest → IsHead d s ts rest
-    is_late : {d : ℕ} {t : Token} {n : Range} {s : Sequence} {ts us rest : List Token} → IsDelay d n (t ∷ ts) us → IsRepetition d s us rest → IsHead d (late t n s) (t ∷ ts) rest
+  pub data IsHead : ℕ → SequenceForm → List Token → List Token → Type 0 where
+    is_prompt : {d : ℕ} {s : SequenceForm} {ts rest : List Token} → IsRepetition d s ts rest → IsHead d s ts rest
+    is_late : {d : ℕ} {t : Token} {n : Range} {s : SequenceForm} {ts us rest : List Token} → IsDelay d n (t ∷ ts) us → IsRepetition d s us rest → IsHead d (late t n s) (t ∷ ts) rest
 
   -- (delay rep)*
   pub data AreSteps : ℕ → Steps → List Token → List Token → Type 0 where
     no_steps : {d : ℕ} {ts : List Token} → AreSteps d no_step ts ts
-    one_step : {d : ℕ} {n : Range} {s : Sequence} {more : Steps} {ts us vs rest : List Token} → IsDelay d n ts us → IsRepetition d s us vs → AreSteps d more vs rest → AreSteps d (step n s more) ts rest
+    one_step : {d : ℕ} {n : Range} {s : SequenceForm} {more : Steps} {ts us vs rest : List Token} → IsDelay d n ts us → IsRepetition d s us vs → AreSteps d more vs rest → AreSteps d (step n s more) ts rest
 
   -- cat = [delay] rep (delay rep)*
-  pub data IsDelayed : ℕ → Sequence → List Token → List Token → Type 0 where
-    is_head : {d : ℕ} {s : Sequence} {ts rest : List Token} → IsHead d s ts rest → IsDelayed d s ts rest
-    is_delayed : {d : ℕ} {n : Range} {s v : Sequence} {more : Steps} {ts us rest : List Token} → IsHead d s ts us → AreSteps d (step n v more) us rest → IsDelayed d (delayed s (step n v more)) ts rest
+  pub data IsDelayed : ℕ → SequenceForm → List Token → List Token → Type 0 where
+    is_head : {d : ℕ} {s : SequenceForm} {ts rest : List Token} → IsHead d s ts rest → IsDelayed d s ts rest
+    is_delayed : {d : ℕ} {n : Range} {s v : SequenceForm} {more : Steps} {ts us rest : List Token} → IsHead d s ts us → AreSteps d (step n v more) us rest → IsDelayed d (delayed s (step n v more)) ts rest
 
   -- thr = expr "throughout" thr | cat
-  pub data IsDuring : ℕ → Sequence → List Token → List Token → Type 0 where
-    is_cat : {d : ℕ} {s : Sequence} {ts rest : List Token} → IsDelayed d s ts rest → IsDuring d s ts rest
-    is_throughout : {d : ℕ} {t : Token} {e : Tree} {s : Sequence} {ts us rest : List Token} → terminal t ≡ Throughout → Spells (suc d) e ts (t ∷ us) → IsDuring d s us rest → IsDuring (suc d) (throughout e s) ts rest
+  pub data IsDuring : ℕ → SequenceForm → List Token → List Token → Type 0 where
+    is_cat : {d : ℕ} {s : SequenceForm} {ts rest : List Token} → IsDelayed d s ts rest → IsDuring d s ts rest
+    is_throughout : {d : ℕ} {t : Token} {e : Tree} {s : SequenceForm} {ts us rest : List Token} → terminal t ≡ Throughout → Spells (suc d) e ts (t ∷ us) → IsDuring d s us rest → IsDuring (suc d) (throughout e s) ts rest
 
   -- ("and" thr)*
   pub data AreConjuncts : ℕ → Others → List Token → List Token → Type 0 where
     no_conjunct : {d : ℕ} {ts : List Token} → AreConjuncts d no_other ts ts
-    one_conjunct : {d : ℕ} {t : Token} {s : Sequence} {more : Others} {ts us rest : List Token} → terminal t ≡ And → IsDuring d s ts us → AreConjuncts d more us rest → AreConjuncts d (other s more) (t ∷ ts) rest
+    one_conjunct : {d : ℕ} {t : Token} {s : SequenceForm} {more : Others} {ts us rest : List Token} → terminal t ≡ And → IsDuring d s ts us → AreConjuncts d more us rest → AreConjuncts d (other s more) (t ∷ ts) rest
 
   -- and_seq = thr ("and" thr)*
-  pub data IsConjunction : ℕ → Sequence → List Token → List Token → Type 0 where
-    is_during : {d : ℕ} {s : Sequence} {ts rest : List Token} → IsDuring d s ts rest → IsConjunction d s ts rest
-    is_all : {d : ℕ} {s v : Sequence} {more : Others} {ts us rest : List Token} → IsDuring d s ts us → AreConjuncts d (other v more) us rest → IsConjunction d (all s (other v more)) ts rest
+  pub data IsConjunction : ℕ → SequenceForm → List Token → List Token → Type 0 where
+    is_during : {d : ℕ} {s : SequenceForm} {ts rest : List Token} → IsDuring d s ts rest → IsConjunction d s ts rest
+    is_all : {d : ℕ} {s v : SequenceForm} {more : Others} {ts us rest : List Token} → IsDuring d s ts us → AreConjuncts d (other v more) us rest → IsConjunction d (all s (other v more)) ts rest
 
   -- ("or" and_seq)*
   pub data AreAlternatives : ℕ → Others → List Token → List Token → Type 0 where
     no_alternative : {d : ℕ} {ts : List Token} → AreAlternatives d no_other ts ts
-    one_alternative : {d : ℕ} {t : Token} {s : Sequence} {more : Others} {ts us rest : List Token} → terminal t ≡ Or → IsConjunction d s ts us → AreAlternatives d more us rest → AreAlternatives d (other s more) (t ∷ ts) rest
+    one_alternative : {d : ℕ} {t : Token} {s : SequenceForm} {more : Others} {ts us rest : List Token} → terminal t ≡ Or → IsConjunction d s ts us → AreAlternatives d more us rest → AreAlternatives d (other s more) (t ∷ ts) rest
 
   -- seq = and_seq ("or" and_seq)*
-  pub data IsSequence : ℕ → Sequence → List Token → List Token → Type 0 where
-    is_conjunction : {d : ℕ} {s : Sequence} {ts rest : List Token} → IsConjunction d s ts rest → IsSequence d s ts rest
-    is_either : {d : ℕ} {s v : Sequence} {more : Others} {ts us rest : List Token} → IsConjunction d s ts us → AreAlternatives d (other v more) us rest → IsSequence d (either s (other v more)) ts rest
+  pub data IsSequence : ℕ → SequenceForm → List Token → List Token → Type 0 where
+    is_conjunction : {d : ℕ} {s : SequenceForm} {ts rest : List Token} → IsConjunction d s ts rest → IsSequence d s ts rest
+    is_either : {d : ℕ} {s v : SequenceForm} {more : Others} {ts us rest : List Token} → IsConjunction d s ts us → AreAlternatives d (other v more) us rest → IsSequence d (either s (other v more)) ts rest
 
 -- prop = "(" prop ")" | seq | seq "|->" seq | seq "|=>" seq
-pub data IsProperty : ℕ → Property → List Token → List Token → Type 0 where
-  is_plain : {d : ℕ} {s : Sequence} {ts rest : List Token} → IsSequence d s ts rest → IsProperty d (plain s) ts rest
-  is_implication : {d : ℕ} {t : Token} {a c : Sequence} {ts us rest : List Token} → precedence t ≡ 17 → IsSequence d a ts (t ∷ us) → IsSequence d c us rest → IsProperty d (implication a t c) ts rest
-  bracketed : {d : ℕ} {left right : Token} {p : Property} {ts rest : List Token} → terminal left ≡ OpenRound → terminal right ≡ CloseRound → IsProperty d p ts (right ∷ rest) → IsProperty (suc d) p (left ∷ ts) rest
+pub data IsProperty : ℕ → PropertyForm → List Token → List Token → Type 0 where
+  is_plain : {d : ℕ} {s : SequenceForm} {ts rest : List Token} → IsSequence d s ts rest → IsProperty d (plain s) ts rest
+  is_implication : {d : ℕ} {t : Token} {a c : SequenceForm} {ts us rest : List Token} → precedence t ≡ 17 → IsSequence d a ts (t ∷ us) → IsSequence d c us rest → IsProperty d (implication a t c) ts rest
+  bracketed : {d : ℕ} {left right : Token} {p : PropertyForm} {ts rest : List Token} → terminal left ≡ OpenRound → terminal right ≡ CloseRound → IsProperty d p ts (right ∷ rest) → IsProperty (suc d) p (left ∷ ts) rest

@@ -114,53 +114,53 @@ unfoldable pub is_word : Token → Bool
 is_word t = is_word_kind t.kind
 
 -- numbers for the terminals, so that two can be compared
-abbrev pub number_of : Terminal → ℕ
-number_of Counter = 0
-number_of Clear = 1
-number_of Load = 2
-number_of Add = 3
-number_of Sub = 4
-number_of Sequence = 5
-number_of EndSequence = 6
-number_of Assert = 7
-number_of Assume = 8
-number_of Property = 9
-number_of Posedge = 10
-number_of Disable = 11
-number_of Iff = 12
-number_of Or = 13
-number_of And = 14
-number_of Throughout = 15
-number_of ForeignWord = 16
-number_of Name = 17
-number_of Past = 18
-number_of Rose = 19
-number_of Fell = 20
-number_of Stable = 21
-number_of Changed = 22
-number_of OneHot = 23
-number_of OneHot0 = 24
-number_of ForeignSystem = 25
-number_of Number = 26
-number_of OpenRound = 27
-number_of CloseRound = 28
-number_of OpenBrace = 29
-number_of CloseBrace = 30
-number_of OpenSquare = 31
-number_of OpenRepeat = 32
-number_of CloseSquare = 33
-number_of Comma = 34
-number_of Semicolon = 35
-number_of Colon = 36
-number_of AtSign = 37
-number_of Dot = 38
-number_of Delay = 39
-number_of Overlapped = 40
-number_of Following = 41
-number_of ForeignSymbol = 42
-number_of Operator = 43
-number_of End = 44
+abbrev pub terminal_number : Terminal → ℕ
+terminal_number Counter = 0
+terminal_number Clear = 1
+terminal_number Load = 2
+terminal_number Add = 3
+terminal_number Sub = 4
+terminal_number Sequence = 5
+terminal_number EndSequence = 6
+terminal_number Assert = 7
+terminal_number Assume = 8
+terminal_number Property = 9
+terminal_number Posedge = 10
+terminal_number Disable = 11
+terminal_number Iff = 12
+terminal_number Or = 13
+terminal_number And = 14
+terminal_number Throughout = 15
+terminal_number ForeignWord = 16
+terminal_number Name = 17
+terminal_number Past = 18
+terminal_number Rose = 19
+terminal_number Fell = 20
+terminal_number Stable = 21
+terminal_number Changed = 22
+terminal_number OneHot = 23
+terminal_number OneHot0 = 24
+terminal_number ForeignSystem = 25
+terminal_number Number = 26
+terminal_number OpenRound = 27
+terminal_number CloseRound = 28
+terminal_number OpenBrace = 29
+terminal_number CloseBrace = 30
+terminal_number OpenSquare = 31
+terminal_number OpenRepeat = 32
+terminal_number CloseSquare = 33
+terminal_number Comma = 34
+terminal_number Semicolon = 35
+terminal_number Colon = 36
+terminal_number AtSign = 37
+terminal_number Dot = 38
+terminal_number Delay = 39
+terminal_number Overlapped = 40
+terminal_number Following = 41
+terminal_number ForeignSymbol = 42
+terminal_number Operator = 43
+terminal_number End = 44
 
 -- whether the token is the terminal
 unfoldable pub is : Terminal → Token → Bool
-is wanted t = number_of wanted == number_of (terminal t)
+is wanted t = terminal_number wanted == terminal_number (terminal t)

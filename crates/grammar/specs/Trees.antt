@@ -30,32 +30,32 @@ mutual
 
 -- A sequence. Delays of one chain, and the sides of one "and" or "or", are one node.
 mutual
-  pub data Sequence : Type 0 where
-    boolean : Tree → Sequence
-    repeated : Sequence → Range → Sequence
+  pub data SequenceForm : Type 0 where
+    boolean : Tree → SequenceForm
+    repeated : SequenceForm → Range → SequenceForm
     -- the token "##" with which it begins, its count, and what it delays
-    late : Token → Range → Sequence → Sequence
-    delayed : Sequence → Steps → Sequence
-    throughout : Tree → Sequence → Sequence
-    all : Sequence → Others → Sequence
-    either : Sequence → Others → Sequence
+    late : Token → Range → SequenceForm → SequenceForm
+    delayed : SequenceForm → Steps → SequenceForm
+    throughout : Tree → SequenceForm → SequenceForm
+    all : SequenceForm → Others → SequenceForm
+    either : SequenceForm → Others → SequenceForm
 
   -- delays, each with what it delays
   pub data Steps : Type 0 where
     no_step : Steps
-    step : Range → Sequence → Steps → Steps
+    step : Range → SequenceForm → Steps → Steps
 
   -- more sides
   pub data Others : Type 0 where
     no_other : Others
-    other : Sequence → Others → Others
+    other : SequenceForm → Others → Others
 
 -- A sequence alone, or an implication with its token.
-pub data Property : Type 0 where
-  plain : Sequence → Property
-  implication : Sequence → Token → Sequence → Property
+pub data PropertyForm : Type 0 where
+  plain : SequenceForm → PropertyForm
+  implication : SequenceForm → Token → SequenceForm → PropertyForm
 
-pub record Counter : Type 0 where
+pub record CounterForm : Type 0 where
   pub name : Token
   pub width : Bound
   pub clear : Option Tree
@@ -63,18 +63,18 @@ pub record Counter : Type 0 where
   pub add : Option (Tree × Tree)
   pub sub : Option (Tree × Tree)
 
-pub record Declaration : Type 0 where
+pub record DeclarationForm : Type 0 where
   pub name : Token
-  pub body : Sequence
+  pub body : SequenceForm
 
-pub record Assertion : Type 0 where
+pub record AssertionForm : Type 0 where
   pub label : Option Token
   pub verb : Token
   pub clock : List Token
   pub disable : Option Tree
-  pub property : Property
+  pub property : PropertyForm
 
-pub data Item : Type 0 where
-  counter : Counter → Item
-  declaration : Declaration → Item
-  assertion : Assertion → Item
+pub data ItemForm : Type 0 where
+  counter : CounterForm → ItemForm
+  declaration : DeclarationForm → ItemForm
+  assertion : AssertionForm → ItemForm

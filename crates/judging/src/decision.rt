@@ -4,7 +4,7 @@ ghost use Rattle.std.specs.Prelude.{◌≡◌, ◌≤◌, IfOk};
 ghost use Rattle.assertions.specs.Segments.{longest};
 ghost use Rattle.assertions.specs.Written.{weight, IsOrdered};
 ghost use Rattle.assertions.specs.Attempts.{decide};
-ghost use Rattle.assertions.specs.Shapes.{written, shape};
+ghost use Rattle.assertions.specs.Shapes.{written_form, shape};
 ghost use Rattle.judging.specs.Courses.{decision_from};
 
 use crate::ends::ends_from;
@@ -16,8 +16,8 @@ use std::alloc::{AllocError, Global};
 
 /// A number of ticks that no match of the sequence is over.
 fn most_ticks(sequence: &Sequence) -> usize
-    requires ordered { IsOrdered (written sequence.now) }
-    requires light { weight (written sequence.now) ≤ 127 }
+    requires ordered { IsOrdered (written_form sequence.now) }
+    requires light { weight (written_form sequence.now) ≤ 127 }
     ensures covers { longest (shape sequence.now) ≤ result }
     ensures small { result ≤ 127 }
 {

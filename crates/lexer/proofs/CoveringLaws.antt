@@ -11,8 +11,8 @@ use Rattle.lexer.specs.declared.fault.LexFault.{LexFault}
 use Rattle.lexer.specs.declared.fault.LexFault.TheVariants.{BadCharacter, BadNumber, UnclosedComment, Memory}
 use Rattle.lexer.specs.Lexemes.{shape_of, or_shorter, longest_from, longest}
 use Rattle.lexer.specs.Runs.{run}
-use Rattle.lexer.specs.Cutting.{Cut, kind_of, is_space, stays_on_line, begins_with, comment_end, comment_gap, found, next, with_cut, with_token, after, cuts, tokens_of}
-use Rattle.lexer.specs.Covering.{EndsLine, BeginsWith, HasNoClose, HasFirstClose, IsGap, white, to_line_end, to_close, shape_of_text, IsLongest, HasNoToken, HasNoGap, IsCut, at_end, over_gap, over_token, IsFaulty, behind_gap, behind_token, bad_character, bad_number, unclosed, IsRefused}
+use Rattle.lexer.specs.Cutting.{Cut, kind_of, is_space, stays_on_line, begins_with, comment_end, comment_gap, next_lexeme, next, with_cut, with_token, cut_after, cuts, tokens_of}
+use Rattle.lexer.specs.Covering.{EndsLine, BeginsWith, HasNoClose, HasFirstClose, IsGap, white, to_line_end, to_close, shape_of_text, IsLongest, HasNoToken, HasNoGap, IsCut, at_end, over_gap, over_token, IsFaulty, behind_gap, behind_token, bad_character, bad_number, unclosed, IsLexFault}
 use Rattle.lexer.proofs.LongestLaws.{tells, order, run-le}
 
 -- two bytes in front, by the test and as a fact
@@ -199,11 +199,11 @@ next-comment b (c ∷ bs) w = by_end (comment_end bs) refl
     by_end None e = (w, comment-open bs e)
     by_end (Some n) e = comment-gap b c n bs w.0 w.1 (comment-closes bs n e)
 
-next-found : (b : ℕ) (bs : List ℕ) → HasNoGap (b ∷ bs) → IsNext (b ∷ bs) (found (longest b bs))
+next-found : (b : ℕ) (bs : List ℕ) → HasNoGap (b ∷ bs) → IsNext (b ∷ bs) (next_lexeme (longest b bs))
 unfolding longest
 next-found b bs apart = by_token (longest_from b bs (length bs)) refl
   where
-    by_token : (o : Option (ℕ × Shape)) → longest_from b bs (length bs) ≡ o → IsNext (b ∷ bs) (found o)
+    by_token : (o : Option (ℕ × Shape)) → longest_from b bs (length bs) ≡ o → IsNext (b ∷ bs) (next_lexeme o)
     by_token None e = (omega arith, apart, λ m le. none m le e)
       where
         none : (m : ℕ) → m ≤ suc (length bs) → longest_from b bs (length bs) ≡ None → shape_of_text (take m (b ∷ bs)) ≡ None
@@ -257,7 +257,7 @@ answer-token place n bytes s k (Err (BadNumber at)) apart l e a = behind_token a
 answer-token place n bytes s k (Err (UnclosedComment at)) apart l e a = behind_token apart l e a
 answer-token place n bytes s k (Err Memory) apart l e a = a
 
-answer-after : (place : ℕ) (bytes : List ℕ) (x : Next) (go : ℕ → Result (List Cut) LexFault) → IsNext bytes x → ((n : ℕ) → 0 < n → n ≤ length bytes → IsAnswer (place + n) (drop n bytes) (go n)) → IsAnswer place bytes (after x place bytes go)
+answer-after : (place : ℕ) (bytes : List ℕ) (x : Next) (go : ℕ → Result (List Cut) LexFault) → IsNext bytes x → ((n : ℕ) → 0 < n → n ≤ length bytes → IsAnswer (place + n) (drop n bytes) (go n)) → IsAnswer place bytes (cut_after x place bytes go)
 answer-after place bytes (Gap n) go next more = answer-gap place n bytes (go n) next.0 next.1 next.2 (more n next.0 next.1)
 answer-after place bytes (Lexeme n s) go next more = by_kind (kind_of s (take n bytes)) refl
   where
@@ -283,7 +283,7 @@ answer bytes = cuts-answer (length bytes) 0 bytes (omega arith)
 pub tokens_of-covered : (bytes : List ℕ) (tokens : List Cut) → tokens_of bytes ≡ Ok tokens → IsCut 0 bytes tokens
 tokens_of-covered bytes tokens h = subst (λ (r : Result (List Cut) LexFault). IsAnswer 0 bytes r) h (answer bytes)
 
-pub tokens_of-faulty : (bytes : List ℕ) (fault : LexFault) → tokens_of bytes ≡ Err fault → IsRefused bytes fault
+pub tokens_of-faulty : (bytes : List ℕ) (fault : LexFault) → tokens_of bytes ≡ Err fault → IsLexFault bytes fault
 tokens_of-faulty bytes Memory h = tt
 tokens_of-faulty bytes (BadCharacter at) h = subst (λ (r : Result (List Cut) LexFault). IsAnswer 0 bytes r) h (answer bytes)
 tokens_of-faulty bytes (BadNumber at) h = subst (λ (r : Result (List Cut) LexFault). IsAnswer 0 bytes r) h (answer bytes)

@@ -10,7 +10,7 @@ use Rattle.lexer.specs.declared.scan.Next.TheVariants.{Gap, Lexeme, Unclosed, St
 use Rattle.lexer.specs.declared.fault.LexFault.{LexFault}
 use Rattle.lexer.specs.Lexemes.{longest}
 use Rattle.lexer.specs.Runs.{run}
-use Rattle.lexer.specs.Cutting.{Cut, cut_of, is_space, stays_on_line, begins_with, comment_end, comment_gap, found, next, with_cut, with_token, kind_of, end_at, after, cuts}
+use Rattle.lexer.specs.Cutting.{Cut, cut_of, is_space, stays_on_line, begins_with, comment_end, comment_gap, next_lexeme, next, with_cut, with_token, kind_of, end_at, cut_after, cuts}
 
 order : (a b : ℕ) → (a < b) ⊎ (b ≤ a)
 order zero zero = inr (omega arith)
@@ -94,18 +94,18 @@ cuts-end (suc turns) place bs e = rw e refl
 
 -- one turn
 pub cuts-turn : (turns place : ℕ) (bytes : List ℕ) (x : Next) → place < length bytes → length (drop place bytes) ≤ turns → x ≡ next (get_or bytes place 0) (drop (place + 1) bytes)
-    → cuts turns place (drop place bytes) ≡ after x place (drop place bytes) (λ n. cuts (turns - 1) (place + n) (drop (place + n) bytes))
+    → cuts turns place (drop place bytes) ≡ cut_after x place (drop place bytes) (λ n. cuts (turns - 1) (place + n) (drop (place + n) bytes))
 unfolding cuts
 cuts-turn zero place bytes x lt le e = absurd (omega (arith, length-drop place bytes))
 cuts-turn (suc turns) place bytes x lt le e =
     let cell : drop place bytes ≡ get_or bytes place 0 ∷ drop (place + 1) bytes = rw add-one (drop-cons bytes place 0 lt) in
     let less : suc turns - 1 ≡ turns = omega arith in
     rw less (ap (cuts (suc turns) place) cell
-    ∙ ap (λ (y : Next). after y place (get_or bytes place 0 ∷ drop (place + 1) bytes) (λ n. cuts turns (place + n) (drop n (get_or bytes place 0 ∷ drop (place + 1) bytes)))) (sym e)
-    ∙ ap (λ (r : List ℕ). after x place r (λ n. cuts turns (place + n) (drop n r))) (sym cell)
+    ∙ ap (λ (y : Next). cut_after y place (get_or bytes place 0 ∷ drop (place + 1) bytes) (λ n. cuts turns (place + n) (drop n (get_or bytes place 0 ∷ drop (place + 1) bytes)))) (sym e)
+    ∙ ap (λ (r : List ℕ). cut_after x place r (λ n. cuts turns (place + n) (drop n r))) (sym cell)
     ∙ moved x turns place bytes)
   where
-    moved : (x : Next) (turns place : ℕ) (bytes : List ℕ) → after x place (drop place bytes) (λ n. cuts turns (place + n) (drop n (drop place bytes))) ≡ after x place (drop place bytes) (λ n. cuts turns (place + n) (drop (place + n) bytes))
+    moved : (x : Next) (turns place : ℕ) (bytes : List ℕ) → cut_after x place (drop place bytes) (λ n. cuts turns (place + n) (drop n (drop place bytes))) ≡ cut_after x place (drop place bytes) (λ n. cuts turns (place + n) (drop (place + n) bytes))
     moved (Gap n) turns place bytes = ap (cuts turns (place + n)) (drop-drop bytes place n)
     moved (Lexeme n s) turns place bytes = ap (λ (r : List ℕ). with_token (kind_of s (take n (drop place bytes))) place (take n (drop place bytes)) (cuts turns (place + n) r)) (drop-drop bytes place n)
     moved Unclosed turns place bytes = refl
@@ -132,7 +132,7 @@ module _ (bytes : List ℕ) (at : ℕ) where
           let two : at + 1 + 1 ≡ at + 2 = omega arith in
           rw (← h, ← no_line, ← k) (ap (λ (bs : List ℕ). comment_gap (comment_end bs)) (drop-drop bytes (at + 1) 1 ∙ ap (λ (i : ℕ). drop i bytes) two))
 
-      pub next-token : false ≡ pair 42 → next (get_or bytes at 0) (drop (at + 1) bytes) ≡ found (longest (get_or bytes at 0) (drop (at + 1) bytes))
+      pub next-token : false ≡ pair 42 → next (get_or bytes at 0) (drop (at + 1) bytes) ≡ next_lexeme (longest (get_or bytes at 0) (drop (at + 1) bytes))
       unfolding next
       next-token k = rw (← h, ← no_line, ← k) refl
 

@@ -9,7 +9,7 @@ use Rattle.std.proofs.lemmas.Nat.Bits.{ones_shr}
 use Rattle.std.proofs.Math.Nat.{mul-le-mul_left}
 use Rattle.lexer.specs.Lexemes.{is_digit_part, base_of}
 use Rattle.lexer.specs.Runs.{run}
-use Rattle.lexer.specs.Numbers.{digit_value, value_from, if_fits, value_within, if_size, size_of, plain_number, number_in_base, number_by, number_of}
+use Rattle.lexer.specs.Numbers.{digit_value, value_from, if_fits, value_within, if_size, size_before, plain_number, number_in_base, number_by, number_of}
 use Rattle.lexer.proofs.LongestLaws.{order}
 use Rattle.lexer.proofs.NumberEnds.{behind}
 
@@ -85,15 +85,15 @@ room-over r v d m some le h =
     omega (arith, up)
 
 -- sizes
-pub size_of-empty : (ds : List ℕ) → length ds ≡ 0 → size_of ds ≡ Some None
-unfolding size_of
-size_of-empty [] e = refl
-size_of-empty (d ∷ ds) e = absurd (omega arith)
+pub size_before-empty : (ds : List ℕ) → length ds ≡ 0 → size_before ds ≡ Some None
+unfolding size_before
+size_before-empty [] e = refl
+size_before-empty (d ∷ ds) e = absurd (omega arith)
 
-size_of-cons : (ds : List ℕ) → (length ds ≡ 0 → ⊥) → size_of ds ≡ option_and_then if_size (value_within 128 10 ds)
-unfolding size_of
-size_of-cons [] some = absurd (some refl)
-size_of-cons (d ∷ ds) some = refl
+size_before-cons : (ds : List ℕ) → (length ds ≡ 0 → ⊥) → size_before ds ≡ option_and_then if_size (value_within 128 10 ds)
+unfolding size_before
+size_before-cons [] some = absurd (some refl)
+size_before-cons (d ∷ ds) some = refl
 
 by_order : (k : ℕ) → (k ≤ 128) ⊎ (128 < k) → 1 ≤ k → (1 ≤ k → k ≤ 128 → ⊥) → 128 < k
 by_order k (inl le) low h = absurd (h low le)
@@ -109,14 +109,14 @@ out_of_range (suc n) out =
     above : (k : ℕ) → 1 ≤ k → (1 ≤ k → k ≤ 128 → ⊥) → 128 < k
     above k low h = by_order k (order k 128) low h
 
-pub size_of-bad : (ds : List ℕ) → (length ds ≡ 0 → ⊥) → None ≡ value_within 128 10 ds → size_of ds ≡ None
-size_of-bad ds some h = size_of-cons ds some ∙ rw (← h) refl
+pub size_before-bad : (ds : List ℕ) → (length ds ≡ 0 → ⊥) → None ≡ value_within 128 10 ds → size_before ds ≡ None
+size_before-bad ds some h = size_before-cons ds some ∙ rw (← h) refl
 
-pub size_of-out : (ds : List ℕ) (n : ℕ) → (length ds ≡ 0 → ⊥) → Some n ≡ value_within 128 10 ds → (1 ≤ n → n ≤ 128 → ⊥) → size_of ds ≡ None
-size_of-out ds n some h out = size_of-cons ds some ∙ rw (← h) (out_of_range n out)
+pub size_before-out : (ds : List ℕ) (n : ℕ) → (length ds ≡ 0 → ⊥) → Some n ≡ value_within 128 10 ds → (1 ≤ n → n ≤ 128 → ⊥) → size_before ds ≡ None
+size_before-out ds n some h out = size_before-cons ds some ∙ rw (← h) (out_of_range n out)
 
-pub size_of-in : (ds : List ℕ) (n : ℕ) → (length ds ≡ 0 → ⊥) → Some n ≡ value_within 128 10 ds → 1 ≤ n → n ≤ 128 → size_of ds ≡ Some (Some n)
-size_of-in ds n some h low high = size_of-cons ds some ∙ rw (← h, le-leb 1 n low, le-leb n 128 high) refl
+pub size_before-in : (ds : List ℕ) (n : ℕ) → (length ds ≡ 0 → ⊥) → Some n ≡ value_within 128 10 ds → 1 ≤ n → n ≤ 128 → size_before ds ≡ Some (Some n)
+size_before-in ds n some h low high = size_before-cons ds some ∙ rw (← h, le-leb 1 n low, le-leb n 128 high) refl
 
 pub tail-whole : (n : ℕ) (text : List ℕ) → take (length text - n) (drop n text) ≡ drop n text
 tail-whole n text = ap (λ (k : ℕ). take k (drop n text)) (sym (length-drop n text)) ∙ take-length (drop n text)
@@ -137,7 +137,7 @@ module _ (text : List ℕ) (q : ℕ) (at : q ≡ run is_digit_part text) where
       let le : length text ≤ q + 1 = omega arith in
       by_quote ∙ ap (number_by (take q text)) (behind text q lt ∙ ap (λ (r : List ℕ). get_or text q 0 ∷ r) (drop_of_length-le text {i = q + 1} le))
 
-  pub number_of-based : q + 1 < length text → number_of text ≡ option_and_then (λ s. number_in_base s (drop (q + 2) text) (base_of (get_or text (q + 1) 0))) (size_of (take q text))
+  pub number_of-based : q + 1 < length text → number_of text ≡ option_and_then (λ s. number_in_base s (drop (q + 2) text) (base_of (get_or text (q + 1) 0))) (size_before (take q text))
   number_of-based lt =
       let two : q + 1 + 1 ≡ q + 2 = omega arith in
       by_quote ∙ ap (number_by (take q text)) (behind text q (omega arith) ∙ ap (λ (r : List ℕ). get_or text q 0 ∷ r) (behind text (q + 1) lt ∙ ap (λ (i : ℕ). get_or text (q + 1) 0 ∷ drop i text) two))

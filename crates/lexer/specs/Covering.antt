@@ -73,8 +73,8 @@ pub data IsFaulty : ℕ → List ℕ → LexFault → Type 0 where
   unclosed : {place : ℕ} {bytes : List ℕ} → BeginsWith 47 42 bytes → HasNoClose (drop 2 bytes) → IsFaulty place bytes (UnclosedComment place)
 
 -- A refusal: the first fault of the text, unless memory ran out.
-abbrev pub IsRefused : List ℕ → LexFault → Type 0
-IsRefused bytes Memory = Unit {0}
-IsRefused bytes (BadCharacter at) = IsFaulty 0 bytes (BadCharacter at)
-IsRefused bytes (BadNumber at) = IsFaulty 0 bytes (BadNumber at)
-IsRefused bytes (UnclosedComment at) = IsFaulty 0 bytes (UnclosedComment at)
+abbrev pub IsLexFault : List ℕ → LexFault → Type 0
+IsLexFault bytes Memory = Unit {0}
+IsLexFault bytes (BadCharacter at) = IsFaulty 0 bytes (BadCharacter at)
+IsLexFault bytes (BadNumber at) = IsFaulty 0 bytes (BadNumber at)
+IsLexFault bytes (UnclosedComment at) = IsFaulty 0 bytes (UnclosedComment at)

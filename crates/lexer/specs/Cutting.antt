@@ -54,9 +54,9 @@ abbrev pub comment_gap : Option ℕ → Next
 comment_gap None = Unclosed
 comment_gap (Some n) = Gap (2 + n)
 
-abbrev pub found : Option (ℕ × Shape) → Next
-found None = Stray
-found (Some r) = Lexeme r.0 r.1
+abbrev pub next_lexeme : Option (ℕ × Shape) → Next
+next_lexeme None = Stray
+next_lexeme (Some r) = Lexeme r.0 r.1
 
 -- what comes next, where the byte b stands, and behind it bs
 unfoldable pub next : ℕ → List ℕ → Next
@@ -64,7 +64,7 @@ next b bs =
     if is_space b then Gap 1
     else (if (b == 47) && begins_with 47 bs then Gap (suc (run stays_on_line bs))
     else (if (b == 47) && begins_with 42 bs then comment_gap (comment_end (drop 1 bs))
-    else found (longest b bs)))
+    else next_lexeme (longest b bs)))
 
 abbrev pub with_cut : Cut → Result (List Cut) LexFault → Result (List Cut) LexFault
 with_cut c (Ok cs) = Ok (c ∷ cs)
@@ -74,11 +74,11 @@ abbrev pub with_token : Option Kind → ℕ → List ℕ → Result (List Cut) L
 with_token None place text r = Err (BadNumber place)
 with_token (Some k) place text r = with_cut (record { kind = k; at = place; text = text }) r
 
-abbrev pub after : Next → ℕ → List ℕ → (ℕ → Result (List Cut) LexFault) → Result (List Cut) LexFault
-after (Gap n) place bytes go = go n
-after (Lexeme n s) place bytes go = with_token (kind_of s (take n bytes)) place (take n bytes) (go n)
-after Unclosed place bytes go = Err (UnclosedComment place)
-after Stray place bytes go = Err (BadCharacter place)
+abbrev pub cut_after : Next → ℕ → List ℕ → (ℕ → Result (List Cut) LexFault) → Result (List Cut) LexFault
+cut_after (Gap n) place bytes go = go n
+cut_after (Lexeme n s) place bytes go = with_token (kind_of s (take n bytes)) place (take n bytes) (go n)
+cut_after Unclosed place bytes go = Err (UnclosedComment place)
+cut_after Stray place bytes go = Err (BadCharacter place)
 
 -- What comes next ends inside the bytes, and a token between characters.
 abbrev pub StaysInside : List ℕ → ℕ → Next → Type 0
@@ -95,18 +95,18 @@ end_at place = record { kind = kinds.End; at = place; text = [] }
 unfoldable pub cuts : ℕ → ℕ → List ℕ → Result (List Cut) LexFault
 cuts turns place [] = Ok (end_at place ∷ [])
 cuts zero place (b ∷ bs) = Err Memory
-cuts (suc turns) place (b ∷ bs) = after (next b bs) place (b ∷ bs) (λ n. cuts turns (place + n) (drop n (b ∷ bs)))
+cuts (suc turns) place (b ∷ bs) = cut_after (next b bs) place (b ∷ bs) (λ n. cuts turns (place + n) (drop n (b ∷ bs)))
 
 unfoldable pub tokens_of : List ℕ → Result (List Cut) LexFault
 tokens_of bytes = cuts (length bytes) 0 bytes
 
 -- What a function returned, seen by view, is what reading gives, unless memory ran out.
-abbrev pub Fails : {Y : Type 0} → LexFault → Result Y LexFault → Type 0
-Fails Memory read = Unit {0}
-Fails (BadCharacter at) read = read ≡ Err (BadCharacter at)
-Fails (BadNumber at) read = read ≡ Err (BadNumber at)
-Fails (UnclosedComment at) read = read ≡ Err (UnclosedComment at)
+abbrev pub CutFails : {Y : Type 0} → LexFault → Result Y LexFault → Type 0
+CutFails Memory read = Unit {0}
+CutFails (BadCharacter at) read = read ≡ Err (BadCharacter at)
+CutFails (BadNumber at) read = read ≡ Err (BadNumber at)
+CutFails (UnclosedComment at) read = read ≡ Err (UnclosedComment at)
 
-abbrev pub Gives : {X Y : Type 0} → (X → Y) → Result X LexFault → Result Y LexFault → Type 0
-Gives view (Ok x) read = read ≡ Ok (view x)
-Gives view (Err e) read = Fails e read
+abbrev pub GivesCuts : {X Y : Type 0} → (X → Y) → Result X LexFault → Result Y LexFault → Type 0
+GivesCuts view (Ok x) read = read ≡ Ok (view x)
+GivesCuts view (Err e) read = CutFails e read

@@ -11,8 +11,8 @@ width_or None = 32
 width_or (Some n) = n
 
 -- the width of a number: its size, or 32
-abbrev pub width_of : Number → ℕ
-width_of n = width_or n.size
+abbrev pub number_width : Number → ℕ
+number_width n = width_or n.size
 
 abbrev pub radix_of : Base → ℕ
 radix_of Binary = 2
@@ -40,9 +40,9 @@ value_within width radix bs = option_and_then (if_fits width) (value_from radix 
 abbrev pub if_size : ℕ → Option (Option ℕ)
 if_size n = if nat_le 1 n && nat_le n 128 then Some (Some n) else None
 
-unfoldable pub size_of : List ℕ → Option (Option ℕ)
-size_of [] = Some None
-size_of (b ∷ bs) = option_and_then if_size (value_within 128 10 (b ∷ bs))
+unfoldable pub size_before : List ℕ → Option (Option ℕ)
+size_before [] = Some None
+size_before (b ∷ bs) = option_and_then if_size (value_within 128 10 (b ∷ bs))
 
 -- The value of based digits: of 32 bits where no size is written; else of 128 at most, and cut to the size on the left.
 abbrev pub sized_value : Option ℕ → ℕ → List ℕ → Option ℕ
@@ -64,7 +64,7 @@ number_in_base size digits (Some base) = option_map (based_number size base) (si
 abbrev pub number_by : List ℕ → List ℕ → Option Number
 number_by digits [] = option_map plain_number (value_within 32 10 digits)
 number_by size (quote ∷ []) = None
-number_by size (quote ∷ b ∷ digits) = option_and_then (λ s. number_in_base s digits (base_of b)) (size_of size)
+number_by size (quote ∷ b ∷ digits) = option_and_then (λ s. number_in_base s digits (base_of b)) (size_before size)
 
 -- None where the number is an L2: a digit without a value, too large a value or size, no digit.
 unfoldable pub number_of : List ℕ → Option Number

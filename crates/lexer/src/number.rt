@@ -2,7 +2,7 @@
 
 ghost use Rattle.std.specs.Prelude.{◌≡◌, ◌+◌, ◌≤◌, ◌<◌, ◌^◌, ◌%◌, IfSome, option_map};
 ghost use Rattle.lexer.specs.Lexemes.{base_of};
-ghost use Rattle.lexer.specs.Numbers.{radix_of, digit_value, value_within, size_of, sized_value, plain_number, number_in_base, number_of};
+ghost use Rattle.lexer.specs.Numbers.{radix_of, digit_value, value_within, size_before, sized_value, plain_number, number_in_base, number_of};
 
 use crate::longest::{base_of, run_end};
 use crate::piece::Part;
@@ -72,8 +72,8 @@ fn cut(value: u128, width: u8) -> u128
 }
 
 /// The size that is written before a quote, if it is 1 to 128.
-fn size_of(digits: &[u8]) -> Option<Option<u8>>
-    ensures value { result ≡ size_of digits.now }
+fn size_before(digits: &[u8]) -> Option<Option<u8>>
+    ensures value { result ≡ size_before digits.now }
     ensures range { IfSome result (λ s. IfSome s (λ n. (1 ≤ n) × (n ≤ 128))) }
 {
     if digits.is_empty() {
@@ -152,7 +152,7 @@ pub(crate) fn number_of(text: &[u8]) -> Option<Number>
     if text.len() - quote == 1 {
         return None;
     }
-    let Some(size) = size_of(&text[..quote]) else {
+    let Some(size) = size_before(&text[..quote]) else {
         return None;
     };
     number_in_base(size, text[quote + 1], &text[quote + 2..])

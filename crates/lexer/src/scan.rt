@@ -4,8 +4,8 @@
 ghost use Rattle.std.specs.Prelude.{◌≡◌, ℕ, ◌+◌, ◌-◌, ◌<◌, ◌≤◌, length, drop, map, slice_index, Some, None, Option, MatchOption, IfSome, IfOk, IfErr, ◌==◌, ◌&&◌, true, false};
 ghost use Rattle.std.specs.Bool.{OnTrue};
 ghost use Rattle.lexer.specs.Runs.{run};
-ghost use Rattle.lexer.specs.Covering.{IsCut, IsRefused};
-ghost use Rattle.lexer.specs.Cutting.{is_space, stays_on_line, begins_with, comment_end, next, cut_of, kind_of, tokens_of, Gives, StaysInside};
+ghost use Rattle.lexer.specs.Covering.{IsCut, IsLexFault};
+ghost use Rattle.lexer.specs.Cutting.{is_space, stays_on_line, begins_with, comment_end, next, cut_of, kind_of, tokens_of, GivesCuts, StaysInside};
 
 use crate::fault::LexFault;
 use crate::longest::token_at;
@@ -117,9 +117,9 @@ fn kind_of(shape: Shape, text: &[u8]) -> Option<Kind>
 /// Spaces, tabs, carriage returns and line feeds, and comments in both forms, stand between tokens.
 /// Each token is the longest at its place (IEEE 1800-2017, 5.2 to 5.7). Places are bytes from 0.
 pub fn lex<'a>(alloc: Global, text: &'a str) -> Result<Vec<Token<'a>>, LexFault>
-    ensures tokens { Gives (λ v. map cut_of v.items) result (tokens_of text.now) }
+    ensures tokens { GivesCuts (λ v. map cut_of v.items) result (tokens_of text.now) }
     ensures covered { IfOk result (λ v. IsCut 0 text.now (map cut_of v.items)) }
-    ensures faulty { IfErr result (IsRefused text.now) }
+    ensures faulty { IfErr result (IsLexFault text.now) }
 {
     let bytes = text.as_bytes();
     let mut tokens = Vec::new(alloc);

@@ -69,11 +69,11 @@ pub struct Number {
 
 impl Number {
     ghost use Rattle.std.specs.Prelude.{◌≡◌};
-    ghost use Rattle.lexer.specs.Numbers.{width_of};
+    ghost use Rattle.lexer.specs.Numbers.{number_width};
 
     /// Its width in bits: the size, or 32.
     pub fn width(self) -> u8
-        ensures { result ≡ width_of self }
+        ensures { result ≡ number_width self }
     {
         match self.size {
             Some(size) => size,

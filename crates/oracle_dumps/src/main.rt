@@ -8,7 +8,7 @@ ghost use Rattle.cycle_window.specs.Held.{AreClocksOf};
 mod tests;
 
 use anyhow::{Result, bail};
-use cycle_window::{Clocks, Columns, Signal, Window};
+use cycle_window::{Clocks, Columns, WatchedSignal, Window};
 use signals::Counted;
 use std::alloc::Global;
 use std::fs;
@@ -49,13 +49,13 @@ fn changes_of(dump: &Dump) -> u64 {
 }
 
 /// The signals of paths, each as wide as its variable.
-fn signals_of<'a>(alloc: Global, dump: &Dump, paths: &[&'a str]) -> Result<Vec<Signal<'a>>> {
+fn signals_of<'a>(alloc: Global, dump: &Dump, paths: &[&'a str]) -> Result<Vec<WatchedSignal<'a>>> {
     let mut signals = Vec::new(alloc);
     for path in paths {
         let Some(variable) = dump.var(path) else {
             bail!("no {path}");
         };
-        signals.push(Signal {
+        signals.push(WatchedSignal {
             path,
             width: dump.width(variable),
         })?;

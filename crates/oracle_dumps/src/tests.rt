@@ -1,6 +1,6 @@
 //! Dumps, their paths, values and rows, with answers worked out by hand.
 
-use cycle_window::{Clocks, Columns, Signal, Window, WindowFault};
+use cycle_window::{Clocks, Columns, WatchedSignal, Window, WindowFault};
 use signals::{Counted, CutReader, Source};
 use std::alloc::{AllocError, Global};
 use std::test::Fail;
@@ -63,7 +63,7 @@ fn values_in(
     alloc: Global,
     dump: &Dump,
     clock: &str,
-    signals: &[Signal<'_>],
+    signals: &[WatchedSignal<'_>],
     size: usize,
 ) -> Result<Vec<u128>, WindowFault> {
     let clocks = Clocks::of(alloc, dump, clock)?;
@@ -89,7 +89,7 @@ fn values_by(
     alloc: Global,
     bytes: &[u8],
     clock: &str,
-    signals: &[Signal<'_>],
+    signals: &[WatchedSignal<'_>],
     size: usize,
 ) -> Result<Vec<u128>, Fail> {
     let dump = dump_of(alloc, bytes)?;
@@ -99,7 +99,13 @@ fn values_by(
 
 /// The values of a signal at the ticks of `top.clk`.
 fn values_of(alloc: Global, bytes: &[u8], path: &str, width: u32) -> Result<Vec<u128>, Fail> {
-    values_by(alloc, bytes, "top.clk", &[Signal { path, width }], 65_536)
+    values_by(
+        alloc,
+        bytes,
+        "top.clk",
+        &[WatchedSignal { path, width }],
+        65_536,
+    )
 }
 
 /// How many ticks `top.clk` has.
@@ -112,7 +118,7 @@ fn refusal_in(
     alloc: Global,
     dump: &Dump,
     clock: &str,
-    signals: &[Signal<'_>],
+    signals: &[WatchedSignal<'_>],
     size: usize,
 ) -> Result<String, AllocError> {
     match values_in(alloc, dump, clock, signals, size) {
@@ -125,7 +131,7 @@ fn refusal_in(
 fn refusal(
     alloc: Global,
     clock: &str,
-    signals: &[Signal<'_>],
+    signals: &[WatchedSignal<'_>],
     size: usize,
 ) -> Result<String, Fail> {
     let dump = dump_of(alloc, FRONT.as_bytes())?;
@@ -331,7 +337,7 @@ fn rows_in_any_window(rt: HostRuntime) -> Result<(), Fail> {
     let alloc = rt.alloc();
     let text =
         "$var wire 1 ! clk $end $var wire 4 n n $end $enddefinitions $end #0 0! b0 n #1 1! b1 n #2 0! #3 1! b10 n #4 0! #5 1! b11 n #6 0! #7 1!";
-    let signals = [Signal {
+    let signals = [WatchedSignal {
         path: "n",
         width: 4,
     }];
@@ -351,12 +357,12 @@ fn refusals(rt: HostRuntime) -> Result<(), Fail> {
         ("top.clk", 1, "C5 SignalWidth top.d"),
     ] {
         let signals = [
-            Signal {
+            WatchedSignal {
                 path: "top.d",
                 width: 8,
             },
-            Signal { path, width },
-            Signal {
+            WatchedSignal { path, width },
+            WatchedSignal {
                 path: "top.d",
                 width: 7,
             },

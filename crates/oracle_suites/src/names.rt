@@ -1,10 +1,10 @@
 //! Faults with their places, own widths and columns, worked out by hand from the standard's table of widths (IEEE 1800-2017, table 11-21).
 
 use lexer::lex;
-use parser::{Expr, File, Item, Property, Sequence, parse};
+use parser::{ExprTree, File, ItemTree, PropertyTree, SequenceTree, parse};
 use std::alloc::{AllocError, Global};
 use std::test::Fail;
-use types_expressions::{Columns, Names, Scope, Sought, columns_of, first_fault, meaning_law};
+use types_expressions::{Names, Scope, SignalPaths, Sought, columns_of, first_fault, meaning_law};
 
 /// The paths of a dump.
 fn dump(alloc: Global) -> Result<Names, AllocError> {
@@ -37,7 +37,7 @@ fn faults(alloc: Global, text: &str) -> Result<[Option<usize>; 3], Fail> {
 }
 
 /// The same of what is asserted; it begins at the byte 30.
-fn asserted(alloc: Global, text: &str) -> Result<[Option<usize>; 3], Fail> {
+fn assertion_of(alloc: Global, text: &str) -> Result<[Option<usize>; 3], Fail> {
     let text = format!(in alloc; "assert property (@(posedge c) {text});")?;
     faults(alloc, text.as_str())
 }
@@ -49,8 +49,8 @@ fn has_width(alloc: Global, text: &str, width: u8) -> Result<bool, Fail> {
     let more = rest.saturating_add(1);
     let over = format!(in alloc; "{{{text}, {more}'d0}}")?;
     Ok(
-        asserted(alloc, full.as_str())?[1].is_none()
-            && asserted(alloc, over.as_str())?[1] == Some(30),
+        assertion_of(alloc, full.as_str())?[1].is_none()
+            && assertion_of(alloc, over.as_str())?[1] == Some(30),
     )
 }
 
@@ -63,7 +63,7 @@ fn unknown_names(rt: HostRuntime) -> Result<(), Fail> {
         ("v == top.w", Some(35)),
         ("$past(e + f)", Some(36)),
     ] {
-        assert_eq!(rt; asserted(rt.alloc(), text)?, [at, None, None], "{text}");
+        assert_eq!(rt; assertion_of(rt.alloc(), text)?, [at, None, None], "{text}");
     }
     Ok(())
 }
@@ -79,7 +79,7 @@ fn selects_out_of_range(rt: HostRuntime) -> Result<(), Fail> {
         ("w[127]", None),
         ("w[128:1] == 0", Some(30)),
     ] {
-        assert_eq!(rt; asserted(rt.alloc(), text)?, [None, None, at], "{text}");
+        assert_eq!(rt; assertion_of(rt.alloc(), text)?, [None, None, at], "{text}");
     }
     Ok(())
 }
@@ -96,7 +96,7 @@ fn wide_concatenations(rt: HostRuntime) -> Result<(), Fail> {
         ("{v[2:9], 128'd0} == 0", Some(30), Some(31)),
     ] {
         assert_eq!(rt;
-            asserted(rt.alloc(), text)?,
+            assertion_of(rt.alloc(), text)?,
             [None, wide, outside],
             "{text}"
         );
@@ -199,21 +199,21 @@ fn names_of_the_text(rt: HostRuntime) -> Result<(), Fail> {
 }
 
 /// The boolean that is asserted first.
-fn first_boolean<'t, 'a>(file: &'t File<'a>) -> Option<&'t Expr<'a>> {
-    let Some(Item::Assertion(assertion)) = file.items.last() else {
+fn first_boolean<'t, 'a>(file: &'t File<'a>) -> Option<&'t ExprTree<'a>> {
+    let Some(ItemTree::Assertion(assertion)) = file.items.last() else {
         return None;
     };
-    let Property::Plain(sequence) = &assertion.property else {
+    let PropertyTree::Plain(sequence) = &assertion.property else {
         return None;
     };
     match &**sequence {
-        Sequence::Boolean(expr) => Some(expr),
+        SequenceTree::Boolean(expr) => Some(expr),
         _ => None,
     }
 }
 
 /// The place of the sequence that is asserted last.
-fn named(alloc: Global, text: &str) -> Result<Option<usize>, Fail> {
+fn name_of(alloc: Global, text: &str) -> Result<Option<usize>, Fail> {
     let names = dump(alloc)?;
     let tokens = lex(alloc, text)?;
     let Ok(file) = parse(alloc, tokens.as_slice()) else {
@@ -237,13 +237,13 @@ fn sequences_by_name(rt: HostRuntime) -> Result<(), Fail> {
         ("q[0]", None),
     ] {
         let text = format!(in rt.alloc(); "{declared} assert property (@(posedge c) {name});")?;
-        assert_eq!(rt; named(rt.alloc(), text.as_str())?, place, "{text}");
+        assert_eq!(rt; name_of(rt.alloc(), text.as_str())?, place, "{text}");
     }
     Ok(())
 }
 
 /// The columns of a text.
-fn columns(alloc: Global, text: &str) -> Result<Option<Columns>, Fail> {
+fn columns(alloc: Global, text: &str) -> Result<Option<SignalPaths>, Fail> {
     let names = dump(alloc)?;
     let tokens = lex(alloc, text)?;
     let Ok(file) = parse(alloc, tokens.as_slice()) else {

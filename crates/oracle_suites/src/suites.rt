@@ -8,7 +8,7 @@ use std::test::Fail;
 use types::{Names, TypeFault, check};
 
 /// The suite of a text over a few signals, or its first fault.
-fn checked(alloc: Global, text: &str) -> Result<Result<Suite, TypeFault>, Fail> {
+fn suite_checked(alloc: Global, text: &str) -> Result<Result<Suite, TypeFault>, Fail> {
     let mut names = Names::new(alloc);
     names.push(alloc, "top.clk", 1)?;
     names.push(alloc, "top.a", 1)?;
@@ -25,7 +25,7 @@ fn checked(alloc: Global, text: &str) -> Result<Result<Suite, TypeFault>, Fail> 
 /// Each text is accepted, or has its fault.
 fn assert_answers(alloc: Global, cases: &[(&str, Option<TypeFault>)]) -> Result<(), Fail> {
     for case in cases {
-        let fault = match checked(alloc, case.0)? {
+        let fault = match suite_checked(alloc, case.0)? {
             Ok(_) => None,
             Err(fault) => Some(fault),
         };
@@ -117,7 +117,7 @@ fn degenerate_and_empty(rt: HostRuntime) -> Result<(), Fail> {
 fn names(rt: HostRuntime) -> Result<(), Fail> {
     let text =
         "counter c [4] add(c < d, 1); counter d [8] load(c == 3, d + 1); assert property (@(posedge top.clk) s |-> c < d); sequence s; c == 2 ##1 top.a endsequence";
-    let Ok(suite) = checked(rt.alloc(), text)? else {
+    let Ok(suite) = suite_checked(rt.alloc(), text)? else {
         return Err(Fail::new("the text is refused"));
     };
     assert_eq!(rt; suite.counters.len(), 2);

@@ -3,7 +3,9 @@
 //! the table of this program. The tests of `parser` stand here, so that it is proved once.
 
 use lexer::{Token, lex};
-use parser::{Assertion, Expr, File, Item, ParseFault, Property, Sequence, parse};
+use parser::{
+    AssertionTree, ExprTree, File, ItemTree, ParseFault, PropertyTree, SequenceTree, parse,
+};
 use std::alloc::Global;
 use std::test::Fail;
 
@@ -29,32 +31,32 @@ const OPERATORS: [(&str, u8); 17] = [
 ];
 
 /// What stands at the root of an expression: its sign or kind, and how many operands it has.
-fn root_of<'a>(expr: &Expr<'a>) -> (&'a str, usize) {
+fn root_of<'a>(expr: &ExprTree<'a>) -> (&'a str, usize) {
     match expr {
-        Expr::Number(token) => (token.text, 0),
-        Expr::Path(path, _) => (path.first.text, path.more.len()),
-        Expr::Concatenation(bracket, _, more) => (bracket.text, more.len().saturating_add(1)),
-        Expr::Past(name, _, _) => (name.text, 1),
-        Expr::Call(_, name, _) => (name.text, 1),
-        Expr::Unary(sign, _) => (sign.text, 1),
-        Expr::Chain(_, more) => match more.first() {
+        ExprTree::Number(token) => (token.text, 0),
+        ExprTree::Path(path, _) => (path.first.text, path.more.len()),
+        ExprTree::Concatenation(bracket, _, more) => (bracket.text, more.len().saturating_add(1)),
+        ExprTree::Past(name, _, _) => (name.text, 1),
+        ExprTree::Call(_, name, _) => (name.text, 1),
+        ExprTree::Unary(sign, _) => (sign.text, 1),
+        ExprTree::Chain(_, more) => match more.first() {
             Some((sign, _)) => (sign.text, more.len().saturating_add(1)),
             None => ("", 0),
         },
-        Expr::Choice(_, _, _) => ("?", 3),
+        ExprTree::Choice(_, _, _) => ("?", 3),
     }
 }
 
 /// What stands at the root of a sequence: its word or sign, and how many parts it has.
-fn root<'a>(sequence: &Sequence<'a>) -> (&'a str, usize) {
+fn root<'a>(sequence: &SequenceTree<'a>) -> (&'a str, usize) {
     match sequence {
-        Sequence::Boolean(expr) => root_of(expr),
-        Sequence::Repeated(_, _) => ("[*", 1),
-        Sequence::Late(token, _, _) => (token.text, 1),
-        Sequence::Delayed(_, more) => ("##", more.len().saturating_add(1)),
-        Sequence::Throughout(_, _) => ("throughout", 2),
-        Sequence::And(_, more) => ("and", more.len().saturating_add(1)),
-        Sequence::Or(_, more) => ("or", more.len().saturating_add(1)),
+        SequenceTree::Boolean(expr) => root_of(expr),
+        SequenceTree::Repeated(_, _) => ("[*", 1),
+        SequenceTree::Late(token, _, _) => (token.text, 1),
+        SequenceTree::Delayed(_, more) => ("##", more.len().saturating_add(1)),
+        SequenceTree::Throughout(_, _) => ("throughout", 2),
+        SequenceTree::And(_, more) => ("and", more.len().saturating_add(1)),
+        SequenceTree::Or(_, more) => ("or", more.len().saturating_add(1)),
     }
 }
 
@@ -69,18 +71,18 @@ fn fault_of(fault: ParseFault) -> (&'static str, usize) {
     }
 }
 
-fn last_assertion<'t, 'a>(file: &'t File<'a>) -> Option<&'t Assertion<'a>> {
+fn last_assertion<'t, 'a>(file: &'t File<'a>) -> Option<&'t AssertionTree<'a>> {
     match file.items.last() {
-        Some(Item::Assertion(assertion)) => Some(assertion),
+        Some(ItemTree::Assertion(assertion)) => Some(assertion),
         _ => None,
     }
 }
 
 /// The root of the consequent of an implication, or of a sequence alone.
-fn root_of_property<'a>(property: &Property<'a>) -> (&'a str, usize) {
+fn root_of_property<'a>(property: &PropertyTree<'a>) -> (&'a str, usize) {
     match property {
-        Property::Plain(sequence) => root(sequence),
-        Property::Implication(_, _, consequent) => root(consequent),
+        PropertyTree::Plain(sequence) => root(sequence),
+        PropertyTree::Implication(_, _, consequent) => root(consequent),
     }
 }
 
@@ -104,7 +106,7 @@ fn has_root(alloc: Global, text: &str, expected: (&str, usize)) -> Result<bool, 
 }
 
 /// The text so many times, and then the other.
-fn repeated(alloc: Global, part: &str, times: usize, last: &str) -> Result<String, Fail> {
+fn repetition(alloc: Global, part: &str, times: usize, last: &str) -> Result<String, Fail> {
     let mut text = String::new(alloc);
     for _ in 0..times {
         text.push_str(part)?;
@@ -114,9 +116,9 @@ fn repeated(alloc: Global, part: &str, times: usize, last: &str) -> Result<Strin
 }
 
 /// So many brackets about the text.
-fn bracketed(alloc: Global, text: &str, times: usize) -> Result<String, Fail> {
-    let mut all = repeated(alloc, "(", times, text)?;
-    all.push_str(repeated(alloc, ")", times, "")?.as_str())?;
+fn in_brackets(alloc: Global, text: &str, times: usize) -> Result<String, Fail> {
+    let mut all = repetition(alloc, "(", times, text)?;
+    all.push_str(repetition(alloc, ")", times, "")?.as_str())?;
     Ok(all)
 }
 
@@ -211,13 +213,13 @@ fn items_of_a_file(rt: HostRuntime) -> Result<(), Fail> {
         return Ok(());
     };
     assert_eq!(rt; file.items.len(), 3);
-    if let Item::Counter(counter) = &file.items[0] {
+    if let ItemTree::Counter(counter) = &file.items[0] {
         assert_eq!(rt; counter.name.text, "n");
         assert_eq!(rt; counter.width.value, 128);
         assert!(rt; counter.clear.is_some() && counter.load.is_none());
         assert!(rt; counter.add.is_none() && counter.sub.is_some());
     }
-    if let Item::Declaration(declaration) = &file.items[1] {
+    if let ItemTree::Declaration(declaration) = &file.items[1] {
         assert_eq!(rt; declaration.name.text, "s");
         assert_eq!(rt; root(&declaration.body).1, 2);
     }
@@ -264,11 +266,11 @@ fn outside_profile(rt: HostRuntime) -> Result<(), Fail> {
 #[test]
 fn depth_limit(rt: HostRuntime) -> Result<(), Fail> {
     let alloc = rt.alloc();
-    let text = bracketed(alloc, "a", 63)?;
+    let text = in_brackets(alloc, "a", 63)?;
     assert!(rt; has_root(alloc, text.as_str(), ("a", 0))?);
-    let text = bracketed(alloc, "a", 64)?;
+    let text = in_brackets(alloc, "a", 64)?;
     assert!(rt; has_root(alloc, text.as_str(), ("P3", 93))?);
-    let text = repeated(alloc, "a + ", 200, "b")?;
+    let text = repetition(alloc, "a + ", 200, "b")?;
     assert!(rt; has_root(alloc, text.as_str(), ("+", 201))?);
     Ok(())
 }

@@ -72,7 +72,7 @@ fn empty_match_in_front(rt: HostRuntime) -> Result<(), Fail> {
 }
 
 /// `1 |-> (a ##1 b) ##0 (c ##1 d)`, its consequent.
-fn fused(alloc: Global) -> Result<Box<Sequence>, AllocError> {
+fn fusion(alloc: Global) -> Result<Box<Sequence>, AllocError> {
     let front = delay(alloc, name(alloc, 0)?, 1, 1, name(alloc, 1)?)?;
     let rest = delay(alloc, name(alloc, 2)?, 1, 1, name(alloc, 3)?)?;
     delay(alloc, front, 0, 0, rest)
@@ -86,7 +86,7 @@ fn shared_tick(rt: HostRuntime) -> Result<(), Fail> {
         ([0, 1, 0, 0], Verdict::Fails(1)),
     ] {
         let ticks = [[1, 0, 0, 0], middle, [0, 0, 0, 1]];
-        let found = judged(alloc, one(alloc)?, fused(alloc)?, None, ticks.as_slice())?;
+        let found = judged(alloc, one(alloc)?, fusion(alloc)?, None, ticks.as_slice())?;
         let want = [want, Verdict::Fails(1), Verdict::Fails(2)];
         assert_eq!(rt; found.as_slice(), want.as_slice());
     }

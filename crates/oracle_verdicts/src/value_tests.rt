@@ -51,7 +51,7 @@ fn reads(rows: &Rows, place: usize, wanted: &[u128]) -> bool {
 }
 
 /// `8'hFF + 8'h01`
-fn carrying(alloc: Global) -> Result<Expr, Fail> {
+fn carry(alloc: Global) -> Result<Expr, Fail> {
     Ok(number(8, 255)?.combine(alloc, Arithmetic::Add, number(8, 1)?)?)
 }
 
@@ -59,14 +59,14 @@ fn carrying(alloc: Global) -> Result<Expr, Fail> {
 fn context_widths(rt: HostRuntime) -> Result<(), Fail> {
     let alloc = rt.alloc();
     let none = run_of(alloc, &[])?;
-    let wide = equal(alloc, carrying(alloc)?, number(9, 256)?)?;
-    let narrow = equal(alloc, carrying(alloc)?, number(8, 0)?)?;
-    let plain = equal(alloc, carrying(alloc)?, number(32, 0)?)?;
+    let wide = equal(alloc, carry(alloc)?, number(9, 256)?)?;
+    let narrow = equal(alloc, carry(alloc)?, number(8, 0)?)?;
+    let plain = equal(alloc, carry(alloc)?, number(32, 0)?)?;
     assert!(rt; is_true(&wide, &none, 0));
     assert!(rt; is_true(&narrow, &none, 0));
     assert!(rt; !is_true(&plain, &none, 0));
     // {8'hFF + 8'h01} == 9'h100
-    let alone = equal(alloc, carrying(alloc)?.group(alloc)?, number(9, 256)?)?;
+    let alone = equal(alloc, carry(alloc)?.group(alloc)?, number(9, 256)?)?;
     assert!(rt; !is_true(&alone, &none, 0));
     Ok(())
 }

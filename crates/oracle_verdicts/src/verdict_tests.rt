@@ -80,7 +80,7 @@ fn several_ends(rt: HostRuntime) -> Result<(), Fail> {
 }
 
 #[test]
-fn disabled(rt: HostRuntime) -> Result<(), Fail> {
+fn disabled_attempts(rt: HostRuntime) -> Result<(), Fail> {
     let alloc = rt.alloc();
     // disabled by c: a |-> ##2 b
     let off = Some(Boolean::Listed(2));

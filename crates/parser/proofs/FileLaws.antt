@@ -3,7 +3,7 @@ use Rattle.std.proofs.Common.{◌≡◌, true, false, List, [], ◌∷◌, Optio
 use Rattle.lexer.specs.declared.token.Token.{Token}
 use Rattle.grammar.specs.declared.terminal.Terminal.TheVariants.{End}
 use Rattle.grammar.specs.Terminals.{terminal, is}
-use Rattle.grammar.specs.Trees.{Item, counter, declaration, assertion}
+use Rattle.grammar.specs.Trees.{ItemForm, counter, declaration, assertion}
 use Rattle.grammar.specs.Files.{IsFile}
 use Rattle.grammar.specs.Readers.{each}
 use Rattle.grammar.specs.ReadFiles.{asserts, is_more, item, items, ReadsFile}
@@ -11,13 +11,13 @@ use Rattle.grammar.proofs.TerminalLaws.{is-true, is-false}
 use Rattle.grammar.proofs.FilesComplete.{file-read}
 use Rattle.grammar.proofs.FilesSound.{file-found}
 use Rattle.parser.specs.declared.fault.ParseFault.{ParseFault}
-use Rattle.parser.specs.declared.stop.Stop.{Stop}
-use Rattle.parser.specs.declared.stop.Stop.TheVariants as stops
-use Rattle.parser.specs.Faults.{Names, Refuses, IsRefused}
-use Rattle.parser.specs.Views.{Fails}
+use Rattle.parser_expressions.specs.declared.stop.Stop.{Stop}
+use Rattle.parser_expressions.specs.declared.stop.Stop.TheVariants as stops
+use Rattle.parser.specs.Faults.{NamesStop, Refuses, IsParseFault}
+use Rattle.parser_expressions.specs.Views.{Fails}
 
 -- a stop that is no want of memory, and the fault that names it
-pub refuses : {A : Type 0} (stop : Stop) (fault : ParseFault) (o : Option A) → Fails stop o → Names stop fault → Refuses fault o
+pub refuses : {A : Type 0} (stop : Stop) (fault : ParseFault) (o : Option A) → Fails stop o → NamesStop stop fault → Refuses fault o
 refuses stops.Memory fault o f n some = absurd (some n)
 refuses (stops.Expected what at) fault o f n some = f
 refuses (stops.TooDeep at) fault o f n some = f
@@ -27,10 +27,10 @@ refuses (stops.BadBound at) fault o f n some = f
 pub at-item-fails : (ts : List Token) (t : Token) (us : List Token) (x : Stop) → ts ≡ t ∷ us → Fails x (item ts) → Fails x (item (t ∷ us))
 at-item-fails ts t us x e f = subst (λ (vs : List Token). Fails x (item vs)) e f
 
-pub at-item : (ts : List Token) (t : Token) (us : List Token) (o : Option (Item × List Token)) → ts ≡ t ∷ us → item ts ≡ o → item (t ∷ us) ≡ o
+pub at-item : (ts : List Token) (t : Token) (us : List Token) (o : Option (ItemForm × List Token)) → ts ≡ t ∷ us → item ts ≡ o → item (t ∷ us) ≡ o
 at-item ts t us o e h = ap item (sym e) ∙ h
 
-pub items-are : (ts : List Token) (o : Option (List Item × List Token)) → each is_more (λ t us. item (t ∷ us)) ts ≡ o → items ts ≡ o
+pub items-are : (ts : List Token) (o : Option (List ItemForm × List Token)) → each is_more (λ t us. item (t ∷ us)) ts ≡ o → items ts ≡ o
 unfolding items
 items-are ts o h = h
 
@@ -38,41 +38,41 @@ pub items-fail : (ts : List Token) (x : Stop) → Fails x (each is_more (λ t us
 unfolding items
 items-fail ts x f = f
 
-pub asserts-none : (x : Item) (more : List Item) → false ≡ asserts (x ∷ []) → asserts (x ∷ more) ≡ asserts more
+pub asserts-none : (x : ItemForm) (more : List ItemForm) → false ≡ asserts (x ∷ []) → asserts (x ∷ more) ≡ asserts more
 asserts-none (counter c) more h = refl
 asserts-none (declaration s) more h = refl
 asserts-none (assertion a) more h = absurd cc
 
-pub asserts-some : (x : Item) (more : List Item) → true ≡ asserts (x ∷ []) → asserts (x ∷ more) ≡ true
+pub asserts-some : (x : ItemForm) (more : List ItemForm) → true ≡ asserts (x ∷ []) → asserts (x ∷ more) ≡ true
 asserts-some (counter c) more h = absurd cc
 asserts-some (declaration s) more h = absurd cc
 asserts-some (assertion a) more h = refl
 
-left-same : (p q : List Item × List Token) → Some p ≡ Some q → p.1 ≡ q.1
-left-same p q h = let same : p ≡ q = cc in ap (λ (r : List Item × List Token). r.1) same
+left-same : (p q : List ItemForm × List Token) → Some p ≡ Some q → p.1 ≡ q.1
+left-same p q h = let same : p ≡ q = cc in ap (λ (r : List ItemForm × List Token). r.1) same
 
-items-same : (p q : List Item × List Token) → Some p ≡ Some q → p.0 ≡ q.0
-items-same p q h = let same : p ≡ q = cc in ap (λ (r : List Item × List Token). r.0) same
+items-same : (p q : List ItemForm × List Token) → Some p ≡ Some q → p.0 ≡ q.0
+items-same p q h = let same : p ≡ q = cc in ap (λ (r : List ItemForm × List Token). r.0) same
 
-module _ (tokens : List Token) (xs : List Item) (us : List Token) (h : items tokens ≡ Some (xs, us)) where
-  same-end : (ys : List Item) (f : ReadsFile ys tokens) → us ≡ f.last ∷ []
+module _ (tokens : List Token) (xs : List ItemForm) (us : List Token) (h : items tokens ≡ Some (xs, us)) where
+  same-end : (ys : List ItemForm) (f : ReadsFile ys tokens) → us ≡ f.last ∷ []
   same-end ys f = left-same (xs, us) (ys, f.last ∷ []) (sym h ∙ f.read)
 
-  same-items : (ys : List Item) (f : ReadsFile ys tokens) → xs ≡ ys
+  same-items : (ys : List ItemForm) (f : ReadsFile ys tokens) → xs ≡ ys
   same-items ys f = items-same (xs, us) (ys, f.last ∷ []) (sym h ∙ f.read)
 
-  pub no-end : (fault : ParseFault) → us ≡ [] → IsRefused tokens fault
+  pub no-end : (fault : ParseFault) → us ≡ [] → IsParseFault tokens fault
   no-end fault e some ys is_file = let f = file-read ys tokens is_file in let z = sym e ∙ same-end ys f in absurd cc
 
   module _ (t : Token) (vs : List Token) (e : us ≡ t ∷ vs) where
-    pub other-end : (fault : ParseFault) → false ≡ is End t → IsRefused tokens fault
+    pub other-end : (fault : ParseFault) → false ≡ is End t → IsParseFault tokens fault
     other-end fault other some ys is_file =
         let f = file-read ys tokens is_file in
         let z : t ∷ vs ≡ f.last ∷ [] = sym e ∙ same-end ys f in
         let same : t ≡ f.last = cc in
         is-false End t (sym other) (ap terminal same ∙ f.ends)
 
-    pub behind-end : (fault : ParseFault) → (vs ≡ [] → ⊥) → IsRefused tokens fault
+    pub behind-end : (fault : ParseFault) → (vs ≡ [] → ⊥) → IsParseFault tokens fault
     behind-end fault some-more some ys is_file =
         let f = file-read ys tokens is_file in
         let z : t ∷ vs ≡ f.last ∷ [] = sym e ∙ same-end ys f in
@@ -81,7 +81,7 @@ module _ (tokens : List Token) (xs : List Item) (us : List Token) (h : items tok
     pub found : true ≡ is End t → vs ≡ [] → true ≡ asserts xs → IsFile xs tokens
     found ends none asserted = file-found xs tokens t (h ∙ ap (λ (ws : List Token). Some (xs, ws)) (e ∙ ap (λ (ws : List Token). t ∷ ws) none)) (is-true End t (sym ends)) (sym asserted)
 
-  pub no-assertion : (fault : ParseFault) → false ≡ asserts xs → IsRefused tokens fault
+  pub no-assertion : (fault : ParseFault) → false ≡ asserts xs → IsParseFault tokens fault
   no-assertion fault lacks some ys is_file =
       let f = file-read ys tokens is_file in
       let z : asserts xs ≡ true = ap asserts (same-items ys f) ∙ f.asserted in
@@ -90,5 +90,5 @@ module _ (tokens : List Token) (xs : List Item) (us : List Token) (h : items tok
 clash : {A : Type 0} (o : Option A) (p : A) → o ≡ None → o ≡ Some p → ⊥
 clash o p h k = absurd cc
 
-pub nothing-read : (tokens : List Token) (fault : ParseFault) → Refuses fault (items tokens) → IsRefused tokens fault
+pub nothing-read : (tokens : List Token) (fault : ParseFault) → Refuses fault (items tokens) → IsParseFault tokens fault
 nothing-read tokens fault refused some ys is_file = let f = file-read ys tokens is_file in clash (items tokens) (ys, f.last ∷ []) (refused some) f.read

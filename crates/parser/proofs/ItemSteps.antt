@@ -1,5 +1,5 @@
 -- Reading of items, in the steps of the code.
-use Rattle.std.proofs.Common.{◌≡◌, ℕ, Bool, true, false, ◌&&◌, ◌||◌, if◌then◌else◌, List, [], ◌∷◌, Option, Some, None, option_map, refl}
+use Rattle.std.proofs.Common.{if◌then◌else◌, ◌≡◌, ℕ, Bool, true, false, ◌&&◌, List, [], ◌∷◌, Option, Some, None, option_map, refl}
 use Rattle.std.specs.Str.{bytes_eq}
 use Rattle.lexer.specs.declared.token.Token.{Token}
 use Rattle.grammar.specs.declared.bound.Bound.{Bound}
@@ -8,33 +8,19 @@ use Rattle.grammar.specs.declared.terminal.Terminal.TheVariants as word
 use Rattle.grammar.specs.declared.terminal.Terminal.TheVariants.{OpenRound, CloseRound, OpenSquare, CloseSquare, Comma, Semicolon, Colon, AtSign, Posedge, Disable, Iff, EndSequence, End}
 use Rattle.grammar.specs.Terminals.{is, is_name, is_word}
 use Rattle.grammar.specs.Bounds.{bound_within}
-use Rattle.grammar.specs.Trees.{Tree, Sequence, Property, declaration}
+use Rattle.grammar.specs.Trees.{Tree, SequenceForm, PropertyForm, declaration}
 use Rattle.grammar.specs.Readers.{lead, expect, pick, optional}
-use Rattle.grammar.specs.ReadExpressions.{name_of, members, path_words, expression}
+use Rattle.grammar.specs.ReadExpressions.{name_of, path_words, expression}
 use Rattle.grammar.specs.ReadSequences.{whole, property}
 use Rattle.grammar.specs.Files.{most_open, in_one, in_two}
-use Rattle.grammar.specs.ReadFiles.{one_operand, two_operands, counter_head, counter_of, counter_item, again_of, skip, ending_of, declaration_item, is_verb_token, opening, clock_of, disabling, property_end, assertion_of, assertion_item, labelled, declared, item, is_more}
-use Rattle.parser.specs.declared.stop.Stop.{Stop}
-use Rattle.parser.specs.Views.{Fails}
-use Rattle.parser.proofs.Steps.{failing}
+use Rattle.grammar.specs.ReadFiles.{one_operand, two_operands, counter_head, counter_form, counter_item, again_of, skip, ending_of, declaration_item, is_verb_token, opening_words, clock_words, disable_reader, property_end, assertion_form, assertion_item, label_reader, declaration_reader, item, is_more}
+use Rattle.parser_expressions.specs.declared.stop.Stop.{Stop}
+use Rattle.parser_expressions.specs.Views.{Fails}
+use Rattle.parser_expressions.proofs.Steps.{failing}
 
 again-split : (b : Bool) (t : Token) (us : List Token) → option_map {T = Token} {U = Token × List Token} (λ (a : Token). (a, us)) (if b && false then Some t else None) ≡ None
 again-split true t us = refl
 again-split false t us = refl
-
-verb-first : {A : Type 0} (a b : Bool) (p q : A) → (if a then Some p else None) ≡ Some q → (if a || b then Some p else None) ≡ Some q
-verb-first true b p q h = h
-verb-first false b p q h = absurd cc
-
-verb-second : {A : Type 0} (a b : Bool) (p q : A) → (if b then Some p else None) ≡ Some q → (if a || b then Some p else None) ≡ Some q
-verb-second true true p q h = h
-verb-second false true p q h = h
-verb-second a false p q h = absurd cc
-
-verb-neither : {A : Type 0} (a b : Bool) (p : A) → (if a then Some p else None) ≡ None → (if b then Some p else None) ≡ None → (if a || b then Some p else None) ≡ None
-verb-neither true b p h k = absurd cc
-verb-neither false true p h k = absurd cc
-verb-neither false false p h k = refl
 
 pub one-fail1 : (d : ℕ) (ts : List Token) (x : Stop) → Fails x (expect OpenRound ts) → Fails x (one_operand d ts)
 unfolding one_operand
@@ -120,7 +106,7 @@ pub counter-fail6 : (ts : List Token) (n : Token) (w : Bound) (us : List Token) 
 unfolding counter_item
 counter-fail6 ts n w us a vs b ws c xs g ys x h1 h2 h3 h4 h5 f = failing x _ _ (λ none. rw (h1, h2, h3, h4, h5, none) refl) f
 
-pub counter-ok : (ts : List Token) (n : Token) (w : Bound) (us : List Token) (a : Option Tree) (vs : List Token) (b : Option (Tree × Tree)) (ws : List Token) (c : Option (Tree × Tree)) (xs : List Token) (g : Option (Tree × Tree)) (ys : List Token) (s : Token) (zs : List Token) → counter_head ts ≡ Some ((n, w), us) → optional word.Clear (one_operand in_one) us ≡ Some (a, vs) → optional word.Load two_operands vs ≡ Some (b, ws) → optional word.Add two_operands ws ≡ Some (c, xs) → optional word.Sub two_operands xs ≡ Some (g, ys) → expect Semicolon ys ≡ Some (s, zs) → counter_item ts ≡ Some (counter_of n w a b c g, zs)
+pub counter-ok : (ts : List Token) (n : Token) (w : Bound) (us : List Token) (a : Option Tree) (vs : List Token) (b : Option (Tree × Tree)) (ws : List Token) (c : Option (Tree × Tree)) (xs : List Token) (g : Option (Tree × Tree)) (ys : List Token) (s : Token) (zs : List Token) → counter_head ts ≡ Some ((n, w), us) → optional word.Clear (one_operand in_one) us ≡ Some (a, vs) → optional word.Load two_operands vs ≡ Some (b, ws) → optional word.Add two_operands ws ≡ Some (c, xs) → optional word.Sub two_operands xs ≡ Some (g, ys) → expect Semicolon ys ≡ Some (s, zs) → counter_item ts ≡ Some (counter_form n w a b c g, zs)
 unfolding counter_item
 counter-ok ts n w us a vs b ws c xs g ys s zs h1 h2 h3 h4 h5 h6 = rw (h1, h2, h3, h4, h5, h6) refl
 
@@ -172,75 +158,75 @@ pub declaration-fail3 : (ts : List Token) (n : Token) (us : List Token) (s : Tok
 unfolding declaration_item
 declaration-fail3 ts n us s vs x h1 h2 f = failing x _ _ (λ none. rw (h1, h2, none) refl) f
 
-pub declaration-fail4 : (ts : List Token) (n : Token) (us : List Token) (s : Token) (vs : List Token) (b : Sequence) (ws : List Token) (x : Stop) → pick name_of ts ≡ Some (n, us) → expect Semicolon us ≡ Some (s, vs) → whole most_open vs ≡ Some (b, ws) → Fails x (ending_of n ws) → Fails x (declaration_item ts)
+pub declaration-fail4 : (ts : List Token) (n : Token) (us : List Token) (s : Token) (vs : List Token) (b : SequenceForm) (ws : List Token) (x : Stop) → pick name_of ts ≡ Some (n, us) → expect Semicolon us ≡ Some (s, vs) → whole most_open vs ≡ Some (b, ws) → Fails x (ending_of n ws) → Fails x (declaration_item ts)
 unfolding declaration_item
 declaration-fail4 ts n us s vs b ws x h1 h2 h3 f = failing x _ _ (λ none. rw (h1, h2, h3, none) refl) f
 
-pub declaration-ok : (ts : List Token) (n : Token) (us : List Token) (s : Token) (vs : List Token) (b : Sequence) (ws : List Token) (xs : List Token) → pick name_of ts ≡ Some (n, us) → expect Semicolon us ≡ Some (s, vs) → whole most_open vs ≡ Some (b, ws) → ending_of n ws ≡ Some xs → declaration_item ts ≡ Some (declaration (record { name = n; body = b }), xs)
+pub declaration-ok : (ts : List Token) (n : Token) (us : List Token) (s : Token) (vs : List Token) (b : SequenceForm) (ws : List Token) (xs : List Token) → pick name_of ts ≡ Some (n, us) → expect Semicolon us ≡ Some (s, vs) → whole most_open vs ≡ Some (b, ws) → ending_of n ws ≡ Some xs → declaration_item ts ≡ Some (declaration (record { name = n; body = b }), xs)
 unfolding declaration_item
 declaration-ok ts n us s vs b ws xs h1 h2 h3 h4 = rw (h1, h2, h3, h4) refl
 
-pub opening-fail1 : (ts : List Token) (x : Stop) → Fails x (expect word.Property ts) → Fails x (opening ts)
-unfolding opening
+pub opening-fail1 : (ts : List Token) (x : Stop) → Fails x (expect word.Property ts) → Fails x (opening_words ts)
+unfolding opening_words
 opening-fail1 ts x f = failing x _ _ (λ none. rw (none) refl) f
 
-pub opening-fail2 : (ts : List Token) (p : Token) (us : List Token) (x : Stop) → expect word.Property ts ≡ Some (p, us) → Fails x (expect OpenRound us) → Fails x (opening ts)
-unfolding opening
+pub opening-fail2 : (ts : List Token) (p : Token) (us : List Token) (x : Stop) → expect word.Property ts ≡ Some (p, us) → Fails x (expect OpenRound us) → Fails x (opening_words ts)
+unfolding opening_words
 opening-fail2 ts p us x h1 f = failing x _ _ (λ none. rw (h1, none) refl) f
 
-pub opening-ok : (ts : List Token) (p : Token) (us : List Token) (o : Token) (vs : List Token) → expect word.Property ts ≡ Some (p, us) → expect OpenRound us ≡ Some (o, vs) → opening ts ≡ Some vs
-unfolding opening
+pub opening-ok : (ts : List Token) (p : Token) (us : List Token) (o : Token) (vs : List Token) → expect word.Property ts ≡ Some (p, us) → expect OpenRound us ≡ Some (o, vs) → opening_words ts ≡ Some vs
+unfolding opening_words
 opening-ok ts p us o vs h1 h2 = rw (h1, h2) refl
 
-pub clock-fail1 : (ts : List Token) (x : Stop) → Fails x (expect AtSign ts) → Fails x (clock_of ts)
-unfolding clock_of
+pub clock-fail1 : (ts : List Token) (x : Stop) → Fails x (expect AtSign ts) → Fails x (clock_words ts)
+unfolding clock_words
 clock-fail1 ts x f = failing x _ _ (λ none. rw (none) refl) f
 
-pub clock-fail2 : (ts : List Token) (a : Token) (us : List Token) (x : Stop) → expect AtSign ts ≡ Some (a, us) → Fails x (expect OpenRound us) → Fails x (clock_of ts)
-unfolding clock_of
+pub clock-fail2 : (ts : List Token) (a : Token) (us : List Token) (x : Stop) → expect AtSign ts ≡ Some (a, us) → Fails x (expect OpenRound us) → Fails x (clock_words ts)
+unfolding clock_words
 clock-fail2 ts a us x h1 f = failing x _ _ (λ none. rw (h1, none) refl) f
 
-pub clock-fail3 : (ts : List Token) (a : Token) (us : List Token) (o : Token) (vs : List Token) (x : Stop) → expect AtSign ts ≡ Some (a, us) → expect OpenRound us ≡ Some (o, vs) → Fails x (expect Posedge vs) → Fails x (clock_of ts)
-unfolding clock_of
+pub clock-fail3 : (ts : List Token) (a : Token) (us : List Token) (o : Token) (vs : List Token) (x : Stop) → expect AtSign ts ≡ Some (a, us) → expect OpenRound us ≡ Some (o, vs) → Fails x (expect Posedge vs) → Fails x (clock_words ts)
+unfolding clock_words
 clock-fail3 ts a us o vs x h1 h2 f = failing x _ _ (λ none. rw (h1, h2, none) refl) f
 
-pub clock-fail4 : (ts : List Token) (a : Token) (us : List Token) (o : Token) (vs : List Token) (p : Token) (ws : List Token) (x : Stop) → expect AtSign ts ≡ Some (a, us) → expect OpenRound us ≡ Some (o, vs) → expect Posedge vs ≡ Some (p, ws) → Fails x (path_words ws) → Fails x (clock_of ts)
-unfolding clock_of
+pub clock-fail4 : (ts : List Token) (a : Token) (us : List Token) (o : Token) (vs : List Token) (p : Token) (ws : List Token) (x : Stop) → expect AtSign ts ≡ Some (a, us) → expect OpenRound us ≡ Some (o, vs) → expect Posedge vs ≡ Some (p, ws) → Fails x (path_words ws) → Fails x (clock_words ts)
+unfolding clock_words
 clock-fail4 ts a us o vs p ws x h1 h2 h3 f = failing x _ _ (λ none. rw (h1, h2, h3, none) refl) f
 
-pub clock-fail5 : (ts : List Token) (a : Token) (us : List Token) (o : Token) (vs : List Token) (p : Token) (ws : List Token) (q : List Token) (xs : List Token) (x : Stop) → expect AtSign ts ≡ Some (a, us) → expect OpenRound us ≡ Some (o, vs) → expect Posedge vs ≡ Some (p, ws) → path_words ws ≡ Some (q, xs) → Fails x (expect CloseRound xs) → Fails x (clock_of ts)
-unfolding clock_of
+pub clock-fail5 : (ts : List Token) (a : Token) (us : List Token) (o : Token) (vs : List Token) (p : Token) (ws : List Token) (q : List Token) (xs : List Token) (x : Stop) → expect AtSign ts ≡ Some (a, us) → expect OpenRound us ≡ Some (o, vs) → expect Posedge vs ≡ Some (p, ws) → path_words ws ≡ Some (q, xs) → Fails x (expect CloseRound xs) → Fails x (clock_words ts)
+unfolding clock_words
 clock-fail5 ts a us o vs p ws q xs x h1 h2 h3 h4 f = failing x _ _ (λ none. rw (h1, h2, h3, h4, none) refl) f
 
-pub clock-ok : (ts : List Token) (a : Token) (us : List Token) (o : Token) (vs : List Token) (p : Token) (ws : List Token) (q : List Token) (xs : List Token) (c : Token) (ys : List Token) → expect AtSign ts ≡ Some (a, us) → expect OpenRound us ≡ Some (o, vs) → expect Posedge vs ≡ Some (p, ws) → path_words ws ≡ Some (q, xs) → expect CloseRound xs ≡ Some (c, ys) → clock_of ts ≡ Some (q, ys)
-unfolding clock_of
+pub clock-ok : (ts : List Token) (a : Token) (us : List Token) (o : Token) (vs : List Token) (p : Token) (ws : List Token) (q : List Token) (xs : List Token) (c : Token) (ys : List Token) → expect AtSign ts ≡ Some (a, us) → expect OpenRound us ≡ Some (o, vs) → expect Posedge vs ≡ Some (p, ws) → path_words ws ≡ Some (q, xs) → expect CloseRound xs ≡ Some (c, ys) → clock_words ts ≡ Some (q, ys)
+unfolding clock_words
 clock-ok ts a us o vs p ws q xs c ys h1 h2 h3 h4 h5 = rw (h1, h2, h3, h4, h5) refl
 
-pub disabling-fail1 : (ts : List Token) (x : Stop) → Fails x (expect Iff ts) → Fails x (disabling ts)
-unfolding disabling
+pub disabling-fail1 : (ts : List Token) (x : Stop) → Fails x (expect Iff ts) → Fails x (disable_reader ts)
+unfolding disable_reader
 disabling-fail1 ts x f = failing x _ _ (λ none. rw (none) refl) f
 
-pub disabling-fail2 : (ts : List Token) (i : Token) (us : List Token) (x : Stop) → expect Iff ts ≡ Some (i, us) → Fails x (one_operand in_two us) → Fails x (disabling ts)
-unfolding disabling
+pub disabling-fail2 : (ts : List Token) (i : Token) (us : List Token) (x : Stop) → expect Iff ts ≡ Some (i, us) → Fails x (one_operand in_two us) → Fails x (disable_reader ts)
+unfolding disable_reader
 disabling-fail2 ts i us x h f = failing x _ _ (λ none. rw (h, none) refl) f
 
-pub disabling-ok : (ts : List Token) (i : Token) (us : List Token) (e : Tree) (vs : List Token) → expect Iff ts ≡ Some (i, us) → one_operand in_two us ≡ Some (e, vs) → disabling ts ≡ Some (e, vs)
-unfolding disabling
+pub disabling-ok : (ts : List Token) (i : Token) (us : List Token) (e : Tree) (vs : List Token) → expect Iff ts ≡ Some (i, us) → one_operand in_two us ≡ Some (e, vs) → disable_reader ts ≡ Some (e, vs)
+unfolding disable_reader
 disabling-ok ts i us e vs h k = rw (h) k
 
 pub property-end-fail1 : (ts : List Token) (x : Stop) → Fails x (property in_one ts) → Fails x (property_end ts)
 unfolding property_end
 property-end-fail1 ts x f = failing x _ _ (λ none. rw (none) refl) f
 
-pub property-end-fail2 : (ts : List Token) (p : Property) (us : List Token) (x : Stop) → property in_one ts ≡ Some (p, us) → Fails x (expect CloseRound us) → Fails x (property_end ts)
+pub property-end-fail2 : (ts : List Token) (p : PropertyForm) (us : List Token) (x : Stop) → property in_one ts ≡ Some (p, us) → Fails x (expect CloseRound us) → Fails x (property_end ts)
 unfolding property_end
 property-end-fail2 ts p us x h1 f = failing x _ _ (λ none. rw (h1, none) refl) f
 
-pub property-end-fail3 : (ts : List Token) (p : Property) (us : List Token) (c : Token) (vs : List Token) (x : Stop) → property in_one ts ≡ Some (p, us) → expect CloseRound us ≡ Some (c, vs) → Fails x (expect Semicolon vs) → Fails x (property_end ts)
+pub property-end-fail3 : (ts : List Token) (p : PropertyForm) (us : List Token) (c : Token) (vs : List Token) (x : Stop) → property in_one ts ≡ Some (p, us) → expect CloseRound us ≡ Some (c, vs) → Fails x (expect Semicolon vs) → Fails x (property_end ts)
 unfolding property_end
 property-end-fail3 ts p us c vs x h1 h2 f = failing x _ _ (λ none. rw (h1, h2, none) refl) f
 
-pub property-end-ok : (ts : List Token) (p : Property) (us : List Token) (c : Token) (vs : List Token) (s : Token) (ws : List Token) → property in_one ts ≡ Some (p, us) → expect CloseRound us ≡ Some (c, vs) → expect Semicolon vs ≡ Some (s, ws) → property_end ts ≡ Some (p, ws)
+pub property-end-ok : (ts : List Token) (p : PropertyForm) (us : List Token) (c : Token) (vs : List Token) (s : Token) (ws : List Token) → property in_one ts ≡ Some (p, us) → expect CloseRound us ≡ Some (c, vs) → expect Semicolon vs ≡ Some (s, ws) → property_end ts ≡ Some (p, ws)
 unfolding property_end
 property-end-ok ts p us c vs s ws h1 h2 h3 = rw (h1, h2, h3) refl
 
@@ -248,96 +234,57 @@ pub assertion-fail1 : (l : Option Token) (ts : List Token) (x : Stop) → Fails 
 unfolding assertion_item
 assertion-fail1 l ts x f = failing x _ _ (λ none. rw (none) refl) f
 
-pub assertion-fail2 : (l : Option Token) (ts : List Token) (v : Token) (us : List Token) (x : Stop) → lead is_verb_token ts ≡ Some (v, us) → Fails x (opening us) → Fails x (assertion_item l ts)
+pub assertion-fail2 : (l : Option Token) (ts : List Token) (v : Token) (us : List Token) (x : Stop) → lead is_verb_token ts ≡ Some (v, us) → Fails x (opening_words us) → Fails x (assertion_item l ts)
 unfolding assertion_item
 assertion-fail2 l ts v us x h1 f = failing x _ _ (λ none. rw (h1, none) refl) f
 
-pub assertion-fail3 : (l : Option Token) (ts : List Token) (v : Token) (us : List Token) (vs : List Token) (x : Stop) → lead is_verb_token ts ≡ Some (v, us) → opening us ≡ Some vs → Fails x (clock_of vs) → Fails x (assertion_item l ts)
+pub assertion-fail3 : (l : Option Token) (ts : List Token) (v : Token) (us : List Token) (vs : List Token) (x : Stop) → lead is_verb_token ts ≡ Some (v, us) → opening_words us ≡ Some vs → Fails x (clock_words vs) → Fails x (assertion_item l ts)
 unfolding assertion_item
 assertion-fail3 l ts v us vs x h1 h2 f = failing x _ _ (λ none. rw (h1, h2, none) refl) f
 
-pub assertion-fail4 : (l : Option Token) (ts : List Token) (v : Token) (us : List Token) (vs : List Token) (q : List Token) (ws : List Token) (x : Stop) → lead is_verb_token ts ≡ Some (v, us) → opening us ≡ Some vs → clock_of vs ≡ Some (q, ws) → Fails x (optional Disable disabling ws) → Fails x (assertion_item l ts)
+pub assertion-fail4 : (l : Option Token) (ts : List Token) (v : Token) (us : List Token) (vs : List Token) (q : List Token) (ws : List Token) (x : Stop) → lead is_verb_token ts ≡ Some (v, us) → opening_words us ≡ Some vs → clock_words vs ≡ Some (q, ws) → Fails x (optional Disable disable_reader ws) → Fails x (assertion_item l ts)
 unfolding assertion_item
 assertion-fail4 l ts v us vs q ws x h1 h2 h3 f = failing x _ _ (λ none. rw (h1, h2, h3, none) refl) f
 
-pub assertion-fail5 : (l : Option Token) (ts : List Token) (v : Token) (us : List Token) (vs : List Token) (q : List Token) (ws : List Token) (e : Option Tree) (xs : List Token) (x : Stop) → lead is_verb_token ts ≡ Some (v, us) → opening us ≡ Some vs → clock_of vs ≡ Some (q, ws) → optional Disable disabling ws ≡ Some (e, xs) → Fails x (property_end xs) → Fails x (assertion_item l ts)
+pub assertion-fail5 : (l : Option Token) (ts : List Token) (v : Token) (us : List Token) (vs : List Token) (q : List Token) (ws : List Token) (e : Option Tree) (xs : List Token) (x : Stop) → lead is_verb_token ts ≡ Some (v, us) → opening_words us ≡ Some vs → clock_words vs ≡ Some (q, ws) → optional Disable disable_reader ws ≡ Some (e, xs) → Fails x (property_end xs) → Fails x (assertion_item l ts)
 unfolding assertion_item
 assertion-fail5 l ts v us vs q ws e xs x h1 h2 h3 h4 f = failing x _ _ (λ none. rw (h1, h2, h3, h4, none) refl) f
 
-pub assertion-ok : (l : Option Token) (ts : List Token) (v : Token) (us : List Token) (vs : List Token) (q : List Token) (ws : List Token) (e : Option Tree) (xs : List Token) (p : Property) (ys : List Token) → lead is_verb_token ts ≡ Some (v, us) → opening us ≡ Some vs → clock_of vs ≡ Some (q, ws) → optional Disable disabling ws ≡ Some (e, xs) → property_end xs ≡ Some (p, ys) → assertion_item l ts ≡ Some (assertion_of l v q e p, ys)
+pub assertion-ok : (l : Option Token) (ts : List Token) (v : Token) (us : List Token) (vs : List Token) (q : List Token) (ws : List Token) (e : Option Tree) (xs : List Token) (p : PropertyForm) (ys : List Token) → lead is_verb_token ts ≡ Some (v, us) → opening_words us ≡ Some vs → clock_words vs ≡ Some (q, ws) → optional Disable disable_reader ws ≡ Some (e, xs) → property_end xs ≡ Some (p, ys) → assertion_item l ts ≡ Some (assertion_form l v q e p, ys)
 unfolding assertion_item
 assertion-ok l ts v us vs q ws e xs p ys h1 h2 h3 h4 h5 = rw (h1, h2, h3, h4, h5) refl
 
-pub labelled-tail : (ts : List Token) → lead is_name ts ≡ None → labelled ts ≡ assertion_item None ts
-unfolding labelled
+pub labelled-tail : (ts : List Token) → lead is_name ts ≡ None → label_reader ts ≡ assertion_item None ts
+unfolding label_reader
 labelled-tail ts h = rw (h) refl
 
-pub labelled-fail : (ts : List Token) (n : Token) (us : List Token) (x : Stop) → lead is_name ts ≡ Some (n, us) → Fails x (expect Colon us) → Fails x (labelled ts)
-unfolding labelled
+pub labelled-fail : (ts : List Token) (n : Token) (us : List Token) (x : Stop) → lead is_name ts ≡ Some (n, us) → Fails x (expect Colon us) → Fails x (label_reader ts)
+unfolding label_reader
 labelled-fail ts n us x h f = failing x _ _ (λ none. rw (h, none) refl) f
 
-pub labelled-colon : (ts : List Token) (n : Token) (us : List Token) (c : Token) (vs : List Token) → lead is_name ts ≡ Some (n, us) → expect Colon us ≡ Some (c, vs) → labelled ts ≡ assertion_item (Some n) vs
-unfolding labelled
+pub labelled-colon : (ts : List Token) (n : Token) (us : List Token) (c : Token) (vs : List Token) → lead is_name ts ≡ Some (n, us) → expect Colon us ≡ Some (c, vs) → label_reader ts ≡ assertion_item (Some n) vs
+unfolding label_reader
 labelled-colon ts n us c vs h k = rw (h, k) refl
 
-pub declared-no : (ts : List Token) → expect word.Sequence ts ≡ None → declared ts ≡ labelled ts
-unfolding declared
+pub declared-no : (ts : List Token) → expect word.Sequence ts ≡ None → declaration_reader ts ≡ label_reader ts
+unfolding declaration_reader
 declared-no ts h = rw (h) refl
 
-pub declared-yes : (ts : List Token) (w : Token) (us : List Token) → expect word.Sequence ts ≡ Some (w, us) → declared ts ≡ declaration_item us
-unfolding declared
+pub declared-yes : (ts : List Token) (w : Token) (us : List Token) → expect word.Sequence ts ≡ Some (w, us) → declaration_reader ts ≡ declaration_item us
+unfolding declaration_reader
 declared-yes ts w us h = rw (h) refl
 
-pub item-declared : (ts : List Token) → expect word.Counter ts ≡ None → item ts ≡ declared ts
+pub item-declared : (ts : List Token) → expect word.Counter ts ≡ None → item ts ≡ declaration_reader ts
 unfolding item
 item-declared ts h = rw (h) refl
 
-pub item-label : (ts : List Token) (w : Token) (us : List Token) (c : Token) (vs : List Token) → expect word.Counter ts ≡ Some (w, us) → expect Colon us ≡ Some (c, vs) → item ts ≡ declared ts
+pub item-label : (ts : List Token) (w : Token) (us : List Token) (c : Token) (vs : List Token) → expect word.Counter ts ≡ Some (w, us) → expect Colon us ≡ Some (c, vs) → item ts ≡ declaration_reader ts
 unfolding item
 item-label ts w us c vs h k = rw (h, k) refl
 
 pub item-counter : (ts : List Token) (w : Token) (us : List Token) → expect word.Counter ts ≡ Some (w, us) → expect Colon us ≡ None → item ts ≡ counter_item us
 unfolding item
 item-counter ts w us h k = rw (h, k) refl
-
-pub name-nil : (ts : List Token) → ts ≡ [] → pick name_of ts ≡ None
-unfolding pick
-name-nil ts h = rw (h) refl
-
-pub name-no : (ts : List Token) (t : Token) (us : List Token) → ts ≡ t ∷ us → false ≡ is_name t → pick name_of ts ≡ None
-unfolding pick name_of
-name-no ts t us h k = rw (h, ← k) refl
-
-pub name-yes : (ts : List Token) (t : Token) (us : List Token) → ts ≡ t ∷ us → true ≡ is_name t → pick name_of ts ≡ Some (t, us)
-unfolding pick name_of
-name-yes ts t us h k = rw (h, ← k) refl
-
-pub lead-name-nil : (ts : List Token) → ts ≡ [] → lead is_name ts ≡ None
-unfolding lead
-lead-name-nil ts h = rw (h) refl
-
-pub lead-name-no : (ts : List Token) (t : Token) (us : List Token) → ts ≡ t ∷ us → false ≡ is_name t → lead is_name ts ≡ None
-unfolding lead
-lead-name-no ts t us h k = rw (h, ← k) refl
-
-pub lead-name-yes : (ts : List Token) (t : Token) (us : List Token) → ts ≡ t ∷ us → true ≡ is_name t → lead is_name ts ≡ Some (t, us)
-unfolding lead
-lead-name-yes ts t us h k = rw (h, ← k) refl
-
-pub verb-assert : (ts : List Token) (t : Token) (us : List Token) → expect word.Assert ts ≡ Some (t, us) → lead is_verb_token ts ≡ Some (t, us)
-unfolding expect lead is_verb_token
-verb-assert [] t us h = h
-verb-assert (q ∷ qs) t us h = verb-first {A = Token × List Token} (is word.Assert q) (is word.Assume q) (q, qs) (t, us) h
-
-pub verb-assume : (ts : List Token) (t : Token) (us : List Token) → expect word.Assume ts ≡ Some (t, us) → lead is_verb_token ts ≡ Some (t, us)
-unfolding expect lead is_verb_token
-verb-assume [] t us h = h
-verb-assume (q ∷ qs) t us h = verb-second {A = Token × List Token} (is word.Assert q) (is word.Assume q) (q, qs) (t, us) h
-
-pub verb-no : (ts : List Token) → expect word.Assert ts ≡ None → expect word.Assume ts ≡ None → lead is_verb_token ts ≡ None
-unfolding expect lead is_verb_token
-verb-no [] h k = refl
-verb-no (q ∷ qs) h k = verb-neither {A = Token × List Token} (is word.Assert q) (is word.Assume q) (q, qs) h k
 
 pub more-nil : (ts : List Token) → ts ≡ [] → lead is_more ts ≡ None
 unfolding lead
@@ -350,18 +297,6 @@ more-end ts t us h k = rw (h, ← k) refl
 pub more-yes : (ts : List Token) (t : Token) (us : List Token) → ts ≡ t ∷ us → false ≡ is End t → lead is_more ts ≡ Some (t, us)
 unfolding lead is_more
 more-yes ts t us h k = rw (h, ← k) refl
-
-pub path-fail1 : (ts : List Token) (x : Stop) → Fails x (pick name_of ts) → Fails x (path_words ts)
-unfolding path_words
-path-fail1 ts x f = failing x _ _ (λ none. rw (none) refl) f
-
-pub path-fail2 : (ts : List Token) (n : Token) (us : List Token) (x : Stop) → pick name_of ts ≡ Some (n, us) → Fails x (members us) → Fails x (path_words ts)
-unfolding path_words
-path-fail2 ts n us x h1 f = failing x _ _ (λ none. rw (h1, none) refl) f
-
-pub path-ok : (ts : List Token) (n : Token) (us : List Token) (q : List Token) (vs : List Token) → pick name_of ts ≡ Some (n, us) → members us ≡ Some (q, vs) → path_words ts ≡ Some (n ∷ q, vs)
-unfolding path_words
-path-ok ts n us q vs h1 h2 = rw (h1, h2) refl
 
 pub ruleset for_one = (one-fail1, one-fail2, one-fail3, one-ok)
 
@@ -395,12 +330,4 @@ pub ruleset for_declared = (declared-no, declared-yes)
 
 pub ruleset for_item = (item-declared, item-label, item-counter)
 
-pub ruleset for_name = (name-nil, name-no, name-yes)
-
-pub ruleset for_lead_name = (lead-name-nil, lead-name-no, lead-name-yes)
-
-pub ruleset for_verb = (verb-no, verb-assert, verb-assume)
-
 pub ruleset for_more = (more-nil, more-end, more-yes)
-
-pub ruleset for_path = (path-fail1, path-fail2, path-ok)

@@ -1,6 +1,5 @@
 pub mod Steps
 pub mod TreeLaws
-pub mod LoopLaws
 pub mod SequenceSteps
 pub mod PropertySteps
 pub mod ItemSteps

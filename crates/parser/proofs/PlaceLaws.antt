@@ -1,26 +1,18 @@
 -- Tokens at which faults stand.
-use Rattle.std.proofs.Common.{◌≡◌, ℕ, suc, ◌+◌, ◌<◌, List, [], ◌∷◌, drop, length, refl, sym, ap, subst, ◌∙◌, arith}
+use Rattle.std.proofs.Common.{◌≡◌, ℕ, suc, ◌+◌, List, ◌∷◌, drop, length, refl, sym, subst, ◌∙◌, arith}
 use Rattle.std.specs.List.{Contains}
 use Rattle.std.proofs.lemmas.List.{length-drop, get_or-drop}
 use Rattle.lexer.specs.declared.token.Token.{Token}
 use Rattle.parser.specs.declared.fault.ParseFault.{ParseFault}
 use Rattle.parser.specs.declared.fault.ParseFault.TheVariants as faults
-use Rattle.parser.specs.Faults.{IsPlaceIn, IsWordIn, IsPlaced}
-
-pub contains-first : (ts : List Token) (t : Token) (us : List Token) → ts ≡ t ∷ us → Contains ts t
-contains-first ts t us e = rw e (0, omega arith, refl)
+use Rattle.parser.specs.Faults.{IsWordIn, IsPlaced}
+use Rattle.parser_expressions.specs.Places.{IsPlaceIn}
 
 pub contains-behind : (ts : List Token) (t : Token) (us : List Token) (x : Token) → ts ≡ t ∷ us → Contains us x → Contains ts x
 contains-behind ts t us x e h = rw e (suc h.0, omega (arith, h.1), h.2)
 
 contains-drop : (n : ℕ) (ts : List Token) (x : Token) → Contains (drop n ts) x → Contains ts x
 contains-drop n ts x h = (n + h.0, omega (arith, h.1, length-drop n ts), sym (get_or-drop n ts h.0 x) ∙ h.2)
-
-pub place-none : (ts : List Token) → 0 < length ts → ts ≡ [] → IsPlaceIn ts 0
-place-none ts some e = absurd (omega (arith, ap length e))
-
-pub place-first : (ts : List Token) (t : Token) (us : List Token) → ts ≡ t ∷ us → IsPlaceIn ts t.at
-place-first ts t us e = record { token = t; among = contains-first ts t us e; place = refl }
 
 pub place-at : (ts : List Token) (t : Token) → Contains ts t → IsPlaceIn ts t.at
 place-at ts t h = record { token = t; among = h; place = refl }
@@ -40,8 +32,6 @@ placed-drop n ts us (faults.OutsideProfile word at) e h =
     record { token = in_last.token; among = contains-drop n ts in_last.token in_last.among; place = in_last.place; text = in_last.text }
 placed-drop n ts us (faults.TooDeep at) e h = place-drop n ts at (subst (λ (vs : List Token). IsPlaceIn vs at) e h)
 placed-drop n ts us (faults.BadBound at) e h = place-drop n ts at (subst (λ (vs : List Token). IsPlaceIn vs at) e h)
-
-pub ruleset for_place = (place-none, place-first)
 
 pub ruleset for_place_in = (place-at)
 

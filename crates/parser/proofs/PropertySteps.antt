@@ -3,12 +3,12 @@ use Rattle.std.proofs.Common.{◌≡◌, ℕ, suc, ◌+◌, List, Option, Some, 
 use Rattle.lexer.specs.declared.token.Token.{Token}
 use Rattle.grammar.specs.declared.terminal.Terminal.TheVariants.{OpenRound, CloseRound}
 use Rattle.grammar.specs.Marks.{has_precedence}
-use Rattle.grammar.specs.Trees.{Sequence, Property, plain, implication}
+use Rattle.grammar.specs.Trees.{SequenceForm, PropertyForm, plain, implication}
 use Rattle.grammar.specs.Readers.{◌>>=◌, Reader, refuse, lead, expect}
 use Rattle.grammar.specs.ReadSequences.{whole, regroup, sequence_behind, implication_behind, regroup_property, property_with, properties, property}
-use Rattle.parser.specs.declared.stop.Stop.{Stop}
-use Rattle.parser.specs.Views.{Fails}
-use Rattle.parser.proofs.Steps.{failing, none-fails}
+use Rattle.parser_expressions.specs.declared.stop.Stop.{Stop}
+use Rattle.parser_expressions.specs.Views.{Fails}
+use Rattle.parser_expressions.proofs.Steps.{failing, none-fails}
 
 inner-at : (d k : ℕ) → d ≡ k + 1 → properties d ≡ property k
 unfolding properties property
@@ -23,46 +23,46 @@ unfolding property property_with
 opened-by d ts o us h = rw (h) refl
 
 -- what follows an opening bracket
-abbrev closed : ℕ → Option (Property × List Token) → Option (Property × List Token)
+abbrev closed : ℕ → Option (PropertyForm × List Token) → Option (PropertyForm × List Token)
 closed d o = o >>= λ p. expect CloseRound p.1 >>= λ r. regroup_property d p.0 r.1
 
 opened : (d : ℕ) (ts : List Token) (o : Token) (us : List Token) (k : ℕ) → expect OpenRound ts ≡ Some (o, us) → d ≡ k + 1 → property d ts ≡ closed d (property k us)
-opened d ts o us k h depth = opened-by d ts o us h ∙ ap (λ (r : Reader Property). closed d (r us)) (inner-at d k depth)
+opened d ts o us k h depth = opened-by d ts o us h ∙ ap (λ (r : Reader PropertyForm). closed d (r us)) (inner-at d k depth)
 
-behind-none : (d : ℕ) (o : Option (Property × List Token)) → o ≡ None → closed d o ≡ None
+behind-none : (d : ℕ) (o : Option (PropertyForm × List Token)) → o ≡ None → closed d o ≡ None
 behind-none d o h = rw (h) refl
 
-behind-unclosed : (d : ℕ) (o : Option (Property × List Token)) (p : Property) (vs : List Token) → o ≡ Some (p, vs) → expect CloseRound vs ≡ None → closed d o ≡ None
+behind-unclosed : (d : ℕ) (o : Option (PropertyForm × List Token)) (p : PropertyForm) (vs : List Token) → o ≡ Some (p, vs) → expect CloseRound vs ≡ None → closed d o ≡ None
 behind-unclosed d o p vs h k = rw (h, k) refl
 
-behind-closed : (d : ℕ) (o : Option (Property × List Token)) (p : Property) (vs : List Token) (c : Token) (ws : List Token) → o ≡ Some (p, vs) → expect CloseRound vs ≡ Some (c, ws) → closed d o ≡ regroup_property d p ws
+behind-closed : (d : ℕ) (o : Option (PropertyForm × List Token)) (p : PropertyForm) (vs : List Token) (c : Token) (ws : List Token) → o ≡ Some (p, vs) → expect CloseRound vs ≡ Some (c, ws) → closed d o ≡ regroup_property d p ws
 behind-closed d o p vs c ws h k = rw (h, k) refl
 
-pub implication-absent : (d : ℕ) (s : Sequence) (ts : List Token) → lead (has_precedence 17) ts ≡ None → implication_behind d s ts ≡ Some (plain s, ts)
+pub implication-absent : (d : ℕ) (s : SequenceForm) (ts : List Token) → lead (has_precedence 17) ts ≡ None → implication_behind d s ts ≡ Some (plain s, ts)
 unfolding implication_behind
 implication-absent d s ts h = rw (h) refl
 
-pub implication-fails : (d : ℕ) (s : Sequence) (ts : List Token) (t : Token) (us : List Token) (x : Stop) → lead (has_precedence 17) ts ≡ Some (t, us) → Fails x (whole d us) → Fails x (implication_behind d s ts)
+pub implication-fails : (d : ℕ) (s : SequenceForm) (ts : List Token) (t : Token) (us : List Token) (x : Stop) → lead (has_precedence 17) ts ≡ Some (t, us) → Fails x (whole d us) → Fails x (implication_behind d s ts)
 unfolding implication_behind
 implication-fails d s ts t us x h f = failing x _ _ (λ none. rw (h, none) refl) f
 
-pub implication-ok : (d : ℕ) (s : Sequence) (ts : List Token) (t : Token) (us : List Token) (q : Sequence) (vs : List Token) → lead (has_precedence 17) ts ≡ Some (t, us) → whole d us ≡ Some (q, vs) → implication_behind d s ts ≡ Some (implication s t q, vs)
+pub implication-ok : (d : ℕ) (s : SequenceForm) (ts : List Token) (t : Token) (us : List Token) (q : SequenceForm) (vs : List Token) → lead (has_precedence 17) ts ≡ Some (t, us) → whole d us ≡ Some (q, vs) → implication_behind d s ts ≡ Some (implication s t q, vs)
 unfolding implication_behind
 implication-ok d s ts t us q vs h k = rw (h, k) refl
 
-pub regroup-fail1 : (d : ℕ) (s : Sequence) (ts : List Token) (x : Stop) → Fails x (regroup d s ts) → Fails x (regroup_property d (plain s) ts)
+pub regroup-fail1 : (d : ℕ) (s : SequenceForm) (ts : List Token) (x : Stop) → Fails x (regroup d s ts) → Fails x (regroup_property d (plain s) ts)
 unfolding regroup_property
 regroup-fail1 d s ts x f = failing x _ _ (λ none. rw (none) refl) f
 
-pub regroup-fail2 : (d : ℕ) (s : Sequence) (ts : List Token) (b : Sequence) (us : List Token) (x : Stop) → regroup d s ts ≡ Some (b, us) → Fails x (sequence_behind d b us) → Fails x (regroup_property d (plain s) ts)
+pub regroup-fail2 : (d : ℕ) (s : SequenceForm) (ts : List Token) (b : SequenceForm) (us : List Token) (x : Stop) → regroup d s ts ≡ Some (b, us) → Fails x (sequence_behind d b us) → Fails x (regroup_property d (plain s) ts)
 unfolding regroup_property
 regroup-fail2 d s ts b us x h f = failing x _ _ (λ none. rw (h, none) refl) f
 
-pub regroup-tail : (d : ℕ) (s : Sequence) (ts : List Token) (b : Sequence) (us : List Token) (q : Sequence) (vs : List Token) → regroup d s ts ≡ Some (b, us) → sequence_behind d b us ≡ Some (q, vs) → regroup_property d (plain s) ts ≡ implication_behind d q vs
+pub regroup-tail : (d : ℕ) (s : SequenceForm) (ts : List Token) (b : SequenceForm) (us : List Token) (q : SequenceForm) (vs : List Token) → regroup d s ts ≡ Some (b, us) → sequence_behind d b us ≡ Some (q, vs) → regroup_property d (plain s) ts ≡ implication_behind d q vs
 unfolding regroup_property
 regroup-tail d s ts b us q vs h k = rw (h, k) refl
 
-pub regroup-implication : (d : ℕ) (a : Sequence) (t : Token) (c : Sequence) (ts : List Token) → regroup_property d (implication a t c) ts ≡ Some (implication a t c, ts)
+pub regroup-implication : (d : ℕ) (a : SequenceForm) (t : Token) (c : SequenceForm) (ts : List Token) → regroup_property d (implication a t c) ts ≡ Some (implication a t c, ts)
 unfolding regroup_property
 regroup-implication d a t c ts = refl
 
@@ -70,7 +70,7 @@ pub property-plain-fails : (d : ℕ) (ts : List Token) (x : Stop) → expect Ope
 unfolding property property_with
 property-plain-fails d ts x h f = failing x _ _ (λ none. rw (h, none) refl) f
 
-pub property-plain-tail : (d : ℕ) (ts : List Token) (s : Sequence) (us : List Token) → expect OpenRound ts ≡ None → whole d ts ≡ Some (s, us) → property d ts ≡ implication_behind d s us
+pub property-plain-tail : (d : ℕ) (ts : List Token) (s : SequenceForm) (us : List Token) → expect OpenRound ts ≡ None → whole d ts ≡ Some (s, us) → property d ts ≡ implication_behind d s us
 unfolding property property_with
 property-plain-tail d ts s us h k = rw (h, k) refl
 
@@ -81,10 +81,10 @@ property-deep d ts o us x h z = none-fails x _ (rw (h, inner-zero d z) refl)
 pub property-fail1 : (d : ℕ) (ts : List Token) (o : Token) (us : List Token) (k : ℕ) (x : Stop) → expect OpenRound ts ≡ Some (o, us) → d ≡ k + 1 → Fails x (property k us) → Fails x (property d ts)
 property-fail1 d ts o us k x h depth f = failing x _ _ (λ none. opened d ts o us k h depth ∙ behind-none d (property k us) none) f
 
-pub property-fail2 : (d : ℕ) (ts : List Token) (o : Token) (us : List Token) (k : ℕ) (p : Property) (vs : List Token) (x : Stop) → expect OpenRound ts ≡ Some (o, us) → d ≡ k + 1 → property k us ≡ Some (p, vs) → Fails x (expect CloseRound vs) → Fails x (property d ts)
+pub property-fail2 : (d : ℕ) (ts : List Token) (o : Token) (us : List Token) (k : ℕ) (p : PropertyForm) (vs : List Token) (x : Stop) → expect OpenRound ts ≡ Some (o, us) → d ≡ k + 1 → property k us ≡ Some (p, vs) → Fails x (expect CloseRound vs) → Fails x (property d ts)
 property-fail2 d ts o us k p vs x h depth h2 f = failing x _ _ (λ none. opened d ts o us k h depth ∙ behind-unclosed d (property k us) p vs h2 none) f
 
-pub property-tail : (d : ℕ) (ts : List Token) (o : Token) (us : List Token) (k : ℕ) (p : Property) (vs : List Token) (c : Token) (ws : List Token) → expect OpenRound ts ≡ Some (o, us) → d ≡ k + 1 → property k us ≡ Some (p, vs) → expect CloseRound vs ≡ Some (c, ws) → property d ts ≡ regroup_property d p ws
+pub property-tail : (d : ℕ) (ts : List Token) (o : Token) (us : List Token) (k : ℕ) (p : PropertyForm) (vs : List Token) (c : Token) (ws : List Token) → expect OpenRound ts ≡ Some (o, us) → d ≡ k + 1 → property k us ≡ Some (p, vs) → expect CloseRound vs ≡ Some (c, ws) → property d ts ≡ regroup_property d p ws
 property-tail d ts o us k p vs c ws h depth h2 h3 = opened d ts o us k h depth ∙ behind-closed d (property k us) p vs c ws h2 h3
 
 pub ruleset for_implication = (implication-absent, implication-fails, implication-ok)

@@ -2,12 +2,13 @@
 use Rattle.std.specs.Prelude.{◌≡◌, ℕ, List, Option, None}
 use Rattle.std.specs.List.{Contains}
 use Rattle.lexer.specs.declared.token.Token.{Token}
-use Rattle.grammar.specs.Trees.{Item}
+use Rattle.grammar.specs.Trees.{ItemForm}
 use Rattle.grammar.specs.Files.{IsFile}
 use Rattle.parser.specs.declared.fault.ParseFault.{ParseFault}
 use Rattle.parser.specs.declared.fault.ParseFault.TheVariants as faults
-use Rattle.parser.specs.declared.stop.Stop.{Stop}
-use Rattle.parser.specs.declared.stop.Stop.TheVariants as stops
+use Rattle.parser_expressions.specs.Places.{IsPlaceIn}
+use Rattle.parser_expressions.specs.declared.stop.Stop.{Stop}
+use Rattle.parser_expressions.specs.declared.stop.Stop.TheVariants as stops
 
 abbrev pub IsTooDeep : ParseFault → Type 0
 IsTooDeep (faults.TooDeep at) = Unit {0}
@@ -18,25 +19,19 @@ IsBadBound (faults.BadBound at) = Unit {0}
 IsBadBound _ = ⊥
 
 -- the fault of a stop: want of memory is that of memory, and no other
-abbrev pub Names : Stop → ParseFault → Type 0
-Names stops.Memory fault = fault ≡ faults.Memory
-Names (stops.Expected what at) fault = fault ≡ faults.Memory → ⊥
-Names (stops.TooDeep at) fault = IsTooDeep fault
-Names (stops.BadBound at) fault = IsBadBound fault
+abbrev pub NamesStop : Stop → ParseFault → Type 0
+NamesStop stops.Memory fault = fault ≡ faults.Memory
+NamesStop (stops.Expected what at) fault = fault ≡ faults.Memory → ⊥
+NamesStop (stops.TooDeep at) fault = IsTooDeep fault
+NamesStop (stops.BadBound at) fault = IsBadBound fault
 
 -- Nothing is read, unless memory ran out.
 abbrev pub Refuses : {Y : Type 0} → ParseFault → Option Y → Type 0
 Refuses fault read = (fault ≡ faults.Memory → ⊥) → read ≡ None
 
 -- No file spells the tokens, unless memory ran out.
-abbrev pub IsRefused : List Token → ParseFault → Type 0
-IsRefused tokens fault = (fault ≡ faults.Memory → ⊥) → (xs : List Item) → IsFile xs tokens → ⊥
-
--- One of the tokens stands at the byte.
-pub record IsPlaceIn (tokens : List Token) (at : ℕ) : Type 0 where
-  pub token : Token
-  pub among : Contains tokens token
-  pub place : token.at ≡ at
+abbrev pub IsParseFault : List Token → ParseFault → Type 0
+IsParseFault tokens fault = (fault ≡ faults.Memory → ⊥) → (xs : List ItemForm) → IsFile xs tokens → ⊥
 
 -- One of the tokens stands at the byte, and this is its text.
 pub record IsWordIn (tokens : List Token) (word : List ℕ) (at : ℕ) : Type 0 where

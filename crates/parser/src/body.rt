@@ -1,27 +1,27 @@
 //! Sequences made of their parts.
 
 ghost use Rattle.std.specs.Prelude.{◌≡◌, ◌<◌, ◌≤◌, ◌++◌, [], ◌∷◌, length, map, Some, IfOk, IfErr, MatchResult};
-ghost use Rattle.parser.specs.declared.stop.Stop.TheVariants.{Memory};
+ghost use Rattle.parser_expressions.specs.declared.stop.Stop.TheVariants.{Memory};
 ghost use Rattle.grammar.specs.declared.terminal.Terminal.TheVariants.{Throughout};
 ghost use Rattle.grammar.specs.Trees.{boolean};
 ghost use Rattle.grammar.specs.Trees as trees;
 ghost use Rattle.grammar.specs.Readers.{expect};
 ghost use Rattle.grammar.specs.ReadSequences.{with_times, with_steps, with_conjuncts, with_alternatives};
-ghost use Rattle.parser.specs.Views.{tree_of, sequence_of, step_of, Gives, read_as};
+ghost use Rattle.parser_expressions.specs.Views.{tree_of, Gives, read_as};
+ghost use Rattle.parser.specs.Views.{sequence_of, delay_step_of};
 ghost use Rattle.parser.specs.Bodies.{body_of, IsProper, HasNoThroughout};
 
-use crate::read::{Read, accept};
-use crate::stop::Stop;
-use crate::tree::{Expr, Sequence};
+use crate::tree::SequenceTree;
 use grammar::{Range, Terminal};
 use lexer::Token;
+use parser_expressions::{ExprTree, Read, Stop, accept};
 use std::alloc::{AllocError, Global};
 
 /// What may stand where a chain of delays has a part: an expression, or a sequence in brackets that is none.
 #[derive(Drop)]
 pub(crate) enum Body<'a> {
-    Expression(Box<Expr<'a>>),
-    Sequence(Box<Sequence<'a>>),
+    Expression(Box<ExprTree<'a>>),
+    Sequence(Box<SequenceTree<'a>>),
 }
 
 /// The sequence that a body is.
@@ -29,11 +29,11 @@ pub(crate) enum Body<'a> {
 pub(crate) fn into_sequence<'a>(
     alloc: Global,
     body: Body<'a>,
-) -> Result<Box<Sequence<'a>>, AllocError>
+) -> Result<Box<SequenceTree<'a>>, AllocError>
     ensures { IfOk result (λ s. sequence_of s.value ≡ body_of body.entry) }
 {
     match body {
-        Body::Expression(expr) => Ok(Box::new(alloc, Sequence::Boolean(expr))?),
+        Body::Expression(expr) => Ok(Box::new(alloc, SequenceTree::Boolean(expr))?),
         Body::Sequence(sequence) => Ok(sequence),
     }
 }
@@ -42,21 +42,27 @@ pub(crate) fn into_sequence<'a>(
 #[tactic(auto, using(crate::proofs::TreeLaws::sequence_rules))]
 pub(crate) fn into_body<'a>(
     alloc: Global,
-    sequence: Box<Sequence<'a>>,
+    sequence: Box<SequenceTree<'a>>,
 ) -> Result<Body<'a>, AllocError>
     ensures same { IfOk result (λ b. body_of b ≡ sequence_of sequence.entry.value) }
     ensures proper { IfOk result IsProper }
 {
     let sequence = match Box::into_inner(sequence) {
-        Sequence::Boolean(expr) => return Ok(Body::Expression(expr)),
-        Sequence::Repeated(body, range) => Box::new(alloc, Sequence::Repeated(body, range))?,
-        Sequence::Late(token, range, body) => {
-            Box::new(alloc, Sequence::Late(token, range, body))?
+        SequenceTree::Boolean(expr) => return Ok(Body::Expression(expr)),
+        SequenceTree::Repeated(body, range) => Box::new(
+            alloc,
+            SequenceTree::Repeated(body, range),
+        )?,
+        SequenceTree::Late(token, range, body) => {
+            Box::new(alloc, SequenceTree::Late(token, range, body))?
         }
-        Sequence::Delayed(first, more) => Box::new(alloc, Sequence::Delayed(first, more))?,
-        Sequence::Throughout(expr, body) => Box::new(alloc, Sequence::Throughout(expr, body))?,
-        Sequence::And(first, more) => Box::new(alloc, Sequence::And(first, more))?,
-        Sequence::Or(first, more) => Box::new(alloc, Sequence::Or(first, more))?,
+        SequenceTree::Delayed(first, more) => Box::new(alloc, SequenceTree::Delayed(first, more))?,
+        SequenceTree::Throughout(expr, body) => Box::new(
+            alloc,
+            SequenceTree::Throughout(expr, body),
+        )?,
+        SequenceTree::And(first, more) => Box::new(alloc, SequenceTree::And(first, more))?,
+        SequenceTree::Or(first, more) => Box::new(alloc, SequenceTree::Or(first, more))?,
     };
     Ok(Body::Sequence(sequence))
 }
@@ -65,17 +71,17 @@ pub(crate) fn into_body<'a>(
 #[tactic(auto, using(crate::proofs::TreeLaws::sequence_rules))]
 pub(crate) fn with_times<'t, 'a>(
     alloc: Global,
-    body: Box<Sequence<'a>>,
+    body: Box<SequenceTree<'a>>,
     counts: Option<Range>,
     rest: &'t [Token<'a>],
-) -> Read<'t, 'a, Box<Sequence<'a>>>
+) -> Read<'t, 'a, Box<SequenceTree<'a>>>
     ensures read { Gives (λ r. (sequence_of r.0.value, r.1.now)) result
         (read_as (with_times (sequence_of body.entry.value) counts) rest.now) }
     ensures shorter { IfOk result (λ r. length r.1.now ≤ length rest.now) }
 {
     match counts {
         None => Ok((body, rest)),
-        Some(range) => Ok((Box::new(alloc, Sequence::Repeated(body, range))?, rest)),
+        Some(range) => Ok((Box::new(alloc, SequenceTree::Repeated(body, range))?, rest)),
     }
 }
 
@@ -83,29 +89,29 @@ pub(crate) fn with_times<'t, 'a>(
 #[tactic(auto, using(crate::proofs::TreeLaws::steps_rules))]
 pub(crate) fn with_steps<'t, 'a>(
     alloc: Global,
-    head: Box<Sequence<'a>>,
-    more: Vec<(Range, Sequence<'a>)>,
+    head: Box<SequenceTree<'a>>,
+    more: Vec<(Range, SequenceTree<'a>)>,
     rest: &'t [Token<'a>],
-) -> Read<'t, 'a, Box<Sequence<'a>>>
+) -> Read<'t, 'a, Box<SequenceTree<'a>>>
     ensures read { Gives (λ r. (sequence_of r.0.value, r.1.now)) result
         (read_as (with_steps (sequence_of head.entry.value)
-        (map step_of more.entry.items)) rest.now) }
+        (map delay_step_of more.entry.items)) rest.now) }
     ensures shorter { IfOk result (λ r. length r.1.now ≤ length rest.now) }
 {
     if more.is_empty() {
         return Ok((head, rest));
     }
-    Ok((Box::new(alloc, Sequence::Delayed(head, more))?, rest))
+    Ok((Box::new(alloc, SequenceTree::Delayed(head, more))?, rest))
 }
 
 /// A first side with those behind `and`.
 #[tactic(auto, using(crate::proofs::TreeLaws::conjuncts_rules))]
 pub(crate) fn with_conjuncts<'t, 'a>(
     alloc: Global,
-    side: Box<Sequence<'a>>,
-    more: Vec<Sequence<'a>>,
+    side: Box<SequenceTree<'a>>,
+    more: Vec<SequenceTree<'a>>,
     rest: &'t [Token<'a>],
-) -> Read<'t, 'a, Box<Sequence<'a>>>
+) -> Read<'t, 'a, Box<SequenceTree<'a>>>
     ensures read { Gives (λ r. (sequence_of r.0.value, r.1.now)) result
         (read_as (with_conjuncts (sequence_of side.entry.value)
         (map sequence_of more.entry.items)) rest.now) }
@@ -114,17 +120,17 @@ pub(crate) fn with_conjuncts<'t, 'a>(
     if more.is_empty() {
         return Ok((side, rest));
     }
-    Ok((Box::new(alloc, Sequence::And(side, more))?, rest))
+    Ok((Box::new(alloc, SequenceTree::And(side, more))?, rest))
 }
 
 /// A first side with those behind `or`.
 #[tactic(auto, using(crate::proofs::TreeLaws::alternatives_rules))]
 pub(crate) fn with_alternatives<'t, 'a>(
     alloc: Global,
-    side: Box<Sequence<'a>>,
-    more: Vec<Sequence<'a>>,
+    side: Box<SequenceTree<'a>>,
+    more: Vec<SequenceTree<'a>>,
     rest: &'t [Token<'a>],
-) -> Read<'t, 'a, Box<Sequence<'a>>>
+) -> Read<'t, 'a, Box<SequenceTree<'a>>>
     ensures read { Gives (λ r. (sequence_of r.0.value, r.1.now)) result
         (read_as (with_alternatives (sequence_of side.entry.value)
         (map sequence_of more.entry.items)) rest.now) }
@@ -133,7 +139,7 @@ pub(crate) fn with_alternatives<'t, 'a>(
     if more.is_empty() {
         return Ok((side, rest));
     }
-    Ok((Box::new(alloc, Sequence::Or(side, more))?, rest))
+    Ok((Box::new(alloc, SequenceTree::Or(side, more))?, rest))
 }
 
 /// A delay with nothing before it, and what it delays.
@@ -142,36 +148,39 @@ pub(crate) fn late<'t, 'a>(
     alloc: Global,
     token: Token<'a>,
     range: Range,
-    body: Box<Sequence<'a>>,
+    body: Box<SequenceTree<'a>>,
     rest: &'t [Token<'a>],
-) -> Read<'t, 'a, Box<Sequence<'a>>>
+) -> Read<'t, 'a, Box<SequenceTree<'a>>>
     ensures read { Gives (λ r. (sequence_of r.0.value, r.1.now)) result
         (read_as (trees.late token.entry range (sequence_of body.entry.value)) rest.now) }
     ensures shorter { IfOk result (λ r. length r.1.now ≤ length rest.now) }
 {
-    Ok((Box::new(alloc, Sequence::Late(token, range, body))?, rest))
+    Ok((
+        Box::new(alloc, SequenceTree::Late(token, range, body))?,
+        rest,
+    ))
 }
 
 /// What holds throughout a body.
 #[tactic(auto, using(crate::proofs::TreeLaws::sequence_rules))]
 pub(crate) fn throughout<'t, 'a>(
     alloc: Global,
-    expr: Box<Expr<'a>>,
-    body: Box<Sequence<'a>>,
+    expr: Box<ExprTree<'a>>,
+    body: Box<SequenceTree<'a>>,
     rest: &'t [Token<'a>],
-) -> Read<'t, 'a, Box<Sequence<'a>>>
+) -> Read<'t, 'a, Box<SequenceTree<'a>>>
     ensures read { Gives (λ r. (sequence_of r.0.value, r.1.now)) result
         (read_as (trees.throughout (tree_of expr.entry.value)
         (sequence_of body.entry.value)) rest.now) }
     ensures shorter { IfOk result (λ r. length r.1.now ≤ length rest.now) }
 {
-    Ok((Box::new(alloc, Sequence::Throughout(expr, body))?, rest))
+    Ok((Box::new(alloc, SequenceTree::Throughout(expr, body))?, rest))
 }
 
 /// Puts one more sequence behind those that were found.
 pub(crate) fn push_sequence<'a>(
-    found: &mut Vec<Sequence<'a>>,
-    sequence: Box<Sequence<'a>>,
+    found: &mut Vec<SequenceTree<'a>>,
+    sequence: Box<SequenceTree<'a>>,
 ) -> Result<(), Stop>
     ensures ok { IfOk result (λ _. found.new.items ≡ found.old.items ++ sequence.entry.value ∷ []) }
     ensures err { IfErr result (λ stop. stop ≡ Memory) }
@@ -182,9 +191,9 @@ pub(crate) fn push_sequence<'a>(
 
 /// Puts one more delay with what it delays behind those that were found.
 pub(crate) fn push_step<'a>(
-    found: &mut Vec<(Range, Sequence<'a>)>,
+    found: &mut Vec<(Range, SequenceTree<'a>)>,
     range: Range,
-    body: Box<Sequence<'a>>,
+    body: Box<SequenceTree<'a>>,
 ) -> Result<(), Stop>
     ensures ok { IfOk result
         (λ _. found.new.items ≡ found.old.items ++ (range, body.entry.value) ∷ []) }
@@ -198,7 +207,7 @@ pub(crate) fn push_step<'a>(
 pub(crate) fn throughout_side<'t, 'a>(
     tokens: &'t [Token<'a>],
     body: Body<'a>,
-) -> Result<(Box<Expr<'a>>, Token<'a>, &'t [Token<'a>]), Body<'a>>
+) -> Result<(Box<ExprTree<'a>>, Token<'a>, &'t [Token<'a>]), Body<'a>>
     requires proper { IsProper body }
     ensures side { MatchResult result
         (λ r. (body_of body.entry ≡ boolean (tree_of r.0.value)) × (expect Throughout tokens.now ≡ Some (r.1, r.2.now)))

@@ -4,13 +4,13 @@ ghost use Rattle.std.specs.Prelude.{◌≡◌, ◌≤◌, ℕ, length, IfOk};
 ghost use Rattle.grammar.specs.declared.terminal.Terminal.TheVariants.{Colon, OpenRepeat};
 ghost use Rattle.grammar.specs.Bounds.{bound_within};
 ghost use Rattle.grammar.specs.Readers.{pick, optional};
-ghost use Rattle.grammar.specs.ReadSequences.{times, between, delay, sequences};
-ghost use Rattle.parser.specs.Views.{Gives};
+ghost use Rattle.grammar.specs.ReadSequences.{times, range_between, delay, sequences};
+ghost use Rattle.parser_expressions.specs.Views.{Gives};
 
-use crate::read::{Read, accept, expect, expect_bound, read};
-use crate::stop::Stop;
+use crate::read::read;
 use grammar::{Bound, Range, Terminal};
 use lexer::Token;
+use parser_expressions::{Read, Stop, accept, expect, expect_bound};
 
 /// The largest bound of a delay or a repetition.
 const LARGEST: u8 = 127;
@@ -43,7 +43,7 @@ fn read_times<'t, 'a>(tokens: &'t [Token<'a>]) -> Read<'t, 'a, Range>
 /// The counts of a delay, behind `##` and `[`.
 #[tactic(auto, using(crate::proofs::SequenceSteps::for_between))]
 fn read_between<'t, 'a>(tokens: &'t [Token<'a>]) -> Read<'t, 'a, Range>
-    ensures read { Gives (λ r. (r.0, r.1.now)) result (between tokens.now) }
+    ensures read { Gives (λ r. (r.0, r.1.now)) result (range_between tokens.now) }
     ensures shorter { IfOk result (λ r. length r.1.now ≤ length tokens.now) }
 {
     let (low, rest) = read!(expect_bound(tokens, 0, LARGEST));

@@ -3,12 +3,12 @@
 ghost use Rattle.std.specs.Prelude.{◌≡◌, ◌<◌, length, IfSome};
 ghost use Rattle.std.specs.List.{Contains};
 ghost use Rattle.parser.specs.declared.fault.ParseFault.TheVariants.{Memory};
-ghost use Rattle.parser.specs.Faults.{Names, IsPlaceIn, IsPlaced};
+ghost use Rattle.parser_expressions.specs.Places.{IsPlaceIn};
+ghost use Rattle.parser.specs.Faults.{NamesStop, IsPlaced};
 
-use crate::read::{first, place, same};
-use crate::stop::Stop;
 use grammar::{Terminal, is, terminal_of};
 use lexer::Token;
+use parser_expressions::{Stop, first, place, same};
 use std::alloc::{AllocError, AllocFailed};
 use thiserror::Error;
 
@@ -112,7 +112,7 @@ pub(crate) fn place_in(tokens: &[Token], at: usize) -> usize
 /// The fault at the byte, where something else would go on. The tokens are those from the item's
 /// first on.
 #[tactic(auto, using(crate::proofs::PlaceLaws::for_unexpected))]
-fn unexpected<'a>(tokens: &[Token<'a>], what: &'static str, at: usize) -> ParseFault<'a>
+fn unexpected_token<'a>(tokens: &[Token<'a>], what: &'static str, at: usize) -> ParseFault<'a>
     requires { 0 < length tokens.now }
     ensures other { result ≡ Memory → ⊥ }
     ensures placed { IsPlaced tokens.now result }
@@ -129,12 +129,12 @@ fn unexpected<'a>(tokens: &[Token<'a>], what: &'static str, at: usize) -> ParseF
 /// The fault of a stop, in the item that begins with the tokens.
 pub(crate) fn fault_of<'a>(tokens: &[Token<'a>], stop: Stop) -> ParseFault<'a>
     requires { 0 < length tokens.now }
-    ensures names { Names stop result }
+    ensures names { NamesStop stop result }
     ensures placed { IsPlaced tokens.now result }
 {
     match stop {
         Stop::Memory => ParseFault::Memory,
-        Stop::Expected(what, at) => unexpected(tokens, what, at),
+        Stop::Expected(what, at) => unexpected_token(tokens, what, at),
         Stop::TooDeep(at) => ParseFault::TooDeep(place_in(tokens, at)),
         Stop::BadBound(at) => ParseFault::BadBound(place_in(tokens, at)),
     }

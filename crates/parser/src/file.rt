@@ -5,18 +5,18 @@ ghost use Rattle.grammar.specs.Readers.{lead};
 ghost use Rattle.grammar.specs.Files.{IsFile};
 ghost use Rattle.grammar.specs.ReadFiles.{asserts, is_more, items};
 ghost use Rattle.parser.specs.Views.{item_of, items_of};
-ghost use Rattle.parser.specs.Faults.{IsRefused, Refuses, IsPlaced};
+ghost use Rattle.parser.specs.Faults.{IsParseFault, Refuses, IsPlaced};
 
 use crate::fault::{ParseFault, fault_of, place_in};
 use crate::item::read_item;
-use crate::read::{first, place, same};
-use crate::tree::{File, Item};
+use crate::tree::{File, ItemTree};
 use grammar::{Terminal, is};
 use lexer::Token;
+use parser_expressions::{first, place, same};
 use std::alloc::Global;
 
 /// The items that stand first, and the tokens behind them.
-type Items<'t, 'a> = Result<(Vec<Item<'a>>, &'t [Token<'a>]), ParseFault<'a>>;
+type Items<'t, 'a> = Result<(Vec<ItemTree<'a>>, &'t [Token<'a>]), ParseFault<'a>>;
 
 /// The first token, if it isn't that of the end.
 #[tactic(auto, using(crate::proofs::ItemSteps::for_more))]
@@ -65,32 +65,32 @@ fn read_items<'t, 'a>(alloc: Global, tokens: &'t [Token<'a>]) -> Items<'t, 'a>
 }
 
 /// Whether an item is an assertion.
-fn is_assertion(item: &Item) -> bool
+fn is_assertion(item: &ItemTree) -> bool
     ensures { result ≡ asserts (item_of item.now ∷ []) }
 {
     match item {
-        Item::Assertion(_) => true,
-        Item::Counter(_) => false,
-        Item::Declaration(_) => false,
+        ItemTree::Assertion(_) => true,
+        ItemTree::Counter(_) => false,
+        ItemTree::Declaration(_) => false,
     }
 }
 
 /// The first item, and those behind it.
-fn first_item<'t, 'a>(items: &'t [Item<'a>]) -> Option<(&'t Item<'a>, &'t [Item<'a>])>
+fn first_item<'t, 'a>(items: &'t [ItemTree<'a>]) -> Option<(&'t ItemTree<'a>, &'t [ItemTree<'a>])>
     ensures { MatchOption result (items.now ≡ []) (λ r. items.now ≡ r.0.now ∷ r.1.now) }
 {
     items.split_first()
 }
 
 /// The same items, with which a loop goes on.
-fn same_items<'t, 'a>(items: &'t [Item<'a>]) -> &'t [Item<'a>]
+fn same_items<'t, 'a>(items: &'t [ItemTree<'a>]) -> &'t [ItemTree<'a>]
     ensures { result.now ≡ items.now }
 {
     items
 }
 
 /// Whether one of the items is an assertion.
-fn has_assertion(items: &[Item]) -> bool
+fn has_assertion(items: &[ItemTree]) -> bool
     ensures { result ≡ asserts (map item_of items.now) }
 {
     let mut left = items;
@@ -112,7 +112,7 @@ fn has_assertion(items: &[Item]) -> bool
 /// of the tokens, is shown by tests.
 pub fn parse<'a>(alloc: Global, tokens: &[Token<'a>]) -> Result<File<'a>, ParseFault<'a>>
     ensures ok { IfOk result (λ f. IsFile (items_of f) tokens.now) }
-    ensures err { IfErr result (IsRefused tokens.now) }
+    ensures err { IfErr result (IsParseFault tokens.now) }
     // The fault stands at one of the tokens, if there is one, and P2 tells that token's text.
     ensures placed { IfErr result (λ fault. 0 < length tokens.now → IsPlaced tokens.now fault) }
 {

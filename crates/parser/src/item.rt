@@ -7,19 +7,20 @@ ghost use Rattle.grammar.specs.declared.terminal.Terminal.TheVariants.{Clear, Co
 ghost use Rattle.grammar.specs.Readers.{pick, optional};
 ghost use Rattle.grammar.specs.Trees as trees;
 ghost use Rattle.grammar.specs.Files.{in_one};
-ghost use Rattle.grammar.specs.ReadFiles.{one_operand, two_operands, counter_head, counter_item, again_of, skip, ending_of, declaration_item, opening, clock_of, disabling, property_end, assertion_item, labelled, declared, item};
-ghost use Rattle.parser.specs.Views.{path_of, boxed_of, pair_of, property_of, counter_of, declaration_of, assertion_of, item_of, Gives};
+ghost use Rattle.grammar.specs.ReadFiles.{one_operand, two_operands, counter_head, counter_item, again_of, skip, ending_of, declaration_item, opening_words, clock_words, disable_reader, property_end, assertion_item, label_reader, declaration_reader, item};
+ghost use Rattle.parser_expressions.specs.Views.{path_of, boxed_of, Gives};
+ghost use Rattle.parser.specs.Views.{pair_of, property_of, counter_of, declaration_of, assertion_of, item_of};
 
-use crate::expression::{read_expression, read_path};
 use crate::property::read_property;
-use crate::read::{
-    Read, accept, accept_name, expect, expect_bound, expect_name, expect_verb, first, read, same,
-};
+use crate::read::read;
 use crate::sequence::read_sequence;
-use crate::stop::Stop;
-use crate::tree::{Assertion, Counter, Declaration, Expr, Item, Operands, Path, Property};
+use crate::tree::{AssertionTree, CounterTree, DeclarationTree, ItemTree, Operands, PropertyTree};
 use grammar::{Bound, Terminal, is_word};
 use lexer::Token;
+use parser_expressions::{
+    ExprTree, Path, Read, Stop, accept, accept_name, expect, expect_bound, expect_name,
+    expect_verb, first, read_expression, read_path, same,
+};
 use std::alloc::Global;
 
 /// `( operand )`, behind a word.
@@ -28,7 +29,7 @@ fn read_operand<'t, 'a>(
     alloc: Global,
     tokens: &'t [Token<'a>],
     depth: usize,
-) -> Read<'t, 'a, Box<Expr<'a>>>
+) -> Read<'t, 'a, Box<ExprTree<'a>>>
     ensures read { Gives (λ r. (boxed_of r.0, r.1.now)) result (one_operand depth tokens.now) }
     ensures shorter { IfOk result (λ r. length r.1.now ≤ length tokens.now) }
 {
@@ -54,7 +55,10 @@ fn read_operands<'t, 'a>(alloc: Global, tokens: &'t [Token<'a>]) -> Read<'t, 'a,
 
 /// A counter's `clear`, if it has one.
 #[tactic(auto, using(crate::proofs::Steps::for_optional))]
-fn read_clear<'t, 'a>(alloc: Global, tokens: &'t [Token<'a>]) -> Read<'t, 'a, Option<Box<Expr<'a>>>>
+fn read_clear<'t, 'a>(
+    alloc: Global,
+    tokens: &'t [Token<'a>],
+) -> Read<'t, 'a, Option<Box<ExprTree<'a>>>>
     ensures read { Gives (λ r. (option_map boxed_of r.0, r.1.now)) result (optional Clear (one_operand in_one) tokens.now) }
     ensures shorter { IfOk result (λ r. length r.1.now ≤ length tokens.now) }
 {
@@ -97,7 +101,7 @@ fn read_counter_head<'t, 'a>(tokens: &'t [Token<'a>]) -> Read<'t, 'a, (Token<'a>
 
 /// A counter, behind its word.
 #[tactic(auto, using(crate::proofs::ItemSteps::for_counter))]
-fn read_counter<'t, 'a>(alloc: Global, tokens: &'t [Token<'a>]) -> Read<'t, 'a, Item<'a>>
+fn read_counter<'t, 'a>(alloc: Global, tokens: &'t [Token<'a>]) -> Read<'t, 'a, ItemTree<'a>>
     ensures read { Gives (λ r. (item_of r.0, r.1.now)) result (counter_item tokens.now) }
     ensures shorter { IfOk result (λ r. length r.1.now ≤ length tokens.now) }
 {
@@ -107,7 +111,7 @@ fn read_counter<'t, 'a>(alloc: Global, tokens: &'t [Token<'a>]) -> Read<'t, 'a, 
     let (add, rest) = read!(read_clause(alloc, rest, Terminal::Add));
     let (sub, rest) = read!(read_clause(alloc, rest, Terminal::Sub));
     let (_, rest) = read!(expect(rest, Terminal::Semicolon));
-    let counter = Counter {
+    let counter = CounterTree {
         name,
         width,
         clear,
@@ -115,7 +119,7 @@ fn read_counter<'t, 'a>(alloc: Global, tokens: &'t [Token<'a>]) -> Read<'t, 'a, 
         add,
         sub,
     };
-    Ok((Item::Counter(counter), rest))
+    Ok((ItemTree::Counter(counter), rest))
 }
 
 /// The name once more.
@@ -175,7 +179,7 @@ fn read_ending<'t, 'a>(tokens: &'t [Token<'a>], name: Token<'a>) -> Result<&'t [
 
 /// A named sequence, behind its word.
 #[tactic(auto, using(crate::proofs::ItemSteps::for_declaration))]
-fn read_declaration<'t, 'a>(alloc: Global, tokens: &'t [Token<'a>]) -> Read<'t, 'a, Item<'a>>
+fn read_declaration<'t, 'a>(alloc: Global, tokens: &'t [Token<'a>]) -> Read<'t, 'a, ItemTree<'a>>
     ensures read { Gives (λ r. (item_of r.0, r.1.now)) result (declaration_item tokens.now) }
     ensures shorter { IfOk result (λ r. length r.1.now ≤ length tokens.now) }
 {
@@ -183,13 +187,13 @@ fn read_declaration<'t, 'a>(alloc: Global, tokens: &'t [Token<'a>]) -> Read<'t, 
     let (_, rest) = read!(expect(rest, Terminal::Semicolon));
     let (body, rest) = read!(read_sequence(alloc, rest, 64));
     let rest = read!(read_ending(rest, name));
-    Ok((Item::Declaration(Declaration { name, body }), rest))
+    Ok((ItemTree::Declaration(DeclarationTree { name, body }), rest))
 }
 
 /// `property (`
 #[tactic(auto, using(crate::proofs::ItemSteps::for_opening))]
 fn read_opening<'t, 'a>(tokens: &'t [Token<'a>]) -> Result<&'t [Token<'a>], Stop>
-    ensures read { Gives (λ r. r.now) result (opening tokens.now) }
+    ensures read { Gives (λ r. r.now) result (opening_words tokens.now) }
     ensures shorter { IfOk result (λ r. length r.now ≤ length tokens.now) }
 {
     let (_, rest) = read!(expect(tokens, Terminal::Property));
@@ -200,7 +204,7 @@ fn read_opening<'t, 'a>(tokens: &'t [Token<'a>]) -> Result<&'t [Token<'a>], Stop
 /// `@(posedge path)`
 #[tactic(auto, using(crate::proofs::ItemSteps::for_clock))]
 fn read_clock<'t, 'a>(alloc: Global, tokens: &'t [Token<'a>]) -> Read<'t, 'a, Path<'a>>
-    ensures read { Gives (λ r. (path_of r.0, r.1.now)) result (clock_of tokens.now) }
+    ensures read { Gives (λ r. (path_of r.0, r.1.now)) result (clock_words tokens.now) }
     ensures shorter { IfOk result (λ r. length r.1.now ≤ length tokens.now) }
 {
     let (_, rest) = read!(expect(tokens, Terminal::AtSign));
@@ -213,8 +217,8 @@ fn read_clock<'t, 'a>(alloc: Global, tokens: &'t [Token<'a>]) -> Read<'t, 'a, Pa
 
 /// `disable iff (operand)`, behind its first word.
 #[tactic(auto, using(crate::proofs::ItemSteps::for_disabling))]
-fn read_disabling<'t, 'a>(alloc: Global, tokens: &'t [Token<'a>]) -> Read<'t, 'a, Box<Expr<'a>>>
-    ensures read { Gives (λ r. (boxed_of r.0, r.1.now)) result (disabling tokens.now) }
+fn read_disabling<'t, 'a>(alloc: Global, tokens: &'t [Token<'a>]) -> Read<'t, 'a, Box<ExprTree<'a>>>
+    ensures read { Gives (λ r. (boxed_of r.0, r.1.now)) result (disable_reader tokens.now) }
     ensures shorter { IfOk result (λ r. length r.1.now ≤ length tokens.now) }
 {
     let (_, rest) = read!(expect(tokens, Terminal::Iff));
@@ -226,8 +230,8 @@ fn read_disabling<'t, 'a>(alloc: Global, tokens: &'t [Token<'a>]) -> Read<'t, 'a
 fn read_disable<'t, 'a>(
     alloc: Global,
     tokens: &'t [Token<'a>],
-) -> Read<'t, 'a, Option<Box<Expr<'a>>>>
-    ensures read { Gives (λ r. (option_map boxed_of r.0, r.1.now)) result (optional Disable disabling tokens.now) }
+) -> Read<'t, 'a, Option<Box<ExprTree<'a>>>>
+    ensures read { Gives (λ r. (option_map boxed_of r.0, r.1.now)) result (optional Disable disable_reader tokens.now) }
     ensures shorter { IfOk result (λ r. length r.1.now ≤ length tokens.now) }
 {
     let Some((_, inside)) = accept(tokens, Terminal::Disable) else {
@@ -239,7 +243,10 @@ fn read_disable<'t, 'a>(
 
 /// A property and the end of its assertion.
 #[tactic(auto, using(crate::proofs::ItemSteps::for_property_end))]
-fn read_property_end<'t, 'a>(alloc: Global, tokens: &'t [Token<'a>]) -> Read<'t, 'a, Property<'a>>
+fn read_property_end<'t, 'a>(
+    alloc: Global,
+    tokens: &'t [Token<'a>],
+) -> Read<'t, 'a, PropertyTree<'a>>
     ensures read { Gives (λ r. (property_of r.0, r.1.now)) result (property_end tokens.now) }
     ensures shorter { IfOk result (λ r. length r.1.now ≤ length tokens.now) }
 {
@@ -255,7 +262,7 @@ fn read_assertion<'t, 'a>(
     alloc: Global,
     tokens: &'t [Token<'a>],
     label: Option<Token<'a>>,
-) -> Read<'t, 'a, Item<'a>>
+) -> Read<'t, 'a, ItemTree<'a>>
     ensures read { Gives (λ r. (item_of r.0, r.1.now)) result (assertion_item label.entry tokens.now) }
     ensures shorter { IfOk result (λ r. length r.1.now < length tokens.now) }
 {
@@ -264,20 +271,20 @@ fn read_assertion<'t, 'a>(
     let (clock, rest) = read!(read_clock(alloc, rest));
     let (disable, rest) = read!(read_disable(alloc, rest));
     let (property, rest) = read!(read_property_end(alloc, rest));
-    let assertion = Assertion {
+    let assertion = AssertionTree {
         label,
         verb,
         clock,
         disable,
         property,
     };
-    Ok((Item::Assertion(assertion), rest))
+    Ok((ItemTree::Assertion(assertion), rest))
 }
 
 /// An assertion with its label.
 #[tactic(auto, using(crate::proofs::ItemSteps::for_labelled))]
-fn read_labelled<'t, 'a>(alloc: Global, tokens: &'t [Token<'a>]) -> Read<'t, 'a, Item<'a>>
-    ensures read { Gives (λ r. (item_of r.0, r.1.now)) result (labelled tokens.now) }
+fn read_labelled<'t, 'a>(alloc: Global, tokens: &'t [Token<'a>]) -> Read<'t, 'a, ItemTree<'a>>
+    ensures read { Gives (λ r. (item_of r.0, r.1.now)) result (label_reader tokens.now) }
     ensures shorter { IfOk result (λ r. length r.1.now < length tokens.now) }
 {
     let Some((label, rest)) = accept_name(tokens) else {
@@ -289,8 +296,8 @@ fn read_labelled<'t, 'a>(alloc: Global, tokens: &'t [Token<'a>]) -> Read<'t, 'a,
 
 /// A named sequence or an assertion.
 #[tactic(auto, using(crate::proofs::ItemSteps::for_declared))]
-fn read_declared<'t, 'a>(alloc: Global, tokens: &'t [Token<'a>]) -> Read<'t, 'a, Item<'a>>
-    ensures read { Gives (λ r. (item_of r.0, r.1.now)) result (declared tokens.now) }
+fn read_declared<'t, 'a>(alloc: Global, tokens: &'t [Token<'a>]) -> Read<'t, 'a, ItemTree<'a>>
+    ensures read { Gives (λ r. (item_of r.0, r.1.now)) result (declaration_reader tokens.now) }
     ensures shorter { IfOk result (λ r. length r.1.now < length tokens.now) }
 {
     match accept(tokens, Terminal::Sequence) {
@@ -301,7 +308,10 @@ fn read_declared<'t, 'a>(alloc: Global, tokens: &'t [Token<'a>]) -> Read<'t, 'a,
 
 /// An item.
 #[tactic(auto, using(crate::proofs::ItemSteps::for_item))]
-pub(crate) fn read_item<'t, 'a>(alloc: Global, tokens: &'t [Token<'a>]) -> Read<'t, 'a, Item<'a>>
+pub(crate) fn read_item<'t, 'a>(
+    alloc: Global,
+    tokens: &'t [Token<'a>],
+) -> Read<'t, 'a, ItemTree<'a>>
     ensures read { Gives (λ r. (item_of r.0, r.1.now)) result (item tokens.now) }
     ensures shorter { IfOk result (λ r. length r.1.now < length tokens.now) }
 {

@@ -2,13 +2,15 @@
 
 ghost use Rattle.std.specs.Prelude.{◌≡◌, ◌<◌, ◌≤◌, ◌+◌, ℕ, length, IfOk};
 ghost use Rattle.grammar.specs.ReadSequences.{implication_behind, regroup_property, property};
-ghost use Rattle.parser.specs.Views.{sequence_of, property_of, Gives};
+ghost use Rattle.parser_expressions.specs.Views.{Gives};
+ghost use Rattle.parser.specs.Views.{sequence_of, property_of};
 
-use crate::read::{Read, accept, deeper, expect, operator, read};
+use crate::read::read;
 use crate::sequence::{finish_sequence, read_sequence, regroup};
-use crate::tree::{Property, Sequence};
+use crate::tree::{PropertyTree, SequenceTree};
 use grammar::Terminal;
 use lexer::Token;
+use parser_expressions::{Read, accept, deeper, expect, operator};
 use std::alloc::Global;
 
 /// The property that begins with a sequence.
@@ -16,17 +18,20 @@ use std::alloc::Global;
 fn read_implication<'t, 'a>(
     alloc: Global,
     tokens: &'t [Token<'a>],
-    antecedent: Box<Sequence<'a>>,
+    antecedent: Box<SequenceTree<'a>>,
     depth: usize,
-) -> Read<'t, 'a, Property<'a>>
+) -> Read<'t, 'a, PropertyTree<'a>>
     ensures read { Gives (λ r. (property_of r.0, r.1.now)) result (implication_behind depth (sequence_of antecedent.entry.value) tokens.now) }
     ensures shorter { IfOk result (λ r. length r.1.now ≤ length tokens.now) }
 {
     let Some((sign, right)) = operator(tokens, 17) else {
-        return Ok((Property::Plain(antecedent), tokens));
+        return Ok((PropertyTree::Plain(antecedent), tokens));
     };
     let (consequent, rest) = read!(read_sequence(alloc, right, depth));
-    Ok((Property::Implication(antecedent, sign, consequent), rest))
+    Ok((
+        PropertyTree::Implication(antecedent, sign, consequent),
+        rest,
+    ))
 }
 
 /// What goes on behind brackets.
@@ -34,20 +39,20 @@ fn read_implication<'t, 'a>(
 fn regroup_property<'t, 'a>(
     alloc: Global,
     tokens: &'t [Token<'a>],
-    inner: Property<'a>,
+    inner: PropertyTree<'a>,
     depth: usize,
-) -> Read<'t, 'a, Property<'a>>
+) -> Read<'t, 'a, PropertyTree<'a>>
     ensures read { Gives (λ r. (property_of r.0, r.1.now)) result (regroup_property depth (property_of inner.entry) tokens.now) }
     ensures shorter { IfOk result (λ r. length r.1.now ≤ length tokens.now) }
 {
     match inner {
-        Property::Plain(sequence) => {
+        PropertyTree::Plain(sequence) => {
             let (body, rest) = read!(regroup(alloc, tokens, sequence, depth));
             let (sequence, rest) = read!(finish_sequence(alloc, rest, body, depth));
             read_implication(alloc, rest, sequence, depth)
         }
-        Property::Implication(antecedent, sign, consequent) => Ok((
-            Property::Implication(antecedent, sign, consequent),
+        PropertyTree::Implication(antecedent, sign, consequent) => Ok((
+            PropertyTree::Implication(antecedent, sign, consequent),
             tokens,
         )),
     }
@@ -59,7 +64,7 @@ pub(crate) fn read_property<'t, 'a>(
     alloc: Global,
     tokens: &'t [Token<'a>],
     depth: usize,
-) -> Read<'t, 'a, Property<'a>>
+) -> Read<'t, 'a, PropertyTree<'a>>
     ensures read { Gives (λ r. (property_of r.0, r.1.now)) result (property depth tokens.now) }
     ensures shorter { IfOk result (λ r. length r.1.now ≤ length tokens.now) }
 {

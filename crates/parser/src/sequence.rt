@@ -1,8 +1,9 @@
 //! Sequences.
 
 ghost use Rattle.std.specs.Prelude.{◌≡◌, ◌<◌, ◌≤◌, ◌+◌, ◌==◌, ℕ, suc, length, map, IfOk};
-ghost use Rattle.grammar.specs.ReadSequences.{sequences, regroup, body_with, repeat_behind, late_part, delayed_behind, during_behind, during, conjunction_behind, conjunction_with, alternatives_behind, sequence_behind, whole};
-ghost use Rattle.parser.specs.Views.{sequence_of, boxed_step_of, Gives};
+ghost use Rattle.grammar.specs.ReadSequences.{sequences, regroup, body_with, repeat_behind, late_part, delayed_behind, during_behind, throughout_reader, conjunction_behind, conjunction_with, alternatives_behind, sequence_behind, whole};
+ghost use Rattle.parser_expressions.specs.Views.{Gives};
+ghost use Rattle.parser.specs.Views.{sequence_of, boxed_step_of};
 ghost use Rattle.parser.specs.Bodies.{body_of, IsProper};
 
 use crate::body::{
@@ -10,12 +11,13 @@ use crate::body::{
     with_alternatives, with_conjuncts, with_steps, with_times,
 };
 use crate::count::{read_counts, read_delay};
-use crate::expression::{finish_expression, read_expression};
-use crate::read::{Read, accept, deeper, expect, read, same};
-use crate::stop::Stop;
-use crate::tree::Sequence;
+use crate::read::read;
+use crate::tree::SequenceTree;
 use grammar::{Range, Terminal};
 use lexer::Token;
+use parser_expressions::{
+    Read, Stop, accept, deeper, expect, finish_expression, read_expression, same,
+};
 use std::alloc::Global;
 
 /// What goes on behind brackets.
@@ -23,7 +25,7 @@ use std::alloc::Global;
 pub(crate) fn regroup<'t, 'a>(
     alloc: Global,
     tokens: &'t [Token<'a>],
-    inner: Box<Sequence<'a>>,
+    inner: Box<SequenceTree<'a>>,
     depth: usize,
 ) -> Read<'t, 'a, Body<'a>>
     ensures read { Gives (λ r. (body_of r.0, r.1.now)) result (regroup depth (sequence_of inner.entry.value) tokens.now) }
@@ -64,7 +66,7 @@ fn read_repeat<'t, 'a>(
     tokens: &'t [Token<'a>],
     body: Body<'a>,
     depth: usize,
-) -> Read<'t, 'a, Box<Sequence<'a>>>
+) -> Read<'t, 'a, Box<SequenceTree<'a>>>
     ensures read { Gives (λ r. (sequence_of r.0.value, r.1.now)) result (repeat_behind (sequences depth) (body_of body.entry) tokens.now) }
     ensures shorter { IfOk result (λ r. length r.1.now ≤ length tokens.now) }
 {
@@ -80,7 +82,7 @@ fn read_late<'t, 'a>(
     alloc: Global,
     tokens: &'t [Token<'a>],
     depth: usize,
-) -> Read<'t, 'a, (Range, Box<Sequence<'a>>)>
+) -> Read<'t, 'a, (Range, Box<SequenceTree<'a>>)>
     ensures read { Gives (λ r. (boxed_step_of r.0, r.1.now)) result (late_part depth (sequences depth) tokens.now) }
     ensures shorter { IfOk result (λ r. length r.1.now ≤ length tokens.now) }
 {
@@ -95,9 +97,9 @@ fn read_late<'t, 'a>(
 fn read_delayed<'t, 'a>(
     alloc: Global,
     tokens: &'t [Token<'a>],
-    head: Box<Sequence<'a>>,
+    head: Box<SequenceTree<'a>>,
     depth: usize,
-) -> Read<'t, 'a, Box<Sequence<'a>>>
+) -> Read<'t, 'a, Box<SequenceTree<'a>>>
     ensures read { Gives (λ r. (sequence_of r.0.value, r.1.now)) result (delayed_behind depth (sequences depth) (sequence_of head.entry.value) tokens.now) }
     ensures shorter { IfOk result (λ r. length r.1.now ≤ length tokens.now) }
 {
@@ -121,7 +123,7 @@ fn read_behind<'t, 'a>(
     tokens: &'t [Token<'a>],
     body: Body<'a>,
     depth: usize,
-) -> Read<'t, 'a, Box<Sequence<'a>>>
+) -> Read<'t, 'a, Box<SequenceTree<'a>>>
     requires proper { IsProper body }
     ensures read { Gives (λ r. (sequence_of r.0.value, r.1.now)) result (during_behind depth (sequences depth) (body_of body.entry) tokens.now) }
     ensures shorter { IfOk result (λ r. length r.1.now ≤ length tokens.now) }
@@ -145,8 +147,8 @@ fn read_during<'t, 'a>(
     alloc: Global,
     tokens: &'t [Token<'a>],
     depth: usize,
-) -> Read<'t, 'a, Box<Sequence<'a>>>
-    ensures read { Gives (λ r. (sequence_of r.0.value, r.1.now)) result (during depth tokens.now) }
+) -> Read<'t, 'a, Box<SequenceTree<'a>>>
+    ensures read { Gives (λ r. (sequence_of r.0.value, r.1.now)) result (throughout_reader depth tokens.now) }
     ensures shorter { IfOk result (λ r. length r.1.now ≤ length tokens.now) }
 {
     let Some((token, rest)) = accept(tokens, Terminal::Delay) else {
@@ -163,9 +165,9 @@ fn read_during<'t, 'a>(
 fn read_conjunction<'t, 'a>(
     alloc: Global,
     tokens: &'t [Token<'a>],
-    side: Box<Sequence<'a>>,
+    side: Box<SequenceTree<'a>>,
     depth: usize,
-) -> Read<'t, 'a, Box<Sequence<'a>>>
+) -> Read<'t, 'a, Box<SequenceTree<'a>>>
     ensures read { Gives (λ r. (sequence_of r.0.value, r.1.now)) result (conjunction_behind depth (sequences depth) (sequence_of side.entry.value) tokens.now) }
     ensures shorter { IfOk result (λ r. length r.1.now ≤ length tokens.now) }
 {
@@ -188,7 +190,7 @@ fn read_side<'t, 'a>(
     alloc: Global,
     tokens: &'t [Token<'a>],
     depth: usize,
-) -> Read<'t, 'a, Box<Sequence<'a>>>
+) -> Read<'t, 'a, Box<SequenceTree<'a>>>
     ensures read { Gives (λ r. (sequence_of r.0.value, r.1.now)) result (conjunction_with depth (sequences depth) tokens.now) }
     ensures shorter { IfOk result (λ r. length r.1.now ≤ length tokens.now) }
 {
@@ -201,9 +203,9 @@ fn read_side<'t, 'a>(
 fn read_alternatives<'t, 'a>(
     alloc: Global,
     tokens: &'t [Token<'a>],
-    side: Box<Sequence<'a>>,
+    side: Box<SequenceTree<'a>>,
     depth: usize,
-) -> Read<'t, 'a, Box<Sequence<'a>>>
+) -> Read<'t, 'a, Box<SequenceTree<'a>>>
     ensures read { Gives (λ r. (sequence_of r.0.value, r.1.now)) result (alternatives_behind depth (sequences depth) (sequence_of side.entry.value) tokens.now) }
     ensures shorter { IfOk result (λ r. length r.1.now ≤ length tokens.now) }
 {
@@ -226,7 +228,7 @@ pub(crate) fn read_sequence<'t, 'a>(
     alloc: Global,
     tokens: &'t [Token<'a>],
     depth: usize,
-) -> Read<'t, 'a, Box<Sequence<'a>>>
+) -> Read<'t, 'a, Box<SequenceTree<'a>>>
     ensures read { Gives (λ r. (sequence_of r.0.value, r.1.now)) result (whole depth tokens.now) }
     ensures shorter { IfOk result (λ r. length r.1.now ≤ length tokens.now) }
 {
@@ -241,7 +243,7 @@ pub(crate) fn finish_sequence<'t, 'a>(
     tokens: &'t [Token<'a>],
     body: Body<'a>,
     depth: usize,
-) -> Read<'t, 'a, Box<Sequence<'a>>>
+) -> Read<'t, 'a, Box<SequenceTree<'a>>>
     requires proper { IsProper body }
     ensures read { Gives (λ r. (sequence_of r.0.value, r.1.now)) result (sequence_behind depth (body_of body.entry) tokens.now) }
     ensures shorter { IfOk result (λ r. length r.1.now ≤ length tokens.now) }

@@ -1,65 +1,42 @@
 //! The tree of a file. Brackets are not kept. A chain of left operators of one level is one node.
 
-use grammar::{Bound, Function, Range, Select};
+use grammar::{Bound, Range};
 use lexer::Token;
-
-/// The words of a path, of which there is at least one.
-#[derive(Drop)]
-pub struct Path<'a> {
-    pub first: Token<'a>,
-    pub more: Vec<Token<'a>>,
-}
-
-/// An expression. Each node keeps the token with which it begins, if that is no part of an operand.
-#[derive(Drop)]
-pub enum Expr<'a> {
-    Number(Token<'a>),
-    Path(Path<'a>, Option<Select>),
-    /// `{first, more ..}`, with the bracket that opens it.
-    Concatenation(Token<'a>, Box<Expr<'a>>, Vec<Expr<'a>>),
-    /// `$past(operand, ticks)`, with its name. Without ticks it is one.
-    Past(Token<'a>, Box<Expr<'a>>, Option<Bound>),
-    Call(Function, Token<'a>, Box<Expr<'a>>),
-    Unary(Token<'a>, Box<Expr<'a>>),
-    /// The first operand, and each operator with its right operand. They group to the left.
-    Chain(Box<Expr<'a>>, Vec<(Token<'a>, Expr<'a>)>),
-    /// `condition ? yes : no`.
-    Choice(Box<Expr<'a>>, Box<Expr<'a>>, Box<Expr<'a>>),
-}
+use parser_expressions::{ExprTree, Path};
 
 /// A sequence (IEEE 1800-2017, 16.7 to 16.9). A lone name as a boolean may be that of a sequence.
 #[derive(Drop)]
-pub enum Sequence<'a> {
-    Boolean(Box<Expr<'a>>),
+pub enum SequenceTree<'a> {
+    Boolean(Box<ExprTree<'a>>),
     /// `body[*range]`.
-    Repeated(Box<Sequence<'a>>, Range),
+    Repeated(Box<SequenceTree<'a>>, Range),
     /// `##range body`, with nothing before it, and the token `##`.
-    Late(Token<'a>, Range, Box<Sequence<'a>>),
+    Late(Token<'a>, Range, Box<SequenceTree<'a>>),
     /// The first part, and each delay with what it delays. They group to the left.
-    Delayed(Box<Sequence<'a>>, Vec<(Range, Sequence<'a>)>),
-    Throughout(Box<Expr<'a>>, Box<Sequence<'a>>),
-    And(Box<Sequence<'a>>, Vec<Sequence<'a>>),
-    Or(Box<Sequence<'a>>, Vec<Sequence<'a>>),
+    Delayed(Box<SequenceTree<'a>>, Vec<(Range, SequenceTree<'a>)>),
+    Throughout(Box<ExprTree<'a>>, Box<SequenceTree<'a>>),
+    And(Box<SequenceTree<'a>>, Vec<SequenceTree<'a>>),
+    Or(Box<SequenceTree<'a>>, Vec<SequenceTree<'a>>),
 }
 
 /// A property (IEEE 1800-2017, 16.12).
 #[derive(Drop)]
-pub enum Property<'a> {
-    Plain(Box<Sequence<'a>>),
+pub enum PropertyTree<'a> {
+    Plain(Box<SequenceTree<'a>>),
     /// Antecedent, `|->` or `|=>`, consequent.
-    Implication(Box<Sequence<'a>>, Token<'a>, Box<Sequence<'a>>),
+    Implication(Box<SequenceTree<'a>>, Token<'a>, Box<SequenceTree<'a>>),
 }
 
 /// The two operands of a counter's clause: its condition, and the value.
-pub type Operands<'a> = (Box<Expr<'a>>, Box<Expr<'a>>);
+pub type Operands<'a> = (Box<ExprTree<'a>>, Box<ExprTree<'a>>);
 
 /// `counter name [width] clear(..) load(.., ..) add(.., ..) sub(.., ..);`
 #[derive(Drop)]
-pub struct Counter<'a> {
+pub struct CounterTree<'a> {
     pub name: Token<'a>,
     /// 1 to 128.
     pub width: Bound,
-    pub clear: Option<Box<Expr<'a>>>,
+    pub clear: Option<Box<ExprTree<'a>>>,
     pub load: Option<Operands<'a>>,
     pub add: Option<Operands<'a>>,
     pub sub: Option<Operands<'a>>,
@@ -67,32 +44,32 @@ pub struct Counter<'a> {
 
 /// `sequence name; body endsequence`
 #[derive(Drop)]
-pub struct Declaration<'a> {
+pub struct DeclarationTree<'a> {
     pub name: Token<'a>,
-    pub body: Box<Sequence<'a>>,
+    pub body: Box<SequenceTree<'a>>,
 }
 
 /// `label: assert property (@(posedge clock) disable iff (..) property);`
 #[derive(Drop)]
-pub struct Assertion<'a> {
+pub struct AssertionTree<'a> {
     pub label: Option<Token<'a>>,
     /// `assert` or `assume`.
     pub verb: Token<'a>,
     pub clock: Path<'a>,
-    pub disable: Option<Box<Expr<'a>>>,
-    pub property: Property<'a>,
+    pub disable: Option<Box<ExprTree<'a>>>,
+    pub property: PropertyTree<'a>,
 }
 
 /// An item of a file: a counter, a named sequence or an assertion.
 #[derive(Drop)]
-pub enum Item<'a> {
-    Counter(Counter<'a>),
-    Declaration(Declaration<'a>),
-    Assertion(Assertion<'a>),
+pub enum ItemTree<'a> {
+    Counter(CounterTree<'a>),
+    Declaration(DeclarationTree<'a>),
+    Assertion(AssertionTree<'a>),
 }
 
 /// A file: its items in their order, one of which at least is an assertion.
 #[derive(Drop)]
 pub struct File<'a> {
-    pub items: Vec<Item<'a>>,
+    pub items: Vec<ItemTree<'a>>,
 }

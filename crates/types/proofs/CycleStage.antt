@@ -4,7 +4,7 @@ use Rattle.std.proofs.lemmas.Bool.{false≢true}
 use Rattle.std.proofs.lemmas.List.{length-map}
 use Rattle.std.proofs.lemmas.Option.{slice_get-map, slice_get-get_or, get_or_from_slice_get}
 use Rattle.std.specs.Prelude.{option_map}
-use Rattle.grammar.specs.Trees.{Declaration, Item}
+use Rattle.grammar.specs.Trees.{DeclarationForm, ItemForm}
 use Rattle.assertions.specs.declared.sequence.Boolean.{Boolean}
 use Rattle.types_sequences.specs.declared.entry.Entry.{Entry}
 use Rattle.types_sequences.specs.Drafts.{Draft, IsCyclic}
@@ -18,7 +18,7 @@ use Rattle.types.specs.declared.fault.TypeFault.TheVariants.{CyclicSequence}
 use Rattle.types.specs.declared.fault.TypeFault.{TypeFault}
 use Rattle.types.specs.Readings.{Dot, dot}
 use Rattle.types.specs.Texts.{declarations_of}
-use Rattle.types.specs.Faults.{outlines_of, CycleAt, ClearTo, Stands, IsFirst, rank, byte_of}
+use Rattle.types.specs.Faults.{outlines_of, CycleAt, ClearTo, FaultStands, IsFirst, rank, byte_of}
 use Rattle.types.specs.Cycles.{IsLowest, AreOutlined}
 use Rattle.types.proofs.StageLaws.{clear_next, first_at, of_6}
 
@@ -38,7 +38,7 @@ some_at : {A : Type 0} (xs : List A) (p : ℕ) → p < length xs → (x : A) × 
 some_at [] p h = absurd (omega (arith, h))
 some_at (x ∷ xs) p h = (get_or (x ∷ xs) p x, slice_get-get_or (x ∷ xs) p x h)
 
-module _ (s : Scope) (items : List Item) (bodies : List (Draft Boolean)) (bytes : List ℕ) (o : AreOutlined s items bodies bytes) where
+module _ (s : Scope) (items : List ItemForm) (bodies : List (Draft Boolean)) (bytes : List ℕ) (o : AreOutlined s items bodies bytes) where
   outlined : (p : ℕ) → IsCyclic (outlines_of s items) p → IsCyclic bodies p
   outlined p c = map_cyclic (λ b. dot) bodies p (subst (λ (ds : List (Draft Dot)). IsCyclic ds p) (sym o.outlines) c)
 
@@ -48,11 +48,11 @@ module _ (s : Scope) (items : List Item) (bodies : List (Draft Boolean)) (bytes 
   long : length bodies ≡ length (declarations_of items)
   long = sym (length-map bodies (map_draft (λ b. dot))) ∙ ap length o.outlines ∙ length-map (declarations_of items) _
 
-  byte_at : (p : ℕ) (d : Declaration) → slice_get (declarations_of items) p ≡ Some d → get_or bytes p 0 ≡ d.name.at
+  byte_at : (p : ℕ) (d : DeclarationForm) → slice_get (declarations_of items) p ≡ Some d → get_or bytes p 0 ≡ d.name.at
   byte_at p d e =
       ap (λ (bs : List ℕ). get_or bs p 0) o.declared
-      ∙ get_or_from_slice_get (map (λ (x : Declaration). x.name.at) (declarations_of items)) p d.name.at 0
-      (slice_get-map (λ (x : Declaration). x.name.at) (declarations_of items) p ∙ ap (option_map (λ (x : Declaration). x.name.at)) e)
+      ∙ get_or_from_slice_get (map (λ (x : DeclarationForm). x.name.at) (declarations_of items)) p d.name.at 0
+      (slice_get-map (λ (x : DeclarationForm). x.name.at) (declarations_of items) p ∙ ap (option_map (λ (x : DeclarationForm). x.name.at)) e)
 
   -- no declaration reaches itself
   pub clear_6 : ((p : ℕ) → p < length bodies → IsCyclic bodies p → ⊥) → ClearTo s items 5 → ClearTo s items 6
@@ -73,7 +73,7 @@ module _ (s : Scope) (items : List Item) (bodies : List (Draft Boolean)) (bytes 
         byte = low.byte ∙ byte_at low.place there.0 there.1;
       }
 
-  above_lowest : (at : ℕ) → IsLowest bodies bytes (length bodies) at → (other : TypeFault) → rank other ≡ 6 → Stands s items other → at ≤ byte_of other
+  above_lowest : (at : ℕ) → IsLowest bodies bytes (length bodies) at → (other : TypeFault) → rank other ≡ 6 → FaultStands s items other → at ≤ byte_of other
   above_lowest at low other r h =
       let c = of_6 s items other r h in
       let d = outlined c.place c.cyclic in

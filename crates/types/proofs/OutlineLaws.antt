@@ -1,7 +1,7 @@
 -- What is read of a sequence has its outline, and its names are those of declared sequences.
 use Rattle.std.proofs.Common.{◌≡◌, ◌⊎◌, inl, inr, ℕ, zero, suc, ◌+◌, ◌<◌, List, [], ◌∷◌, map, length, Bool, true, false, Option, Some, None, refl, sym, ap, ◌∙◌, subst, arith}
 use Rattle.std.specs.Prelude.{cond, bytes_eq}
-use Rattle.grammar.specs.Trees.{Tree, path, Sequence, boolean, repeated, late, delayed, throughout, all, either, Steps, no_step, step, Others, no_other, other, Item, counter, declaration, assertion}
+use Rattle.grammar.specs.Trees.{Tree, path, SequenceForm, boolean, repeated, late, delayed, throughout, all, either, Steps, no_step, step, Others, no_other, other, ItemForm, counter, declaration, assertion}
 use Rattle.expressions.specs.declared.expr.Expr.{Expr}
 use Rattle.assertions.specs.declared.sequence.Boolean.{Boolean}
 use Rattle.types_sequences.specs.Drafts as drafts
@@ -10,7 +10,7 @@ use Rattle.types_sequences.specs.Outlines.{map_draft}
 use Rattle.types_sequences.proofs.InLaws.{in_either, in_only}
 use Rattle.types_expressions.specs.declared.own.Own.{Own}
 use Rattle.types_expressions.specs.declared.own.Own.TheVariants as own
-use Rattle.types_expressions.specs.Scopes.{Scope, sequence_named, place_of, meaning_by, path_text, owns_from, owns, found, scope_for, width_in}
+use Rattle.types_expressions.specs.Scopes.{Scope, sequence_named, meaning_place, meaning_by, path_text, owns_from, owns, look_up, scope_for, width_in}
 use Rattle.types_sequences.specs.Placed.{Extends}
 use Rattle.types.specs.Texts.{declarations_of}
 use Rattle.types.specs.Readings.{least_of, extra_of, Reads, ReadsBoolean, ReadsSteps, ReadsAll, ReadsAny, AllRead, Dot, dot, outline_by, outline, outline_steps, outline_all, outline_any}
@@ -29,7 +29,7 @@ module _ (s : Scope) (cs : List (List ℕ)) (e : List Expr) where
   mutual
     unfolding Reads outline
 
-    pub reads_outline : (q : Sequence) (d : Draft Boolean) → Reads s cs e q d → dotted d ≡ outline s q
+    pub reads_outline : (q : SequenceForm) (d : Draft Boolean) → Reads s cs e q d → dotted d ≡ outline s q
     reads_outline (boolean t) d h = boolean_outline (sequence_named s t) t d h
     reads_outline (repeated q r) d h = ap dotted h.2 ∙ ap (λ (x : Draft Dot). drafts.repeat x (least_of r) (extra_of r)) (reads_outline q h.0 h.1)
     reads_outline (late t r q) d h = ap dotted h.2 ∙ ap (λ (x : Draft Dot). drafts.lead (least_of r) (extra_of r) x) (reads_outline q h.0 h.1)
@@ -52,7 +52,7 @@ module _ (s : Scope) (cs : List (List ℕ)) (e : List Expr) where
     any_outline a no_other d h = ap dotted h
     any_outline a (other q others) d h = any_outline (drafts.or a h.0) others d h.2 ∙ ap (λ (x : Draft Dot). outline_any s (drafts.or (dotted a) x) others) (reads_outline q h.0 h.1)
 
-  pub all_outlines : (qs : List Sequence) (ds : List (Draft Boolean)) → AllRead s cs e qs ds → map dotted ds ≡ map (outline s) qs
+  pub all_outlines : (qs : List SequenceForm) (ds : List (Draft Boolean)) → AllRead s cs e qs ds → map dotted ds ≡ map (outline s) qs
   all_outlines [] [] h = refl
   all_outlines [] (d ∷ ds) h = elim h [ ]
   all_outlines (q ∷ qs) [] h = elim h [ ]
@@ -73,7 +73,7 @@ module _ (s : Scope) (cs : List (List ℕ)) (e : List Expr) where
     mutual
       unfolding Reads
 
-      pub reads_below : (q : Sequence) (d : Draft Boolean) → Reads s cs e q d → (p : ℕ) → IsIn p (uses d) → p < n
+      pub reads_below : (q : SequenceForm) (d : Draft Boolean) → Reads s cs e q d → (p : ℕ) → IsIn p (uses d) → p < n
       reads_below (boolean t) d h p i = boolean_below (sequence_named s t) t d refl h p i
       reads_below (repeated q r) d h p i = reads_below q h.0 h.1 p (subst (λ (x : Draft Boolean). IsIn p (uses x)) h.2 i)
       reads_below (late t r q) d h p i = reads_below q h.0 h.1 p (subst (λ (x : Draft Boolean). IsIn p (uses x)) h.2 i)
@@ -106,36 +106,36 @@ counter_no_sequence p q w h = cc
 same_place : (p q : ℕ) → own.Sequence q ≡ own.Sequence p → q ≡ p
 same_place p q h = cc
 
-owns_below : (items : List Item) (name : List ℕ) (c k p : ℕ) → found (owns_from c k items) name ≡ Some (own.Sequence p) → p < k + length (declarations_of items)
+owns_below : (items : List ItemForm) (name : List ℕ) (c k p : ℕ) → look_up (owns_from c k items) name ≡ Some (own.Sequence p) → p < k + length (declarations_of items)
 owns_below [] name c k p h = absurd cc
 owns_below (counter x ∷ items) name c k p h =
-    entry_below (bytes_eq name x.name.text.now) (own.Counter c (width_in x.width.value)) (found (owns_from (c + 1) k items) name) p (k + length (declarations_of items))
+    entry_below (bytes_eq name x.name.text.now) (own.Counter c (width_in x.width.value)) (look_up (owns_from (c + 1) k items) name) p (k + length (declarations_of items))
     (λ e. absurd (counter_no_sequence p c (width_in x.width.value) e)) (owns_below items name (c + 1) k p) h
 owns_below (declaration x ∷ items) name c k p h =
-    entry_below (bytes_eq name x.name.text.now) (own.Sequence k) (found (owns_from c (k + 1) items) name) p (k + suc (length (declarations_of items)))
+    entry_below (bytes_eq name x.name.text.now) (own.Sequence k) (look_up (owns_from c (k + 1) items) name) p (k + suc (length (declarations_of items)))
     (λ e. omega (arith, same_place p k e)) (λ g. omega (arith, owns_below items name c (k + 1) p g)) h
 owns_below (assertion x ∷ items) name c k p h = owns_below items name c k p h
 
-place_sequence : (o : Option Own) (width : Option ℕ) (p : ℕ) → place_of (meaning_by o width) ≡ Some p → o ≡ Some (own.Sequence p)
+place_sequence : (o : Option Own) (width : Option ℕ) (p : ℕ) → meaning_place (meaning_by o width) ≡ Some p → o ≡ Some (own.Sequence p)
 place_sequence None None p h = absurd cc
 place_sequence None (Some w) p h = absurd cc
 place_sequence (Some (own.Counter q w)) width p h = absurd cc
 place_sequence (Some (own.Sequence q)) width p h = cc
 
-pub named_below : (items : List Item) (names : List (List ℕ × ℕ)) (t : Tree) (p : ℕ) → sequence_named (scope_for items names) t ≡ Some p → p < length (declarations_of items)
+pub named_below : (items : List ItemForm) (names : List (List ℕ × ℕ)) (t : Tree) (p : ℕ) → sequence_named (scope_for items names) t ≡ Some p → p < length (declarations_of items)
 named_below items names (path (w ∷ []) None) p h =
-    omega (arith, owns_below items (path_text (w ∷ [])) 0 0 p (place_sequence (found (owns items) (path_text (w ∷ []))) (found names (path_text (w ∷ []))) p h))
+    omega (arith, owns_below items (path_text (w ∷ [])) 0 0 p (place_sequence (look_up (owns items) (path_text (w ∷ []))) (look_up names (path_text (w ∷ []))) p h))
 named_below items names t p h = absurd cc
 
 -- As many are read as there are.
-pub all_long : (s : Scope) (cs : List (List ℕ)) (e : List Expr) (qs : List Sequence) (ds : List (Draft Boolean)) → AllRead s cs e qs ds → length ds ≡ length qs
+pub all_long : (s : Scope) (cs : List (List ℕ)) (e : List Expr) (qs : List SequenceForm) (ds : List (Draft Boolean)) → AllRead s cs e qs ds → length ds ≡ length qs
 all_long s cs e [] [] h = refl
 all_long s cs e [] (d ∷ ds) h = elim h [ ]
 all_long s cs e (q ∷ qs) [] h = elim h [ ]
 all_long s cs e (q ∷ qs) (d ∷ ds) h = ap suc (all_long s cs e qs ds h.1)
 
 -- Each name that one of the read sequences uses is below a bound, where the scope gives no other.
-pub all_below_at : (s : Scope) (cs : List (List ℕ)) (e : List Expr) (n : ℕ) (below : (t : Tree) (p : ℕ) → sequence_named s t ≡ Some p → p < n) (qs : List Sequence) (ds : List (Draft Boolean)) → AllRead s cs e qs ds →
+pub all_below_at : (s : Scope) (cs : List (List ℕ)) (e : List Expr) (n : ℕ) (below : (t : Tree) (p : ℕ) → sequence_named s t ≡ Some p → p < n) (qs : List SequenceForm) (ds : List (Draft Boolean)) → AllRead s cs e qs ds →
     (p q : ℕ) → IsIn q (uses_at ds p) → q < n
 all_below_at s cs e n below [] [] h p q i = elim i [ ]
 all_below_at s cs e n below [] (d ∷ ds) h p q i = elim h [ ]
@@ -144,12 +144,12 @@ all_below_at s cs e n below (x ∷ qs) (d ∷ ds) h zero q i = reads_below s cs 
 all_below_at s cs e n below (x ∷ qs) (d ∷ ds) h (suc p) q i = all_below_at s cs e n below qs ds h.1 p q i
 
 -- They are declared.
-pub all_declared : (s : Scope) (cs : List (List ℕ)) (e : List Expr) (n : ℕ) (below : (t : Tree) (p : ℕ) → sequence_named s t ≡ Some p → p < n) (qs : List Sequence) (ds : List (Draft Boolean)) → length qs ≡ n → AllRead s cs e qs ds →
+pub all_declared : (s : Scope) (cs : List (List ℕ)) (e : List Expr) (n : ℕ) (below : (t : Tree) (p : ℕ) → sequence_named s t ≡ Some p → p < n) (qs : List SequenceForm) (ds : List (Draft Boolean)) → length qs ≡ n → AllRead s cs e qs ds →
     (p : ℕ) → AllDeclared ds p
 all_declared s cs e n below qs ds long h p q i = omega (arith, all_below_at s cs e n below qs ds h p q i, all_long s cs e qs ds h, long)
 
 -- All that is read stays read while the expressions grow.
-pub all_grow_on : (s : Scope) (cs : List (List ℕ)) (now next : List Expr) (more : Extends now next) (qs : List Sequence) (ds : List (Draft Boolean)) → AllRead s cs now qs ds → AllRead s cs next qs ds
+pub all_grow_on : (s : Scope) (cs : List (List ℕ)) (now next : List Expr) (more : Extends now next) (qs : List SequenceForm) (ds : List (Draft Boolean)) → AllRead s cs now qs ds → AllRead s cs next qs ds
 all_grow_on s cs now next more [] [] h = h
 all_grow_on s cs now next more [] (d ∷ ds) h = elim h [ ]
 all_grow_on s cs now next more (q ∷ qs) [] h = elim h [ ]

@@ -2,7 +2,7 @@
 use Rattle.std.proofs.Common.{◌≡◌, ℕ, zero, suc, List, [], ◌∷◌, ◌++◌, length, Option, Some, None, slice_get, refl, sym, ap, ◌∙◌, subst, IsTrue, Result, Ok, Err, IfOk, OnOk}
 use Rattle.std.proofs.lemmas.List.{append-nil, append_assoc}
 use Rattle.grammar.specs.declared.bound.Range.{Range}
-use Rattle.grammar.specs.Trees.{Tree, Sequence, boolean, repeated, late, delayed, throughout, all, either, Steps, no_step, step, Others, no_other, other}
+use Rattle.grammar.specs.Trees.{Tree, SequenceForm, boolean, repeated, late, delayed, throughout, all, either, Steps, no_step, step, Others, no_other, other}
 use Rattle.lexer.specs.declared.token.Token.{Token}
 use Rattle.expressions.specs.declared.expr.Expr.{Expr}
 use Rattle.expressions.specs.Expressions.{term_of}
@@ -57,7 +57,7 @@ module _ (s : Scope) (cs : List (List ℕ)) where
     mutual
       unfolding Reads
 
-      pub reads_grows : (q : Sequence) (d : Draft Boolean) → Reads s cs now q d → Reads s cs next q d
+      pub reads_grows : (q : SequenceForm) (d : Draft Boolean) → Reads s cs now q d → Reads s cs next q d
       reads_grows (boolean t) d h = boolean_grows (sequence_named s t) t d h
       reads_grows (repeated q r) d h = (h.0, reads_grows q h.0 h.1, h.2)
       reads_grows (late t r q) d h = (h.0, reads_grows q h.0 h.1, h.2)
@@ -79,7 +79,7 @@ module _ (s : Scope) (cs : List (List ℕ)) where
       any_grow a (other q others) d h = (h.0, reads_grows q h.0 h.1, any_grow (drafts.or a h.0) others d h.2)
 
   -- no faults, and the columns, of the parts of what has none and has them
-  pub record IsReadySequence (q : Sequence) : Type 0 where
+  pub record IsReadySequence (q : SequenceForm) : Type 0 where
     pub sound : (k : Sought) → sequence_faults s k q ≡ []
     pub listed : IsTrue (all_listed cs (sequence_signals s q))
 
@@ -95,54 +95,54 @@ module _ (s : Scope) (cs : List (List ℕ)) where
     pub sound : (k : Sought) → boolean_faults s k t ≡ []
     pub listed : HasColumns s cs t
 
-  pub ready-boolean : (x : Sequence) (t : Tree) → x ≡ boolean t → IsReadySequence x → IsReadyBoolean t
+  pub ready-boolean : (x : SequenceForm) (t : Tree) → x ≡ boolean t → IsReadySequence x → IsReadyBoolean t
   unfolding sequence_faults sequence_signals
-  ready-boolean x t is r = record { sound = λ k. sym (ap (sequence_faults s k) is) ∙ r.sound k; listed = subst (λ (y : Sequence). IsTrue (all_listed cs (sequence_signals s y))) is r.listed }
+  ready-boolean x t is r = record { sound = λ k. sym (ap (sequence_faults s k) is) ∙ r.sound k; listed = subst (λ (y : SequenceForm). IsTrue (all_listed cs (sequence_signals s y))) is r.listed }
 
-  pub ready-repeated : (x q : Sequence) (n : Range) → x ≡ repeated q n → IsReadySequence x → IsReadySequence q
+  pub ready-repeated : (x q : SequenceForm) (n : Range) → x ≡ repeated q n → IsReadySequence x → IsReadySequence q
   unfolding sequence_faults sequence_signals
-  ready-repeated x q n is r = record { sound = λ k. sym (ap (sequence_faults s k) is) ∙ r.sound k; listed = subst (λ (y : Sequence). IsTrue (all_listed cs (sequence_signals s y))) is r.listed }
+  ready-repeated x q n is r = record { sound = λ k. sym (ap (sequence_faults s k) is) ∙ r.sound k; listed = subst (λ (y : SequenceForm). IsTrue (all_listed cs (sequence_signals s y))) is r.listed }
 
-  pub ready-late : (x : Sequence) (t : Token) (n : Range) (q : Sequence) → x ≡ late t n q → IsReadySequence x → IsReadySequence q
+  pub ready-late : (x : SequenceForm) (t : Token) (n : Range) (q : SequenceForm) → x ≡ late t n q → IsReadySequence x → IsReadySequence q
   unfolding sequence_faults sequence_signals
-  ready-late x t n q is r = record { sound = λ k. sym (ap (sequence_faults s k) is) ∙ r.sound k; listed = subst (λ (y : Sequence). IsTrue (all_listed cs (sequence_signals s y))) is r.listed }
+  ready-late x t n q is r = record { sound = λ k. sym (ap (sequence_faults s k) is) ∙ r.sound k; listed = subst (λ (y : SequenceForm). IsTrue (all_listed cs (sequence_signals s y))) is r.listed }
 
-  pub ready-delayed : (x q : Sequence) (steps : Steps) → x ≡ delayed q steps → IsReadySequence x → IsReadySequence q × AreReadySteps steps
+  pub ready-delayed : (x q : SequenceForm) (steps : Steps) → x ≡ delayed q steps → IsReadySequence x → IsReadySequence q × AreReadySteps steps
   unfolding sequence_faults sequence_signals
   ready-delayed x q steps is r =
       let parts = λ (k : Sought). no_faults-parts (sequence_faults s k q) (step_faults s k steps) (sym (ap (sequence_faults s k) is) ∙ r.sound k) in
-      let columns = listed-parts cs (sequence_signals s q) (step_signals s steps) (subst (λ (y : Sequence). IsTrue (all_listed cs (sequence_signals s y))) is r.listed) in
+      let columns = listed-parts cs (sequence_signals s q) (step_signals s steps) (subst (λ (y : SequenceForm). IsTrue (all_listed cs (sequence_signals s y))) is r.listed) in
       (record { sound = λ k. (parts k).0; listed = columns.0 }, record { sound = λ k. (parts k).1; listed = columns.1 })
 
-  pub ready-throughout : (x : Sequence) (t : Tree) (q : Sequence) → x ≡ throughout t q → IsReadySequence x → IsReady s cs t × IsReadySequence q
+  pub ready-throughout : (x : SequenceForm) (t : Tree) (q : SequenceForm) → x ≡ throughout t q → IsReadySequence x → IsReady s cs t × IsReadySequence q
   unfolding sequence_faults sequence_signals
   ready-throughout x t q is r =
       let parts = λ (k : Sought). no_faults-parts (faults s k t) (sequence_faults s k q) (sym (ap (sequence_faults s k) is) ∙ r.sound k) in
-      let columns = listed-parts cs (signals s t) (sequence_signals s q) (subst (λ (y : Sequence). IsTrue (all_listed cs (sequence_signals s y))) is r.listed) in
+      let columns = listed-parts cs (signals s t) (sequence_signals s q) (subst (λ (y : SequenceForm). IsTrue (all_listed cs (sequence_signals s y))) is r.listed) in
       (record { sound = λ k. (parts k).0; listed = columns.0 }, record { sound = λ k. (parts k).1; listed = columns.1 })
 
-  pub ready-all : (x q : Sequence) (others : Others) → x ≡ all q others → IsReadySequence x → IsReadySequence q × AreReadyOthers others
+  pub ready-all : (x q : SequenceForm) (others : Others) → x ≡ all q others → IsReadySequence x → IsReadySequence q × AreReadyOthers others
   unfolding sequence_faults sequence_signals
   ready-all x q others is r =
       let parts = λ (k : Sought). no_faults-parts (sequence_faults s k q) (other_faults s k others) (sym (ap (sequence_faults s k) is) ∙ r.sound k) in
-      let columns = listed-parts cs (sequence_signals s q) (other_signals s others) (subst (λ (y : Sequence). IsTrue (all_listed cs (sequence_signals s y))) is r.listed) in
+      let columns = listed-parts cs (sequence_signals s q) (other_signals s others) (subst (λ (y : SequenceForm). IsTrue (all_listed cs (sequence_signals s y))) is r.listed) in
       (record { sound = λ k. (parts k).0; listed = columns.0 }, record { sound = λ k. (parts k).1; listed = columns.1 })
 
-  pub ready-either : (x q : Sequence) (others : Others) → x ≡ either q others → IsReadySequence x → IsReadySequence q × AreReadyOthers others
+  pub ready-either : (x q : SequenceForm) (others : Others) → x ≡ either q others → IsReadySequence x → IsReadySequence q × AreReadyOthers others
   unfolding sequence_faults sequence_signals
   ready-either x q others is r =
       let parts = λ (k : Sought). no_faults-parts (sequence_faults s k q) (other_faults s k others) (sym (ap (sequence_faults s k) is) ∙ r.sound k) in
-      let columns = listed-parts cs (sequence_signals s q) (other_signals s others) (subst (λ (y : Sequence). IsTrue (all_listed cs (sequence_signals s y))) is r.listed) in
+      let columns = listed-parts cs (sequence_signals s q) (other_signals s others) (subst (λ (y : SequenceForm). IsTrue (all_listed cs (sequence_signals s y))) is r.listed) in
       (record { sound = λ k. (parts k).0; listed = columns.0 }, record { sound = λ k. (parts k).1; listed = columns.1 })
 
-  pub ready-step : (now : Steps) (n : Range) (q : Sequence) (rest : Steps) → now ≡ step n q rest → AreReadySteps now → IsReadySequence q × AreReadySteps rest
+  pub ready-step : (now : Steps) (n : Range) (q : SequenceForm) (rest : Steps) → now ≡ step n q rest → AreReadySteps now → IsReadySequence q × AreReadySteps rest
   unfolding sequence_faults sequence_signals
   ready-step now n q rest is r =
       let parts = λ (k : Sought). no_faults-parts (sequence_faults s k q) (step_faults s k rest) (sym (ap (step_faults s k) is) ∙ r.sound k) in
       let columns = listed-parts cs (sequence_signals s q) (step_signals s rest) (subst (λ (y : Steps). IsTrue (all_listed cs (step_signals s y))) is r.listed) in
       (record { sound = λ k. (parts k).0; listed = columns.0 }, record { sound = λ k. (parts k).1; listed = columns.1 })
 
-  pub ready-other : (now : Others) (q : Sequence) (rest : Others) → now ≡ other q rest → AreReadyOthers now → IsReadySequence q × AreReadyOthers rest
+  pub ready-other : (now : Others) (q : SequenceForm) (rest : Others) → now ≡ other q rest → AreReadyOthers now → IsReadySequence q × AreReadyOthers rest
   unfolding sequence_faults sequence_signals
   ready-other now q rest is r =
       let parts = λ (k : Sought). no_faults-parts (sequence_faults s k q) (other_faults s k rest) (sym (ap (other_faults s k) is) ∙ r.sound k) in
@@ -151,49 +151,49 @@ module _ (s : Scope) (cs : List (List ℕ)) where
 
   -- what each node says
   module _ (e : List Expr) where
-    pub reads-boolean : (x : Sequence) (t : Tree) (d : Draft Boolean) → x ≡ boolean t → ReadsBoolean s cs e (sequence_named s t) t d → Reads s cs e x d
+    pub reads-boolean : (x : SequenceForm) (t : Tree) (d : Draft Boolean) → x ≡ boolean t → ReadsBoolean s cs e (sequence_named s t) t d → Reads s cs e x d
     unfolding Reads
-    reads-boolean x t d is h = subst (λ (y : Sequence). Reads s cs e y d) (sym is) h
+    reads-boolean x t d is h = subst (λ (y : SequenceForm). Reads s cs e y d) (sym is) h
 
-    pub reads-repeated : (x q : Sequence) (r : Range) (a d : Draft Boolean) → x ≡ repeated q r → Reads s cs e q a → d ≡ drafts.repeat a (least_of r) (extra_of r) → Reads s cs e x d
+    pub reads-repeated : (x q : SequenceForm) (r : Range) (a d : Draft Boolean) → x ≡ repeated q r → Reads s cs e q a → d ≡ drafts.repeat a (least_of r) (extra_of r) → Reads s cs e x d
     unfolding Reads
-    reads-repeated x q r a d is m made = subst (λ (y : Sequence). Reads s cs e y d) (sym is) (a, m, made)
+    reads-repeated x q r a d is m made = subst (λ (y : SequenceForm). Reads s cs e y d) (sym is) (a, m, made)
 
-    pub reads-late : (x : Sequence) (t : Token) (r : Range) (q : Sequence) (a d : Draft Boolean) → x ≡ late t r q → Reads s cs e q a → d ≡ drafts.lead (least_of r) (extra_of r) a → Reads s cs e x d
+    pub reads-late : (x : SequenceForm) (t : Token) (r : Range) (q : SequenceForm) (a d : Draft Boolean) → x ≡ late t r q → Reads s cs e q a → d ≡ drafts.lead (least_of r) (extra_of r) a → Reads s cs e x d
     unfolding Reads
-    reads-late x t r q a d is m made = subst (λ (y : Sequence). Reads s cs e y d) (sym is) (a, m, made)
+    reads-late x t r q a d is m made = subst (λ (y : SequenceForm). Reads s cs e y d) (sym is) (a, m, made)
 
-    pub reads-throughout : (x : Sequence) (t : Tree) (q : Sequence) (b : Boolean) (a d : Draft Boolean) → x ≡ throughout t q → IsAtom s cs e t b → Reads s cs e q a → d ≡ drafts.throughout b a → Reads s cs e x d
+    pub reads-throughout : (x : SequenceForm) (t : Tree) (q : SequenceForm) (b : Boolean) (a d : Draft Boolean) → x ≡ throughout t q → IsAtom s cs e t b → Reads s cs e q a → d ≡ drafts.throughout b a → Reads s cs e x d
     unfolding Reads
-    reads-throughout x t q b a d is i m made = subst (λ (y : Sequence). Reads s cs e y d) (sym is) (b, a, i, m, made)
+    reads-throughout x t q b a d is i m made = subst (λ (y : SequenceForm). Reads s cs e y d) (sym is) (b, a, i, m, made)
 
   -- behind a first one that was read before
   module _ (now next : List Expr) (more : Extends now next) where
-    pub reads-delayed : (x q : Sequence) (steps : Steps) (a d : Draft Boolean) → x ≡ delayed q steps → Reads s cs now q a → ReadsSteps s cs next a steps d → Reads s cs next x d
+    pub reads-delayed : (x q : SequenceForm) (steps : Steps) (a d : Draft Boolean) → x ≡ delayed q steps → Reads s cs now q a → ReadsSteps s cs next a steps d → Reads s cs next x d
     unfolding Reads
-    reads-delayed x q steps a d is m h = subst (λ (y : Sequence). Reads s cs next y d) (sym is) (a, reads_grows now next more q a m, h)
+    reads-delayed x q steps a d is m h = subst (λ (y : SequenceForm). Reads s cs next y d) (sym is) (a, reads_grows now next more q a m, h)
 
-    pub reads-all : (x q : Sequence) (others : Others) (a d : Draft Boolean) → x ≡ all q others → Reads s cs now q a → ReadsAll s cs next a others d → Reads s cs next x d
+    pub reads-all : (x q : SequenceForm) (others : Others) (a d : Draft Boolean) → x ≡ all q others → Reads s cs now q a → ReadsAll s cs next a others d → Reads s cs next x d
     unfolding Reads
-    reads-all x q others a d is m h = subst (λ (y : Sequence). Reads s cs next y d) (sym is) (a, reads_grows now next more q a m, h)
+    reads-all x q others a d is m h = subst (λ (y : SequenceForm). Reads s cs next y d) (sym is) (a, reads_grows now next more q a m, h)
 
-    pub reads-either : (x q : Sequence) (others : Others) (a d : Draft Boolean) → x ≡ either q others → Reads s cs now q a → ReadsAny s cs next a others d → Reads s cs next x d
+    pub reads-either : (x q : SequenceForm) (others : Others) (a d : Draft Boolean) → x ≡ either q others → Reads s cs now q a → ReadsAny s cs next a others d → Reads s cs next x d
     unfolding Reads
-    reads-either x q others a d is m h = subst (λ (y : Sequence). Reads s cs next y d) (sym is) (a, reads_grows now next more q a m, h)
+    reads-either x q others a d is m h = subst (λ (y : SequenceForm). Reads s cs next y d) (sym is) (a, reads_grows now next more q a m, h)
 
     -- one more of a loop: what is left reads what the whole does
-    pub steps-step : (left : Steps) (r : Range) (q : Sequence) (rest : Steps) (a b f d : Draft Boolean) → left ≡ step r q rest → Reads s cs now q b → f ≡ drafts.delay a (least_of r) (extra_of r) b →
+    pub steps-step : (left : Steps) (r : Range) (q : SequenceForm) (rest : Steps) (a b f d : Draft Boolean) → left ≡ step r q rest → Reads s cs now q b → f ≡ drafts.delay a (least_of r) (extra_of r) b →
         ReadsSteps s cs next f rest d → ReadsSteps s cs next a left d
     unfolding Reads
     steps-step left r q rest a b f d is m made h =
         subst (λ (y : Steps). ReadsSteps s cs next a y d) (sym is) (b, reads_grows now next more q b m, subst (λ (g : Draft Boolean). ReadsSteps s cs next g rest d) made h)
 
-    pub all-step : (left : Others) (q : Sequence) (rest : Others) (a b f d : Draft Boolean) → left ≡ other q rest → Reads s cs now q b → f ≡ drafts.and a b → ReadsAll s cs next f rest d → ReadsAll s cs next a left d
+    pub all-step : (left : Others) (q : SequenceForm) (rest : Others) (a b f d : Draft Boolean) → left ≡ other q rest → Reads s cs now q b → f ≡ drafts.and a b → ReadsAll s cs next f rest d → ReadsAll s cs next a left d
     unfolding Reads
     all-step left q rest a b f d is m made h =
         subst (λ (y : Others). ReadsAll s cs next a y d) (sym is) (b, reads_grows now next more q b m, subst (λ (g : Draft Boolean). ReadsAll s cs next g rest d) made h)
 
-    pub any-step : (left : Others) (q : Sequence) (rest : Others) (a b f d : Draft Boolean) → left ≡ other q rest → Reads s cs now q b → f ≡ drafts.or a b → ReadsAny s cs next f rest d → ReadsAny s cs next a left d
+    pub any-step : (left : Others) (q : SequenceForm) (rest : Others) (a b f d : Draft Boolean) → left ≡ other q rest → Reads s cs now q b → f ≡ drafts.or a b → ReadsAny s cs next f rest d → ReadsAny s cs next a left d
     unfolding Reads
     any-step left q rest a b f d is m made h =
         subst (λ (y : Others). ReadsAny s cs next a y d) (sym is) (b, reads_grows now next more q b m, subst (λ (g : Draft Boolean). ReadsAny s cs next g rest d) made h)

@@ -1,6 +1,6 @@
 -- Faults of sides, in their order.
 use Rattle.std.proofs.Common.{◌≡◌, ℕ, ◌<◌, ◌≤◌, List, Some, None, arith}
-use Rattle.grammar.specs.Trees.{Item}
+use Rattle.grammar.specs.Trees.{ItemForm}
 use Rattle.assertions.specs.Segments.{IsDegenerate, AdmitsEmpty}
 use Rattle.assertions.specs.Written.{kernel, weight}
 use Rattle.types_expressions.specs.Scopes.{Scope}
@@ -15,7 +15,7 @@ use Rattle.types.specs.Sides.{AreWeighed, places_where, is_wide, is_degenerate, 
 use Rattle.types.proofs.StageLaws.{nowhere, least_stands, clear_next, first_at, of_7, of_8, of_9}
 use Rattle.types.proofs.SideLaws.{side_there, side_back, tells_wide, tells_degenerate, tells_empty}
 
-module _ (s : Scope) (items : List Item) (ys : List Side) (all : AreWeighed (outlines_of s items) (sides_of s (assertions_of items)) ys) where
+module _ (s : Scope) (items : List ItemForm) (ys : List Side) (all : AreWeighed (outlines_of s items) (sides_of s (assertions_of items)) ys) where
   pub clear_7 : ClearTo s items 6 → least (places_where is_wide ys) ≡ None → ClearTo s items 7
   clear_7 clear e =
       clear_next s items 6 clear (λ fault r h. nowhere (places_where is_wide ys) e (byte_of fault)
@@ -42,7 +42,7 @@ module _ (s : Scope) (items : List Item) (ys : List Side) (all : AreWeighed (out
       (λ other r h. l.lowest (byte_of other)
       (side_there (λ w. IsDegenerate (kernel dot w)) is_degenerate tells_degenerate (outlines_of s items) (sides_of s (assertions_of items)) ys all (byte_of other) (of_8 s items other r h)))
 
-module _ (s : Scope) (items : List Item) (ys : List Side) (all : AreWeighed (outlines_of s items) (consequents_of s (assertions_of items)) ys) where
+module _ (s : Scope) (items : List ItemForm) (ys : List Side) (all : AreWeighed (outlines_of s items) (consequents_of s (assertions_of items)) ys) where
   pub clear_9 : ClearTo s items 8 → least (places_where is_empty ys) ≡ None → ClearTo s items 9
   clear_9 clear e =
       clear_next s items 8 clear (λ fault r h. nowhere (places_where is_empty ys) e (byte_of fault)
@@ -69,5 +69,5 @@ rank_most (Empty at) = omega arith
 rank_most Memory = omega arith
 
 -- there is no tenth kind
-pub clear_all : (s : Scope) (items : List Item) → ClearTo s items 9 → IsFaultless s items
+pub clear_all : (s : Scope) (items : List ItemForm) → ClearTo s items 9 → IsFaultless s items
 clear_all s items clear fault h = omega (arith, clear fault h, rank_most fault)

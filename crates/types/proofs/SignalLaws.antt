@@ -2,7 +2,7 @@
 use Rattle.std.proofs.Common.{◌≡◌, ℕ, List, [], ◌∷◌, ◌++◌, Option, Some, None, refl, ap, inl, inr, suc, zero, take, drop, slice_get}
 use Rattle.std.proofs.lemmas.Bool.{cases_Bool}
 use Rattle.std.specs.Prelude.{string_bytes}
-use Rattle.grammar.specs.Trees.{Tree, number, path, concatenation, past, call, unary, chain, choice, Links, end, link, Parts, no_part, part, Sequence, boolean, repeated, late, delayed, throughout, all, either, Steps, no_step, step, Others, no_other, other, Property, plain, implication, Item, counter, declaration, assertion}
+use Rattle.grammar.specs.Trees.{Tree, number, path, concatenation, past, call, unary, chain, choice, Links, end, link, Parts, no_part, part, SequenceForm, boolean, repeated, late, delayed, throughout, all, either, Steps, no_step, step, Others, no_other, other, PropertyForm, plain, implication, ItemForm, counter, declaration, assertion}
 use Rattle.assertions.specs.declared.signal.Signal.{Signal}
 use Rattle.types_expressions.specs.declared.own.Own.{Own}
 use Rattle.types_expressions.specs.Scopes.{Scope, path_text, meaning_by}
@@ -47,7 +47,7 @@ module _ (s : Scope) where
   mutual
     unfolding sequence_signals
 
-    sequence_known : (q : Sequence) → Known (sequence_signals s q)
+    sequence_known : (q : SequenceForm) → Known (sequence_signals s q)
     sequence_known (boolean e) = known e
     sequence_known (repeated q n) = sequence_known q
     sequence_known (late t n q) = sequence_known q
@@ -64,7 +64,7 @@ module _ (s : Scope) where
     others_known no_other = tt
     others_known (other q others) = both (sequence_signals s q) (other_signals s others) (sequence_known q) (others_known others)
 
-  property_known : (p : Property) → Known (property_signals s p)
+  property_known : (p : PropertyForm) → Known (property_signals s p)
   property_known (plain q) = sequence_known q
   property_known (implication a t c) = both (sequence_signals s a) (sequence_signals s c) (sequence_known a) (sequence_known c)
 
@@ -76,14 +76,14 @@ module _ (s : Scope) where
   clause_known None = tt
   clause_known (Some p) = both (signals s p.0) (signals s p.1) (known p.0) (known p.1)
 
-  item_known : (i : Item) → Known (item_signals s i)
+  item_known : (i : ItemForm) → Known (item_signals s i)
   item_known (counter c) =
       both (optional_signals s c.clear) (clause_signals s c.load ++ (clause_signals s c.add ++ clause_signals s c.sub)) (optional_known c.clear)
       (both (clause_signals s c.load) (clause_signals s c.add ++ clause_signals s c.sub) (clause_known c.load) (both (clause_signals s c.add) (clause_signals s c.sub) (clause_known c.add) (clause_known c.sub)))
   item_known (declaration d) = sequence_known d.body
   item_known (assertion a) = both (optional_signals s a.disable) (property_signals s a.property) (optional_known a.disable) (property_known a.property)
 
-  file_known : (items : List Item) → Known (file_signals s items)
+  file_known : (items : List ItemForm) → Known (file_signals s items)
   file_known [] = tt
   file_known (i ∷ items) = both (item_signals s i) (file_signals s items) (item_known i) (file_known items)
 
@@ -98,7 +98,7 @@ module _ (s : Scope) where
   paths_kept [] known h g = h
   paths_kept (p ∷ ps) known h g = paths_kept ps (with_path known p) (path_kept known p h g.0) g.1
 
-  pub columns_known : (items : List Item) → AreKnown s (columns_of s items)
+  pub columns_known : (items : List ItemForm) → AreKnown s (columns_of s items)
   columns_known items = paths_kept (file_signals s items) [] tt (file_known items)
 
   -- one more signal, behind those that were made

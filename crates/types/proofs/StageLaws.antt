@@ -3,7 +3,7 @@ use Rattle.std.proofs.Common.{◌≡◌, inl, inr, ℕ, ◌+◌, ◌≤◌, min,
 use Rattle.std.specs.Result.{IsErrAnd}
 use Rattle.std.proofs.lemmas.Option.{none-some}
 use Rattle.std.proofs.lemmas.Bool.{cases_eq, cases_lt}
-use Rattle.grammar.specs.Trees.{Item}
+use Rattle.grammar.specs.Trees.{ItemForm}
 use Rattle.types_sequences.specs.Drafts.{IsIn}
 use Rattle.types_expressions.specs.declared.own.Sought.{Sought}
 use Rattle.types_expressions.specs.declared.own.Sought.TheVariants.{Unknown, Wide, OutOfRange}
@@ -12,7 +12,7 @@ use Rattle.types_expressions.specs.Faults.{file_faults, earlier, least}
 use Rattle.types.specs.declared.fault.TypeFault.{TypeFault}
 use Rattle.types.specs.declared.fault.TypeFault.TheVariants.{UnknownName, Duplicate, WiderThan128, SliceRange, Degenerate, AdmitsEmpty as Empty, OtherClock, CyclicSequence, TooWide, Memory}
 use Rattle.types.specs.Texts.{assertions_of, duplicates, other_clocks}
-use Rattle.types.specs.Faults.{Stands, CycleAt, WideAt, DegenerateAt, EmptyAt, rank, byte_of, IsFirst, IsRefused, ClearTo}
+use Rattle.types.specs.Faults.{FaultStands, CycleAt, WideAt, DegenerateAt, EmptyAt, rank, byte_of, IsFirst, IsTypeFault, ClearTo}
 
 -- where a list has no least place it has no place, and each place is at least the least
 least_of_more : (x : ℕ) (o : Option ℕ) → earlier (Some x) o ≡ None → ⊥
@@ -59,7 +59,7 @@ pub least_stands : (xs : List ℕ) (at : ℕ) → least xs ≡ Some at → IsLea
 least_stands [] at e = absurd (none-some at e)
 least_stands (x ∷ xs) at e = least_with x at xs (least xs) refl (λ b h. least_stands xs b h) e
 
-pub clear_start : (s : Scope) (items : List Item) → ClearTo s items 0
+pub clear_start : (s : Scope) (items : List ItemForm) → ClearTo s items 0
 clear_start s items (UnknownName at) h = omega arith
 clear_start s items (Duplicate at) h = omega arith
 clear_start s items (WiderThan128 at) h = omega arith
@@ -71,7 +71,7 @@ clear_start s items (CyclicSequence at) h = omega arith
 clear_start s items (TooWide at) h = omega arith
 clear_start s items Memory h = elim h [ ]
 
-pub of_1 : (s : Scope) (items : List Item) (fault : TypeFault) → rank fault ≡ 1 → Stands s items fault → IsIn (byte_of fault) (file_faults s Unknown items)
+pub of_1 : (s : Scope) (items : List ItemForm) (fault : TypeFault) → rank fault ≡ 1 → FaultStands s items fault → IsIn (byte_of fault) (file_faults s Unknown items)
 of_1 s items (UnknownName at) r h = h
 of_1 s items (Duplicate at) r h = absurd (omega (arith, r))
 of_1 s items (WiderThan128 at) r h = absurd (omega (arith, r))
@@ -83,7 +83,7 @@ of_1 s items (CyclicSequence at) r h = absurd (omega (arith, r))
 of_1 s items (TooWide at) r h = absurd (omega (arith, r))
 of_1 s items Memory r h = elim h [ ]
 
-pub of_2 : (s : Scope) (items : List Item) (fault : TypeFault) → rank fault ≡ 2 → Stands s items fault → IsIn (byte_of fault) (duplicates items)
+pub of_2 : (s : Scope) (items : List ItemForm) (fault : TypeFault) → rank fault ≡ 2 → FaultStands s items fault → IsIn (byte_of fault) (duplicates items)
 of_2 s items (UnknownName at) r h = absurd (omega (arith, r))
 of_2 s items (Duplicate at) r h = h
 of_2 s items (WiderThan128 at) r h = absurd (omega (arith, r))
@@ -95,7 +95,7 @@ of_2 s items (CyclicSequence at) r h = absurd (omega (arith, r))
 of_2 s items (TooWide at) r h = absurd (omega (arith, r))
 of_2 s items Memory r h = elim h [ ]
 
-pub of_3 : (s : Scope) (items : List Item) (fault : TypeFault) → rank fault ≡ 3 → Stands s items fault → IsIn (byte_of fault) (file_faults s Wide items)
+pub of_3 : (s : Scope) (items : List ItemForm) (fault : TypeFault) → rank fault ≡ 3 → FaultStands s items fault → IsIn (byte_of fault) (file_faults s Wide items)
 of_3 s items (UnknownName at) r h = absurd (omega (arith, r))
 of_3 s items (Duplicate at) r h = absurd (omega (arith, r))
 of_3 s items (WiderThan128 at) r h = h
@@ -107,7 +107,7 @@ of_3 s items (CyclicSequence at) r h = absurd (omega (arith, r))
 of_3 s items (TooWide at) r h = absurd (omega (arith, r))
 of_3 s items Memory r h = elim h [ ]
 
-pub of_4 : (s : Scope) (items : List Item) (fault : TypeFault) → rank fault ≡ 4 → Stands s items fault → IsIn (byte_of fault) (file_faults s OutOfRange items)
+pub of_4 : (s : Scope) (items : List ItemForm) (fault : TypeFault) → rank fault ≡ 4 → FaultStands s items fault → IsIn (byte_of fault) (file_faults s OutOfRange items)
 of_4 s items (UnknownName at) r h = absurd (omega (arith, r))
 of_4 s items (Duplicate at) r h = absurd (omega (arith, r))
 of_4 s items (WiderThan128 at) r h = absurd (omega (arith, r))
@@ -119,7 +119,7 @@ of_4 s items (CyclicSequence at) r h = absurd (omega (arith, r))
 of_4 s items (TooWide at) r h = absurd (omega (arith, r))
 of_4 s items Memory r h = elim h [ ]
 
-pub of_8 : (s : Scope) (items : List Item) (fault : TypeFault) → rank fault ≡ 8 → Stands s items fault → DegenerateAt s items (byte_of fault)
+pub of_8 : (s : Scope) (items : List ItemForm) (fault : TypeFault) → rank fault ≡ 8 → FaultStands s items fault → DegenerateAt s items (byte_of fault)
 of_8 s items (UnknownName at) r h = absurd (omega (arith, r))
 of_8 s items (Duplicate at) r h = absurd (omega (arith, r))
 of_8 s items (WiderThan128 at) r h = absurd (omega (arith, r))
@@ -131,7 +131,7 @@ of_8 s items (CyclicSequence at) r h = absurd (omega (arith, r))
 of_8 s items (TooWide at) r h = absurd (omega (arith, r))
 of_8 s items Memory r h = elim h [ ]
 
-pub of_9 : (s : Scope) (items : List Item) (fault : TypeFault) → rank fault ≡ 9 → Stands s items fault → EmptyAt s items (byte_of fault)
+pub of_9 : (s : Scope) (items : List ItemForm) (fault : TypeFault) → rank fault ≡ 9 → FaultStands s items fault → EmptyAt s items (byte_of fault)
 of_9 s items (UnknownName at) r h = absurd (omega (arith, r))
 of_9 s items (Duplicate at) r h = absurd (omega (arith, r))
 of_9 s items (WiderThan128 at) r h = absurd (omega (arith, r))
@@ -143,7 +143,7 @@ of_9 s items (CyclicSequence at) r h = absurd (omega (arith, r))
 of_9 s items (TooWide at) r h = absurd (omega (arith, r))
 of_9 s items Memory r h = elim h [ ]
 
-pub of_5 : (s : Scope) (items : List Item) (fault : TypeFault) → rank fault ≡ 5 → Stands s items fault → IsIn (byte_of fault) (other_clocks (assertions_of items))
+pub of_5 : (s : Scope) (items : List ItemForm) (fault : TypeFault) → rank fault ≡ 5 → FaultStands s items fault → IsIn (byte_of fault) (other_clocks (assertions_of items))
 of_5 s items (UnknownName at) r h = absurd (omega (arith, r))
 of_5 s items (Duplicate at) r h = absurd (omega (arith, r))
 of_5 s items (WiderThan128 at) r h = absurd (omega (arith, r))
@@ -155,7 +155,7 @@ of_5 s items (CyclicSequence at) r h = absurd (omega (arith, r))
 of_5 s items (TooWide at) r h = absurd (omega (arith, r))
 of_5 s items Memory r h = elim h [ ]
 
-pub of_6 : (s : Scope) (items : List Item) (fault : TypeFault) → rank fault ≡ 6 → Stands s items fault → CycleAt s items (byte_of fault)
+pub of_6 : (s : Scope) (items : List ItemForm) (fault : TypeFault) → rank fault ≡ 6 → FaultStands s items fault → CycleAt s items (byte_of fault)
 of_6 s items (UnknownName at) r h = absurd (omega (arith, r))
 of_6 s items (Duplicate at) r h = absurd (omega (arith, r))
 of_6 s items (WiderThan128 at) r h = absurd (omega (arith, r))
@@ -167,7 +167,7 @@ of_6 s items (CyclicSequence at) r h = h
 of_6 s items (TooWide at) r h = absurd (omega (arith, r))
 of_6 s items Memory r h = elim h [ ]
 
-pub of_7 : (s : Scope) (items : List Item) (fault : TypeFault) → rank fault ≡ 7 → Stands s items fault → WideAt s items (byte_of fault)
+pub of_7 : (s : Scope) (items : List ItemForm) (fault : TypeFault) → rank fault ≡ 7 → FaultStands s items fault → WideAt s items (byte_of fault)
 of_7 s items (UnknownName at) r h = absurd (omega (arith, r))
 of_7 s items (Duplicate at) r h = absurd (omega (arith, r))
 of_7 s items (WiderThan128 at) r h = absurd (omega (arith, r))
@@ -179,15 +179,15 @@ of_7 s items (CyclicSequence at) r h = absurd (omega (arith, r))
 of_7 s items (TooWide at) r h = h
 of_7 s items Memory r h = elim h [ ]
 
-pub clear_next : (s : Scope) (items : List Item) (n : ℕ) → ClearTo s items n → ((fault : TypeFault) → rank fault ≡ n + 1 → Stands s items fault → ⊥) → ClearTo s items (n + 1)
+pub clear_next : (s : Scope) (items : List ItemForm) (n : ℕ) → ClearTo s items n → ((fault : TypeFault) → rank fault ≡ n + 1 → FaultStands s items fault → ⊥) → ClearTo s items (n + 1)
 clear_next s items n clear none fault h =
     elim (cases_eq (rank fault) (n + 1)) [
       | inl e ↦ absurd (none fault e h)
       | inr d ↦ omega (arith, clear fault h, d)
     ]
 
-pub first_at : (s : Scope) (items : List Item) (n : ℕ) (fault : TypeFault) → ClearTo s items n → rank fault ≡ n + 1 → Stands s items fault →
-    ((other : TypeFault) → rank other ≡ n + 1 → Stands s items other → byte_of fault ≤ byte_of other) → IsFirst s items fault
+pub first_at : (s : Scope) (items : List ItemForm) (n : ℕ) (fault : TypeFault) → ClearTo s items n → rank fault ≡ n + 1 → FaultStands s items fault →
+    ((other : TypeFault) → rank other ≡ n + 1 → FaultStands s items other → byte_of fault ≤ byte_of other) → IsFirst s items fault
 first_at s items n fault clear r h low =
     record {
       stands = h;
@@ -198,42 +198,42 @@ first_at s items n fault clear r h low =
           ];
     }
 
-pub clear_1 : (s : Scope) (items : List Item) → ClearTo s items 0 → least (file_faults s Unknown items) ≡ None → ClearTo s items 1
+pub clear_1 : (s : Scope) (items : List ItemForm) → ClearTo s items 0 → least (file_faults s Unknown items) ≡ None → ClearTo s items 1
 clear_1 s items clear e = clear_next s items 0 clear (λ fault r h. nowhere (file_faults s Unknown items) e (byte_of fault) (of_1 s items fault r h))
 
-pub first_1 : (s : Scope) (items : List Item) (at : ℕ) → ClearTo s items 0 → least (file_faults s Unknown items) ≡ Some at → IsFirst s items (UnknownName at)
+pub first_1 : (s : Scope) (items : List ItemForm) (at : ℕ) → ClearTo s items 0 → least (file_faults s Unknown items) ≡ Some at → IsFirst s items (UnknownName at)
 first_1 s items at clear e =
     let l = least_stands (file_faults s Unknown items) at e in
     first_at s items 0 (UnknownName at) clear (omega arith) l.stands (λ other r h. l.lowest (byte_of other) (of_1 s items other r h))
 
-pub clear_2 : (s : Scope) (items : List Item) → ClearTo s items 1 → least (duplicates items) ≡ None → ClearTo s items 2
+pub clear_2 : (s : Scope) (items : List ItemForm) → ClearTo s items 1 → least (duplicates items) ≡ None → ClearTo s items 2
 clear_2 s items clear e = clear_next s items 1 clear (λ fault r h. nowhere (duplicates items) e (byte_of fault) (of_2 s items fault r h))
 
-pub first_2 : (s : Scope) (items : List Item) (at : ℕ) → ClearTo s items 1 → least (duplicates items) ≡ Some at → IsFirst s items (Duplicate at)
+pub first_2 : (s : Scope) (items : List ItemForm) (at : ℕ) → ClearTo s items 1 → least (duplicates items) ≡ Some at → IsFirst s items (Duplicate at)
 first_2 s items at clear e =
     let l = least_stands (duplicates items) at e in
     first_at s items 1 (Duplicate at) clear (omega arith) l.stands (λ other r h. l.lowest (byte_of other) (of_2 s items other r h))
 
-pub clear_3 : (s : Scope) (items : List Item) → ClearTo s items 2 → least (file_faults s Wide items) ≡ None → ClearTo s items 3
+pub clear_3 : (s : Scope) (items : List ItemForm) → ClearTo s items 2 → least (file_faults s Wide items) ≡ None → ClearTo s items 3
 clear_3 s items clear e = clear_next s items 2 clear (λ fault r h. nowhere (file_faults s Wide items) e (byte_of fault) (of_3 s items fault r h))
 
-pub first_3 : (s : Scope) (items : List Item) (at : ℕ) → ClearTo s items 2 → least (file_faults s Wide items) ≡ Some at → IsFirst s items (WiderThan128 at)
+pub first_3 : (s : Scope) (items : List ItemForm) (at : ℕ) → ClearTo s items 2 → least (file_faults s Wide items) ≡ Some at → IsFirst s items (WiderThan128 at)
 first_3 s items at clear e =
     let l = least_stands (file_faults s Wide items) at e in
     first_at s items 2 (WiderThan128 at) clear (omega arith) l.stands (λ other r h. l.lowest (byte_of other) (of_3 s items other r h))
 
-pub clear_4 : (s : Scope) (items : List Item) → ClearTo s items 3 → least (file_faults s OutOfRange items) ≡ None → ClearTo s items 4
+pub clear_4 : (s : Scope) (items : List ItemForm) → ClearTo s items 3 → least (file_faults s OutOfRange items) ≡ None → ClearTo s items 4
 clear_4 s items clear e = clear_next s items 3 clear (λ fault r h. nowhere (file_faults s OutOfRange items) e (byte_of fault) (of_4 s items fault r h))
 
-pub first_4 : (s : Scope) (items : List Item) (at : ℕ) → ClearTo s items 3 → least (file_faults s OutOfRange items) ≡ Some at → IsFirst s items (SliceRange at)
+pub first_4 : (s : Scope) (items : List ItemForm) (at : ℕ) → ClearTo s items 3 → least (file_faults s OutOfRange items) ≡ Some at → IsFirst s items (SliceRange at)
 first_4 s items at clear e =
     let l = least_stands (file_faults s OutOfRange items) at e in
     first_at s items 3 (SliceRange at) clear (omega arith) l.stands (λ other r h. l.lowest (byte_of other) (of_4 s items other r h))
 
-pub clear_5 : (s : Scope) (items : List Item) → ClearTo s items 4 → least (other_clocks (assertions_of items)) ≡ None → ClearTo s items 5
+pub clear_5 : (s : Scope) (items : List ItemForm) → ClearTo s items 4 → least (other_clocks (assertions_of items)) ≡ None → ClearTo s items 5
 clear_5 s items clear e = clear_next s items 4 clear (λ fault r h. nowhere (other_clocks (assertions_of items)) e (byte_of fault) (of_5 s items fault r h))
 
-pub first_5 : (s : Scope) (items : List Item) (at : ℕ) → ClearTo s items 4 → least (other_clocks (assertions_of items)) ≡ Some at → IsFirst s items (OtherClock at)
+pub first_5 : (s : Scope) (items : List ItemForm) (at : ℕ) → ClearTo s items 4 → least (other_clocks (assertions_of items)) ≡ Some at → IsFirst s items (OtherClock at)
 first_5 s items at clear e =
     let l = least_stands (other_clocks (assertions_of items)) at e in
     first_at s items 4 (OtherClock at) clear (omega arith) l.stands (λ other r h. l.lowest (byte_of other) (of_5 s items other r h))
@@ -245,16 +245,16 @@ nothing_in : (xs : List ℕ) → ((at : ℕ) → IsIn at xs → ⊥) → xs ≡ 
 nothing_in [] none = refl
 nothing_in (x ∷ xs) none = absurd (none x (inl refl))
 
-pub clear_sound : (s : Scope) (items : List Item) → ClearTo s items 5 → (k : Sought) → file_faults s k items ≡ []
+pub clear_sound : (s : Scope) (items : List ItemForm) → ClearTo s items 5 → (k : Sought) → file_faults s k items ≡ []
 clear_sound s items clear Unknown = nothing_in (file_faults s Unknown items) (λ at i. omega (arith, clear (UnknownName at) i))
 clear_sound s items clear Wide = nothing_in (file_faults s Wide items) (λ at i. omega (arith, clear (WiderThan128 at) i))
 clear_sound s items clear OutOfRange = nothing_in (file_faults s OutOfRange items) (λ at i. omega (arith, clear (SliceRange at) i))
 
 -- a refusal that `?` passes on
-pub refused_memory : {X : Type 0} (s : Scope) (items : List Item) (r : Result X TypeFault) → IsErrAnd r (λ e. e ≡ Memory) → IfErr r (IsRefused s items)
+pub refused_memory : {X : Type 0} (s : Scope) (items : List ItemForm) (r : Result X TypeFault) → IsErrAnd r (λ e. e ≡ Memory) → IfErr r (IsTypeFault s items)
 refused_memory s items (Ok x) h = elim h [ ]
 refused_memory s items (Err e) h = rw h tt
 
-pub refused_same : {X : Type 0} (s : Scope) (items : List Item) (f : TypeFault) (r : Result X TypeFault) → IsErrAnd r (λ e. e ≡ f) → IsRefused s items f → IfErr r (IsRefused s items)
+pub refused_same : {X : Type 0} (s : Scope) (items : List ItemForm) (f : TypeFault) (r : Result X TypeFault) → IsErrAnd r (λ e. e ≡ f) → IsTypeFault s items f → IfErr r (IsTypeFault s items)
 refused_same s items f (Ok x) h g = elim h [ ]
 refused_same s items f (Err e) h g = rw h g

@@ -1,7 +1,7 @@
 -- What is known of sides, from the entries of what they say.
 use Rattle.std.proofs.Common.{◌≡◌, ℕ, ◌+◌, ◌≤◌, min, List, [], ◌∷◌, ◌++◌, map, Option, Some, None, refl, sym, ap, ◌∙◌, subst, arith}
 use Rattle.grammar.specs.Trees as trees
-use Rattle.grammar.specs.Trees.{Property, plain, implication}
+use Rattle.grammar.specs.Trees.{PropertyForm, plain, implication}
 use Rattle.expressions.specs.declared.expr.Expr.{Expr}
 use Rattle.types_sequences.specs.declared.implication.Implication.{Implication}
 use Rattle.types_sequences.specs.declared.implication.Implication.TheVariants.{Overlapped, NonOverlapped}
@@ -56,7 +56,7 @@ before_outline Overlapped d = refl
 before_outline NonOverlapped d = refl
 
 module _ (s : Scope) (cs : List (List ℕ)) (e : List Expr) (bodies : List (Draft Boolean)) (o : List (Draft Dot)) (same : map dotted bodies ≡ o) where
-  antecedent_weighed : (p : Property) (d : Draft Boolean) (n : Entry) (at : Option ℕ) → ReadsAntecedent s cs e p d → HasEntry bodies d n → at ≡ antecedent_byte p →
+  antecedent_weighed : (p : PropertyForm) (d : Draft Boolean) (n : Entry) (at : Option ℕ) → ReadsAntecedent s cs e p d → HasEntry bodies d n → at ≡ antecedent_byte p →
       AreWeighed o (antecedents_in s p) (side_at n.facts at)
   antecedent_weighed (plain q) d n at h i is = subst (λ (z : Option ℕ). AreWeighed o [] (side_at n.facts z)) (sym is) tt
   antecedent_weighed (implication a t c) d n at h i is =
@@ -65,11 +65,11 @@ module _ (s : Scope) (cs : List (List ℕ)) (e : List Expr) (bodies : List (Draf
       let out = ap dotted h.2 ∙ before_outline kind h.0 ∙ ap (outline_before kind) (reads_outline s cs e a h.0 h.1) in
       subst (λ (z : Option ℕ). AreWeighed o (x ∷ []) (side_at n.facts z)) (sym is) (weighed bodies o d n x (record { facts = n.facts; at = sequence_byte a }) same i out refl refl, tt)
 
-  consequent_weighed : (p : Property) (d : Draft Boolean) (n : Entry) (y : Side) → ReadsConsequent s cs e p d → HasEntry bodies d n → y.facts ≡ n.facts → y.at ≡ consequent_byte p → IsWeighed o (consequent_in s p) y
+  consequent_weighed : (p : PropertyForm) (d : Draft Boolean) (n : Entry) (y : Side) → ReadsConsequent s cs e p d → HasEntry bodies d n → y.facts ≡ n.facts → y.at ≡ consequent_byte p → IsWeighed o (consequent_in s p) y
   consequent_weighed (plain q) d n y h i facts at = weighed bodies o d n (record { outline = outline s q; byte = sequence_byte q }) y same i (reads_outline s cs e q d h) facts at
   consequent_weighed (implication a t c) d n y h i facts at = weighed bodies o d n (record { outline = outline s c; byte = sequence_byte c }) y same i (reads_outline s cs e c d h) facts at
 
-  pub sides_weighed : (us : List trees.Assertion) (ms : List Resolved) (before : ℕ) → AreResolved s cs e bodies before us ms → AreWeighed o (sides_of s us) (sides_in ms)
+  pub sides_weighed : (us : List trees.AssertionForm) (ms : List Resolved) (before : ℕ) → AreResolved s cs e bodies before us ms → AreWeighed o (sides_of s us) (sides_in ms)
   sides_weighed [] [] before h = tt
   sides_weighed [] (m ∷ ms) before h = elim h [ ]
   sides_weighed (a ∷ us) [] before h = elim h [ ]
@@ -81,7 +81,7 @@ module _ (s : Scope) (cs : List (List ℕ)) (e : List Expr) (bodies : List (Draf
       (consequent_weighed a.property one.consequent m.consequent (consequent_side m) one.reads_consequent one.consequent_entry refl one.consequent_at, tt))
       (sides_weighed us ms (before + 1) h.1)
 
-  pub consequents_weighed : (us : List trees.Assertion) (ms : List Resolved) (before : ℕ) → AreResolved s cs e bodies before us ms → AreWeighed o (consequents_of s us) (consequents_in ms)
+  pub consequents_weighed : (us : List trees.AssertionForm) (ms : List Resolved) (before : ℕ) → AreResolved s cs e bodies before us ms → AreWeighed o (consequents_of s us) (consequents_in ms)
   consequents_weighed [] [] before h = tt
   consequents_weighed [] (m ∷ ms) before h = elim h [ ]
   consequents_weighed (a ∷ us) [] before h = elim h [ ]
@@ -90,7 +90,7 @@ module _ (s : Scope) (cs : List (List ℕ)) (e : List Expr) (bodies : List (Draf
       (consequent_weighed a.property one.consequent m.consequent (consequent_side m) one.reads_consequent one.consequent_entry refl one.consequent_at, consequents_weighed us ms (before + 1) h.1)
 
   -- The antecedent of a sequence that is asserted alone is 1, and weighs 1.
-  antecedent_light : (p : Property) (d : Draft Boolean) (n : Entry) (at : Option ℕ) (rest : List Side) → ReadsAntecedent s cs e p d → HasEntry bodies d n → at ≡ antecedent_byte p →
+  antecedent_light : (p : PropertyForm) (d : Draft Boolean) (n : Entry) (at : Option ℕ) (rest : List Side) → ReadsAntecedent s cs e p d → HasEntry bodies d n → at ≡ antecedent_byte p →
       AreLight (side_at n.facts at ++ rest) → n.facts.weight ≤ 127
   antecedent_light (plain q) d n at rest h i is l =
       let one : Spells bodies d (written.boolean One) = subst (λ (z : Draft Boolean). Spells bodies z (written.boolean One)) (sym h) (0, refl) in
@@ -104,7 +104,7 @@ module _ (s : Scope) (cs : List (List ℕ)) (e : List Expr) (bodies : List (Draf
   tail_light f None rest h = h
   tail_light f (Some at) rest h = h.1
 
-  pub sides_fit : (us : List trees.Assertion) (ms : List Resolved) (before : ℕ) → AreResolved s cs e bodies before us ms → AreLight (sides_in ms) → AreFitting ms
+  pub sides_fit : (us : List trees.AssertionForm) (ms : List Resolved) (before : ℕ) → AreResolved s cs e bodies before us ms → AreLight (sides_in ms) → AreFitting ms
   sides_fit [] [] before h l = tt
   sides_fit [] (m ∷ ms) before h l = elim h [ ]
   sides_fit (a ∷ us) [] before h l = elim h [ ]

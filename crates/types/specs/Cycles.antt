@@ -1,6 +1,6 @@
 -- The first declaration that reaches itself, by the bytes of the declarations.
 use Rattle.std.specs.Prelude.{◌≡◌, ℕ, ◌<◌, ◌≤◌, List, length, map, slice_index_or, Option, Some, None, false}
-use Rattle.grammar.specs.Trees.{Item}
+use Rattle.grammar.specs.Trees.{ItemForm}
 use Rattle.assertions.specs.declared.sequence.Boolean.{Boolean}
 use Rattle.types_sequences.specs.Drafts.{Draft, IsCyclic}
 use Rattle.types_sequences.specs.Outlines.{map_draft}
@@ -30,7 +30,7 @@ IsAtMost None byte = ⊥
 IsAtMost (Some at) byte = at ≤ byte
 
 -- Drafts of the named sequences, with the bytes where they are declared.
-pub record AreOutlined (s : Scope) (items : List Item) (bodies : List (Draft Boolean)) (bytes : List ℕ) : Type 0 where
+pub record AreOutlined (s : Scope) (items : List ItemForm) (bodies : List (Draft Boolean)) (bytes : List ℕ) : Type 0 where
   pub outlines : map (map_draft (λ b. dot)) bodies ≡ outlines_of s items
   pub declared : bytes ≡ map (λ d. d.name.at) (declarations_of items)
 

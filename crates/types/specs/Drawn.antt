@@ -1,7 +1,7 @@
 -- What the code keeps of an assertion before it is written out.
 use Rattle.std.specs.Prelude.{◌≡◌, ℕ, List, Option, Some, None, string_bytes}
 use Rattle.grammar.specs.Trees as trees
-use Rattle.grammar.specs.Trees.{Tree, Property, plain, implication}
+use Rattle.grammar.specs.Trees.{Tree, PropertyForm, plain, implication}
 use Rattle.expressions.specs.declared.expr.Expr.{Expr}
 use Rattle.assertions.specs.declared.sequence.Boolean.TheVariants.{Listed}
 use Rattle.types_sequences.specs.Views.{draft_of}
@@ -12,11 +12,11 @@ use Rattle.types.specs.Texts.{label_text, sequence_byte}
 use Rattle.types.specs.Suites.{ReadsAntecedent, ReadsConsequent}
 
 -- where the antecedent begins, if one is written, and the consequent
-abbrev pub antecedent_byte : Property → Option ℕ
+abbrev pub antecedent_byte : PropertyForm → Option ℕ
 antecedent_byte (plain q) = None
 antecedent_byte (implication a t c) = Some (sequence_byte a)
 
-abbrev pub consequent_byte : Property → ℕ
+abbrev pub consequent_byte : PropertyForm → ℕ
 consequent_byte (plain q) = sequence_byte q
 consequent_byte (implication a t c) = sequence_byte c
 
@@ -28,7 +28,7 @@ IsDisabledBy s columns booleans (Some t) None = ⊥
 IsDisabledBy s columns booleans (Some t) (Some p) = IsAtom s columns booleans t (Listed p)
 
 -- The sides of an assertion, before which so many stand, as drafts.
-pub record IsDrawn (s : Scope) (columns : List (List ℕ)) (booleans : List Expr) (before : ℕ) (a : trees.Assertion) (m : Drawn) : Type 0 where
+pub record IsDrawn (s : Scope) (columns : List (List ℕ)) (booleans : List Expr) (before : ℕ) (a : trees.AssertionForm) (m : Drawn) : Type 0 where
   pub name : string_bytes m.name ≡ label_text before a.label
   pub antecedent : ReadsAntecedent s columns booleans a.property (draft_of m.antecedent.value)
   pub consequent : ReadsConsequent s columns booleans a.property (draft_of m.consequent.value)

@@ -1,10 +1,10 @@
 -- Where faults of types stand in a text.
 use Rattle.std.specs.Prelude.{◌≡◌, ◌⊎◌, ℕ, ◌<◌, ◌≤◌, List, [], ◌∷◌, ◌++◌, map, Some, slice_get}
-use Rattle.grammar.specs.Trees.{Property, plain, implication, Declaration, Assertion, Item}
+use Rattle.grammar.specs.Trees.{PropertyForm, plain, implication, DeclarationForm, AssertionForm, ItemForm}
 use Rattle.assertions.specs.Segments.{IsDegenerate, AdmitsEmpty}
 use Rattle.assertions.specs.Written.{Written, kernel, weight}
 use Rattle.types_sequences.specs.Drafts.{Draft, IsIn, Spells, IsCyclic}
-use Rattle.types_sequences.specs.Implications.{rewritten}
+use Rattle.types_sequences.specs.Implications.{rewritten_antecedent}
 use Rattle.types_expressions.specs.declared.own.Sought.TheVariants.{Unknown, Wide, OutOfRange}
 use Rattle.types_expressions.specs.Scopes.{Scope}
 use Rattle.types_expressions.specs.Faults.{file_faults}
@@ -19,10 +19,10 @@ abbrev pub Where : Type 0
 Where = Scope
 
 abbrev pub Text : Type 0
-Text = List Item
+Text = List ItemForm
 
 -- the outlines of the named sequences
-abbrev pub outlines_of : Scope → List Item → List (Draft Dot)
+abbrev pub outlines_of : Scope → List ItemForm → List (Draft Dot)
 outlines_of s items = map (λ d. outline s d.body) (declarations_of items)
 
 -- A side of an assertion: its outline, with the antecedent of |=> as that of |->, and the byte of its first token but brackets.
@@ -32,23 +32,23 @@ pub record Side : Type 0 where
 
 -- R |=> S is (R ##1 1) |-> S (16.12.7)
 abbrev pub outline_before : Implication → Draft Dot → Draft Dot
-outline_before k d = rewritten dot k d
+outline_before k d = rewritten_antecedent dot k d
 
 -- the antecedent that is written, if there is one
-abbrev pub antecedents_in : Scope → Property → List Side
+abbrev pub antecedents_in : Scope → PropertyForm → List Side
 antecedents_in s (plain q) = []
 antecedents_in s (implication a t c) = record { outline = outline_before (implication_by t.kind) (outline s a); byte = sequence_byte a } ∷ []
 
 -- A plain sequence is a consequent alone.
-abbrev pub consequent_in : Scope → Property → Side
+abbrev pub consequent_in : Scope → PropertyForm → Side
 consequent_in s (plain q) = record { outline = outline s q; byte = sequence_byte q }
 consequent_in s (implication a t c) = record { outline = outline s c; byte = sequence_byte c }
 
-abbrev pub sides_of : Scope → List Assertion → List Side
+abbrev pub sides_of : Scope → List AssertionForm → List Side
 sides_of s [] = []
 sides_of s (a ∷ more) = (antecedents_in s a.property ++ consequent_in s a.property ∷ []) ++ sides_of s more
 
-abbrev pub consequents_of : Scope → List Assertion → List Side
+abbrev pub consequents_of : Scope → List AssertionForm → List Side
 consequents_of s [] = []
 consequents_of s (a ∷ more) = consequent_in s a.property ∷ consequents_of s more
 
@@ -58,9 +58,9 @@ IsSide x [] = ⊥
 IsSide x (y ∷ ys) = (x ≡ y) ⊎ IsSide x ys
 
 -- A named sequence that reaches itself is declared at the byte.
-pub record CycleAt (s : Scope) (items : List Item) (at : ℕ) : Type 0 where
+pub record CycleAt (s : Scope) (items : List ItemForm) (at : ℕ) : Type 0 where
   pub place : ℕ
-  pub declared : Declaration
+  pub declared : DeclarationForm
   pub found : slice_get (declarations_of items) place ≡ Some declared
   pub cyclic : IsCyclic (outlines_of s items) place
   pub byte : at ≡ declared.name.at
@@ -75,27 +75,27 @@ pub record SideAt (bodies : List (Draft Dot)) (sides : List Side) (IsSo : Writte
   pub byte : at ≡ side.byte
 
 -- A side weighs more than 127 (Y9), has no match of a tick or more (Y5), a consequent has an empty match (Y6), were every boolean true (16.12.22).
-abbrev pub WideAt : Scope → List Item → ℕ → Type 0
+abbrev pub WideAt : Scope → List ItemForm → ℕ → Type 0
 WideAt s items = SideAt (outlines_of s items) (sides_of s (assertions_of items)) (λ w. 127 < weight w)
 
-abbrev pub DegenerateAt : Scope → List Item → ℕ → Type 0
+abbrev pub DegenerateAt : Scope → List ItemForm → ℕ → Type 0
 DegenerateAt s items = SideAt (outlines_of s items) (sides_of s (assertions_of items)) (λ w. IsDegenerate (kernel dot w))
 
-abbrev pub EmptyAt : Scope → List Item → ℕ → Type 0
+abbrev pub EmptyAt : Scope → List ItemForm → ℕ → Type 0
 EmptyAt s items = SideAt (outlines_of s items) (consequents_of s (assertions_of items)) (λ w. AdmitsEmpty (kernel dot w))
 
 -- The fault stands in the text; of several the first by kind, in the order Y1, Y2, Y3, Y4, Y7, Y8, Y9, Y5, Y6, then the lowest byte.
-abbrev pub Stands : Scope → List Item → TypeFault → Type 0
-Stands s items (UnknownName at) = IsIn at (file_faults s Unknown items)
-Stands s items (Duplicate at) = IsIn at (duplicates items)
-Stands s items (WiderThan128 at) = IsIn at (file_faults s Wide items)
-Stands s items (SliceRange at) = IsIn at (file_faults s OutOfRange items)
-Stands s items (OtherClock at) = IsIn at (other_clocks (assertions_of items))
-Stands s items (CyclicSequence at) = CycleAt s items at
-Stands s items (TooWide at) = WideAt s items at
-Stands s items (Degenerate at) = DegenerateAt s items at
-Stands s items (Empty at) = EmptyAt s items at
-Stands s items Memory = ⊥
+abbrev pub FaultStands : Scope → List ItemForm → TypeFault → Type 0
+FaultStands s items (UnknownName at) = IsIn at (file_faults s Unknown items)
+FaultStands s items (Duplicate at) = IsIn at (duplicates items)
+FaultStands s items (WiderThan128 at) = IsIn at (file_faults s Wide items)
+FaultStands s items (SliceRange at) = IsIn at (file_faults s OutOfRange items)
+FaultStands s items (OtherClock at) = IsIn at (other_clocks (assertions_of items))
+FaultStands s items (CyclicSequence at) = CycleAt s items at
+FaultStands s items (TooWide at) = WideAt s items at
+FaultStands s items (Degenerate at) = DegenerateAt s items at
+FaultStands s items (Empty at) = EmptyAt s items at
+FaultStands s items Memory = ⊥
 
 abbrev pub rank : TypeFault → ℕ
 rank (UnknownName at) = 1
@@ -122,19 +122,19 @@ byte_of (Empty at) = at
 byte_of Memory = 0
 
 -- No fault of the first so many kinds stands.
-abbrev pub ClearTo : Scope → List Item → ℕ → Type 0
-ClearTo s items n = (fault : TypeFault) → Stands s items fault → n < rank fault
+abbrev pub ClearTo : Scope → List ItemForm → ℕ → Type 0
+ClearTo s items n = (fault : TypeFault) → FaultStands s items fault → n < rank fault
 
 -- No fault stands.
-abbrev pub IsFaultless : Scope → List Item → Type 0
-IsFaultless s items = (fault : TypeFault) → Stands s items fault → ⊥
+abbrev pub IsFaultless : Scope → List ItemForm → Type 0
+IsFaultless s items = (fault : TypeFault) → FaultStands s items fault → ⊥
 
 -- The fault stands, and none of an earlier kind, nor of its own at a lower byte.
-pub record IsFirst (s : Scope) (items : List Item) (fault : TypeFault) : Type 0 where
-  pub stands : Stands s items fault
-  pub first : (other : TypeFault) → Stands s items other → (rank fault < rank other) ⊎ ((rank fault ≡ rank other) × (byte_of fault ≤ byte_of other))
+pub record IsFirst (s : Scope) (items : List ItemForm) (fault : TypeFault) : Type 0 where
+  pub stands : FaultStands s items fault
+  pub first : (other : TypeFault) → FaultStands s items other → (rank fault < rank other) ⊎ ((rank fault ≡ rank other) × (byte_of fault ≤ byte_of other))
 
 -- The text is refused for its first fault; want of memory says nothing of it.
-abbrev pub IsRefused : Scope → List Item → TypeFault → Type 0
-IsRefused s items Memory = Unit {0}
-IsRefused s items fault = IsFirst s items fault
+abbrev pub IsTypeFault : Scope → List ItemForm → TypeFault → Type 0
+IsTypeFault s items Memory = Unit {0}
+IsTypeFault s items fault = IsFirst s items fault

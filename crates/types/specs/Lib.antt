@@ -8,5 +8,3 @@ pub mod Drawn
 pub mod Resolved
 pub mod Signals
 pub mod Made
-pub mod Same
-pub mod Laws

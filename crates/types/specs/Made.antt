@@ -15,14 +15,14 @@ use Rattle.types.specs.declared.resolved.Resolved.{Resolved}
 abbrev pub Expressions : Type 0
 Expressions = List Expr
 
-abbrev pub Says : Type 0
-Says = Draft Boolean
+abbrev pub SideDraft : Type 0
+SideDraft = Draft Boolean
 
 abbrev pub Statement : Type 0
-Statement = trees.Assertion
+Statement = trees.AssertionForm
 
 abbrev pub Statements : Type 0
-Statements = List trees.Assertion
+Statements = List trees.AssertionForm
 
 -- It is the entry of something, which weighs at most 127.
 pub record IsFitting (e : Entry) : Type 0 where

@@ -2,7 +2,7 @@
 use Rattle.std.specs.Prelude.{◌≡◌, ℕ, ◌-◌, List, [], ◌∷◌, Option, Some, None, slice_get}
 use Rattle.grammar.specs.declared.bound.Bound.{Bound}
 use Rattle.grammar.specs.declared.bound.Range.{Range}
-use Rattle.grammar.specs.Trees.{Tree, Sequence, boolean, repeated, late, delayed, throughout, all, either, Steps, no_step, step, Others, no_other, other}
+use Rattle.grammar.specs.Trees.{Tree, SequenceForm, boolean, repeated, late, delayed, throughout, all, either, Steps, no_step, step, Others, no_other, other}
 use Rattle.expressions.specs.declared.expr.Expr.{Expr}
 use Rattle.expressions.specs.Expressions.{term_of}
 use Rattle.assertions.specs.declared.sequence.Boolean.{Boolean}
@@ -38,7 +38,7 @@ ReadsBoolean s columns booleans None tree d = (b : Boolean) × IsAtom s columns 
 
 -- What a sequence of the text says, each expression by its place in a list of typed ones. Delays, and the sides of "and" and "or", group to the left.
 unfoldable mutual
-  pub Reads : Scope → List (List ℕ) → List Expr → Sequence → Draft Boolean → Type 0
+  pub Reads : Scope → List (List ℕ) → List Expr → SequenceForm → Draft Boolean → Type 0
   Reads s columns booleans (boolean tree) d = ReadsBoolean s columns booleans (sequence_named s tree) tree d
   Reads s columns booleans (repeated q r) d = (a : Draft Boolean) × Reads s columns booleans q a × (d ≡ drafts.repeat a (least_of r) (extra_of r))
   Reads s columns booleans (late t r q) d = (a : Draft Boolean) × Reads s columns booleans q a × (d ≡ drafts.lead (least_of r) (extra_of r) a)
@@ -63,7 +63,7 @@ unfoldable mutual
   ReadsAny s columns booleans a (other q others) d = (b : Draft Boolean) × Reads s columns booleans q b × ReadsAny s columns booleans (drafts.or a b) others d
 
 -- the same of several sequences, in their order
-abbrev pub AllRead : Scope → List (List ℕ) → List Expr → List Sequence → List (Draft Boolean) → Type 0
+abbrev pub AllRead : Scope → List (List ℕ) → List Expr → List SequenceForm → List (Draft Boolean) → Type 0
 AllRead s columns booleans [] [] = Unit {0}
 AllRead s columns booleans [] (d ∷ ds) = ⊥
 AllRead s columns booleans (q ∷ qs) [] = ⊥
@@ -79,7 +79,7 @@ outline_by None = drafts.boolean dot
 
 -- The outline of a sequence of the text: its names and forms, with a dot for each expression. Weights, emptiness and cycles are told by it.
 unfoldable mutual
-  pub outline : Scope → Sequence → Draft Dot
+  pub outline : Scope → SequenceForm → Draft Dot
   outline s (boolean tree) = outline_by (sequence_named s tree)
   outline s (repeated q r) = drafts.repeat (outline s q) (least_of r) (extra_of r)
   outline s (late t r q) = drafts.lead (least_of r) (extra_of r) (outline s q)

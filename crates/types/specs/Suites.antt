@@ -1,7 +1,7 @@
 -- The suite of a text.
 use Rattle.std.specs.Prelude.{◌≡◌, ℕ, ◌+◌, List, [], ◌∷◌, map, Option, Some, None, string_bytes}
 use Rattle.grammar.specs.Trees as trees
-use Rattle.grammar.specs.Trees.{Tree, Sequence, Property, plain, implication, Item}
+use Rattle.grammar.specs.Trees.{Tree, SequenceForm, PropertyForm, plain, implication, ItemForm}
 use Rattle.expressions.specs.declared.expr.Expr.{Expr}
 use Rattle.expressions.specs.declared.rule.Rule.{Rule}
 use Rattle.expressions.specs.declared.counter.Counter.{Counter}
@@ -13,9 +13,9 @@ use Rattle.assertions.specs.declared.assertion.Assertion.{Assertion}
 use Rattle.assertions.specs.declared.signal.Signal.{Signal}
 use Rattle.assertions.specs.declared.suite.Suite.{Suite}
 use Rattle.assertions.specs.Written.{Written}
-use Rattle.assertions.specs.Shapes.{written}
+use Rattle.assertions.specs.Shapes.{written_form}
 use Rattle.types_sequences.specs.Drafts as drafts
-use Rattle.types_sequences.specs.Implications.{rewritten}
+use Rattle.types_sequences.specs.Implications.{rewritten_antecedent}
 use Rattle.types_sequences.specs.Drafts.{Draft, Spells}
 use Rattle.types_sequences.specs.Placed.{IsPlaced, IsPlacedBoolean}
 use Rattle.types_expressions.specs.Scopes.{Scope, width_in}
@@ -45,14 +45,14 @@ IsRule s columns (Some p) None = ⊥
 IsRule s columns (Some p) (Some r) = Means s columns p.0 (term_of r.when) × Means s columns p.1 (term_of r.by)
 
 -- A counter of the text.
-pub record IsCounter (s : Scope) (columns : List (List ℕ)) (c : trees.Counter) (made : Counter) : Type 0 where
+pub record IsCounter (s : Scope) (columns : List (List ℕ)) (c : trees.CounterForm) (made : Counter) : Type 0 where
   pub width : made.width ≡ width_in c.width.value
   pub clear : IsCondition s columns c.clear made.clear
   pub load : IsRule s columns c.load made.load
   pub add : IsRule s columns c.add made.add
   pub sub : IsRule s columns c.sub made.sub
 
-abbrev pub AreCounters : Scope → List (List ℕ) → List trees.Counter → List Counter → Type 0
+abbrev pub AreCounters : Scope → List (List ℕ) → List trees.CounterForm → List Counter → Type 0
 AreCounters s columns [] [] = Unit {0}
 AreCounters s columns [] (m ∷ ms) = ⊥
 AreCounters s columns (c ∷ cs) [] = ⊥
@@ -60,13 +60,13 @@ AreCounters s columns (c ∷ cs) (m ∷ ms) = IsCounter s columns c m × AreCoun
 
 -- What a property says: its antecedent, that of a plain sequence being 1, and that of |=> the one of |-> (16.12.7), and its consequent.
 abbrev pub before_by : Implication → Draft Boolean → Draft Boolean
-before_by k d = rewritten One k d
+before_by k d = rewritten_antecedent One k d
 
-abbrev pub ReadsAntecedent : Scope → List (List ℕ) → List Expr → Property → Draft Boolean → Type 0
+abbrev pub ReadsAntecedent : Scope → List (List ℕ) → List Expr → PropertyForm → Draft Boolean → Type 0
 ReadsAntecedent s columns booleans (plain q) d = d ≡ drafts.boolean One
 ReadsAntecedent s columns booleans (implication a t c) d = (r : Draft Boolean) × Reads s columns booleans a r × (d ≡ before_by (implication_by t.kind) r)
 
-abbrev pub ReadsConsequent : Scope → List (List ℕ) → List Expr → Property → Draft Boolean → Type 0
+abbrev pub ReadsConsequent : Scope → List (List ℕ) → List Expr → PropertyForm → Draft Boolean → Type 0
 ReadsConsequent s columns booleans (plain q) d = Reads s columns booleans q d
 ReadsConsequent s columns booleans (implication a t c) d = Reads s columns booleans c d
 
@@ -83,17 +83,17 @@ IsDisabling s columns booleans places (Some t) None = ⊥
 IsDisabling s columns booleans places (Some t) (Some b) = (a : Boolean) × IsAtom s columns booleans t a × IsPlacedBoolean booleans places a b
 
 -- An assertion of the text, before which so many stand.
-pub record IsAssertion (s : Scope) (columns : List (List ℕ)) (booleans : List Expr) (bodies : List (Draft Boolean)) (before : ℕ) (a : trees.Assertion) (made : Assertion) : Type 0 where
+pub record IsAssertion (s : Scope) (columns : List (List ℕ)) (booleans : List Expr) (bodies : List (Draft Boolean)) (before : ℕ) (a : trees.AssertionForm) (made : Assertion) : Type 0 where
   pub antecedent : Draft Boolean
   pub consequent : Draft Boolean
   pub name : string_bytes made.name ≡ label_text before a.label
   pub reads_antecedent : ReadsAntecedent s columns booleans a.property antecedent
   pub reads_consequent : ReadsConsequent s columns booleans a.property consequent
-  pub antecedent_meant : IsMeant bodies booleans made.booleans.items antecedent (written made.antecedent)
-  pub consequent_meant : IsMeant bodies booleans made.booleans.items consequent (written made.consequent)
+  pub antecedent_meant : IsMeant bodies booleans made.booleans.items antecedent (written_form made.antecedent)
+  pub consequent_meant : IsMeant bodies booleans made.booleans.items consequent (written_form made.consequent)
   pub disabling : IsDisabling s columns booleans made.booleans.items a.disable made.disabling
 
-abbrev pub AreAssertions : Scope → List (List ℕ) → List Expr → List (Draft Boolean) → ℕ → List trees.Assertion → List Assertion → Type 0
+abbrev pub AreAssertions : Scope → List (List ℕ) → List Expr → List (Draft Boolean) → ℕ → List trees.AssertionForm → List Assertion → Type 0
 AreAssertions s columns booleans bodies before [] [] = Unit {0}
 AreAssertions s columns booleans bodies before [] (m ∷ ms) = ⊥
 AreAssertions s columns booleans bodies before (a ∷ more) [] = ⊥
@@ -101,7 +101,7 @@ AreAssertions s columns booleans bodies before (a ∷ more) (m ∷ ms) =
     IsAssertion s columns booleans bodies before a m × AreAssertions s columns booleans bodies (before + 1) more ms
 
 -- The suite says what the text says.
-pub record IsSuite (s : Scope) (items : List Item) (suite : Suite) : Type 0 where
+pub record IsSuite (s : Scope) (items : List ItemForm) (suite : Suite) : Type 0 where
   pub bodies : List (Draft Boolean)
   pub clock : string_bytes suite.clock ≡ clock_of (assertions_of items)
   pub signals : AreSignals s (columns_of s items) suite.names.items

@@ -6,25 +6,25 @@ use Rattle.lexer.specs.declared.token.Token.{Token}
 use Rattle.lexer.specs.declared.token.Symbol.TheVariants as symbol
 use Rattle.lexer.specs.declared.token.Kind.{Kind}
 use Rattle.lexer.specs.declared.token.Kind.TheVariants as kinds
-use Rattle.grammar.specs.Trees.{Tree, number, path, concatenation, past, call, unary, chain, choice, Sequence, boolean, repeated, late, delayed, throughout, all, either, Counter, Declaration, Assertion, Item, counter, declaration, assertion}
+use Rattle.grammar.specs.Trees.{Tree, number, path, concatenation, past, call, unary, chain, choice, SequenceForm, boolean, repeated, late, delayed, throughout, all, either, CounterForm, DeclarationForm, AssertionForm, ItemForm, counter, declaration, assertion}
 use Rattle.types_sequences.specs.declared.implication.Implication.{Implication}
 use Rattle.types_sequences.specs.declared.implication.Implication.TheVariants.{Overlapped, NonOverlapped}
 use Rattle.types_expressions.specs.Scopes.{path_text, first_byte}
 
 -- the items of each kind, in the order of the text
-abbrev pub declarations_of : List Item → List Declaration
+abbrev pub declarations_of : List ItemForm → List DeclarationForm
 declarations_of [] = []
 declarations_of (counter c ∷ items) = declarations_of items
 declarations_of (declaration d ∷ items) = d ∷ declarations_of items
 declarations_of (assertion a ∷ items) = declarations_of items
 
-abbrev pub counters_of : List Item → List Counter
+abbrev pub counters_of : List ItemForm → List CounterForm
 counters_of [] = []
 counters_of (counter c ∷ items) = c ∷ counters_of items
 counters_of (declaration d ∷ items) = counters_of items
 counters_of (assertion a ∷ items) = counters_of items
 
-abbrev pub assertions_of : List Item → List Assertion
+abbrev pub assertions_of : List ItemForm → List AssertionForm
 assertions_of [] = []
 assertions_of (counter c ∷ items) = assertions_of items
 assertions_of (declaration d ∷ items) = assertions_of items
@@ -36,23 +36,23 @@ label_text before None = codes "assert_" ++ decimal (before + 1)
 label_text before (Some t) = t.text.now
 
 -- where its name stands: a made one at its verb
-abbrev pub label_byte : Assertion → Option Token → ℕ
+abbrev pub label_byte : AssertionForm → Option Token → ℕ
 label_byte a None = a.verb.at
 label_byte a (Some t) = t.at
 
 -- The name that an item makes, with the byte where it stands. Counters, sequences and assertions share one name space.
-abbrev pub name_made : ℕ → Item → List ℕ × ℕ
+abbrev pub name_made : ℕ → ItemForm → List ℕ × ℕ
 name_made before (counter c) = (c.name.text.now, c.name.at)
 name_made before (declaration d) = (d.name.text.now, d.name.at)
 name_made before (assertion a) = (label_text before a.label, label_byte a a.label)
 
 -- how many assertions stand before the next item
-abbrev pub assertions_after : ℕ → Item → ℕ
+abbrev pub assertions_after : ℕ → ItemForm → ℕ
 assertions_after before (counter c) = before
 assertions_after before (declaration d) = before
 assertions_after before (assertion a) = before + 1
 
-abbrev pub names_from : ℕ → List Item → List (List ℕ × ℕ)
+abbrev pub names_from : ℕ → List ItemForm → List (List ℕ × ℕ)
 names_from before [] = []
 names_from before (i ∷ items) = name_made before i ∷ names_from (assertions_after before i) items
 
@@ -65,21 +65,21 @@ repeated_names known [] = []
 repeated_names known (n ∷ names) = if is_among known n.0 then n.1 ∷ repeated_names known names else repeated_names (known ++ n.0 ∷ []) names
 
 -- where a name is declared again (Y2)
-abbrev pub duplicates : List Item → List ℕ
+abbrev pub duplicates : List ItemForm → List ℕ
 duplicates items = repeated_names [] (names_from 0 items)
 
 -- where a clock is another than the first (Y7): paths are compared by their words, which hold no dots
-abbrev pub differing : List ℕ → List Assertion → List ℕ
-differing clock [] = []
-differing clock (a ∷ more) = if bytes_eq (path_text a.clock) clock then differing clock more else first_byte a.clock ∷ differing clock more
+abbrev pub clocks_unlike : List ℕ → List AssertionForm → List ℕ
+clocks_unlike clock [] = []
+clocks_unlike clock (a ∷ more) = if bytes_eq (path_text a.clock) clock then clocks_unlike clock more else first_byte a.clock ∷ clocks_unlike clock more
 
 -- the clock of the first assertion
-abbrev pub clock_of : List Assertion → List ℕ
+abbrev pub clock_of : List AssertionForm → List ℕ
 clock_of [] = []
 clock_of (a ∷ more) = path_text a.clock
 
-abbrev pub other_clocks : List Assertion → List ℕ
-other_clocks some = differing (clock_of some) some
+abbrev pub other_clocks : List AssertionForm → List ℕ
+other_clocks some = clocks_unlike (clock_of some) some
 
 -- the first byte of an expression, and of a sequence, but for brackets
 abbrev pub tree_byte : Tree → ℕ
@@ -92,7 +92,7 @@ tree_byte (unary t e) = t.at
 tree_byte (chain e links) = tree_byte e
 tree_byte (choice c a b) = tree_byte c
 
-abbrev pub sequence_byte : Sequence → ℕ
+abbrev pub sequence_byte : SequenceForm → ℕ
 sequence_byte (boolean e) = tree_byte e
 sequence_byte (repeated q n) = sequence_byte q
 sequence_byte (late t n q) = t.at

@@ -12,17 +12,17 @@ ghost use Rattle.types.specs.Readings.{AllRead};
 ghost use Rattle.types.specs.Texts.{declarations_of};
 
 use crate::drafts::draft_of;
-use parser::Item;
+use parser::ItemTree;
 use std::alloc::{AllocError, Global};
-use types_expressions::{Columns, Scope};
+use types_expressions::{Scope, SignalPaths};
 use types_sequences::Draft;
 
 /// What the named sequences say, in the order of the text, their expressions typed and put behind the others.
 pub(crate) fn bodies_of(
     alloc: Global,
     scope: &Scope,
-    columns: &Columns,
-    items: &[Item],
+    columns: &SignalPaths,
+    items: &[ItemTree],
     booleans: &mut Vec<expressions::Expr>,
 ) -> Result<Vec<Draft>, AllocError>
     requires sound { (k : Sought) → file_faults (scope_of scope.now) k (map item_of items.now) ≡ [] }
@@ -33,31 +33,31 @@ pub(crate) fn bodies_of(
     let mut bodies = Vec::new(alloc);
     for item in items {
         match item {
-            Item::Counter(_) => continue,
-            Item::Declaration(declaration) => {
+            ItemTree::Counter(_) => continue,
+            ItemTree::Declaration(declaration) => {
                 let body = draft_of(alloc, scope, columns, &declaration.body, booleans)?;
                 bodies.push(Box::into_inner(body))?;
                 continue;
             }
-            Item::Assertion(_) => continue,
+            ItemTree::Assertion(_) => continue,
         }
     }
     Ok(bodies)
 }
 
 /// Where the names of the named sequences stand, in the order of the text.
-pub(crate) fn name_bytes(alloc: Global, items: &[Item]) -> Result<Vec<usize>, AllocError>
+pub(crate) fn name_bytes(alloc: Global, items: &[ItemTree]) -> Result<Vec<usize>, AllocError>
     ensures { IfOk result (λ v. v.items ≡ map (λ d. d.name.at) (declarations_of (map item_of items.now))) }
 {
     let mut bytes = Vec::new(alloc);
     for item in items {
         match item {
-            Item::Counter(_) => continue,
-            Item::Declaration(declaration) => {
+            ItemTree::Counter(_) => continue,
+            ItemTree::Declaration(declaration) => {
                 bytes.push(declaration.name.at)?;
                 continue;
             }
-            Item::Assertion(_) => continue,
+            ItemTree::Assertion(_) => continue,
         }
     }
     Ok(bytes)

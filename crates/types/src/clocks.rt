@@ -1,25 +1,26 @@
 //! Clocks.
 
 ghost use Rattle.std.specs.Prelude.{◌≡◌, map, IfOk, string_bytes};
-ghost use Rattle.parser.specs.Views.{item_of, path_of};
+ghost use Rattle.parser_expressions.specs.Views.{path_of};
+ghost use Rattle.parser.specs.Views.{item_of};
 ghost use Rattle.types_expressions.specs.Faults.{least};
 ghost use Rattle.types_expressions.specs.Scopes.{first_byte};
-ghost use Rattle.types.specs.Texts.{assertions_of, differing, clock_of};
+ghost use Rattle.types.specs.Texts.{assertions_of, clocks_unlike, clock_of};
 
 use crate::least::earlier;
-use parser::{Item, Path};
+use parser::{ItemTree, Path};
 use std::alloc::{AllocError, Global};
 use types_expressions::path_string;
 
 /// The path of the first assertion's clock, and no text where there is no assertion.
-pub(crate) fn first_clock(alloc: Global, items: &[Item]) -> Result<String, AllocError>
+pub(crate) fn first_clock(alloc: Global, items: &[ItemTree]) -> Result<String, AllocError>
     ensures { IfOk result (λ clock. string_bytes clock ≡ clock_of (assertions_of (map item_of items.now))) }
 {
     for item in items {
         match item {
-            Item::Counter(_) => continue,
-            Item::Declaration(_) => continue,
-            Item::Assertion(assertion) => return path_string(alloc, &assertion.clock),
+            ItemTree::Counter(_) => continue,
+            ItemTree::Declaration(_) => continue,
+            ItemTree::Assertion(assertion) => return path_string(alloc, &assertion.clock),
         }
     }
     Ok(String::new(alloc))
@@ -36,16 +37,16 @@ fn byte_of(path: &Path) -> usize
 pub(crate) fn first_other_clock(
     alloc: Global,
     clock: &str,
-    items: &[Item],
+    items: &[ItemTree],
 ) -> Result<Option<usize>, AllocError>
-    ensures { IfOk result (λ r. r ≡ least (differing clock.now (assertions_of (map item_of items.now)))) }
+    ensures { IfOk result (λ r. r ≡ least (clocks_unlike clock.now (assertions_of (map item_of items.now)))) }
 {
     let mut fault = None;
     for item in items {
         match item {
-            Item::Counter(_) => continue,
-            Item::Declaration(_) => continue,
-            Item::Assertion(assertion) => {
+            ItemTree::Counter(_) => continue,
+            ItemTree::Declaration(_) => continue,
+            ItemTree::Assertion(assertion) => {
                 let path = path_string(alloc, &assertion.clock)?;
                 if path.as_str() == clock {
                     continue;

@@ -1,7 +1,8 @@
 //! Counters of the text with their expressions typed.
 
 ghost use Rattle.std.specs.Prelude.{◌≡◌, ◌≤◌, [], map, option_map, IfOk, IsTrue};
-ghost use Rattle.parser.specs.Views.{boxed_of, pair_of, counter_of, item_of};
+ghost use Rattle.parser_expressions.specs.Views.{boxed_of};
+ghost use Rattle.parser.specs.Views.{pair_of, counter_of, item_of};
 ghost use Rattle.types_expressions.specs.declared.own.Sought.{Sought};
 ghost use Rattle.types_expressions.specs.Scopes.{width_in};
 ghost use Rattle.types_expressions.specs.Faults.{optional_faults, clause_faults, counter_faults, file_faults};
@@ -11,9 +12,9 @@ ghost use Rattle.types.specs.Texts.{counters_of};
 ghost use Rattle.types.specs.Suites.{IsCondition, IsRule, IsCounter, AreCounters};
 
 use expressions::Rule;
-use parser::{Counter, Expr, Item, Operands};
+use parser::{CounterTree, ExprTree, ItemTree, Operands};
 use std::alloc::{AllocError, Global};
-use types_expressions::{Columns, Scope, typed};
+use types_expressions::{Scope, SignalPaths, typed_expression};
 
 /// The clauses of a counter that have two operands.
 #[derive(Drop)]
@@ -39,8 +40,8 @@ fn width_of(bits: u8) -> u8
 fn condition_of(
     alloc: Global,
     scope: &Scope,
-    columns: &Columns,
-    expr: &Option<Box<Expr>>,
+    columns: &SignalPaths,
+    expr: &Option<Box<ExprTree>>,
 ) -> Result<Option<expressions::Expr>, AllocError>
     requires sound { (k : Sought) → optional_faults (scope_of scope.now) k (option_map boxed_of expr.now) ≡ [] }
     requires listed { IsTrue (all_listed (columns_in columns.now) (optional_signals (scope_of scope.now) (option_map boxed_of expr.now))) }
@@ -48,7 +49,7 @@ fn condition_of(
 {
     match expr {
         None => Ok(None),
-        Some(expr) => Ok(Some(typed(alloc, scope, columns, expr)?)),
+        Some(expr) => Ok(Some(typed_expression(alloc, scope, columns, expr)?)),
     }
 }
 
@@ -56,7 +57,7 @@ fn condition_of(
 fn rule_of(
     alloc: Global,
     scope: &Scope,
-    columns: &Columns,
+    columns: &SignalPaths,
     clause: &Option<Operands>,
 ) -> Result<Option<Rule>, AllocError>
     requires sound { (k : Sought) → clause_faults (scope_of scope.now) k (option_map pair_of clause.now) ≡ [] }
@@ -66,8 +67,8 @@ fn rule_of(
     match clause {
         None => Ok(None),
         Some(operands) => {
-            let when = typed(alloc, scope, columns, &operands.0)?;
-            let by = typed(alloc, scope, columns, &operands.1)?;
+            let when = typed_expression(alloc, scope, columns, &operands.0)?;
+            let by = typed_expression(alloc, scope, columns, &operands.1)?;
             Ok(Some(Rule { when, by }))
         }
     }
@@ -77,8 +78,8 @@ fn rule_of(
 fn rules_of(
     alloc: Global,
     scope: &Scope,
-    columns: &Columns,
-    counter: &Counter,
+    columns: &SignalPaths,
+    counter: &CounterTree,
 ) -> Result<Rules, AllocError>
     requires sound { (k : Sought) → counter_faults (scope_of scope.now) k (counter_of counter.now) ≡ [] }
     requires listed { IsTrue (all_listed (columns_in columns.now) (counter_signals (scope_of scope.now) (counter_of counter.now))) }
@@ -96,8 +97,8 @@ fn rules_of(
 pub(crate) fn counter_of(
     alloc: Global,
     scope: &Scope,
-    columns: &Columns,
-    counter: &Counter,
+    columns: &SignalPaths,
+    counter: &CounterTree,
 ) -> Result<expressions::Counter, AllocError>
     requires sound { (k : Sought) → counter_faults (scope_of scope.now) k (counter_of counter.now) ≡ [] }
     requires listed { IsTrue (all_listed (columns_in columns.now) (counter_signals (scope_of scope.now) (counter_of counter.now))) }
@@ -118,8 +119,8 @@ pub(crate) fn counter_of(
 pub(crate) fn counters_of(
     alloc: Global,
     scope: &Scope,
-    columns: &Columns,
-    items: &[Item],
+    columns: &SignalPaths,
+    items: &[ItemTree],
 ) -> Result<Vec<expressions::Counter>, AllocError>
     requires sound { (k : Sought) → file_faults (scope_of scope.now) k (map item_of items.now) ≡ [] }
     requires listed { IsTrue (all_listed (columns_in columns.now) (file_signals (scope_of scope.now) (map item_of items.now))) }
@@ -128,13 +129,13 @@ pub(crate) fn counters_of(
     let mut counters = Vec::new(alloc);
     for item in items {
         match item {
-            Item::Counter(counter) => {
+            ItemTree::Counter(counter) => {
                 let made = counter_of(alloc, scope, columns, counter)?;
                 counters.push(made)?;
                 continue;
             }
-            Item::Declaration(_) => continue,
-            Item::Assertion(_) => continue,
+            ItemTree::Declaration(_) => continue,
+            ItemTree::Assertion(_) => continue,
         }
     }
     Ok(counters)

@@ -2,7 +2,8 @@
 
 ghost use Rattle.std.specs.Prelude.{◌≡◌, [], map, length, IfOk, OnOk, IsTrue};
 ghost use Rattle.grammar.specs.ReadSequences.{steps_of, others_of};
-ghost use Rattle.parser.specs.Views.{tree_of, sequence_of, step_of};
+ghost use Rattle.parser_expressions.specs.Views.{tree_of};
+ghost use Rattle.parser.specs.Views.{sequence_of, delay_step_of};
 ghost use Rattle.assertions.specs.declared.sequence.Boolean.TheVariants.{Listed};
 ghost use Rattle.types_sequences.specs.Drafts.{name, delay, lead, repeat, or, and, throughout};
 ghost use Rattle.types_sequences.specs.Views.{draft_of};
@@ -15,9 +16,9 @@ ghost use Rattle.types.specs.Readings.{least_of, extra_of, IsAtom, ReadsBoolean,
 ghost use Rattle.types_sequences.specs.Placed.{Extends};
 
 use grammar::Range;
-use parser::{Expr, Sequence};
+use parser::{ExprTree, SequenceTree};
 use std::alloc::{AllocError, Global};
-use types_expressions::{Columns, Scope, typed};
+use types_expressions::{Scope, SignalPaths, typed_expression};
 use types_sequences::Draft;
 
 /// The least count of a range, and by how many its largest is more.
@@ -33,7 +34,7 @@ fn extent(range: Range) -> (u8, u8)
 }
 
 /// A sequence that is repeated.
-fn repeated(alloc: Global, body: Box<Draft>, range: Range) -> Result<Box<Draft>, AllocError>
+fn repeated_draft(alloc: Global, body: Box<Draft>, range: Range) -> Result<Box<Draft>, AllocError>
     ensures { IfOk result (λ d. draft_of d.value ≡ repeat (draft_of body.value) (least_of range) (extra_of range)) }
 {
     let (least, extra) = extent(range);
@@ -41,7 +42,7 @@ fn repeated(alloc: Global, body: Box<Draft>, range: Range) -> Result<Box<Draft>,
 }
 
 /// A delay with nothing before it.
-fn led(alloc: Global, range: Range, body: Box<Draft>) -> Result<Box<Draft>, AllocError>
+fn late_draft(alloc: Global, range: Range, body: Box<Draft>) -> Result<Box<Draft>, AllocError>
     ensures { IfOk result (λ d. draft_of d.value ≡ lead (least_of range) (extra_of range) (draft_of body.value)) }
 {
     let (least, extra) = extent(range);
@@ -49,7 +50,7 @@ fn led(alloc: Global, range: Range, body: Box<Draft>) -> Result<Box<Draft>, Allo
 }
 
 /// One sequence, and another some ticks later.
-fn delayed(
+fn delayed_draft(
     alloc: Global,
     first: Box<Draft>,
     range: Range,
@@ -65,8 +66,8 @@ fn delayed(
 pub(crate) fn atom(
     alloc: Global,
     scope: &Scope,
-    columns: &Columns,
-    expr: &Expr,
+    columns: &SignalPaths,
+    expr: &ExprTree,
     booleans: &mut Vec<expressions::Expr>,
 ) -> Result<usize, AllocError>
     requires sound { IsSound (scope_of scope.now) (tree_of expr.now) }
@@ -75,7 +76,7 @@ pub(crate) fn atom(
     ensures atom { IfOk result (λ p. IsAtom (scope_of scope.now) (columns_in columns.now) booleans.new.items (tree_of expr.now) (Listed p)) }
 {
     let place = booleans.len();
-    let expression = typed(alloc, scope, columns, expr)?;
+    let expression = typed_expression(alloc, scope, columns, expr)?;
     booleans.push(expression)?;
     Ok(place)
 }
@@ -84,8 +85,8 @@ pub(crate) fn atom(
 fn boolean(
     alloc: Global,
     scope: &Scope,
-    columns: &Columns,
-    expr: &Expr,
+    columns: &SignalPaths,
+    expr: &ExprTree,
     booleans: &mut Vec<expressions::Expr>,
 ) -> Result<Box<Draft>, AllocError>
     requires sound { (k : Sought) → boolean_faults (scope_of scope.now) k (tree_of expr.now) ≡ [] }
@@ -107,8 +108,8 @@ fn boolean(
 pub(crate) fn draft_of(
     alloc: Global,
     scope: &Scope,
-    columns: &Columns,
-    sequence: &Sequence,
+    columns: &SignalPaths,
+    sequence: &SequenceTree,
     booleans: &mut Vec<expressions::Expr>,
 ) -> Result<Box<Draft>, AllocError>
     requires sound { (k : Sought) → sequence_faults (scope_of scope.now) k (sequence_of sequence.now) ≡ [] }
@@ -117,29 +118,29 @@ pub(crate) fn draft_of(
     ensures reads { IfOk result (λ d. Reads (scope_of scope.now) (columns_in columns.now) booleans.new.items (sequence_of sequence.now) (draft_of d.value)) }
 {
     match sequence {
-        Sequence::Boolean(expr) => boolean(alloc, scope, columns, expr, booleans),
-        Sequence::Repeated(body, range) => {
+        SequenceTree::Boolean(expr) => boolean(alloc, scope, columns, expr, booleans),
+        SequenceTree::Repeated(body, range) => {
             let body = draft_of(alloc, scope, columns, body, booleans)?;
-            repeated(alloc, body, *range)
+            repeated_draft(alloc, body, *range)
         }
-        Sequence::Late(_, range, body) => {
+        SequenceTree::Late(_, range, body) => {
             let body = draft_of(alloc, scope, columns, body, booleans)?;
-            led(alloc, *range, body)
+            late_draft(alloc, *range, body)
         }
-        Sequence::Delayed(first, steps) => {
+        SequenceTree::Delayed(first, steps) => {
             let first = draft_of(alloc, scope, columns, first, booleans)?;
             with_steps(alloc, scope, columns, steps, first, booleans)
         }
-        Sequence::Throughout(expr, body) => {
+        SequenceTree::Throughout(expr, body) => {
             let place = atom(alloc, scope, columns, expr, booleans)?;
             let body = draft_of(alloc, scope, columns, body, booleans)?;
             Ok(Box::new(alloc, Draft::Throughout(place, body))?)
         }
-        Sequence::And(first, others) => {
+        SequenceTree::And(first, others) => {
             let first = draft_of(alloc, scope, columns, first, booleans)?;
             with_all(alloc, scope, columns, others, first, booleans)
         }
-        Sequence::Or(first, others) => {
+        SequenceTree::Or(first, others) => {
             let first = draft_of(alloc, scope, columns, first, booleans)?;
             with_any(alloc, scope, columns, others, first, booleans)
         }
@@ -151,20 +152,20 @@ pub(crate) fn draft_of(
 fn with_steps(
     alloc: Global,
     scope: &Scope,
-    columns: &Columns,
-    steps: &[(Range, Sequence)],
+    columns: &SignalPaths,
+    steps: &[(Range, SequenceTree)],
     first: Box<Draft>,
     booleans: &mut Vec<expressions::Expr>,
 ) -> Result<Box<Draft>, AllocError>
-    requires sound { (k : Sought) → step_faults (scope_of scope.now) k (steps_of (map step_of steps.now)) ≡ [] }
-    requires listed { IsTrue (all_listed (columns_in columns.now) (step_signals (scope_of scope.now) (steps_of (map step_of steps.now)))) }
+    requires sound { (k : Sought) → step_faults (scope_of scope.now) k (steps_of (map delay_step_of steps.now)) ≡ [] }
+    requires listed { IsTrue (all_listed (columns_in columns.now) (step_signals (scope_of scope.now) (steps_of (map delay_step_of steps.now)))) }
     ensures grows { OnOk result (Extends booleans.old.items booleans.new.items) }
-    ensures reads { IfOk result (λ d. ReadsSteps (scope_of scope.now) (columns_in columns.now) booleans.new.items (draft_of first.value) (steps_of (map step_of steps.now)) (draft_of d.value)) }
+    ensures reads { IfOk result (λ d. ReadsSteps (scope_of scope.now) (columns_in columns.now) booleans.new.items (draft_of first.value) (steps_of (map delay_step_of steps.now)) (draft_of d.value)) }
 {
     let mut whole = first;
     for step in steps {
         let next = draft_of(alloc, scope, columns, &step.1, booleans)?;
-        whole = delayed(alloc, whole, step.0, next)?;
+        whole = delayed_draft(alloc, whole, step.0, next)?;
     }
     Ok(whole)
 }
@@ -174,8 +175,8 @@ fn with_steps(
 fn with_all(
     alloc: Global,
     scope: &Scope,
-    columns: &Columns,
-    others: &[Sequence],
+    columns: &SignalPaths,
+    others: &[SequenceTree],
     first: Box<Draft>,
     booleans: &mut Vec<expressions::Expr>,
 ) -> Result<Box<Draft>, AllocError>
@@ -197,8 +198,8 @@ fn with_all(
 fn with_any(
     alloc: Global,
     scope: &Scope,
-    columns: &Columns,
-    others: &[Sequence],
+    columns: &SignalPaths,
+    others: &[SequenceTree],
     first: Box<Draft>,
     booleans: &mut Vec<expressions::Expr>,
 ) -> Result<Box<Draft>, AllocError>

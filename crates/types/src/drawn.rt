@@ -1,7 +1,8 @@
 //! Assertions with their sides as drafts.
 
 ghost use Rattle.std.specs.Prelude.{◌≡◌, ◌<◌, [], IfOk, OnOk, IsTrue, option_map};
-ghost use Rattle.parser.specs.Views.{boxed_of, property_of, assertion_of};
+ghost use Rattle.parser_expressions.specs.Views.{boxed_of};
+ghost use Rattle.parser.specs.Views.{property_of, assertion_of};
 ghost use Rattle.types_sequences.specs.Views.{draft_of};
 ghost use Rattle.types_expressions.specs.declared.own.Sought.{Sought};
 ghost use Rattle.types_expressions.specs.Columns.{all_listed, property_signals, optional_signals, assertion_signals};
@@ -16,9 +17,9 @@ use crate::bytes::sequence_at;
 use crate::drafts::{atom, draft_of};
 use crate::names::label_string;
 use lexer::{Kind, Symbol, Token};
-use parser::{Assertion, Expr, Property};
+use parser::{AssertionTree, ExprTree, PropertyTree};
 use std::alloc::{AllocError, Global};
-use types_expressions::{Columns, Scope};
+use types_expressions::{Scope, SignalPaths};
 use types_sequences::{Draft, Implication, rewrite_antecedent};
 
 /// An assertion with its sides as drafts: the antecedent of `|=>` as that of `|->`, and 1 where a sequence is asserted alone.
@@ -45,22 +46,22 @@ fn implication_of(token: Token) -> Implication
 }
 
 /// Where an antecedent begins, if one is written.
-fn antecedent_at(property: &Property) -> Option<usize>
+fn antecedent_at(property: &PropertyTree) -> Option<usize>
     ensures { result ≡ antecedent_byte (property_of property.now) }
 {
     match property {
-        Property::Plain(_) => None,
-        Property::Implication(antecedent, _, _) => Some(sequence_at(antecedent)),
+        PropertyTree::Plain(_) => None,
+        PropertyTree::Implication(antecedent, _, _) => Some(sequence_at(antecedent)),
     }
 }
 
 /// Where a consequent begins.
-fn consequent_at(property: &Property) -> usize
+fn consequent_at(property: &PropertyTree) -> usize
     ensures { result ≡ consequent_byte (property_of property.now) }
 {
     match property {
-        Property::Plain(sequence) => sequence_at(sequence),
-        Property::Implication(_, _, consequent) => sequence_at(consequent),
+        PropertyTree::Plain(sequence) => sequence_at(sequence),
+        PropertyTree::Implication(_, _, consequent) => sequence_at(consequent),
     }
 }
 
@@ -68,8 +69,8 @@ fn consequent_at(property: &Property) -> usize
 fn antecedent_of(
     alloc: Global,
     scope: &Scope,
-    columns: &Columns,
-    property: &Property,
+    columns: &SignalPaths,
+    property: &PropertyTree,
     booleans: &mut Vec<expressions::Expr>,
 ) -> Result<Box<Draft>, AllocError>
     requires sound { (k : Sought) → property_faults (scope_of scope.now) k (property_of property.now) ≡ [] }
@@ -78,8 +79,8 @@ fn antecedent_of(
     ensures reads { IfOk result (λ d. ReadsAntecedent (scope_of scope.now) (columns_in columns.now) booleans.new.items (property_of property.now) (draft_of d.value)) }
 {
     match property {
-        Property::Plain(_) => Ok(Box::new(alloc, Draft::One)?),
-        Property::Implication(antecedent, token, _) => {
+        PropertyTree::Plain(_) => Ok(Box::new(alloc, Draft::One)?),
+        PropertyTree::Implication(antecedent, token, _) => {
             let draft = draft_of(alloc, scope, columns, antecedent, booleans)?;
             rewrite_antecedent(alloc, draft, implication_of(*token))
         }
@@ -90,8 +91,8 @@ fn antecedent_of(
 fn consequent_of(
     alloc: Global,
     scope: &Scope,
-    columns: &Columns,
-    property: &Property,
+    columns: &SignalPaths,
+    property: &PropertyTree,
     booleans: &mut Vec<expressions::Expr>,
 ) -> Result<Box<Draft>, AllocError>
     requires sound { (k : Sought) → property_faults (scope_of scope.now) k (property_of property.now) ≡ [] }
@@ -100,8 +101,8 @@ fn consequent_of(
     ensures reads { IfOk result (λ d. ReadsConsequent (scope_of scope.now) (columns_in columns.now) booleans.new.items (property_of property.now) (draft_of d.value)) }
 {
     match property {
-        Property::Plain(sequence) => draft_of(alloc, scope, columns, sequence, booleans),
-        Property::Implication(_, _, consequent) => {
+        PropertyTree::Plain(sequence) => draft_of(alloc, scope, columns, sequence, booleans),
+        PropertyTree::Implication(_, _, consequent) => {
             draft_of(alloc, scope, columns, consequent, booleans)
         }
     }
@@ -111,8 +112,8 @@ fn consequent_of(
 fn disabling_of(
     alloc: Global,
     scope: &Scope,
-    columns: &Columns,
-    disable: &Option<Box<Expr>>,
+    columns: &SignalPaths,
+    disable: &Option<Box<ExprTree>>,
     booleans: &mut Vec<expressions::Expr>,
 ) -> Result<Option<usize>, AllocError>
     requires sound { (k : Sought) → optional_faults (scope_of scope.now) k (option_map boxed_of disable.now) ≡ [] }
@@ -130,9 +131,9 @@ fn disabling_of(
 pub(crate) fn drawn_of(
     alloc: Global,
     scope: &Scope,
-    columns: &Columns,
+    columns: &SignalPaths,
     before: usize,
-    assertion: &Assertion,
+    assertion: &AssertionTree,
     booleans: &mut Vec<expressions::Expr>,
 ) -> Result<Drawn, AllocError>
     requires room { before < 18446744073709551615 }

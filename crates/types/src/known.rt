@@ -7,13 +7,13 @@ ghost use Rattle.types.specs.Suites.{AreSignals};
 
 use assertions::Signal;
 use std::alloc::{AllocError, Global};
-use types_expressions::{Columns, Scope};
+use types_expressions::{Scope, SignalPaths};
 
 /// The paths of the columns with their widths.
 pub(crate) fn signals_of(
     alloc: Global,
     scope: &Scope,
-    columns: &Columns,
+    columns: &SignalPaths,
 ) -> Result<Vec<Signal>, AllocError>
     requires { AreKnown (scope_of scope.now) (columns_in columns.now) }
     ensures { IfOk result (λ v. AreSignals (scope_of scope.now) (columns_in columns.now) v.items) }

@@ -10,7 +10,6 @@ mod drafts;
 mod drawn;
 mod fault;
 mod known;
-mod laws;
 mod least;
 mod names;
 mod resolved;
@@ -22,6 +21,5 @@ mod typed_assertions;
 
 pub use assertions::{Assertion, Suite};
 pub use fault::TypeFault;
-pub use laws::suites_law;
 pub use suite::check;
 pub use types_expressions::{Names, path_string};

@@ -7,7 +7,7 @@ ghost use Rattle.types.specs.Texts.{label_text, label_byte, name_made, assertion
 
 use crate::least::earlier;
 use lexer::Token;
-use parser::{Assertion, Item};
+use parser::{AssertionTree, ItemTree};
 use std::alloc::{AllocError, Global};
 use std::fmt::Write;
 use types_expressions::Names;
@@ -40,21 +40,21 @@ pub(crate) fn label_string(
 }
 
 /// The name that an item makes.
-fn name_of(alloc: Global, before: usize, item: &Item) -> Result<Made, AllocError>
+fn name_of(alloc: Global, before: usize, item: &ItemTree) -> Result<Made, AllocError>
     requires { before < 18446744073709551615 }
     ensures text { IfOk result (λ m. string_bytes m.text ≡ (name_made before (item_of item.now)).0) }
     ensures at { IfOk result (λ m. m.at ≡ (name_made before (item_of item.now)).1) }
 {
     match item {
-        Item::Counter(counter) => Ok(Made {
+        ItemTree::Counter(counter) => Ok(Made {
             text: String::from_str(alloc, counter.name.text)?,
             at: counter.name.at,
         }),
-        Item::Declaration(declaration) => Ok(Made {
+        ItemTree::Declaration(declaration) => Ok(Made {
             text: String::from_str(alloc, declaration.name.text)?,
             at: declaration.name.at,
         }),
-        Item::Assertion(assertion) => Ok(Made {
+        ItemTree::Assertion(assertion) => Ok(Made {
             text: label_string(alloc, before, assertion.label)?,
             at: label_at(assertion),
         }),
@@ -62,7 +62,7 @@ fn name_of(alloc: Global, before: usize, item: &Item) -> Result<Made, AllocError
 }
 
 /// Where an assertion's name stands.
-fn label_at(assertion: &Assertion) -> usize
+fn label_at(assertion: &AssertionTree) -> usize
     ensures { result ≡ label_byte (assertion_of assertion.now) assertion.now.label }
 {
     match assertion.label {
@@ -72,19 +72,22 @@ fn label_at(assertion: &Assertion) -> usize
 }
 
 /// How many assertions stand before the next item.
-fn assertions_after(before: usize, item: &Item) -> usize
+fn assertions_after(before: usize, item: &ItemTree) -> usize
     requires { before < 18446744073709551615 }
     ensures { result ≡ assertions_after before (item_of item.now) }
 {
     match item {
-        Item::Counter(_) => before,
-        Item::Declaration(_) => before,
-        Item::Assertion(_) => before + 1,
+        ItemTree::Counter(_) => before,
+        ItemTree::Declaration(_) => before,
+        ItemTree::Assertion(_) => before + 1,
     }
 }
 
 /// The first name that is declared again: the byte where it stands.
-pub(crate) fn first_duplicate(alloc: Global, items: &[Item]) -> Result<Option<usize>, AllocError>
+pub(crate) fn first_duplicate(
+    alloc: Global,
+    items: &[ItemTree],
+) -> Result<Option<usize>, AllocError>
     ensures { IfOk result (λ r. r ≡ least (duplicates (map item_of items.now))) }
 {
     let mut known = Names::new(alloc);

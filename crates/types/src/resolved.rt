@@ -16,9 +16,9 @@ ghost use Rattle.types.specs.Texts.{assertions_of};
 ghost use Rattle.types.specs.Resolved.{IsResolved, AreResolved};
 
 use crate::drawn::drawn_of;
-use parser::{Assertion, Item};
+use parser::{AssertionTree, ItemTree};
 use std::alloc::{AllocError, Global};
-use types_expressions::{Columns, Scope};
+use types_expressions::{Scope, SignalPaths};
 use types_sequences::{Draft, Entry, entry_of};
 
 /// An assertion with the entries of its sides, names written out.
@@ -49,10 +49,10 @@ fn entry_in(alloc: Global, draft: &Draft, table: &[Option<Entry>]) -> Result<Ent
 fn resolved_of(
     alloc: Global,
     scope: &Scope,
-    columns: &Columns,
+    columns: &SignalPaths,
     table: &[Option<Entry>],
     before: usize,
-    assertion: &Assertion,
+    assertion: &AssertionTree,
     booleans: &mut Vec<expressions::Expr>,
 ) -> Result<Resolved, AllocError>
     requires room { before < 18446744073709551615 }
@@ -80,9 +80,9 @@ fn resolved_of(
 pub(crate) fn all_resolved(
     alloc: Global,
     scope: &Scope,
-    columns: &Columns,
+    columns: &SignalPaths,
     table: &[Option<Entry>],
-    items: &[Item],
+    items: &[ItemTree],
     booleans: &mut Vec<expressions::Expr>,
 ) -> Result<Vec<Resolved>, AllocError>
     requires sound { (k : Sought) → file_faults (scope_of scope.now) k (map item_of items.now) ≡ [] }
@@ -95,9 +95,9 @@ pub(crate) fn all_resolved(
     let mut resolved = Vec::new(alloc);
     for item in items {
         match item {
-            Item::Counter(_) => continue,
-            Item::Declaration(_) => continue,
-            Item::Assertion(assertion) => {
+            ItemTree::Counter(_) => continue,
+            ItemTree::Declaration(_) => continue,
+            ItemTree::Assertion(assertion) => {
                 let before = resolved.len();
                 let made = resolved_of(alloc, scope, columns, table, before, assertion, booleans)?;
                 resolved.push(made)?;

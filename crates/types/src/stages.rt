@@ -4,7 +4,7 @@ ghost use Rattle.std.specs.Prelude.{◌≡◌, ◌<◌, ℕ, true, false, map, l
 ghost use Rattle.parser.specs.Views.{item_of};
 ghost use Rattle.types_expressions.specs.Views.{scope_of};
 ghost use Rattle.types.specs.Texts.{assertions_of, clock_of};
-ghost use Rattle.types.specs.Faults.{Where, Text, outlines_of, sides_of, consequents_of, ClearTo, IsFaultless, IsRefused};
+ghost use Rattle.types.specs.Faults.{Where, Text, outlines_of, sides_of, consequents_of, ClearTo, IsFaultless, IsTypeFault};
 ghost use Rattle.types.specs.Cycles.{AreOutlined};
 ghost use Rattle.types.specs.Sides.{AreWeighed, AreLight};
 ghost use Rattle.types_sequences.specs.Cycles.{ReachesCycle};
@@ -16,16 +16,16 @@ use crate::cycles::{first_cycle, has_all};
 use crate::fault::TypeFault;
 use crate::names::first_duplicate;
 use crate::side::{Side, first_degenerate, first_empty, first_wide};
-use parser::Item;
+use parser::ItemTree;
 use std::alloc::{AllocError, Global};
 use types_expressions::{Scope, Sought, first_fault};
 use types_sequences::{Draft, Entry};
 
 /// Looks for unknown names (Y1).
 #[tactic(auto, using(crate::proofs::StageLaws::clear_1, crate::proofs::StageLaws::first_1, crate::proofs::StageLaws::clear_start))]
-fn check_paths(alloc: Global, scope: &Scope, items: &[Item]) -> Result<(), TypeFault>
+fn check_paths(alloc: Global, scope: &Scope, items: &[ItemTree]) -> Result<(), TypeFault>
     ensures ok { IfOk result (λ _. ClearTo (scope_of scope.now) (map item_of items.now) 1) }
-    ensures err { IfErr result (IsRefused (scope_of scope.now) (map item_of items.now)) }
+    ensures err { IfErr result (IsTypeFault (scope_of scope.now) (map item_of items.now)) }
 {
     match first_fault(alloc, scope, Sought::Unknown, items) {
         Ok(None) => Ok(()),
@@ -36,10 +36,10 @@ fn check_paths(alloc: Global, scope: &Scope, items: &[Item]) -> Result<(), TypeF
 
 /// Looks for names that are declared again (Y2).
 #[tactic(auto, using(crate::proofs::StageLaws::clear_2, crate::proofs::StageLaws::first_2))]
-fn check_names(alloc: Global, scope: &Scope, items: &[Item]) -> Result<(), TypeFault>
+fn check_names(alloc: Global, scope: &Scope, items: &[ItemTree]) -> Result<(), TypeFault>
     requires clear { ClearTo (scope_of scope.now) (map item_of items.now) 1 }
     ensures ok { IfOk result (λ _. ClearTo (scope_of scope.now) (map item_of items.now) 2) }
-    ensures err { IfErr result (IsRefused (scope_of scope.now) (map item_of items.now)) }
+    ensures err { IfErr result (IsTypeFault (scope_of scope.now) (map item_of items.now)) }
 {
     match first_duplicate(alloc, items) {
         Ok(None) => Ok(()),
@@ -50,10 +50,10 @@ fn check_names(alloc: Global, scope: &Scope, items: &[Item]) -> Result<(), TypeF
 
 /// Looks for wide concatenations (Y3).
 #[tactic(auto, using(crate::proofs::StageLaws::clear_3, crate::proofs::StageLaws::first_3))]
-fn check_concatenations(alloc: Global, scope: &Scope, items: &[Item]) -> Result<(), TypeFault>
+fn check_concatenations(alloc: Global, scope: &Scope, items: &[ItemTree]) -> Result<(), TypeFault>
     requires clear { ClearTo (scope_of scope.now) (map item_of items.now) 2 }
     ensures ok { IfOk result (λ _. ClearTo (scope_of scope.now) (map item_of items.now) 3) }
-    ensures err { IfErr result (IsRefused (scope_of scope.now) (map item_of items.now)) }
+    ensures err { IfErr result (IsTypeFault (scope_of scope.now) (map item_of items.now)) }
 {
     match first_fault(alloc, scope, Sought::Wide, items) {
         Ok(None) => Ok(()),
@@ -64,10 +64,10 @@ fn check_concatenations(alloc: Global, scope: &Scope, items: &[Item]) -> Result<
 
 /// Looks for selects out of range (Y4).
 #[tactic(auto, using(crate::proofs::StageLaws::clear_4, crate::proofs::StageLaws::first_4))]
-fn check_selects(alloc: Global, scope: &Scope, items: &[Item]) -> Result<(), TypeFault>
+fn check_selects(alloc: Global, scope: &Scope, items: &[ItemTree]) -> Result<(), TypeFault>
     requires clear { ClearTo (scope_of scope.now) (map item_of items.now) 3 }
     ensures ok { IfOk result (λ _. ClearTo (scope_of scope.now) (map item_of items.now) 4) }
-    ensures err { IfErr result (IsRefused (scope_of scope.now) (map item_of items.now)) }
+    ensures err { IfErr result (IsTypeFault (scope_of scope.now) (map item_of items.now)) }
 {
     match first_fault(alloc, scope, Sought::OutOfRange, items) {
         Ok(None) => Ok(()),
@@ -78,11 +78,16 @@ fn check_selects(alloc: Global, scope: &Scope, items: &[Item]) -> Result<(), Typ
 
 /// Looks for other clocks (Y7).
 #[tactic(auto, using(crate::proofs::StageLaws::clear_5, crate::proofs::StageLaws::first_5))]
-fn check_clocks(alloc: Global, scope: &Scope, items: &[Item], clock: &str) -> Result<(), TypeFault>
+fn check_clocks(
+    alloc: Global,
+    scope: &Scope,
+    items: &[ItemTree],
+    clock: &str,
+) -> Result<(), TypeFault>
     requires clear { ClearTo (scope_of scope.now) (map item_of items.now) 4 }
     requires clock { clock.now ≡ clock_of (assertions_of (map item_of items.now)) }
     ensures ok { IfOk result (λ _. ClearTo (scope_of scope.now) (map item_of items.now) 5) }
-    ensures err { IfErr result (IsRefused (scope_of scope.now) (map item_of items.now)) }
+    ensures err { IfErr result (IsTypeFault (scope_of scope.now) (map item_of items.now)) }
 {
     match first_other_clock(alloc, clock, items) {
         Ok(None) => Ok(()),
@@ -95,12 +100,12 @@ fn check_clocks(alloc: Global, scope: &Scope, items: &[Item], clock: &str) -> Re
 pub(crate) fn check_expressions(
     alloc: Global,
     scope: &Scope,
-    items: &[Item],
+    items: &[ItemTree],
     clock: &str,
 ) -> Result<(), TypeFault>
     requires { clock.now ≡ clock_of (assertions_of (map item_of items.now)) }
     ensures ok { IfOk result (λ _. ClearTo (scope_of scope.now) (map item_of items.now) 5) }
-    ensures err { IfErr result (IsRefused (scope_of scope.now) (map item_of items.now)) }
+    ensures err { IfErr result (IsTypeFault (scope_of scope.now) (map item_of items.now)) }
 {
     check_paths(alloc, scope, items)?;
     check_names(alloc, scope, items)?;
@@ -122,7 +127,7 @@ pub(crate) fn check_cycles(
     requires cyclic { (p : ℕ) → p < length bodies.now → has_entry table.now p ≡ false → ReachesCycle (map draft_of bodies.now) p }
     ensures entries { IfOk result (λ _. (p : ℕ) → p < length bodies.now → has_entry table.now p ≡ true) }
     ensures ok { (s : Where) (items : Text) → AreOutlined s items (map draft_of bodies.now) bytes.now → ClearTo s items 5 → IfOk result (λ _. ClearTo s items 6) }
-    ensures err { (s : Where) (items : Text) → AreOutlined s items (map draft_of bodies.now) bytes.now → ClearTo s items 5 → IfErr result (IsRefused s items) }
+    ensures err { (s : Where) (items : Text) → AreOutlined s items (map draft_of bodies.now) bytes.now → ClearTo s items 5 → IfErr result (IsTypeFault s items) }
 {
     if has_all(table) {
         return Ok(());
@@ -140,7 +145,7 @@ pub(crate) fn check_sides(sides: &[Side], consequents: &[Side]) -> Result<(), Ty
     ensures ok { (s : Where) (items : Text) → ClearTo s items 6 → AreWeighed (outlines_of s items) (sides_of s (assertions_of items)) sides.now
         → AreWeighed (outlines_of s items) (consequents_of s (assertions_of items)) consequents.now → IfOk result (λ _. IsFaultless s items) }
     ensures err { (s : Where) (items : Text) → ClearTo s items 6 → AreWeighed (outlines_of s items) (sides_of s (assertions_of items)) sides.now
-        → AreWeighed (outlines_of s items) (consequents_of s (assertions_of items)) consequents.now → IfErr result (IsRefused s items) }
+        → AreWeighed (outlines_of s items) (consequents_of s (assertions_of items)) consequents.now → IfErr result (IsTypeFault s items) }
 {
     if let Some(at) = first_wide(sides) {
         return Err(TypeFault::TooWide(at));

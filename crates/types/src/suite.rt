@@ -11,7 +11,7 @@ ghost use Rattle.types_expressions.specs.Faults.{file_faults};
 ghost use Rattle.types_expressions.specs.Views.{scope_of, columns_in, names_in};
 ghost use Rattle.types_sequences.specs.Placed.{Extends};
 ghost use Rattle.types.specs.Texts.{declarations_of, assertions_of, clock_of};
-ghost use Rattle.types.specs.Faults.{Where, Text, outlines_of, sides_of, consequents_of, ClearTo, IsFaultless, IsRefused};
+ghost use Rattle.types.specs.Faults.{Where, Text, outlines_of, sides_of, consequents_of, ClearTo, IsFaultless, IsTypeFault};
 ghost use Rattle.types.specs.Sides.{AreWeighed, AreLight};
 ghost use Rattle.types.specs.Suites.{IsSuite};
 ghost use Rattle.types.specs.Resolved.{HasBodies, sides_in, consequents_in};
@@ -26,17 +26,17 @@ use crate::sides::{all_consequents, all_sides};
 use crate::stages::{check_cycles, check_expressions, check_sides};
 use crate::typed_assertions::assertions_of;
 use assertions::Suite;
-use parser::{File, Item};
+use parser::{File, ItemTree};
 use std::alloc::Global;
-use types_expressions::{Columns, Names, Scope, columns_of};
+use types_expressions::{Names, Scope, SignalPaths, columns_of};
 use types_sequences::{Entry, resolve};
 
 /// The entries of the named sequences, by the places of their declarations, if none reaches itself (Y8).
 fn entries_of(
     alloc: Global,
     scope: &Scope,
-    columns: &Columns,
-    items: &[Item],
+    columns: &SignalPaths,
+    items: &[ItemTree],
     booleans: &mut Vec<expressions::Expr>,
 ) -> Result<Vec<Option<Entry>>, TypeFault>
     requires sound { (k : Sought) → file_faults (scope_of scope.now) k (map item_of items.now) ≡ [] }
@@ -48,7 +48,7 @@ fn entries_of(
     ensures entries { IfOk result (λ table. (p : ℕ) → p < length table.items → has_entry table.items p ≡ true) }
     ensures bodies { IfOk result (λ table. HasBodies (scope_of scope.now) (columns_in columns.now) booleans.new.items (map item_of items.now) table.items) }
     ensures clear { IfOk result (λ _. ClearTo (scope_of scope.now) (map item_of items.now) 6) }
-    ensures refused { IfErr result (IsRefused (scope_of scope.now) (map item_of items.now)) }
+    ensures refused { IfErr result (IsTypeFault (scope_of scope.now) (map item_of items.now)) }
 {
     let bodies = bodies_of(alloc, scope, columns, items, booleans)?;
     let bytes = name_bytes(alloc, items)?;
@@ -63,7 +63,7 @@ fn check_resolved(alloc: Global, resolved: &[Resolved]) -> Result<(), TypeFault>
     ensures ok { (s : Where) (items : Text) → ClearTo s items 6 → AreWeighed (outlines_of s items) (sides_of s (assertions_of items)) (sides_in resolved.now)
         → AreWeighed (outlines_of s items) (consequents_of s (assertions_of items)) (consequents_in resolved.now) → IfOk result (λ _. IsFaultless s items) }
     ensures err { (s : Where) (items : Text) → ClearTo s items 6 → AreWeighed (outlines_of s items) (sides_of s (assertions_of items)) (sides_in resolved.now)
-        → AreWeighed (outlines_of s items) (consequents_of s (assertions_of items)) (consequents_in resolved.now) → IfErr result (IsRefused s items) }
+        → AreWeighed (outlines_of s items) (consequents_of s (assertions_of items)) (consequents_in resolved.now) → IfErr result (IsTypeFault s items) }
 {
     let sides = all_sides(alloc, resolved)?;
     let consequents = all_consequents(alloc, resolved)?;
@@ -71,13 +71,18 @@ fn check_resolved(alloc: Global, resolved: &[Resolved]) -> Result<(), TypeFault>
 }
 
 /// The suite of items whose expressions have no fault, or the first fault of their sequences.
-fn suite_of(alloc: Global, scope: &Scope, items: &[Item], clock: String) -> Result<Suite, TypeFault>
+fn suite_of(
+    alloc: Global,
+    scope: &Scope,
+    items: &[ItemTree],
+    clock: String,
+) -> Result<Suite, TypeFault>
     requires clock { string_bytes clock ≡ clock_of (assertions_of (map item_of items.now)) }
     requires declared { (t : Tree) (p : ℕ) → sequence_named (scope_of scope.now) t ≡ Some p → p < length (declarations_of (map item_of items.now)) }
     requires clear { ClearTo (scope_of scope.now) (map item_of items.now) 5 }
     ensures faultless { IfOk result (λ _. IsFaultless (scope_of scope.now) (map item_of items.now)) }
     ensures suite { IfOk result (IsSuite (scope_of scope.now) (map item_of items.now)) }
-    ensures refused { IfErr result (IsRefused (scope_of scope.now) (map item_of items.now)) }
+    ensures refused { IfErr result (IsTypeFault (scope_of scope.now) (map item_of items.now)) }
 {
     let columns = columns_of(alloc, scope, items)?;
     let mut booleans = Vec::new(alloc);
@@ -116,7 +121,7 @@ fn suite_of(alloc: Global, scope: &Scope, items: &[Item], clock: String) -> Resu
 pub fn check(alloc: Global, file: &File, names: &Names) -> Result<Suite, TypeFault>
     ensures faultless { IfOk result (λ _. IsFaultless (scope_for (items_of file.now) (names_in names.now)) (items_of file.now)) }
     ensures suite { IfOk result (IsSuite (scope_for (items_of file.now) (names_in names.now)) (items_of file.now)) }
-    ensures refused { IfErr result (IsRefused (scope_for (items_of file.now) (names_in names.now)) (items_of file.now)) }
+    ensures refused { IfErr result (IsTypeFault (scope_for (items_of file.now) (names_in names.now)) (items_of file.now)) }
 {
     let items = file.items.as_slice();
     let scope = Scope::of(alloc, names, items)?;

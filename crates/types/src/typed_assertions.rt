@@ -1,14 +1,14 @@
 //! Assertions of a suite.
 
 ghost use Rattle.std.specs.Prelude.{◌≤◌, ℕ, List, ◌++◌, IfOk, OnOk};
-ghost use Rattle.assertions.specs.Shapes.{written};
+ghost use Rattle.assertions.specs.Shapes.{written_form};
 ghost use Rattle.assertions.specs.Written.{weight, IsOrdered};
 ghost use Rattle.types_sequences.specs.Entries.{Bodies, HasEntry};
 ghost use Rattle.types_sequences.specs.Placed.{Extends};
 ghost use Rattle.types.specs.Faults.{Where};
 ghost use Rattle.types.specs.Suites.{IsMeant, IsAssertion, AreAssertions};
 ghost use Rattle.types.specs.Resolved.{IsResolved, AreResolved};
-ghost use Rattle.types.specs.Made.{Expressions, Says, Statement, Statements, IsFitting, AreFitting, IsPlacedAt};
+ghost use Rattle.types.specs.Made.{Expressions, SideDraft, Statement, Statements, IsFitting, AreFitting, IsPlacedAt};
 
 use crate::resolved::Resolved;
 use assertions::{Assertion, Boolean, Sequence};
@@ -23,9 +23,9 @@ fn side_of(
 ) -> Result<Box<Sequence>, AllocError>
     requires { IsFitting entry.now }
     ensures grows { OnOk result (Extends places.old.items places.new.items) }
-    ensures light { IfOk result (λ b. weight (written b.value) ≤ 127) }
-    ensures ordered { IfOk result (λ b. IsOrdered (written b.value)) }
-    ensures meant { (bodies : Bodies) (d : Says) (booleans : Expressions) (more : List ℕ) → HasEntry bodies d entry.now → IfOk result (λ b. IsMeant bodies booleans (places.new.items ++ more) d (written b.value)) }
+    ensures light { IfOk result (λ b. weight (written_form b.value) ≤ 127) }
+    ensures ordered { IfOk result (λ b. IsOrdered (written_form b.value)) }
+    ensures meant { (bodies : Bodies) (d : SideDraft) (booleans : Expressions) (more : List ℕ) → HasEntry bodies d entry.now → IfOk result (λ b. IsMeant bodies booleans (places.new.items ++ more) d (written_form b.value)) }
 {
     match &entry.sequence {
         Some(sequence) => place_sequence(alloc, sequence, places),

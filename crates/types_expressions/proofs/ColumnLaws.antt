@@ -10,7 +10,7 @@ use Rattle.std.proofs.lemmas.List.Folds.{list_any-append}
 use Rattle.std.proofs.lemmas.Bool.Decides.{nat_tests}
 use Rattle.indexmap.specs.IndexSet.{insert_key}
 use Rattle.types_expressions.specs.Columns.{is_listed, with_path, with_paths, all_listed, column_of, columns_of, file_signals}
-use Rattle.grammar.specs.Trees.{Item}
+use Rattle.grammar.specs.Trees.{ItemForm}
 use Rattle.types_expressions.specs.Scopes.{Scope}
 
 -- the keys of a set, as texts
@@ -103,7 +103,7 @@ all_listed-append known (p ∷ ps) qs = ap (λ b. is_listed known p && b) (all_l
 
 -- A text's columns have all signals that the text reads. With `all_listed-append` (`listed-parts`) it goes down to each item, sequence and
 -- expression, as no fault of a whole does by `no_faults-parts`.
-pub columns-all : (s : Scope) (items : List Item) → IsTrue (all_listed (columns_of s items) (file_signals s items))
+pub columns-all : (s : Scope) (items : List ItemForm) → IsTrue (all_listed (columns_of s items) (file_signals s items))
 columns-all s items = all_listed-added [] (file_signals s items)
 
 pub listed-parts : (known ps qs : List (List ℕ)) → IsTrue (all_listed known (ps ++ qs)) → IsTrue (all_listed known ps) × IsTrue (all_listed known qs)

@@ -7,7 +7,7 @@ use Rattle.std.specs.Map.{lookup}
 use Rattle.std.specs.Cmp.Lexicographic.{bytes_decides}
 use Rattle.indexmap.specs.IndexMap.{IndexMap, get, get_by_text, insert_entry}
 use Rattle.indexmap.proofs.CallerLemmas.{insert_entry-new}
-use Rattle.types_expressions.specs.Scopes.{found}
+use Rattle.types_expressions.specs.Scopes.{look_up}
 use Rattle.types_expressions.specs.Entries.{with_entry, with_entries}
 
 is_none : {A : Type 0} (o : Option A) → is_some o ≡ false → o ≡ None
@@ -30,16 +30,16 @@ picks-second h x y = rw h refl
 
 module _ {X V : Type 0} (f : X → V) where
   found-lookup : (es : List (String Global × X)) (name : List ℕ) →
-      found (map (λ (e : String Global × X). (string_bytes e.0, f e.1)) es) name ≡ option_map f (lookup (λ (k : String Global). bytes_eq name (string_bytes k)) es)
+      look_up (map (λ (e : String Global × X). (string_bytes e.0, f e.1)) es) name ≡ option_map f (lookup (λ (k : String Global). bytes_eq name (string_bytes k)) es)
   found-lookup [] name = refl
   found-lookup (e ∷ es) name = cond-map f (bytes_eq name (string_bytes e.0)) e.1 (lookup (λ (k : String Global). bytes_eq name (string_bytes k)) es) _ (found-lookup es name)
 
   module _ {S : Type 0} (m : IndexMap (String Global) X S) where
     -- what the map has at a text, and whether it has something
-    pub found-text : (name : List ℕ) → found (map (λ (e : String Global × X). (string_bytes e.0, f e.1)) m.entries) name ≡ option_map f (get_by_text m name)
+    pub found-text : (name : List ℕ) → look_up (map (λ (e : String Global × X). (string_bytes e.0, f e.1)) m.entries) name ≡ option_map f (get_by_text m name)
     found-text name = found-lookup m.entries name
 
-    has-text : (name : List ℕ) → is_some (found (map (λ (e : String Global × X). (string_bytes e.0, f e.1)) m.entries) name) ≡ is_some (get_by_text m name)
+    has-text : (name : List ℕ) → is_some (look_up (map (λ (e : String Global × X). (string_bytes e.0, f e.1)) m.entries) name) ≡ is_some (get_by_text m name)
     has-text name = ap is_some (found-text name) ∙ is_some-map f (get_by_text m name)
 
     -- a name that is there, and a new one
@@ -70,9 +70,9 @@ cond-first : {V : Type 0} (b : Bool) (v : V) (o more all : Option V) → all ≡
 cond-first true v o more all h = refl
 cond-first false v o more all h = h
 
-found-append : {V : Type 0} (es more : List (List ℕ × V)) (q : List ℕ) → found (es ++ more) q ≡ first_of (found es q) (found more q)
+found-append : {V : Type 0} (es more : List (List ℕ × V)) (q : List ℕ) → look_up (es ++ more) q ≡ first_of (look_up es q) (look_up more q)
 found-append [] more q = refl
-found-append (e ∷ es) more q = cond-first (bytes_eq q e.0) e.1 (found es q) (found more q) (found (es ++ more) q) (found-append es more q)
+found-append (e ∷ es) more q = cond-first (bytes_eq q e.0) e.1 (look_up es q) (look_up more q) (look_up (es ++ more) q) (found-append es more q)
 
 first-first : {V : Type 0} (a b c : Option V) → first_of (first_of a b) c ≡ first_of a (first_of b c)
 first-first None b c = refl
@@ -96,36 +96,36 @@ cond-other false x y h = refl
 
 -- a name that is added stands before all that follow it
 pub found-with_entry : {V : Type 0} (es : List (List ℕ × V)) (name : List ℕ) (v : V) (more : List (List ℕ × V)) (q : List ℕ) →
-    first_of (found (with_entry es name v) q) (found more q) ≡ first_of (found es q) (found ((name, v) ∷ more) q)
-found-with_entry {V} es name v more q = by (is_some (found es name)) refl
+    first_of (look_up (with_entry es name v) q) (look_up more q) ≡ first_of (look_up es q) (look_up ((name, v) ∷ more) q)
+found-with_entry {V} es name v more q = by (is_some (look_up es name)) refl
   where
-    there : is_some (found es name) ≡ true → is_some (found es q) ≡ false → bytes_eq q name ≡ true → ⊥
-    there h k e = let same : is_some (found es q) ≡ true = ap (λ (p : List ℕ). is_some (found es p)) ((bytes_decides q name).0 e) ∙ h in absurd cc
+    there : is_some (look_up es name) ≡ true → is_some (look_up es q) ≡ false → bytes_eq q name ≡ true → ⊥
+    there h k e = let same : is_some (look_up es q) ≡ true = ap (λ (p : List ℕ). is_some (look_up es p)) ((bytes_decides q name).0 e) ∙ h in absurd cc
 
-    by : (b : Bool) → is_some (found es name) ≡ b → first_of (found (if b then es else es ++ (name, v) ∷ []) q) (found more q) ≡ first_of (found es q) (found ((name, v) ∷ more) q)
-    by true h = first-same (found es q) (found more q) (cond (bytes_eq q name) (Some v) (found more q)) (λ k. cond-other (bytes_eq q name) (Some v) (found more q) (there h k))
+    by : (b : Bool) → is_some (look_up es name) ≡ b → first_of (look_up (if b then es else es ++ (name, v) ∷ []) q) (look_up more q) ≡ first_of (look_up es q) (look_up ((name, v) ∷ more) q)
+    by true h = first-same (look_up es q) (look_up more q) (cond (bytes_eq q name) (Some v) (look_up more q)) (λ k. cond-other (bytes_eq q name) (Some v) (look_up more q) (there h k))
     by false h =
-        ap (λ (o : Option V). first_of o (found more q)) (found-append es ((name, v) ∷ []) q)
-        ∙ first-first (found es q) (cond (bytes_eq q name) (Some v) None) (found more q)
-        ∙ ap (first_of (found es q)) (first-cond (bytes_eq q name) v (found more q))
+        ap (λ (o : Option V). first_of o (look_up more q)) (found-append es ((name, v) ∷ []) q)
+        ∙ first-first (look_up es q) (cond (bytes_eq q name) (Some v) None) (look_up more q)
+        ∙ ap (first_of (look_up es q)) (first-cond (bytes_eq q name) v (look_up more q))
 
 -- so the look-ups of names that are added one by one are those of their list
-pub found-with_entries : {V : Type 0} (es more : List (List ℕ × V)) (q : List ℕ) → found (with_entries es more) q ≡ first_of (found es q) (found more q)
-found-with_entries es [] q = sym (first-none (found es q))
+pub found-with_entries : {V : Type 0} (es more : List (List ℕ × V)) (q : List ℕ) → look_up (with_entries es more) q ≡ first_of (look_up es q) (look_up more q)
+found-with_entries es [] q = sym (first-none (look_up es q))
 found-with_entries es (e ∷ more) q = found-with_entries (with_entry es e.0 e.1) more q ∙ found-with_entry es e.0 e.1 more q
 
-pub same-lookups : {V : Type 0} (es fs : List (List ℕ × V)) → ((q : List ℕ) → found es q ≡ found fs q) → found es ≡ found fs
+pub same-lookups : {V : Type 0} (es fs : List (List ℕ × V)) → ((q : List ℕ) → look_up es q ≡ look_up fs q) → look_up es ≡ look_up fs
 same-lookups es fs h = λ j q. h q j
 
 -- a turn of a loop that adds a name: what is left decides
 pub left-step : {V : Type 0} (es fs : List (List ℕ × V)) (name : List ℕ) (v : V) (left more : List (List ℕ × V)) (all : List ℕ → Option V) →
-    fs ≡ with_entry es name v → left ≡ (name, v) ∷ more → ((q : List ℕ) → first_of (found es q) (found left q) ≡ all q) → (q : List ℕ) → first_of (found fs q) (found more q) ≡ all q
+    fs ≡ with_entry es name v → left ≡ (name, v) ∷ more → ((q : List ℕ) → first_of (look_up es q) (look_up left q) ≡ all q) → (q : List ℕ) → first_of (look_up fs q) (look_up more q) ≡ all q
 left-step {V} es fs name v left more all is begins h q =
-    ap (λ (gs : List (List ℕ × V)). first_of (found gs q) (found more q)) is
+    ap (λ (gs : List (List ℕ × V)). first_of (look_up gs q) (look_up more q)) is
     ∙ found-with_entry es name v more q
-    ∙ ap (λ (gs : List (List ℕ × V)). first_of (found es q) (found gs q)) (sym begins)
+    ∙ ap (λ (gs : List (List ℕ × V)). first_of (look_up es q) (look_up gs q)) (sym begins)
     ∙ h q
 
-pub left-end : {V : Type 0} (es left : List (List ℕ × V)) (all : List (List ℕ × V)) → left ≡ [] → ((q : List ℕ) → first_of (found es q) (found left q) ≡ found all q) → found es ≡ found all
+pub left-end : {V : Type 0} (es left : List (List ℕ × V)) (all : List (List ℕ × V)) → left ≡ [] → ((q : List ℕ) → first_of (look_up es q) (look_up left q) ≡ look_up all q) → look_up es ≡ look_up all
 left-end {V} es left all none h =
-    same-lookups es all (λ q. sym (first-none (found es q)) ∙ ap (λ (gs : List (List ℕ × V)). first_of (found es q) (found gs q)) (sym none) ∙ h q)
+    same-lookups es all (λ q. sym (first-none (look_up es q)) ∙ ap (λ (gs : List (List ℕ × V)). first_of (look_up es q) (look_up gs q)) (sym none) ∙ h q)

@@ -17,7 +17,7 @@ use Rattle.types_expressions.specs.declared.operator.Call.TheVariants as calls
 use Rattle.types_expressions.specs.Scopes.{Scope, path_text, meaning, bits_of}
 use Rattle.types_expressions.specs.Widths.{binary_of, unary_of, call_of, binary_width, unary_width, path_width_by, high_of, low_of, own_width, chain_width, parts_width}
 use Rattle.types_expressions.specs.Columns.{column_of}
-use Rattle.types_expressions.specs.Meanings.{combined, prefixed, called, IsNameOf, IsRead, Means, Chains, Joins, JoinsMore}
+use Rattle.types_expressions.specs.Meanings.{binary_term, unary_term, call_term, IsNameOf, IsRead, Means, Chains, Joins, JoinsMore}
 
 name-width : (means : Option Meaning) (column : Option ℕ) (n : Name) → IsNameOf means column n → n.width ≡ path_width_by (bits_of means) None
 name-width None column n h = elim h [ ]
@@ -34,17 +34,17 @@ read-width means column (Some x) e h =
     part-width None = refl
     part-width (Some width) = refl
 
-combined-width : (op : Binary) (a b : Term) → width_of (combined op a b) ≡ binary_width op (width_of a) (width_of b)
+combined-width : (op : Binary) (a b : Term) → width_of (binary_term op a b) ≡ binary_width op (width_of a) (width_of b)
 combined-width (Arithmetic op) a b = refl
 combined-width (Shift op) a b = refl
 combined-width (Comparison op) a b = refl
 combined-width (Connective op) a b = refl
 
-prefixed-width : (op : Unary) (a : Term) → width_of (prefixed op a) ≡ unary_width op (width_of a)
+prefixed-width : (op : Unary) (a : Term) → width_of (unary_term op a) ≡ unary_width op (width_of a)
 prefixed-width unaries.Complement a = refl
 prefixed-width (unaries.Reduce op) a = refl
 
-called-width : (op : Call) (a : Term) → width_of (called op a) ≡ 1
+called-width : (op : Call) (a : Term) → width_of (call_term op a) ≡ 1
 called-width (calls.Change op) a = refl
 called-width (calls.Reduce op) a = refl
 
@@ -65,7 +65,7 @@ module _ (s : Scope) (cs : List (List ℕ)) where
     chains-width : (links : Links) (a : Term) (w : ℕ) (e : Term) → width_of a ≡ w → Chains s cs a links e → width_of e ≡ chain_width s w links
     chains-width end a w e h m = ap width_of m ∙ h
     chains-width (link t d links) a w e h m =
-        chains-width links (combined (binary_of t) a m.0) (binary_width (binary_of t) w (own_width s d)) e
+        chains-width links (binary_term (binary_of t) a m.0) (binary_width (binary_of t) w (own_width s d)) e
         (combined-width (binary_of t) a m.0 ∙ ap (λ n. binary_width (binary_of t) n (width_of m.0)) h ∙ ap (binary_width (binary_of t) w) (mean-width d m.0 m.1)) m.2
 
     joins-width : (parts : Parts) (a : Term) (w : ℕ) (e : Term) → width_of a ≡ w → Joins s cs a parts e → width_of e ≡ parts_width s w parts

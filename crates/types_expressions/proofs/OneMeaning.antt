@@ -4,8 +4,8 @@ use Rattle.std.specs.Prelude.{nat_le, ◌==◌}
 use Rattle.grammar.specs.declared.bound.Select.{Select}
 use Rattle.grammar.specs.Trees.{Tree, number, path, concatenation, past, call, unary, chain, choice, Links, end, link, Parts, no_part, part}
 use Rattle.expressions.specs.Terms as terms
-use Rattle.expressions.specs.Terms.{Term, Samples, width_of, value_of, name_at, held}
-use Rattle.expressions.specs.Operators.{complement, arithmetic, shifted, compared, connected, reduced, change_of}
+use Rattle.expressions.specs.Terms.{Term, Samples, width_of, value_of, name_at, sample_at}
+use Rattle.expressions.specs.Operators.{complement, arithmetic, shift_value, comparison_value, connective_value, reduction_value, change_of}
 use Rattle.expressions.specs.declared.name.Origin.{Origin}
 use Rattle.expressions.specs.declared.name.Name.{Name}
 use Rattle.expressions.specs.declared.operator.Reduction.{Reduction}
@@ -22,7 +22,7 @@ use Rattle.types_expressions.specs.declared.operator.Call.TheVariants as calls
 use Rattle.types_expressions.specs.Scopes.{Scope, path_text, meaning}
 use Rattle.types_expressions.specs.Widths.{binary_of, unary_of, call_of, ticks_of}
 use Rattle.types_expressions.specs.Columns.{column_of}
-use Rattle.types_expressions.specs.Meanings.{combined, prefixed, called, IsName, IsNameOf, IsRead, Means, Chains, Joins, JoinsMore}
+use Rattle.types_expressions.specs.Meanings.{binary_term, unary_term, call_term, IsName, IsNameOf, IsRead, Means, Chains, Joins, JoinsMore}
 
 -- two terms of one width and one value
 pub record AreSame (x : Samples) (e f : Term) : Type 0 where
@@ -38,25 +38,25 @@ module _ (x : Samples) where
   larger : (a b c d : Term) → AreSame x a b → AreSame x c d → max (width_of a) (width_of c) ≡ max (width_of b) (width_of d)
   larger a b c d h k = ap (λ n. max n (width_of c)) h.width ∙ ap (max (width_of b)) k.width
 
-  same-combined : (op : Binary) (a b c d : Term) → AreSame x a b → AreSame x c d → AreSame x (combined op a c) (combined op b d)
+  same-combined : (op : Binary) (a b c d : Term) → AreSame x a b → AreSame x c d → AreSame x (binary_term op a c) (binary_term op b d)
   same-combined (Arithmetic op) a b c d h k = record {
     width = larger a b c d h k;
     value = λ t w. ap (λ v. arithmetic op w v (value_of x c t w)) (h.value t w) ∙ ap (arithmetic op w (value_of x b t w)) (k.value t w);
   }
   same-combined (Shift op) a b c d h k = record {
     width = h.width;
-    value = λ t w. ap (λ v. shifted op w v (value_of x c t (width_of c))) (h.value t w) ∙ ap (shifted op w (value_of x b t w)) (own c d k t);
+    value = λ t w. ap (λ v. shift_value op w v (value_of x c t (width_of c))) (h.value t w) ∙ ap (shift_value op w (value_of x b t w)) (own c d k t);
   }
   same-combined (Comparison op) a b c d h k = record {
     width = refl;
     value = λ t w.
         let n = max (width_of a) (width_of c) in
-        ap (λ v. compared op v (value_of x c t n)) (h.value t n) ∙ ap (compared op (value_of x b t n)) (k.value t n)
-        ∙ ap (λ m. compared op (value_of x b t m) (value_of x d t m)) (larger a b c d h k);
+        ap (λ v. comparison_value op v (value_of x c t n)) (h.value t n) ∙ ap (comparison_value op (value_of x b t n)) (k.value t n)
+        ∙ ap (λ m. comparison_value op (value_of x b t m) (value_of x d t m)) (larger a b c d h k);
   }
   same-combined (Connective op) a b c d h k = record {
     width = refl;
-    value = λ t w. ap (λ v. connected op v (value_of x c t (width_of c))) (own a b h t) ∙ ap (connected op (value_of x b t (width_of b))) (own c d k t);
+    value = λ t w. ap (λ v. connective_value op v (value_of x c t (width_of c))) (own a b h t) ∙ ap (connective_value op (value_of x b t (width_of b))) (own c d k t);
   }
 
   same-concat : (a b c d : Term) → AreSame x a b → AreSame x c d → AreSame x (terms.concat a c) (terms.concat b d)
@@ -71,9 +71,9 @@ module _ (x : Samples) where
   same-group a b h = record { width = h.width; value = λ t w. own a b h t }
 
   same-reduce : (op : Reduction) (a b : Term) → AreSame x a b → AreSame x (terms.reduce op a) (terms.reduce op b)
-  same-reduce op a b h = record { width = refl; value = λ t w. ap (λ n. reduced op n (value_of x a t (width_of a))) h.width ∙ ap (reduced op (width_of b)) (own a b h t) }
+  same-reduce op a b h = record { width = refl; value = λ t w. ap (λ n. reduction_value op n (value_of x a t (width_of a))) h.width ∙ ap (reduction_value op (width_of b)) (own a b h t) }
 
-  same-prefixed : (op : Unary) (a b : Term) → AreSame x a b → AreSame x (prefixed op a) (prefixed op b)
+  same-prefixed : (op : Unary) (a b : Term) → AreSame x a b → AreSame x (unary_term op a) (unary_term op b)
   same-prefixed unaries.Complement a b h = record { width = h.width; value = λ t w. ap (complement w) (h.value t w) }
   same-prefixed (unaries.Reduce op) a b h = same-reduce op a b h
 
@@ -84,7 +84,7 @@ module _ (x : Samples) where
         ∙ ap (λ v. change_of op (value_of x b t (width_of b)) (if nat_le 1 t then v else 0)) (own a b h (t - 1));
   }
 
-  same-called : (op : Call) (a b : Term) → AreSame x a b → AreSame x (called op a) (called op b)
+  same-called : (op : Call) (a b : Term) → AreSame x a b → AreSame x (call_term op a) (call_term op b)
   same-called (calls.Change op) a b h = same-change op a b h
   same-called (calls.Reduce op) a b h = same-reduce op a b h
 
@@ -112,7 +112,7 @@ module _ (x : Samples) where
   same-name : (origin : Origin) (column : Option ℕ) (width : ℕ) (m n : Name) → IsName origin column width m → IsName origin column width n → (k : ℕ) → name_at x m k ≡ name_at x n k
   same-name origin column width m n h l k =
       let places = some-same m.place n.place (sym h.place_is ∙ l.place_is) in
-      ap (λ (o : Origin). held x o m.place k % 2 ^ m.width) (h.origin_is ∙ sym l.origin_is) ∙ ap (λ p. held x n.origin p k % 2 ^ m.width) places ∙ ap (λ w. held x n.origin n.place k % 2 ^ w) (h.width_is ∙ sym l.width_is)
+      ap (λ (o : Origin). sample_at x o m.place k % 2 ^ m.width) (h.origin_is ∙ sym l.origin_is) ∙ ap (λ p. sample_at x n.origin p k % 2 ^ m.width) places ∙ ap (λ w. sample_at x n.origin n.place k % 2 ^ w) (h.width_is ∙ sym l.width_is)
 
   record AreOneName (m n : Name) : Type 0 where
     width : m.width ≡ n.width
@@ -148,8 +148,8 @@ module _ (x : Samples) where
       one-meaning (path words sel) e f m n = same-read (meaning s words) (column_of cs (path_text words)) sel e f m n
       one-meaning (concatenation t d parts) e f m n = one-join parts m.0 n.0 e f (one-meaning d m.0 n.0 m.1 n.1) m.2 n.2
       one-meaning (past t d p) e f m n = same-by e f (terms.past m.0 (ticks_of p)) (terms.past n.0 (ticks_of p)) m.2 n.2 (same-past (ticks_of p) m.0 n.0 (one-meaning d m.0 n.0 m.1 n.1))
-      one-meaning (call g t d) e f m n = same-by e f (called (call_of g) m.0) (called (call_of g) n.0) m.2 n.2 (same-called (call_of g) m.0 n.0 (one-meaning d m.0 n.0 m.1 n.1))
-      one-meaning (unary t d) e f m n = same-by e f (prefixed (unary_of t) m.0) (prefixed (unary_of t) n.0) m.2 n.2 (same-prefixed (unary_of t) m.0 n.0 (one-meaning d m.0 n.0 m.1 n.1))
+      one-meaning (call g t d) e f m n = same-by e f (call_term (call_of g) m.0) (call_term (call_of g) n.0) m.2 n.2 (same-called (call_of g) m.0 n.0 (one-meaning d m.0 n.0 m.1 n.1))
+      one-meaning (unary t d) e f m n = same-by e f (unary_term (unary_of t) m.0) (unary_term (unary_of t) n.0) m.2 n.2 (same-prefixed (unary_of t) m.0 n.0 (one-meaning d m.0 n.0 m.1 n.1))
       one-meaning (chain d links) e f m n = one-chain links m.0 n.0 e f (one-meaning d m.0 n.0 m.1 n.1) m.2 n.2
       one-meaning (choice c y z) e f m n =
           same-by e f (terms.choose m.0 m.1 m.2) (terms.choose n.0 n.1 n.2) m.6 n.6
@@ -158,7 +158,7 @@ module _ (x : Samples) where
       one-chain : (links : Links) (a b e f : Term) → AreSame x a b → Chains s cs a links e → Chains s cs b links f → AreSame x e f
       one-chain end a b e f h m n = same-by e f a b m n h
       one-chain (link t d links) a b e f h m n =
-          one-chain links (combined (binary_of t) a m.0) (combined (binary_of t) b n.0) e f (same-combined (binary_of t) a b m.0 n.0 h (one-meaning d m.0 n.0 m.1 n.1)) m.2 n.2
+          one-chain links (binary_term (binary_of t) a m.0) (binary_term (binary_of t) b n.0) e f (same-combined (binary_of t) a b m.0 n.0 h (one-meaning d m.0 n.0 m.1 n.1)) m.2 n.2
 
       one-join : (parts : Parts) (a b e f : Term) → AreSame x a b → Joins s cs a parts e → Joins s cs b parts f → AreSame x e f
       one-join no_part a b e f h m n = same-by e f (terms.group a) (terms.group b) m n (same-group a b h)

@@ -2,7 +2,7 @@
 use Rattle.std.proofs.Common.{◌≡◌, ℕ, List, ◌++◌, Option, sym, ap, ◌∙◌}
 use Rattle.lexer.specs.declared.token.Token.{Token}
 use Rattle.grammar.specs.declared.bound.Range.{Range}
-use Rattle.grammar.specs.Trees.{Tree, concatenation, chain, choice, Links, link, Parts, part, Sequence, delayed, throughout, all, either, Steps, step, Others, other}
+use Rattle.grammar.specs.Trees.{Tree, concatenation, chain, choice, Links, link, Parts, part, SequenceForm, delayed, throughout, all, either, Steps, step, Others, other}
 use Rattle.types_expressions.specs.declared.own.Sought.{Sought}
 use Rattle.types_expressions.specs.Scopes.{Scope}
 use Rattle.types_expressions.specs.Faults.{faults, sequence_faults, step_faults, other_faults, earlier, least}
@@ -51,51 +51,51 @@ module _ (s : Scope) where
   unfolding signals
   signals-part now e rest is = record { is = ap (part_signals s) is }
 
-  pub signals-delayed : (x q : Sequence) (steps : Steps) → x ≡ delayed q steps → Joins (sequence_signals s x) (sequence_signals s q) (step_signals s steps)
+  pub signals-delayed : (x q : SequenceForm) (steps : Steps) → x ≡ delayed q steps → Joins (sequence_signals s x) (sequence_signals s q) (step_signals s steps)
   unfolding sequence_signals
   signals-delayed x q steps is = record { is = ap (sequence_signals s) is }
 
-  pub signals-throughout : (x : Sequence) (e : Tree) (q : Sequence) → x ≡ throughout e q → Joins (sequence_signals s x) (signals s e) (sequence_signals s q)
+  pub signals-throughout : (x : SequenceForm) (e : Tree) (q : SequenceForm) → x ≡ throughout e q → Joins (sequence_signals s x) (signals s e) (sequence_signals s q)
   unfolding sequence_signals
   signals-throughout x e q is = record { is = ap (sequence_signals s) is }
 
-  pub signals-all : (x q : Sequence) (others : Others) → x ≡ all q others → Joins (sequence_signals s x) (sequence_signals s q) (other_signals s others)
+  pub signals-all : (x q : SequenceForm) (others : Others) → x ≡ all q others → Joins (sequence_signals s x) (sequence_signals s q) (other_signals s others)
   unfolding sequence_signals
   signals-all x q others is = record { is = ap (sequence_signals s) is }
 
-  pub signals-either : (x q : Sequence) (others : Others) → x ≡ either q others → Joins (sequence_signals s x) (sequence_signals s q) (other_signals s others)
+  pub signals-either : (x q : SequenceForm) (others : Others) → x ≡ either q others → Joins (sequence_signals s x) (sequence_signals s q) (other_signals s others)
   unfolding sequence_signals
   signals-either x q others is = record { is = ap (sequence_signals s) is }
 
-  pub signals-step : (now : Steps) (n : Range) (q : Sequence) (rest : Steps) → now ≡ step n q rest → Joins (step_signals s now) (sequence_signals s q) (step_signals s rest)
+  pub signals-step : (now : Steps) (n : Range) (q : SequenceForm) (rest : Steps) → now ≡ step n q rest → Joins (step_signals s now) (sequence_signals s q) (step_signals s rest)
   unfolding sequence_signals
   signals-step now n q rest is = record { is = ap (step_signals s) is }
 
-  pub signals-other : (now : Others) (q : Sequence) (rest : Others) → now ≡ other q rest → Joins (other_signals s now) (sequence_signals s q) (other_signals s rest)
+  pub signals-other : (now : Others) (q : SequenceForm) (rest : Others) → now ≡ other q rest → Joins (other_signals s now) (sequence_signals s q) (other_signals s rest)
   unfolding sequence_signals
   signals-other now q rest is = record { is = ap (other_signals s) is }
 
   module _ (k : Sought) where
-    pub faults-delayed : (x q : Sequence) (steps : Steps) → x ≡ delayed q steps → Joins (sequence_faults s k x) (sequence_faults s k q) (step_faults s k steps)
+    pub faults-delayed : (x q : SequenceForm) (steps : Steps) → x ≡ delayed q steps → Joins (sequence_faults s k x) (sequence_faults s k q) (step_faults s k steps)
     unfolding sequence_faults
     faults-delayed x q steps is = record { is = ap (sequence_faults s k) is }
 
-    pub faults-throughout : (x : Sequence) (e : Tree) (q : Sequence) → x ≡ throughout e q → Joins (sequence_faults s k x) (faults s k e) (sequence_faults s k q)
+    pub faults-throughout : (x : SequenceForm) (e : Tree) (q : SequenceForm) → x ≡ throughout e q → Joins (sequence_faults s k x) (faults s k e) (sequence_faults s k q)
     unfolding sequence_faults
     faults-throughout x e q is = record { is = ap (sequence_faults s k) is }
 
-    pub faults-all : (x q : Sequence) (others : Others) → x ≡ all q others → Joins (sequence_faults s k x) (sequence_faults s k q) (other_faults s k others)
+    pub faults-all : (x q : SequenceForm) (others : Others) → x ≡ all q others → Joins (sequence_faults s k x) (sequence_faults s k q) (other_faults s k others)
     unfolding sequence_faults
     faults-all x q others is = record { is = ap (sequence_faults s k) is }
 
-    pub faults-either : (x q : Sequence) (others : Others) → x ≡ either q others → Joins (sequence_faults s k x) (sequence_faults s k q) (other_faults s k others)
+    pub faults-either : (x q : SequenceForm) (others : Others) → x ≡ either q others → Joins (sequence_faults s k x) (sequence_faults s k q) (other_faults s k others)
     unfolding sequence_faults
     faults-either x q others is = record { is = ap (sequence_faults s k) is }
 
-    pub faults-step : (now : Steps) (n : Range) (q : Sequence) (rest : Steps) → now ≡ step n q rest → Joins (step_faults s k now) (sequence_faults s k q) (step_faults s k rest)
+    pub faults-step : (now : Steps) (n : Range) (q : SequenceForm) (rest : Steps) → now ≡ step n q rest → Joins (step_faults s k now) (sequence_faults s k q) (step_faults s k rest)
     unfolding sequence_faults
     faults-step now n q rest is = record { is = ap (step_faults s k) is }
 
-    pub faults-other : (now : Others) (q : Sequence) (rest : Others) → now ≡ other q rest → Joins (other_faults s k now) (sequence_faults s k q) (other_faults s k rest)
+    pub faults-other : (now : Others) (q : SequenceForm) (rest : Others) → now ≡ other q rest → Joins (other_faults s k now) (sequence_faults s k q) (other_faults s k rest)
     unfolding sequence_faults
     faults-other now q rest is = record { is = ap (other_faults s k) is }

@@ -8,8 +8,8 @@ use Rattle.grammar.specs.declared.bound.Select.{Select}
 use Rattle.grammar.specs.declared.mark.Function.{Function}
 use Rattle.grammar.specs.Trees.{Tree, number, path, concatenation, past, call, unary, chain, choice, Links, end, link, Parts, no_part, part}
 use Rattle.grammar.specs.ReadExpressions.{parts_of}
-use Rattle.parser.specs.declared.tree.Expr.{Expr}
-use Rattle.parser.specs.Views.{tree_of}
+use Rattle.parser_expressions.specs.declared.tree.ExprTree.{ExprTree}
+use Rattle.parser_expressions.specs.Views.{tree_of}
 use Rattle.signals.specs.declared.bits.Bits.{Bits}
 use Rattle.expressions.specs.Terms as terms
 use Rattle.expressions.specs.Terms.{Term, width_of}
@@ -21,10 +21,10 @@ use Rattle.types_expressions.specs.declared.own.Meaning.TheVariants.{Signal, Own
 use Rattle.types_expressions.specs.declared.own.Sought.{Sought}
 use Rattle.types_expressions.specs.declared.own.Sought.TheVariants.{Unknown, Wide, OutOfRange}
 use Rattle.types_expressions.specs.Scopes.{Scope, path_text, first_byte, meaning, bits_of}
-use Rattle.types_expressions.specs.Widths.{binary_of, unary_of, call_of, number_width, number_value, ticks_of, high_of, low_of, own_width, parts_width}
+use Rattle.types_expressions.specs.Widths.{binary_of, unary_of, call_of, token_width, number_value, ticks_of, high_of, low_of, own_width, parts_width}
 use Rattle.types_expressions.specs.Faults.{unless, has_bits, path_faults, wide_faults, faults, link_faults, part_faults, IsSound}
 use Rattle.types_expressions.specs.Columns.{signals, link_signals, part_signals, path_signals, all_listed, column_of, HasColumns}
-use Rattle.types_expressions.specs.Meanings.{combined, prefixed, called, IsNameOf, IsRead, Means, Chains, Joins, JoinsMore}
+use Rattle.types_expressions.specs.Meanings.{binary_term, unary_term, call_term, IsNameOf, IsRead, Means, Chains, Joins, JoinsMore}
 use Rattle.types_expressions.proofs.FaultLaws.{no_faults-parts}
 use Rattle.types_expressions.proofs.ColumnLaws.{listed-parts}
 use Rattle.types_expressions.proofs.MeaningLaws.{mean-width}
@@ -130,7 +130,7 @@ module _ (s : Scope) (cs : List (List ℕ)) where
   first-narrow e parts a m narrow = subst (λ (n : ℕ). parts_width s n parts ≤ 128) (sym (mean-width s cs e a m)) narrow
 
   -- what each node means
-  pub means-number : (x : Tree) (t : Token) (bits : Bits) (e : Term) → x ≡ number t → bits.width ≡ number_width t → bits.value ≡ number_value t → e ≡ terms.constant bits → Means s cs x e
+  pub means-number : (x : Tree) (t : Token) (bits : Bits) (e : Term) → x ≡ number t → bits.width ≡ token_width t → bits.value ≡ number_value t → e ≡ terms.constant bits → Means s cs x e
   unfolding Means
   means-number x t bits e is width value made = subst (λ (y : Tree). Means s cs y e) (sym is) (record { bits = bits; width = width; value = value; is = made })
 
@@ -146,11 +146,11 @@ module _ (s : Scope) (cs : List (List ℕ)) where
   unfolding Means
   means-past x t d n a e is m h = subst (λ (y : Tree). Means s cs y e) (sym is) (a, m, h)
 
-  pub means-call : (x : Tree) (f : Function) (t : Token) (d : Tree) (a e : Term) → x ≡ call f t d → Means s cs d a → e ≡ called (call_of f) a → Means s cs x e
+  pub means-call : (x : Tree) (f : Function) (t : Token) (d : Tree) (a e : Term) → x ≡ call f t d → Means s cs d a → e ≡ call_term (call_of f) a → Means s cs x e
   unfolding Means
   means-call x f t d a e is m h = subst (λ (y : Tree). Means s cs y e) (sym is) (a, m, h)
 
-  pub means-unary : (x : Tree) (t : Token) (d : Tree) (a e : Term) → x ≡ unary t d → Means s cs d a → e ≡ prefixed (unary_of t) a → Means s cs x e
+  pub means-unary : (x : Tree) (t : Token) (d : Tree) (a e : Term) → x ≡ unary t d → Means s cs d a → e ≡ unary_term (unary_of t) a → Means s cs x e
   unfolding Means
   means-unary x t d a e is m h = subst (λ (y : Tree). Means s cs y e) (sym is) (a, m, h)
 
@@ -163,7 +163,7 @@ module _ (s : Scope) (cs : List (List ℕ)) where
   means-choice x d f g c a b e is m n o h = subst (λ (y : Tree). Means s cs y e) (sym is) (c, a, b, m, n, o, h)
 
   -- one more of a loop: what is left means what the whole does
-  pub chains-step : (now : Links) (t : Token) (d : Tree) (rest : Links) (a b f e : Term) → now ≡ link t d rest → Means s cs d b → f ≡ combined (binary_of t) a b → Chains s cs f rest e → Chains s cs a now e
+  pub chains-step : (now : Links) (t : Token) (d : Tree) (rest : Links) (a b f e : Term) → now ≡ link t d rest → Means s cs d b → f ≡ binary_term (binary_of t) a b → Chains s cs f rest e → Chains s cs a now e
   unfolding Means
   chains-step now t d rest a b f e is m made h = subst (λ (y : Links). Chains s cs a y e) (sym is) (b, m, subst (λ (g : Term). Chains s cs g rest e) made h)
 
@@ -179,12 +179,12 @@ module _ (s : Scope) (cs : List (List ℕ)) where
   unfolding Means
   joins-end now a is = subst (λ (y : Parts). JoinsMore s cs a y a) (sym is) refl
 
-  pub joins-group : (xs : List Expr) (a e : Term) → length xs ≡ 0 → e ≡ terms.group a → Joins s cs a (parts_of (map tree_of xs)) e
+  pub joins-group : (xs : List ExprTree) (a e : Term) → length xs ≡ 0 → e ≡ terms.group a → Joins s cs a (parts_of (map tree_of xs)) e
   unfolding Means
   joins-group [] a e none made = made
   joins-group (x ∷ xs) a e none made = absurd (omega arith)
 
-  pub joins-more : (xs : List Expr) (a e : Term) → (length xs ≡ 0 → ⊥) → JoinsMore s cs a (parts_of (map tree_of xs)) e → Joins s cs a (parts_of (map tree_of xs)) e
+  pub joins-more : (xs : List ExprTree) (a e : Term) → (length xs ≡ 0 → ⊥) → JoinsMore s cs a (parts_of (map tree_of xs)) e → Joins s cs a (parts_of (map tree_of xs)) e
   unfolding Means
   joins-more [] a e some h = absurd (some refl)
   joins-more (x ∷ xs) a e some h = h

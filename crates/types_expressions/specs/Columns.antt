@@ -1,7 +1,7 @@
 -- The signals that a text reads, as columns.
 use Rattle.std.specs.Prelude.{ℕ, List, [], ◌∷◌, ◌++◌, Option, Some, None, Bool, true, if◌then◌else◌, ◌&&◌, bytes_eq, position, IsTrue}
 use Rattle.std.specs.List.{flat_map, list_any}
-use Rattle.grammar.specs.Trees.{Tree, number, path, concatenation, past, call, unary, chain, choice, Links, end, link, Parts, no_part, part, Sequence, boolean, repeated, late, delayed, throughout, all, either, Steps, no_step, step, Others, no_other, other, Property, plain, implication, Counter, Assertion, Item, counter, declaration, assertion}
+use Rattle.grammar.specs.Trees.{Tree, number, path, concatenation, past, call, unary, chain, choice, Links, end, link, Parts, no_part, part, SequenceForm, boolean, repeated, late, delayed, throughout, all, either, Steps, no_step, step, Others, no_other, other, PropertyForm, plain, implication, CounterForm, AssertionForm, ItemForm, counter, declaration, assertion}
 use Rattle.types_expressions.specs.declared.own.Meaning.{Meaning}
 use Rattle.types_expressions.specs.declared.own.Meaning.TheVariants.{Signal, Own as Declared}
 use Rattle.types_expressions.specs.Scopes.{Scope, path_text, meaning}
@@ -32,7 +32,7 @@ unfoldable mutual
   part_signals s (part e parts) = signals s e ++ part_signals s parts
 
 unfoldable mutual
-  pub sequence_signals : Scope → Sequence → List (List ℕ)
+  pub sequence_signals : Scope → SequenceForm → List (List ℕ)
   sequence_signals s (boolean e) = signals s e
   sequence_signals s (repeated q n) = sequence_signals s q
   sequence_signals s (late t n q) = sequence_signals s q
@@ -49,7 +49,7 @@ unfoldable mutual
   other_signals s no_other = []
   other_signals s (other q others) = sequence_signals s q ++ other_signals s others
 
-abbrev pub property_signals : Scope → Property → List (List ℕ)
+abbrev pub property_signals : Scope → PropertyForm → List (List ℕ)
 property_signals s (plain q) = sequence_signals s q
 property_signals s (implication a t c) = sequence_signals s a ++ sequence_signals s c
 
@@ -61,19 +61,19 @@ abbrev pub clause_signals : Scope → Option (Tree × Tree) → List (List ℕ)
 clause_signals s None = []
 clause_signals s (Some p) = signals s p.0 ++ signals s p.1
 
-abbrev pub counter_signals : Scope → Counter → List (List ℕ)
+abbrev pub counter_signals : Scope → CounterForm → List (List ℕ)
 counter_signals s c = optional_signals s c.clear ++ (clause_signals s c.load ++ (clause_signals s c.add ++ clause_signals s c.sub))
 
-abbrev pub assertion_signals : Scope → Assertion → List (List ℕ)
+abbrev pub assertion_signals : Scope → AssertionForm → List (List ℕ)
 assertion_signals s a = optional_signals s a.disable ++ property_signals s a.property
 
 -- all of an item but a clock's path
-abbrev pub item_signals : Scope → Item → List (List ℕ)
+abbrev pub item_signals : Scope → ItemForm → List (List ℕ)
 item_signals s (counter c) = counter_signals s c
 item_signals s (declaration d) = sequence_signals s d.body
 item_signals s (assertion a) = assertion_signals s a
 
-abbrev pub file_signals : Scope → List Item → List (List ℕ)
+abbrev pub file_signals : Scope → List ItemForm → List (List ℕ)
 file_signals s items = flat_map (item_signals s) items
 
 -- whether a path is listed
@@ -89,17 +89,17 @@ abbrev pub with_paths : List (List ℕ) → List (List ℕ) → List (List ℕ)
 with_paths known [] = known
 with_paths known (p ∷ ps) = with_paths (with_path known p) ps
 
-abbrev pub listed : Scope → List (List ℕ) → Tree → List (List ℕ)
-listed s known t = with_paths known (signals s t)
+abbrev pub columns_with : Scope → List (List ℕ) → Tree → List (List ℕ)
+columns_with s known t = with_paths known (signals s t)
 
-abbrev pub sequence_listed : Scope → List (List ℕ) → Sequence → List (List ℕ)
+abbrev pub sequence_listed : Scope → List (List ℕ) → SequenceForm → List (List ℕ)
 sequence_listed s known q = with_paths known (sequence_signals s q)
 
-abbrev pub item_listed : Scope → List (List ℕ) → Item → List (List ℕ)
+abbrev pub item_listed : Scope → List (List ℕ) → ItemForm → List (List ℕ)
 item_listed s known i = with_paths known (item_signals s i)
 
 -- the signals that a text reads, each once, in the order of the text
-abbrev pub columns_of : Scope → List Item → List (List ℕ)
+abbrev pub columns_of : Scope → List ItemForm → List (List ℕ)
 columns_of s items = with_paths [] (file_signals s items)
 
 -- the place of a path

@@ -1,10 +1,10 @@
 -- Lists of names with what they stand for, of which each name stands once.
 use Rattle.std.specs.Prelude.{ℕ, ◌≤◌, List, [], ◌∷◌, ◌++◌, is_some, if◌then◌else◌}
-use Rattle.types_expressions.specs.Scopes.{found}
+use Rattle.types_expressions.specs.Scopes.{look_up}
 
 -- a name behind the others, unless it is there
 abbrev pub with_entry : {V : Type 0} → List (List ℕ × V) → List ℕ → V → List (List ℕ × V)
-with_entry entries name v = if is_some (found entries name) then entries else entries ++ (name, v) ∷ []
+with_entry entries name v = if is_some (look_up entries name) then entries else entries ++ (name, v) ∷ []
 
 abbrev pub with_entries : {V : Type 0} → List (List ℕ × V) → List (List ℕ × V) → List (List ℕ × V)
 with_entries entries [] = entries

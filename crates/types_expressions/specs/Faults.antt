@@ -2,7 +2,7 @@
 use Rattle.std.specs.Prelude.{◌≡◌, ℕ, List, [], ◌∷◌, ◌++◌, Option, Some, None, Bool, min, if◌then◌else◌, nat_le, nat_lt, ◌&&◌, is_some}
 use Rattle.std.specs.List.{flat_map}
 use Rattle.grammar.specs.declared.bound.Select.{Select}
-use Rattle.grammar.specs.Trees.{Tree, number, path, concatenation, past, call, unary, chain, choice, Links, end, link, Parts, no_part, part, Sequence, boolean, repeated, late, delayed, throughout, all, either, Steps, no_step, step, Others, no_other, other, Property, plain, implication, Counter, Assertion, Item, counter, declaration, assertion}
+use Rattle.grammar.specs.Trees.{Tree, number, path, concatenation, past, call, unary, chain, choice, Links, end, link, Parts, no_part, part, SequenceForm, boolean, repeated, late, delayed, throughout, all, either, Steps, no_step, step, Others, no_other, other, PropertyForm, plain, implication, CounterForm, AssertionForm, ItemForm, counter, declaration, assertion}
 use Rattle.types_expressions.specs.declared.own.Sought.{Sought}
 use Rattle.types_expressions.specs.declared.own.Sought.TheVariants.{Unknown, Wide, OutOfRange}
 use Rattle.types_expressions.specs.Scopes.{Scope, first_byte, meaning, bits_of, sequence_named}
@@ -56,7 +56,7 @@ abbrev pub boolean_faults : Scope → Sought → Tree → List ℕ
 boolean_faults s k e = if is_some (sequence_named s e) then [] else faults s k e
 
 unfoldable mutual
-  pub sequence_faults : Scope → Sought → Sequence → List ℕ
+  pub sequence_faults : Scope → Sought → SequenceForm → List ℕ
   sequence_faults s k (boolean e) = boolean_faults s k e
   sequence_faults s k (repeated q n) = sequence_faults s k q
   sequence_faults s k (late t n q) = sequence_faults s k q
@@ -73,7 +73,7 @@ unfoldable mutual
   other_faults s k no_other = []
   other_faults s k (other q others) = sequence_faults s k q ++ other_faults s k others
 
-abbrev pub property_faults : Scope → Sought → Property → List ℕ
+abbrev pub property_faults : Scope → Sought → PropertyForm → List ℕ
 property_faults s k (plain q) = sequence_faults s k q
 property_faults s k (implication a t c) = sequence_faults s k a ++ sequence_faults s k c
 
@@ -86,19 +86,19 @@ abbrev pub clause_faults : Scope → Sought → Option (Tree × Tree) → List �
 clause_faults s k None = []
 clause_faults s k (Some p) = faults s k p.0 ++ faults s k p.1
 
-abbrev pub counter_faults : Scope → Sought → Counter → List ℕ
+abbrev pub counter_faults : Scope → Sought → CounterForm → List ℕ
 counter_faults s k c = optional_faults s k c.clear ++ (clause_faults s k c.load ++ (clause_faults s k c.add ++ clause_faults s k c.sub))
 
-abbrev pub assertion_faults : Scope → Sought → Assertion → List ℕ
+abbrev pub assertion_faults : Scope → Sought → AssertionForm → List ℕ
 assertion_faults s k a = optional_faults s k a.disable ++ property_faults s k a.property
 
 -- all of an item but a clock's path
-abbrev pub item_faults : Scope → Sought → Item → List ℕ
+abbrev pub item_faults : Scope → Sought → ItemForm → List ℕ
 item_faults s k (counter c) = counter_faults s k c
 item_faults s k (declaration d) = sequence_faults s k d.body
 item_faults s k (assertion a) = assertion_faults s k a
 
-abbrev pub file_faults : Scope → Sought → List Item → List ℕ
+abbrev pub file_faults : Scope → Sought → List ItemForm → List ℕ
 file_faults s k items = flat_map (item_faults s k) items
 
 -- the smaller of two that there are

@@ -20,28 +20,28 @@ use Rattle.types_expressions.specs.declared.operator.Unary.TheVariants as unarie
 use Rattle.types_expressions.specs.declared.operator.Call.{Call}
 use Rattle.types_expressions.specs.declared.operator.Call.TheVariants as calls
 use Rattle.types_expressions.specs.Scopes.{Scope, path_text, meaning}
-use Rattle.types_expressions.specs.Widths.{binary_of, unary_of, call_of, number_width, number_value, high_of, low_of, ticks_of}
+use Rattle.types_expressions.specs.Widths.{binary_of, unary_of, call_of, token_width, number_value, high_of, low_of, ticks_of}
 use Rattle.types_expressions.specs.Columns.{column_of}
 
 -- an operator with its operands
-abbrev pub combined : Binary → Term → Term → Term
-combined (Arithmetic op) a b = terms.combine op a b
-combined (Shift op) a b = terms.shift op a b
-combined (Comparison op) a b = terms.compare op a b
-combined (Connective op) a b = terms.connect op a b
+abbrev pub binary_term : Binary → Term → Term → Term
+binary_term (Arithmetic op) a b = terms.combine op a b
+binary_term (Shift op) a b = terms.shift op a b
+binary_term (Comparison op) a b = terms.compare op a b
+binary_term (Connective op) a b = terms.connect op a b
 
-abbrev pub prefixed : Unary → Term → Term
-prefixed unaries.Complement a = terms.inverse a
-prefixed (unaries.Reduce op) a = terms.reduce op a
+abbrev pub unary_term : Unary → Term → Term
+unary_term unaries.Complement a = terms.inverse a
+unary_term (unaries.Reduce op) a = terms.reduce op a
 
-abbrev pub called : Call → Term → Term
-called (calls.Change op) a = terms.change op a
-called (calls.Reduce op) a = terms.reduce op a
+abbrev pub call_term : Call → Term → Term
+call_term (calls.Change op) a = terms.change op a
+call_term (calls.Reduce op) a = terms.reduce op a
 
 -- the constant of a number's width and value
 pub record IsNumber (t : Token) (e : Term) : Type 0 where
   pub bits : Bits
-  pub width : bits.width ≡ number_width t
+  pub width : bits.width ≡ token_width t
   pub value : bits.value ≡ number_value t
   pub is : e ≡ terms.constant bits
 
@@ -82,15 +82,15 @@ unfoldable mutual
   Means s columns (path words x) e = IsRead (meaning s words) (column_of columns (path_text words)) x e
   Means s columns (concatenation t d parts) e = (a : Term) × Means s columns d a × Joins s columns a parts e
   Means s columns (past t d n) e = (a : Term) × Means s columns d a × (e ≡ terms.past a (ticks_of n))
-  Means s columns (call f t d) e = (a : Term) × Means s columns d a × (e ≡ called (call_of f) a)
-  Means s columns (unary t d) e = (a : Term) × Means s columns d a × (e ≡ prefixed (unary_of t) a)
+  Means s columns (call f t d) e = (a : Term) × Means s columns d a × (e ≡ call_term (call_of f) a)
+  Means s columns (unary t d) e = (a : Term) × Means s columns d a × (e ≡ unary_term (unary_of t) a)
   Means s columns (chain d links) e = (a : Term) × Means s columns d a × Chains s columns a links e
   Means s columns (choice d x y) e = (c : Term) × (a : Term) × (b : Term) × Means s columns d c × Means s columns x a × Means s columns y b × (e ≡ terms.choose c a b)
 
   -- a, and each operator with its operand
   pub Chains : Scope → List (List ℕ) → Term → Links → Term → Type 0
   Chains s columns a end e = e ≡ a
-  Chains s columns a (link t d links) e = (b : Term) × Means s columns d b × Chains s columns (combined (binary_of t) a b) links e
+  Chains s columns a (link t d links) e = (b : Term) × Means s columns d b × Chains s columns (binary_term (binary_of t) a b) links e
 
   -- {a}, or {a, and each part}
   pub Joins : Scope → List (List ℕ) → Term → Parts → Term → Type 0

@@ -3,7 +3,7 @@ use Rattle.std.specs.Prelude.{ℕ, ◌+◌, List, [], ◌∷◌, ◌++◌, Optio
 use Rattle.std.specs.List.{flat_map}
 use Rattle.std.specs.Map.{lookup}
 use Rattle.lexer.specs.declared.token.Token.{Token}
-use Rattle.grammar.specs.Trees.{Tree, path, Item, counter, declaration, assertion}
+use Rattle.grammar.specs.Trees.{Tree, path, ItemForm, counter, declaration, assertion}
 use Rattle.types_expressions.specs.declared.own.Own.{Own}
 use Rattle.types_expressions.specs.declared.own.Own.TheVariants.{Counter, Sequence}
 use Rattle.types_expressions.specs.declared.own.Meaning.{Meaning}
@@ -24,17 +24,17 @@ abbrev pub width_in : ℕ → ℕ
 width_in w = if nat_le 1 w && nat_le w 128 then w else 1
 
 -- the first with that name
-abbrev pub found : {V : Type 0} → List (List ℕ × V) → List ℕ → Option V
-found entries name = lookup (bytes_eq name) entries
+abbrev pub look_up : {V : Type 0} → List (List ℕ × V) → List ℕ → Option V
+look_up entries name = lookup (bytes_eq name) entries
 
 -- The names of counters and sequences in the order of the text, so many counters and sequences standing before. A label is no name.
-abbrev pub owns_from : ℕ → ℕ → List Item → List (List ℕ × Own)
+abbrev pub owns_from : ℕ → ℕ → List ItemForm → List (List ℕ × Own)
 owns_from counters sequences [] = []
 owns_from counters sequences (counter c ∷ items) = (c.name.text.now, Counter counters (width_in c.width.value)) ∷ owns_from (counters + 1) sequences items
 owns_from counters sequences (declaration s ∷ items) = (s.name.text.now, Sequence sequences) ∷ owns_from counters (sequences + 1) items
 owns_from counters sequences (assertion a ∷ items) = owns_from counters sequences items
 
-abbrev pub owns : List Item → List (List ℕ × Own)
+abbrev pub owns : List ItemForm → List (List ℕ × Own)
 owns items = owns_from 0 0 items
 
 -- Where names are looked up: among those of the text's own, and among the dump's paths, which have widths.
@@ -43,8 +43,8 @@ pub record Scope : Type 0 where
   pub dump : List ℕ → Option ℕ
 
 -- the scope of a text over a dump: with a name declared twice the first declaration counts
-abbrev pub scope_for : List Item → List (List ℕ × ℕ) → Scope
-scope_for items names = record { own = found (owns items); dump = found names }
+abbrev pub scope_for : List ItemForm → List (List ℕ × ℕ) → Scope
+scope_for items names = record { own = look_up (owns items); dump = look_up names }
 
 abbrev pub meaning_by : Option Own → Option ℕ → Option Meaning
 meaning_by (Some o) width = Some (Declared o)
@@ -62,15 +62,15 @@ bits_of (Some (Signal width)) = Some width
 bits_of (Some (Declared (Counter place width))) = Some width
 bits_of (Some (Declared (Sequence place))) = None
 
-abbrev pub place_of : Option Meaning → Option ℕ
-place_of None = None
-place_of (Some (Signal width)) = None
-place_of (Some (Declared (Counter place width))) = None
-place_of (Some (Declared (Sequence place))) = Some place
+abbrev pub meaning_place : Option Meaning → Option ℕ
+meaning_place None = None
+meaning_place (Some (Signal width)) = None
+meaning_place (Some (Declared (Counter place width))) = None
+meaning_place (Some (Declared (Sequence place))) = Some place
 
 -- The named sequence that an expression is the name of, where it stands as a boolean of a sequence: one word without a select.
 abbrev pub sequence_named : Scope → Tree → Option ℕ
-sequence_named s (path (t ∷ []) None) = place_of (meaning s (t ∷ []))
+sequence_named s (path (t ∷ []) None) = meaning_place (meaning s (t ∷ []))
 sequence_named s _ = None
 
 -- a counter has 1 to 128 bits

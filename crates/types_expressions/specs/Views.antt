@@ -3,24 +3,24 @@ use Rattle.std.specs.Prelude.{ℕ, List, map, String, string_bytes}
 use Rattle.std.specs.declared.alloc.Global.{Global}
 use Rattle.indexmap.specs.IndexMap.{IndexMap}
 use Rattle.types_expressions.specs.declared.own.Own.{Own}
-use Rattle.types_expressions.specs.declared.declared.Declared.{Declared}
+use Rattle.types_expressions.specs.declared.declared.OwnName.{OwnName}
 use Rattle.types_expressions.specs.declared.names.Names.{Names}
 use Rattle.types_expressions.specs.declared.scope.Scope.{Scope}
-use Rattle.types_expressions.specs.declared.columns.Columns.{Columns}
+use Rattle.types_expressions.specs.declared.columns.SignalPaths.{SignalPaths}
 use Rattle.types_expressions.specs.Scopes as scopes
-use Rattle.types_expressions.specs.Scopes.{found}
+use Rattle.types_expressions.specs.Scopes.{look_up}
 
 -- paths with their widths, each path once
 abbrev pub names_in : Names → List (List ℕ × ℕ)
 names_in n = map (λ e. (string_bytes e.0, e.1.bits)) n.widths.entries
 
 -- names of a text with what they stand for, each once
-abbrev pub entries_in : {S : Type 0} → IndexMap (String Global) Declared S → List (List ℕ × Own)
+abbrev pub entries_in : {S : Type 0} → IndexMap (String Global) OwnName S → List (List ℕ × Own)
 entries_in m = map (λ e. (string_bytes e.0, e.1.own)) m.entries
 
 abbrev pub scope_of : Scope → scopes.Scope
-scope_of s = record { own = found (entries_in s.own); dump = found (names_in s.names.now) }
+scope_of s = record { own = look_up (entries_in s.own); dump = look_up (names_in s.names.now) }
 
 -- the paths of the columns, in their order
-abbrev pub columns_in : Columns → List (List ℕ)
+abbrev pub columns_in : SignalPaths → List (List ℕ)
 columns_in c = map string_bytes c.paths.keys

@@ -5,7 +5,7 @@ use Rattle.lexer.specs.declared.token.Symbol.TheVariants as symbol
 use Rattle.lexer.specs.declared.token.Kind.{Kind}
 use Rattle.lexer.specs.declared.token.Kind.TheVariants as kinds
 use Rattle.lexer.specs.declared.token.Token.{Token}
-use Rattle.lexer.specs.Numbers.{width_of}
+use Rattle.lexer.specs.Numbers.{number_width}
 use Rattle.grammar.specs.declared.bound.Bound.{Bound}
 use Rattle.grammar.specs.declared.bound.Index.{Index}
 use Rattle.grammar.specs.declared.bound.Select.{Select}
@@ -82,14 +82,14 @@ call_of OneHot0 = calls.Reduce reductions.OneHotOrZero
 
 -- A number's width and value, which fits it. What is no number can't come out of the parser; it counts as 0 of 32 bits.
 abbrev pub number_width_of_kind : Kind → ℕ
-number_width_of_kind (kinds.Number n) = width_in (width_of n)
+number_width_of_kind (kinds.Number n) = width_in (number_width n)
 number_width_of_kind _ = 32
 
-abbrev pub number_width : Token → ℕ
-number_width t = number_width_of_kind t.kind
+abbrev pub token_width : Token → ℕ
+token_width t = number_width_of_kind t.kind
 
 abbrev pub number_value_of_kind : Kind → ℕ
-number_value_of_kind (kinds.Number n) = n.value % 2 ^ width_in (width_of n)
+number_value_of_kind (kinds.Number n) = n.value % 2 ^ width_in (number_width n)
 number_value_of_kind _ = 0
 
 abbrev pub number_value : Token → ℕ
@@ -135,7 +135,7 @@ unary_width (unaries.Reduce op) a = 1
 -- the own width, in bits
 unfoldable mutual
   pub own_width : Scope → Tree → ℕ
-  own_width s (number t) = number_width t
+  own_width s (number t) = token_width t
   own_width s (path words x) = path_width s words x
   own_width s (concatenation t e parts) = parts_width s (own_width s e) parts
   own_width s (past t e n) = own_width s e

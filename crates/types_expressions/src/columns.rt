@@ -7,16 +7,16 @@ ghost use Rattle.types_expressions.specs.Views.{scope_of};
 use crate::listing::list_item;
 use crate::scope::Scope;
 use indexmap::IndexSet;
-use parser::Item;
+use parser::ItemTree;
 use std::alloc::{AllocError, Global};
 
 /// Paths of signals, each once. A path's place among them is its column.
 #[derive(Drop)]
-pub struct Columns {
+pub struct SignalPaths {
     pub(crate) paths: IndexSet<String>,
 }
 
-impl Columns {
+impl SignalPaths {
     ghost use Rattle.types_expressions.specs.Columns.{column_of, with_path};
     ghost use Rattle.types_expressions.specs.Views.{columns_in};
 
@@ -69,10 +69,14 @@ ghost use Rattle.types_expressions.specs.Columns.{columns_of};
 ghost use Rattle.types_expressions.specs.Views.{columns_in};
 
 /// The signals that a text reads, in the order of the text. A clock's path is not among them, unless it is read as a signal too.
-pub fn columns_of(alloc: Global, scope: &Scope, items: &[Item]) -> Result<Columns, AllocError>
+pub fn columns_of(
+    alloc: Global,
+    scope: &Scope,
+    items: &[ItemTree],
+) -> Result<SignalPaths, AllocError>
     ensures { IfOk result (λ c. columns_in c ≡ columns_of (scope_of scope.now) (map item_of items.now)) }
 {
-    let mut columns = Columns {
+    let mut columns = SignalPaths {
         paths: IndexSet::new(alloc),
     };
     for item in items {

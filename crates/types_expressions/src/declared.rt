@@ -7,7 +7,7 @@ use crate::own::Own;
 
 /// What a name of the text's own stands for; a counter has 1 to 128 bits.
 #[derive(Clone, Copy, PartialEq, Eq, Debug)]
-pub struct Declared {
+pub struct OwnName {
     pub own: Own,
     pub ghost fits: { IsTrue (is_fit own) },
 }

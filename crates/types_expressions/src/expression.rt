@@ -2,7 +2,7 @@
 
 ghost use Rattle.std.specs.Prelude.{◌≡◌, ◌≤◌, ◌∷◌, map, min, IfOk, ℕ, Option};
 ghost use Rattle.grammar.specs.ReadExpressions.{links_of, parts_of};
-ghost use Rattle.parser.specs.Views.{path_of, tree_of, link_of};
+ghost use Rattle.parser_expressions.specs.Views.{path_of, tree_of, link_of};
 ghost use Rattle.types_expressions.specs.Scopes.{bits_of, meaning};
 ghost use Rattle.types_expressions.specs.Widths.{binary_width, unary_width, path_width_by, path_width, own_width, chain_width, parts_width, high_of, low_of, unary_of};
 ghost use Rattle.types_expressions.specs.Faults.{has_bits, path_faults, wide_faults, faults, link_faults, part_faults, earlier, least};
@@ -14,7 +14,7 @@ use crate::own::Sought;
 use crate::scope::{Scope, bits_of};
 use grammar::Select;
 use lexer::Token;
-use parser::{Expr, Path};
+use parser::{ExprTree, Path};
 use std::alloc::{AllocError, Global};
 
 /// What is seen of an expression: its own width, held at 129, and the first fault of the kind that is sought.
@@ -143,18 +143,18 @@ pub(crate) fn see(
     alloc: Global,
     scope: &Scope,
     sought: Sought,
-    expr: &Expr,
+    expr: &ExprTree,
 ) -> Result<Seen, AllocError>
     ensures width { IfOk result (λ r. r.width ≡ min (own_width (scope_of scope.now) (tree_of expr.now)) 129) }
     ensures fault { IfOk result (λ r. r.fault ≡ least (faults (scope_of scope.now) sought (tree_of expr.now))) }
 {
     match expr {
-        Expr::Number(token) => Ok(Seen {
+        ExprTree::Number(token) => Ok(Seen {
             width: usize::from(number_bits(*token).width),
             fault: None,
         }),
-        Expr::Path(path, select) => see_path(alloc, scope, sought, path, *select),
-        Expr::Concatenation(token, first, parts) => {
+        ExprTree::Path(path, select) => see_path(alloc, scope, sought, path, *select),
+        ExprTree::Concatenation(token, first, parts) => {
             let first = see(alloc, scope, sought, first)?;
             let whole = see_parts(alloc, scope, sought, first, parts)?;
             let wide = wide_fault(sought, token.at, whole.width);
@@ -163,26 +163,26 @@ pub(crate) fn see(
                 fault: earlier(wide, whole.fault),
             })
         }
-        Expr::Past(_, operand, _) => see(alloc, scope, sought, operand),
-        Expr::Call(_, _, operand) => {
+        ExprTree::Past(_, operand, _) => see(alloc, scope, sought, operand),
+        ExprTree::Call(_, _, operand) => {
             let operand = see(alloc, scope, sought, operand)?;
             Ok(Seen {
                 width: 1,
                 fault: operand.fault,
             })
         }
-        Expr::Unary(token, operand) => {
+        ExprTree::Unary(token, operand) => {
             let operand = see(alloc, scope, sought, operand)?;
             Ok(Seen {
                 width: unary_width(unary_of(*token), operand.width),
                 fault: operand.fault,
             })
         }
-        Expr::Chain(first, links) => {
+        ExprTree::Chain(first, links) => {
             let first = see(alloc, scope, sought, first)?;
             see_links(alloc, scope, sought, first, links)
         }
-        Expr::Choice(condition, yes, no) => {
+        ExprTree::Choice(condition, yes, no) => {
             let condition = see(alloc, scope, sought, condition)?;
             let yes = see(alloc, scope, sought, yes)?;
             let no = see(alloc, scope, sought, no)?;
@@ -202,7 +202,7 @@ fn see_links(
     scope: &Scope,
     sought: Sought,
     first: Seen,
-    links: &[(Token, Expr)],
+    links: &[(Token, ExprTree)],
 ) -> Result<Seen, AllocError>
     requires { first.width ≤ 129 }
     ensures width { IfOk result (λ r. r.width ≡ min (chain_width (scope_of scope.now) first.width (links_of (map link_of links.now))) 129) }
@@ -227,7 +227,7 @@ fn see_parts(
     scope: &Scope,
     sought: Sought,
     first: Seen,
-    parts: &[Expr],
+    parts: &[ExprTree],
 ) -> Result<Seen, AllocError>
     requires { first.width ≤ 129 }
     ensures width { IfOk result (λ r. r.width ≡ min (parts_width (scope_of scope.now) first.width (parts_of (map tree_of parts.now))) 129) }

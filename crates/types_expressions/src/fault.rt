@@ -1,7 +1,8 @@
 //! Faults of items.
 
 ghost use Rattle.std.specs.Prelude.{◌≡◌, map, IfOk, option_map};
-ghost use Rattle.parser.specs.Views.{tree_of, boxed_of, pair_of, counter_of, assertion_of, item_of};
+ghost use Rattle.parser_expressions.specs.Views.{tree_of, boxed_of};
+ghost use Rattle.parser.specs.Views.{pair_of, counter_of, assertion_of, item_of};
 ghost use Rattle.types_expressions.specs.Faults.{optional_faults, clause_faults, counter_faults, assertion_faults, item_faults, file_faults, earlier, least};
 ghost use Rattle.types_expressions.specs.Views.{scope_of};
 
@@ -9,7 +10,7 @@ use crate::expression::{earlier, see};
 use crate::own::Sought;
 use crate::scope::Scope;
 use crate::sequence::{property_fault, sequence_fault};
-use parser::{Assertion, Counter, Expr, Item, Operands};
+use parser::{AssertionTree, CounterTree, ExprTree, ItemTree, Operands};
 use std::alloc::{AllocError, Global};
 
 /// The first fault of an expression that may be left out.
@@ -17,7 +18,7 @@ fn optional_fault(
     alloc: Global,
     scope: &Scope,
     sought: Sought,
-    expr: &Option<Box<Expr>>,
+    expr: &Option<Box<ExprTree>>,
 ) -> Result<Option<usize>, AllocError>
     ensures { IfOk result (λ r. r ≡ least (optional_faults (scope_of scope.now) sought (option_map boxed_of expr.now))) }
 {
@@ -56,7 +57,7 @@ fn counter_fault(
     alloc: Global,
     scope: &Scope,
     sought: Sought,
-    counter: &Counter,
+    counter: &CounterTree,
 ) -> Result<Option<usize>, AllocError>
     ensures { IfOk result (λ r. r ≡ least (counter_faults (scope_of scope.now) sought (counter_of counter.now))) }
 {
@@ -73,7 +74,7 @@ fn assertion_fault(
     alloc: Global,
     scope: &Scope,
     sought: Sought,
-    assertion: &Assertion,
+    assertion: &AssertionTree,
 ) -> Result<Option<usize>, AllocError>
     ensures { IfOk result (λ r. r ≡ least (assertion_faults (scope_of scope.now) sought (assertion_of assertion.now))) }
 {
@@ -87,16 +88,16 @@ fn item_fault(
     alloc: Global,
     scope: &Scope,
     sought: Sought,
-    item: &Item,
+    item: &ItemTree,
 ) -> Result<Option<usize>, AllocError>
     ensures { IfOk result (λ r. r ≡ least (item_faults (scope_of scope.now) sought (item_of item.now))) }
 {
     match item {
-        Item::Counter(counter) => counter_fault(alloc, scope, sought, counter),
-        Item::Declaration(declaration) => {
+        ItemTree::Counter(counter) => counter_fault(alloc, scope, sought, counter),
+        ItemTree::Declaration(declaration) => {
             sequence_fault(alloc, scope, sought, &declaration.body)
         }
-        Item::Assertion(assertion) => assertion_fault(alloc, scope, sought, assertion),
+        ItemTree::Assertion(assertion) => assertion_fault(alloc, scope, sought, assertion),
     }
 }
 
@@ -105,7 +106,7 @@ pub fn first_fault(
     alloc: Global,
     scope: &Scope,
     sought: Sought,
-    items: &[Item],
+    items: &[ItemTree],
 ) -> Result<Option<usize>, AllocError>
     ensures { IfOk result (λ r. r ≡ least (file_faults (scope_of scope.now) sought (map item_of items.now))) }
 {

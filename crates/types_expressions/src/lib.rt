@@ -17,8 +17,8 @@ mod sequence;
 mod terms;
 mod width;
 
-pub use columns::{Columns, columns_of};
-pub use declared::Declared;
+pub use columns::{SignalPaths, columns_of};
+pub use declared::OwnName;
 pub use fault::first_fault;
 pub use laws::meaning_law;
 pub use names::Names;
@@ -26,5 +26,5 @@ pub use operator::{Binary, Call, Unary};
 pub use own::{Meaning, Own, Sought};
 pub use path::path_string;
 pub use scope::Scope;
-pub use terms::typed;
+pub use terms::typed_expression;
 pub use width::Width;

@@ -3,25 +3,28 @@
 ghost use Rattle.std.specs.Prelude.{◌≡◌, map, OnOk, option_map};
 ghost use Rattle.grammar.specs.ReadExpressions.{links_of, parts_of};
 ghost use Rattle.grammar.specs.ReadSequences.{steps_of, others_of};
-ghost use Rattle.parser.specs.Views.{path_of, tree_of, link_of, sequence_of, step_of, property_of, boxed_of, pair_of, counter_of, assertion_of, item_of};
+ghost use Rattle.parser_expressions.specs.Views.{path_of, tree_of, link_of, boxed_of};
+ghost use Rattle.parser.specs.Views.{sequence_of, delay_step_of, property_of, pair_of, counter_of, assertion_of, item_of};
 ghost use Rattle.types_expressions.specs.Scopes.{path_text, meaning};
-ghost use Rattle.types_expressions.specs.Columns.{path_signals, with_paths, listed, link_signals, part_signals, sequence_listed, step_signals, other_signals, property_signals, optional_signals, clause_signals, counter_signals, assertion_signals, item_listed};
+ghost use Rattle.types_expressions.specs.Columns.{path_signals, with_paths, columns_with, link_signals, part_signals, sequence_listed, step_signals, other_signals, property_signals, optional_signals, clause_signals, counter_signals, assertion_signals, item_listed};
 ghost use Rattle.types_expressions.specs.Views.{scope_of, columns_in};
 
-use crate::columns::Columns;
+use crate::columns::SignalPaths;
 use crate::own::Meaning;
 use crate::path::path_string;
 use crate::scope::Scope;
 use grammar::Range;
 use lexer::Token;
-use parser::{Assertion, Counter, Expr, Item, Operands, Path, Property, Sequence};
+use parser::{
+    AssertionTree, CounterTree, ExprTree, ItemTree, Operands, Path, PropertyTree, SequenceTree,
+};
 use std::alloc::{AllocError, Global};
 
 /// Lists a text that is a path, if it stands for a signal.
 fn list_text(
     alloc: Global,
     means: Option<Meaning>,
-    columns: &mut Columns,
+    columns: &mut SignalPaths,
     text: &str,
 ) -> Result<(), AllocError>
     ensures { OnOk result (columns_in columns.new ≡ with_paths (columns_in columns.old) (path_signals text.now means)) }
@@ -37,7 +40,7 @@ fn list_text(
 fn list_path(
     alloc: Global,
     scope: &Scope,
-    columns: &mut Columns,
+    columns: &mut SignalPaths,
     path: &Path,
 ) -> Result<(), AllocError>
     ensures { OnOk result (columns_in columns.new ≡ with_paths (columns_in columns.old) (path_signals (path_text (path_of path.now)) (meaning (scope_of scope.now) (path_of path.now)))) }
@@ -57,26 +60,26 @@ fn list_path(
 fn list_expression(
     alloc: Global,
     scope: &Scope,
-    columns: &mut Columns,
-    expr: &Expr,
+    columns: &mut SignalPaths,
+    expr: &ExprTree,
 ) -> Result<(), AllocError>
-    ensures { OnOk result (columns_in columns.new ≡ listed (scope_of scope.now) (columns_in columns.old) (tree_of expr.now)) }
+    ensures { OnOk result (columns_in columns.new ≡ columns_with (scope_of scope.now) (columns_in columns.old) (tree_of expr.now)) }
 {
     match expr {
-        Expr::Number(_) => Ok(()),
-        Expr::Path(path, _) => list_path(alloc, scope, columns, path),
-        Expr::Concatenation(_, first, parts) => {
+        ExprTree::Number(_) => Ok(()),
+        ExprTree::Path(path, _) => list_path(alloc, scope, columns, path),
+        ExprTree::Concatenation(_, first, parts) => {
             list_expression(alloc, scope, columns, first)?;
             list_parts(alloc, scope, columns, parts)
         }
-        Expr::Past(_, operand, _) => list_expression(alloc, scope, columns, operand),
-        Expr::Call(_, _, operand) => list_expression(alloc, scope, columns, operand),
-        Expr::Unary(_, operand) => list_expression(alloc, scope, columns, operand),
-        Expr::Chain(first, links) => {
+        ExprTree::Past(_, operand, _) => list_expression(alloc, scope, columns, operand),
+        ExprTree::Call(_, _, operand) => list_expression(alloc, scope, columns, operand),
+        ExprTree::Unary(_, operand) => list_expression(alloc, scope, columns, operand),
+        ExprTree::Chain(first, links) => {
             list_expression(alloc, scope, columns, first)?;
             list_links(alloc, scope, columns, links)
         }
-        Expr::Choice(condition, yes, no) => {
+        ExprTree::Choice(condition, yes, no) => {
             list_expression(alloc, scope, columns, condition)?;
             list_expression(alloc, scope, columns, yes)?;
             list_expression(alloc, scope, columns, no)
@@ -90,8 +93,8 @@ fn list_expression(
 fn list_links(
     alloc: Global,
     scope: &Scope,
-    columns: &mut Columns,
-    links: &[(Token, Expr)],
+    columns: &mut SignalPaths,
+    links: &[(Token, ExprTree)],
 ) -> Result<(), AllocError>
     ensures { OnOk result (columns_in columns.new ≡ with_paths (columns_in columns.old) (link_signals (scope_of scope.now) (links_of (map link_of links.now)))) }
 {
@@ -107,8 +110,8 @@ fn list_links(
 fn list_parts(
     alloc: Global,
     scope: &Scope,
-    columns: &mut Columns,
-    parts: &[Expr],
+    columns: &mut SignalPaths,
+    parts: &[ExprTree],
 ) -> Result<(), AllocError>
     ensures { OnOk result (columns_in columns.new ≡ with_paths (columns_in columns.old) (part_signals (scope_of scope.now) (parts_of (map tree_of parts.now)))) }
 {
@@ -124,28 +127,28 @@ fn list_parts(
 fn list_sequence(
     alloc: Global,
     scope: &Scope,
-    columns: &mut Columns,
-    sequence: &Sequence,
+    columns: &mut SignalPaths,
+    sequence: &SequenceTree,
 ) -> Result<(), AllocError>
     ensures { OnOk result (columns_in columns.new ≡ sequence_listed (scope_of scope.now) (columns_in columns.old) (sequence_of sequence.now)) }
 {
     match sequence {
-        Sequence::Boolean(expr) => list_expression(alloc, scope, columns, expr),
-        Sequence::Repeated(body, _) => list_sequence(alloc, scope, columns, body),
-        Sequence::Late(_, _, body) => list_sequence(alloc, scope, columns, body),
-        Sequence::Delayed(first, steps) => {
+        SequenceTree::Boolean(expr) => list_expression(alloc, scope, columns, expr),
+        SequenceTree::Repeated(body, _) => list_sequence(alloc, scope, columns, body),
+        SequenceTree::Late(_, _, body) => list_sequence(alloc, scope, columns, body),
+        SequenceTree::Delayed(first, steps) => {
             list_sequence(alloc, scope, columns, first)?;
             list_steps(alloc, scope, columns, steps)
         }
-        Sequence::Throughout(expr, body) => {
+        SequenceTree::Throughout(expr, body) => {
             list_expression(alloc, scope, columns, expr)?;
             list_sequence(alloc, scope, columns, body)
         }
-        Sequence::And(first, others) => {
+        SequenceTree::And(first, others) => {
             list_sequence(alloc, scope, columns, first)?;
             list_others(alloc, scope, columns, others)
         }
-        Sequence::Or(first, others) => {
+        SequenceTree::Or(first, others) => {
             list_sequence(alloc, scope, columns, first)?;
             list_others(alloc, scope, columns, others)
         }
@@ -158,10 +161,10 @@ fn list_sequence(
 fn list_steps(
     alloc: Global,
     scope: &Scope,
-    columns: &mut Columns,
-    steps: &[(Range, Sequence)],
+    columns: &mut SignalPaths,
+    steps: &[(Range, SequenceTree)],
 ) -> Result<(), AllocError>
-    ensures { OnOk result (columns_in columns.new ≡ with_paths (columns_in columns.old) (step_signals (scope_of scope.now) (steps_of (map step_of steps.now)))) }
+    ensures { OnOk result (columns_in columns.new ≡ with_paths (columns_in columns.old) (step_signals (scope_of scope.now) (steps_of (map delay_step_of steps.now)))) }
 {
     for step in steps {
         list_sequence(alloc, scope, columns, &step.1)?;
@@ -175,8 +178,8 @@ fn list_steps(
 fn list_others(
     alloc: Global,
     scope: &Scope,
-    columns: &mut Columns,
-    others: &[Sequence],
+    columns: &mut SignalPaths,
+    others: &[SequenceTree],
 ) -> Result<(), AllocError>
     ensures { OnOk result (columns_in columns.new ≡ with_paths (columns_in columns.old) (other_signals (scope_of scope.now) (others_of (map sequence_of others.now)))) }
 {
@@ -191,14 +194,14 @@ fn list_others(
 fn list_property(
     alloc: Global,
     scope: &Scope,
-    columns: &mut Columns,
-    property: &Property,
+    columns: &mut SignalPaths,
+    property: &PropertyTree,
 ) -> Result<(), AllocError>
     ensures { OnOk result (columns_in columns.new ≡ with_paths (columns_in columns.old) (property_signals (scope_of scope.now) (property_of property.now))) }
 {
     match property {
-        Property::Plain(sequence) => list_sequence(alloc, scope, columns, sequence),
-        Property::Implication(antecedent, _, consequent) => {
+        PropertyTree::Plain(sequence) => list_sequence(alloc, scope, columns, sequence),
+        PropertyTree::Implication(antecedent, _, consequent) => {
             list_sequence(alloc, scope, columns, antecedent)?;
             list_sequence(alloc, scope, columns, consequent)?;
             Ok(())
@@ -210,8 +213,8 @@ fn list_property(
 fn list_optional(
     alloc: Global,
     scope: &Scope,
-    columns: &mut Columns,
-    expr: &Option<Box<Expr>>,
+    columns: &mut SignalPaths,
+    expr: &Option<Box<ExprTree>>,
 ) -> Result<(), AllocError>
     ensures { OnOk result (columns_in columns.new ≡ with_paths (columns_in columns.old) (optional_signals (scope_of scope.now) (option_map boxed_of expr.now))) }
 {
@@ -226,7 +229,7 @@ fn list_optional(
 fn list_clause(
     alloc: Global,
     scope: &Scope,
-    columns: &mut Columns,
+    columns: &mut SignalPaths,
     clause: &Option<Operands>,
 ) -> Result<(), AllocError>
     ensures { OnOk result (columns_in columns.new ≡ with_paths (columns_in columns.old) (clause_signals (scope_of scope.now) (option_map pair_of clause.now))) }
@@ -246,8 +249,8 @@ fn list_clause(
 fn list_counter(
     alloc: Global,
     scope: &Scope,
-    columns: &mut Columns,
-    counter: &Counter,
+    columns: &mut SignalPaths,
+    counter: &CounterTree,
 ) -> Result<(), AllocError>
     ensures { OnOk result (columns_in columns.new ≡ with_paths (columns_in columns.old) (counter_signals (scope_of scope.now) (counter_of counter.now))) }
 {
@@ -263,8 +266,8 @@ fn list_counter(
 fn list_assertion(
     alloc: Global,
     scope: &Scope,
-    columns: &mut Columns,
-    assertion: &Assertion,
+    columns: &mut SignalPaths,
+    assertion: &AssertionTree,
 ) -> Result<(), AllocError>
     ensures { OnOk result (columns_in columns.new ≡ with_paths (columns_in columns.old) (assertion_signals (scope_of scope.now) (assertion_of assertion.now))) }
 {
@@ -277,16 +280,16 @@ fn list_assertion(
 pub(crate) fn list_item(
     alloc: Global,
     scope: &Scope,
-    columns: &mut Columns,
-    item: &Item,
+    columns: &mut SignalPaths,
+    item: &ItemTree,
 ) -> Result<(), AllocError>
     ensures { OnOk result (columns_in columns.new ≡ item_listed (scope_of scope.now) (columns_in columns.old) (item_of item.now)) }
 {
     match item {
-        Item::Counter(counter) => list_counter(alloc, scope, columns, counter),
-        Item::Declaration(declaration) => {
+        ItemTree::Counter(counter) => list_counter(alloc, scope, columns, counter),
+        ItemTree::Declaration(declaration) => {
             list_sequence(alloc, scope, columns, &declaration.body)
         }
-        Item::Assertion(assertion) => list_assertion(alloc, scope, columns, assertion),
+        ItemTree::Assertion(assertion) => list_assertion(alloc, scope, columns, assertion),
     }
 }

@@ -13,7 +13,7 @@ pub struct Names {
 }
 
 impl Names {
-    ghost use Rattle.types_expressions.specs.Scopes.{found};
+    ghost use Rattle.types_expressions.specs.Scopes.{look_up};
     ghost use Rattle.types_expressions.specs.Entries.{with_entry, with_entries, IsWidth};
     ghost use Rattle.types_expressions.specs.Views.{names_in};
 
@@ -54,7 +54,7 @@ impl Names {
 
     /// The width of a path.
     pub fn width(&self, path: &str) -> Option<Width>
-        ensures { option_map (λ w. w.bits) result ≡ found (names_in self.now) path.now }
+        ensures { option_map (λ w. w.bits) result ≡ look_up (names_in self.now) path.now }
     {
         self.widths.get(path).copied()
     }

@@ -1,7 +1,7 @@
 //! Numbers of the text.
 
 ghost use Rattle.std.specs.Prelude.{◌≡◌, ◌≤◌, ◌%◌, ◌^◌};
-ghost use Rattle.types_expressions.specs.Widths.{number_width, number_value};
+ghost use Rattle.types_expressions.specs.Widths.{token_width, number_value};
 
 use crate::width::Width;
 use lexer::{Kind, Token};
@@ -23,7 +23,7 @@ fn cut(width: Width, value: u128) -> Bits
 
 /// A number's width and value.
 pub(crate) fn number_bits(token: Token) -> Bits
-    ensures width { result.width ≡ number_width token.entry }
+    ensures width { result.width ≡ token_width token.entry }
     ensures value { result.value ≡ number_value token.entry }
 {
     match token.kind {

@@ -3,7 +3,7 @@
 ghost use Rattle.std.specs.Prelude.{◌≡◌, ◌++◌, ◌∷◌, OnOk, IfOk, string_bytes, codes};
 ghost use Rattle.std.specs.List.{flat_map};
 ghost use Rattle.types_expressions.specs.Scopes.{path_text, first_byte};
-ghost use Rattle.parser.specs.Views.{path_of};
+ghost use Rattle.parser_expressions.specs.Views.{path_of};
 
 use lexer::Token;
 use parser::Path;

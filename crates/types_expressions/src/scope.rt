@@ -1,34 +1,35 @@
 //! What names stand for in a text over a dump.
 
 ghost use Rattle.std.specs.Prelude.{◌≡◌, map, option_map, IfOk, OnOk, IsTrue};
-ghost use Rattle.parser.specs.Views.{item_of, path_of, tree_of};
-ghost use Rattle.types_expressions.specs.Scopes.{found, owns, is_narrow, bits_of, meaning, meaning_by, scope_for, sequence_named, place_of};
+ghost use Rattle.parser_expressions.specs.Views.{path_of, tree_of};
+ghost use Rattle.parser.specs.Views.{item_of};
+ghost use Rattle.types_expressions.specs.Scopes.{look_up, owns, is_narrow, bits_of, meaning, meaning_by, scope_for, sequence_named, meaning_place};
 ghost use Rattle.types_expressions.specs.Entries.{with_entry};
 ghost use Rattle.types_expressions.specs.Views.{names_in, entries_in, scope_of};
 
-use crate::declared::Declared;
+use crate::declared::OwnName;
 use crate::names::Names;
 use crate::own::{Meaning, Own};
 use crate::path::path_string;
 use crate::width::Width;
 use indexmap::IndexMap;
-use parser::{Expr, Item, Path};
+use parser::{ExprTree, ItemTree, Path};
 use std::alloc::{AllocError, Global};
 
 /// The names of a text and the paths of a dump. The text's own names come before the dump's paths, and with a name declared twice the first
 /// declaration counts.
 #[derive(Drop)]
 pub struct Scope<'n> {
-    pub(crate) own: IndexMap<String, Declared>,
+    pub(crate) own: IndexMap<String, OwnName>,
     pub(crate) names: &'n Names,
 }
 
 /// Adds a name, unless it is there.
 fn declare(
     alloc: Global,
-    names: &mut IndexMap<String, Declared>,
+    names: &mut IndexMap<String, OwnName>,
     name: &str,
-    declared: Declared,
+    declared: OwnName,
 ) -> Result<(), AllocError>
     ensures { OnOk result (entries_in names.new ≡ with_entry (entries_in names.old) name.now declared.own) }
 {
@@ -41,28 +42,28 @@ fn declare(
 }
 
 /// The names that the items declare.
-fn owns_of(alloc: Global, items: &[Item]) -> Result<IndexMap<String, Declared>, AllocError>
-    ensures { IfOk result (λ m. found (entries_in m) ≡ found (owns (map item_of items.now))) }
+fn owns_of(alloc: Global, items: &[ItemTree]) -> Result<IndexMap<String, OwnName>, AllocError>
+    ensures { IfOk result (λ m. look_up (entries_in m) ≡ look_up (owns (map item_of items.now))) }
 {
     let mut names = IndexMap::new(alloc);
     let mut counters = 0usize;
     let mut sequences = 0usize;
     for item in items {
         match item {
-            Item::Counter(counter) => {
+            ItemTree::Counter(counter) => {
                 let width = Width::within(counter.width.value);
                 let own = Own::Counter(counters, width.bits);
-                declare(alloc, &mut names, counter.name.text, Declared { own })?;
+                declare(alloc, &mut names, counter.name.text, OwnName { own })?;
                 counters += 1;
                 continue;
             }
-            Item::Declaration(declaration) => {
+            ItemTree::Declaration(declaration) => {
                 let own = Own::Sequence(sequences);
-                declare(alloc, &mut names, declaration.name.text, Declared { own })?;
+                declare(alloc, &mut names, declaration.name.text, OwnName { own })?;
                 sequences += 1;
                 continue;
             }
-            Item::Assertion(_) => continue,
+            ItemTree::Assertion(_) => continue,
         }
     }
     Ok(names)
@@ -81,8 +82,8 @@ pub(crate) fn bits_of(means: Option<Meaning>) -> Option<u8>
 }
 
 /// The place of a named sequence.
-fn place_of(means: Option<Meaning>) -> Option<usize>
-    ensures { result ≡ place_of means }
+fn meaning_place(means: Option<Meaning>) -> Option<usize>
+    ensures { result ≡ meaning_place means }
 {
     match means {
         Some(Meaning::Signal(_)) => None,
@@ -94,7 +95,7 @@ fn place_of(means: Option<Meaning>) -> Option<usize>
 
 impl<'n> Scope<'n> {
     /// The scope of a text over a dump.
-    pub fn of(alloc: Global, names: &'n Names, items: &[Item]) -> Result<Scope<'n>, AllocError>
+    pub fn of(alloc: Global, names: &'n Names, items: &[ItemTree]) -> Result<Scope<'n>, AllocError>
         ensures { IfOk result (λ s. scope_of s ≡ scope_for (map item_of items.now) (names_in names.now)) }
     {
         let own = owns_of(alloc, items)?;
@@ -135,15 +136,15 @@ impl<'n> Scope<'n> {
     }
 
     /// The place of the named sequence that an expression is the name of, where it stands as a boolean of a sequence.
-    pub fn sequence_named(&self, expr: &Expr) -> Option<usize>
+    pub fn sequence_named(&self, expr: &ExprTree) -> Option<usize>
         ensures { result ≡ sequence_named (scope_of self.now) (tree_of expr.now) }
     {
         match expr {
-            Expr::Path(path, None) => {
+            ExprTree::Path(path, None) => {
                 if !path.more.is_empty() {
                     return None;
                 }
-                place_of(self.meaning_of(path.first.text))
+                meaning_place(self.meaning_of(path.first.text))
             }
             _ => None,
         }

@@ -2,7 +2,8 @@
 
 ghost use Rattle.std.specs.Prelude.{◌≡◌, map, IfOk};
 ghost use Rattle.grammar.specs.ReadSequences.{steps_of, others_of};
-ghost use Rattle.parser.specs.Views.{tree_of, sequence_of, step_of, property_of};
+ghost use Rattle.parser_expressions.specs.Views.{tree_of};
+ghost use Rattle.parser.specs.Views.{sequence_of, delay_step_of, property_of};
 ghost use Rattle.types_expressions.specs.Faults.{boolean_faults, sequence_faults, step_faults, other_faults, property_faults, earlier, least};
 ghost use Rattle.types_expressions.specs.Views.{scope_of};
 
@@ -10,7 +11,7 @@ use crate::expression::{earlier, see};
 use crate::own::Sought;
 use crate::scope::Scope;
 use grammar::Range;
-use parser::{Expr, Property, Sequence};
+use parser::{ExprTree, PropertyTree, SequenceTree};
 use std::alloc::{AllocError, Global};
 
 /// The first fault of a boolean of a sequence, which may be the name of a named sequence.
@@ -18,7 +19,7 @@ fn boolean_fault(
     alloc: Global,
     scope: &Scope,
     sought: Sought,
-    expr: &Expr,
+    expr: &ExprTree,
 ) -> Result<Option<usize>, AllocError>
     ensures { IfOk result (λ r. r ≡ least (boolean_faults (scope_of scope.now) sought (tree_of expr.now))) }
 {
@@ -36,28 +37,28 @@ pub(crate) fn sequence_fault(
     alloc: Global,
     scope: &Scope,
     sought: Sought,
-    sequence: &Sequence,
+    sequence: &SequenceTree,
 ) -> Result<Option<usize>, AllocError>
     ensures { IfOk result (λ r. r ≡ least (sequence_faults (scope_of scope.now) sought (sequence_of sequence.now))) }
 {
     match sequence {
-        Sequence::Boolean(expr) => boolean_fault(alloc, scope, sought, expr),
-        Sequence::Repeated(body, _) => sequence_fault(alloc, scope, sought, body),
-        Sequence::Late(_, _, body) => sequence_fault(alloc, scope, sought, body),
-        Sequence::Delayed(first, steps) => {
+        SequenceTree::Boolean(expr) => boolean_fault(alloc, scope, sought, expr),
+        SequenceTree::Repeated(body, _) => sequence_fault(alloc, scope, sought, body),
+        SequenceTree::Late(_, _, body) => sequence_fault(alloc, scope, sought, body),
+        SequenceTree::Delayed(first, steps) => {
             let first = sequence_fault(alloc, scope, sought, first)?;
             steps_fault(alloc, scope, sought, first, steps)
         }
-        Sequence::Throughout(expr, body) => {
+        SequenceTree::Throughout(expr, body) => {
             let seen = see(alloc, scope, sought, expr)?;
             let body = sequence_fault(alloc, scope, sought, body)?;
             Ok(earlier(seen.fault, body))
         }
-        Sequence::And(first, others) => {
+        SequenceTree::And(first, others) => {
             let first = sequence_fault(alloc, scope, sought, first)?;
             others_fault(alloc, scope, sought, first, others)
         }
-        Sequence::Or(first, others) => {
+        SequenceTree::Or(first, others) => {
             let first = sequence_fault(alloc, scope, sought, first)?;
             others_fault(alloc, scope, sought, first, others)
         }
@@ -72,9 +73,9 @@ fn steps_fault(
     scope: &Scope,
     sought: Sought,
     first: Option<usize>,
-    steps: &[(Range, Sequence)],
+    steps: &[(Range, SequenceTree)],
 ) -> Result<Option<usize>, AllocError>
-    ensures { IfOk result (λ r. r ≡ earlier first (least (step_faults (scope_of scope.now) sought (steps_of (map step_of steps.now))))) }
+    ensures { IfOk result (λ r. r ≡ earlier first (least (step_faults (scope_of scope.now) sought (steps_of (map delay_step_of steps.now))))) }
 {
     let mut fault = first;
     for step in steps {
@@ -92,7 +93,7 @@ fn others_fault(
     scope: &Scope,
     sought: Sought,
     first: Option<usize>,
-    others: &[Sequence],
+    others: &[SequenceTree],
 ) -> Result<Option<usize>, AllocError>
     ensures { IfOk result (λ r. r ≡ earlier first (least (other_faults (scope_of scope.now) sought (others_of (map sequence_of others.now))))) }
 {
@@ -110,13 +111,13 @@ pub(crate) fn property_fault(
     alloc: Global,
     scope: &Scope,
     sought: Sought,
-    property: &Property,
+    property: &PropertyTree,
 ) -> Result<Option<usize>, AllocError>
     ensures { IfOk result (λ r. r ≡ least (property_faults (scope_of scope.now) sought (property_of property.now))) }
 {
     match property {
-        Property::Plain(sequence) => sequence_fault(alloc, scope, sought, sequence),
-        Property::Implication(antecedent, _, consequent) => {
+        PropertyTree::Plain(sequence) => sequence_fault(alloc, scope, sought, sequence),
+        PropertyTree::Implication(antecedent, _, consequent) => {
             let antecedent = sequence_fault(alloc, scope, sought, antecedent)?;
             let consequent = sequence_fault(alloc, scope, sought, consequent)?;
             Ok(earlier(antecedent, consequent))

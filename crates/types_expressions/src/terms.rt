@@ -2,7 +2,7 @@
 
 ghost use Rattle.std.specs.Prelude.{◌≡◌, ◌≤◌, [], map, IfOk, IsTrue, is_some};
 ghost use Rattle.grammar.specs.ReadExpressions.{links_of, parts_of};
-ghost use Rattle.parser.specs.Views.{path_of, tree_of, link_of};
+ghost use Rattle.parser_expressions.specs.Views.{path_of, tree_of, link_of};
 ghost use Rattle.expressions.specs.declared.name.Origin.TheVariants.{Signal};
 ghost use Rattle.expressions.specs.Terms.{width_of};
 ghost use Rattle.expressions.specs.Expressions.{term_of};
@@ -11,10 +11,10 @@ ghost use Rattle.types_expressions.specs.Scopes.{path_text, first_byte, meaning,
 ghost use Rattle.types_expressions.specs.Widths.{ticks_of, parts_width, high_of, low_of};
 ghost use Rattle.types_expressions.specs.Faults.{IsSound, has_bits, path_faults, link_faults, part_faults};
 ghost use Rattle.types_expressions.specs.Columns.{HasColumns, column_of, is_listed, all_listed, path_signals, link_signals, part_signals};
-ghost use Rattle.types_expressions.specs.Meanings.{IsName, IsNameOf, IsRead, Means, Chains, Joins, combined, prefixed, called};
+ghost use Rattle.types_expressions.specs.Meanings.{IsName, IsNameOf, IsRead, Means, Chains, Joins, binary_term, unary_term, call_term};
 ghost use Rattle.types_expressions.specs.Views.{scope_of, columns_in};
 
-use crate::columns::Columns;
+use crate::columns::SignalPaths;
 use crate::expression::low_of;
 use crate::number::number_bits;
 use crate::operator::{Binary, Call, Unary, binary_of, call_of, unary_of};
@@ -24,7 +24,7 @@ use crate::scope::Scope;
 use expressions::{Name, Origin, Slice};
 use grammar::{Bound, Select};
 use lexer::Token;
-use parser::{Expr, Path};
+use parser::{ExprTree, Path};
 use std::alloc::{AllocError, Global};
 
 /// An operator with its operands.
@@ -34,7 +34,7 @@ fn combine(
     left: expressions::Expr,
     right: expressions::Expr,
 ) -> Result<expressions::Expr, AllocError>
-    ensures { IfOk result (λ e. term_of e ≡ combined op (term_of left) (term_of right)) }
+    ensures { IfOk result (λ e. term_of e ≡ binary_term op (term_of left) (term_of right)) }
 {
     match op {
         Binary::Arithmetic(op) => left.combine(alloc, op, right),
@@ -50,7 +50,7 @@ fn prefix(
     op: Unary,
     operand: expressions::Expr,
 ) -> Result<expressions::Expr, AllocError>
-    ensures { IfOk result (λ e. term_of e ≡ prefixed op (term_of operand)) }
+    ensures { IfOk result (λ e. term_of e ≡ unary_term op (term_of operand)) }
 {
     match op {
         Unary::Complement => operand.complement(alloc),
@@ -64,7 +64,7 @@ fn call(
     call: Call,
     operand: expressions::Expr,
 ) -> Result<expressions::Expr, AllocError>
-    ensures { IfOk result (λ e. term_of e ≡ called call (term_of operand)) }
+    ensures { IfOk result (λ e. term_of e ≡ call_term call (term_of operand)) }
 {
     match call {
         Call::Change(op) => operand.change(alloc, op),
@@ -83,7 +83,7 @@ fn ticks_of(ticks: Option<Bound>) -> u8
 }
 
 /// A signal of the columns.
-fn signal_name(columns: &Columns, text: &str, width: u8) -> Name
+fn signal_name(columns: &SignalPaths, text: &str, width: u8) -> Name
     requires some_bits { 1 ≤ width }
     requires at_most_128 { width ≤ 128 }
     requires listed { IsTrue (is_listed (columns_in columns.now) text.now) }
@@ -100,7 +100,7 @@ fn signal_name(columns: &Columns, text: &str, width: u8) -> Name
 }
 
 /// The name that a path stands for.
-fn name_of(means: Option<Meaning>, columns: &Columns, text: &str) -> Name
+fn name_of(means: Option<Meaning>, columns: &SignalPaths, text: &str) -> Name
     requires narrow { IsTrue (is_narrow (bits_of means)) }
     requires known { IsTrue (is_some (bits_of means)) }
     requires listed { IsTrue (all_listed (columns_in columns.now) (path_signals text.now means)) }
@@ -122,7 +122,7 @@ fn name_of(means: Option<Meaning>, columns: &Columns, text: &str) -> Name
 fn path_name(
     alloc: Global,
     scope: &Scope,
-    columns: &Columns,
+    columns: &SignalPaths,
     path: &Path,
 ) -> Result<Name, AllocError>
     requires known { IsTrue (is_some (bits_of (meaning (scope_of scope.now) (path_of path.now)))) }
@@ -156,7 +156,7 @@ fn slice_of(name: Name, select: Select) -> Slice
 fn typed_path(
     alloc: Global,
     scope: &Scope,
-    columns: &Columns,
+    columns: &SignalPaths,
     path: &Path,
     select: Option<Select>,
 ) -> Result<expressions::Expr, AllocError>
@@ -176,43 +176,43 @@ fn typed_path(
 /// It has none of the faults that `first_fault` finds, and what it reads is among the columns, as it is after `columns_of` for each expression
 /// of the items.
 #[cycle(expressions)]
-pub fn typed(
+pub fn typed_expression(
     alloc: Global,
     scope: &Scope,
-    columns: &Columns,
-    expr: &Expr,
+    columns: &SignalPaths,
+    expr: &ExprTree,
 ) -> Result<expressions::Expr, AllocError>
     requires sound { IsSound (scope_of scope.now) (tree_of expr.now) }
     requires listed { HasColumns (scope_of scope.now) (columns_in columns.now) (tree_of expr.now) }
     ensures { IfOk result (λ e. Means (scope_of scope.now) (columns_in columns.now) (tree_of expr.now) (term_of e)) }
 {
     match expr {
-        Expr::Number(token) => Ok(expressions::Expr::constant(number_bits(*token))),
-        Expr::Path(path, select) => typed_path(alloc, scope, columns, path, *select),
-        Expr::Concatenation(_, first, parts) => {
-            let first = typed(alloc, scope, columns, first)?;
+        ExprTree::Number(token) => Ok(expressions::Expr::constant(number_bits(*token))),
+        ExprTree::Path(path, select) => typed_path(alloc, scope, columns, path, *select),
+        ExprTree::Concatenation(_, first, parts) => {
+            let first = typed_expression(alloc, scope, columns, first)?;
             join(alloc, scope, columns, first, parts)
         }
-        Expr::Past(_, operand, ticks) => {
-            let operand = typed(alloc, scope, columns, operand)?;
+        ExprTree::Past(_, operand, ticks) => {
+            let operand = typed_expression(alloc, scope, columns, operand)?;
             operand.past(alloc, ticks_of(*ticks))
         }
-        Expr::Call(function, _, operand) => {
-            let operand = typed(alloc, scope, columns, operand)?;
+        ExprTree::Call(function, _, operand) => {
+            let operand = typed_expression(alloc, scope, columns, operand)?;
             call(alloc, call_of(*function), operand)
         }
-        Expr::Unary(token, operand) => {
-            let operand = typed(alloc, scope, columns, operand)?;
+        ExprTree::Unary(token, operand) => {
+            let operand = typed_expression(alloc, scope, columns, operand)?;
             prefix(alloc, unary_of(*token), operand)
         }
-        Expr::Chain(first, links) => {
-            let first = typed(alloc, scope, columns, first)?;
+        ExprTree::Chain(first, links) => {
+            let first = typed_expression(alloc, scope, columns, first)?;
             chain(alloc, scope, columns, first, links)
         }
-        Expr::Choice(condition, yes, no) => {
-            let condition = typed(alloc, scope, columns, condition)?;
-            let yes = typed(alloc, scope, columns, yes)?;
-            let no = typed(alloc, scope, columns, no)?;
+        ExprTree::Choice(condition, yes, no) => {
+            let condition = typed_expression(alloc, scope, columns, condition)?;
+            let yes = typed_expression(alloc, scope, columns, yes)?;
+            let no = typed_expression(alloc, scope, columns, no)?;
             condition.choose(alloc, yes, no)
         }
     }
@@ -223,9 +223,9 @@ pub fn typed(
 fn chain(
     alloc: Global,
     scope: &Scope,
-    columns: &Columns,
+    columns: &SignalPaths,
     first: expressions::Expr,
-    links: &[(Token, Expr)],
+    links: &[(Token, ExprTree)],
 ) -> Result<expressions::Expr, AllocError>
     requires sound { (k : Sought) → link_faults (scope_of scope.now) k (links_of (map link_of links.now)) ≡ [] }
     requires listed { IsTrue (all_listed (columns_in columns.now) (link_signals (scope_of scope.now) (links_of (map link_of links.now)))) }
@@ -233,7 +233,7 @@ fn chain(
 {
     let mut whole = first;
     for link in links {
-        let operand = typed(alloc, scope, columns, &link.1)?;
+        let operand = typed_expression(alloc, scope, columns, &link.1)?;
         whole = combine(alloc, binary_of(link.0), whole, operand)?;
     }
     Ok(whole)
@@ -244,9 +244,9 @@ fn chain(
 fn join(
     alloc: Global,
     scope: &Scope,
-    columns: &Columns,
+    columns: &SignalPaths,
     first: expressions::Expr,
-    parts: &[Expr],
+    parts: &[ExprTree],
 ) -> Result<expressions::Expr, AllocError>
     requires sound { (k : Sought) → part_faults (scope_of scope.now) k (parts_of (map tree_of parts.now)) ≡ [] }
     requires listed { IsTrue (all_listed (columns_in columns.now) (part_signals (scope_of scope.now) (parts_of (map tree_of parts.now)))) }
@@ -258,7 +258,7 @@ fn join(
     }
     let mut whole = first;
     for part in parts {
-        let operand = typed(alloc, scope, columns, part)?;
+        let operand = typed_expression(alloc, scope, columns, part)?;
         whole = whole.concat(alloc, operand)?;
     }
     Ok(whole)

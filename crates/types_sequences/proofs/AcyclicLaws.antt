@@ -3,7 +3,7 @@ use Rattle.std.proofs.Common.{◌≡◌, inl, inr, ℕ, zero, suc, ◌+◌, ◌<
 use Rattle.std.specs.Prelude.{option_map, option_and_then}
 use Rattle.assertions.specs.Written.{Written}
 use Rattle.assertions.specs.Written as written
-use Rattle.types_sequences.specs.Drafts.{Draft, boolean, name, delay, lead, repeat, or, and, throughout, IsIn, uses, uses_of, both_there, spelled, named_within, reaches_by, IsCyclic}
+use Rattle.types_sequences.specs.Drafts.{Draft, boolean, name, delay, lead, repeat, or, and, throughout, IsIn, uses, uses_of, both_there, spelling_of, named_within, reaches_by, IsCyclic}
 use Rattle.types_sequences.proofs.InLaws.{in_either}
 
 -- there is something
@@ -21,23 +21,23 @@ map_part f None h = h
 map_part f (Some x) h = tt
 
 -- where a sequence is written out, each name that it uses is
-pub named_there : {B : Type 0} (f : ℕ → Option (Written B)) (d : Draft B) (q : ℕ) → IsThere (spelled f d) → IsIn q (uses d) → IsThere (f q)
+pub named_there : {B : Type 0} (f : ℕ → Option (Written B)) (d : Draft B) (q : ℕ) → IsThere (spelling_of f d) → IsIn q (uses d) → IsThere (f q)
 named_there f (boolean b) q h i = elim i [ ]
 named_there f (name p) q h i = elim i [ inl e ↦ subst (λ (x : ℕ). IsThere (f x)) (sym e) h | inr n ↦ elim n [ ] ]
 named_there f (delay r least extra s) q h i =
-    let parts = both_parts (λ v w. written.delay v least (least + extra) w) (spelled f r) (spelled f s) h in
+    let parts = both_parts (λ v w. written.delay v least (least + extra) w) (spelling_of f r) (spelling_of f s) h in
     elim (in_either q (uses r) (uses s) i) [ inl x ↦ named_there f r q parts.0 x | inr y ↦ named_there f s q parts.1 y ]
-named_there f (lead least extra s) q h i = named_there f s q (map_part (written.lead least (least + extra)) (spelled f s) h) i
-named_there f (repeat r least extra) q h i = named_there f r q (map_part (λ v. written.repeat v least (least + extra)) (spelled f r) h) i
+named_there f (lead least extra s) q h i = named_there f s q (map_part (written.lead least (least + extra)) (spelling_of f s) h) i
+named_there f (repeat r least extra) q h i = named_there f r q (map_part (λ v. written.repeat v least (least + extra)) (spelling_of f r) h) i
 named_there f (or r s) q h i =
-    let parts = both_parts written.or (spelled f r) (spelled f s) h in
+    let parts = both_parts written.or (spelling_of f r) (spelling_of f s) h in
     elim (in_either q (uses r) (uses s) i) [ inl x ↦ named_there f r q parts.0 x | inr y ↦ named_there f s q parts.1 y ]
 named_there f (and r s) q h i =
-    let parts = both_parts written.and (spelled f r) (spelled f s) h in
+    let parts = both_parts written.and (spelling_of f r) (spelling_of f s) h in
     elim (in_either q (uses r) (uses s) i) [ inl x ↦ named_there f r q parts.0 x | inr y ↦ named_there f s q parts.1 y ]
-named_there f (throughout b r) q h i = named_there f r q (map_part (written.throughout b) (spelled f r) h) i
+named_there f (throughout b r) q h i = named_there f r q (map_part (written.throughout b) (spelling_of f r) h) i
 
-use_there : {B : Type 0} (f : ℕ → Option (Written B)) (o : Option (Draft B)) (q : ℕ) → IsThere (option_and_then (spelled f) o) → IsIn q (uses_of o) → IsThere (f q)
+use_there : {B : Type 0} (f : ℕ → Option (Written B)) (o : Option (Draft B)) (q : ℕ) → IsThere (option_and_then (spelling_of f) o) → IsIn q (uses_of o) → IsThere (f q)
 use_there f None q h i = elim h [ ]
 use_there f (Some d) q h i = named_there f d q h i
 

@@ -3,7 +3,7 @@ use Rattle.std.proofs.Common.{◌≡◌, ◌⊎◌, inl, inr, ℕ, zero, suc, �
 use Rattle.std.proofs.lemmas.Bool.{or_left, or_right, eq-eqb, cases_lt, false≢true}
 use Rattle.std.proofs.lemmas.Option.{slice_get_past}
 use Rattle.types_sequences.specs.Drafts.{Draft, IsIn, uses_of, uses_at, reaches_by, SomeCyclic}
-use Rattle.types_sequences.specs.Marks.{marked, leads}
+use Rattle.types_sequences.specs.Marks.{mark_at, leads}
 use Rattle.types_sequences.specs.Sweeps.{Covers, AreQuiet}
 use Rattle.types_sequences.specs.Cycles.{ReachesCycle}
 use Rattle.types_sequences.proofs.SweepLaws.{no_use_passes}
@@ -30,15 +30,15 @@ not_quiet bodies goal marks left p q quiet i l here =
     false≢true (sym (no_use_passes (leads marks goal) (uses_at bodies p) q (quiet p here) i) ∙ l)
 
 mark_of : {B : Type 0} (bodies : List (Draft B)) (goal : ℕ) (marks : List Bool) (left : List ℕ) (p q : ℕ) →
-    AreQuiet bodies goal marks left → Covers marks left p → IsIn q (uses_at bodies p) → leads marks goal q ≡ true → marked marks p ≡ true
+    AreQuiet bodies goal marks left → Covers marks left p → IsIn q (uses_at bodies p) → leads marks goal q ≡ true → mark_at marks p ≡ true
 mark_of bodies goal marks left p q quiet (inl m) i l = m
 mark_of bodies goal marks left p q quiet (inr here) i l = elim (not_quiet bodies goal marks left p q quiet i l here) [ ]
 
 -- where nothing that is left leads on, all that reaches the goal is marked
 pub all_marked : {B : Type 0} (bodies : List (Draft B)) (goal : ℕ) (marks : List Bool) (left : List ℕ) →
-    AreQuiet bodies goal marks left → ((p : ℕ) → p < length bodies → Covers marks left p) → (more p : ℕ) → reaches_by bodies more p goal → marked marks p ≡ true
+    AreQuiet bodies goal marks left → ((p : ℕ) → p < length bodies → Covers marks left p) → (more p : ℕ) → reaches_by bodies more p goal → mark_at marks p ≡ true
 all_marked bodies goal marks left quiet covers zero p r =
-    mark_of bodies goal marks left p goal quiet (covers p (declared_by_use bodies p goal r)) r (or_left (goal == goal) (marked marks goal) (eq-eqb goal goal refl))
+    mark_of bodies goal marks left p goal quiet (covers p (declared_by_use bodies p goal r)) r (or_left (goal == goal) (mark_at marks goal) (eq-eqb goal goal refl))
 all_marked bodies goal marks left quiet covers (suc more) p r =
     mark_of bodies goal marks left p r.0 quiet (covers p (declared_by_use bodies p r.0 r.1)) r.1
-    (or_right (r.0 == goal) (marked marks r.0) (all_marked bodies goal marks left quiet covers more r.0 r.2))
+    (or_right (r.0 == goal) (mark_at marks r.0) (all_marked bodies goal marks left quiet covers more r.0 r.2))

@@ -5,7 +5,7 @@ use Rattle.std.proofs.lemmas.Option.{slice_get-map}
 use Rattle.assertions.specs.Written as written
 use Rattle.assertions.specs.Written.{Written, weight, IsOrdered}
 use Rattle.assertions.specs.Emptiness.{admits_empty, takes_ticks}
-use Rattle.types_sequences.specs.Drafts.{Draft, boolean, name, delay, lead, repeat, or, and, throughout, IsIn, uses, uses_of, uses_at, both_there, spelled, named_within, Spells, reaches_by, IsCyclic}
+use Rattle.types_sequences.specs.Drafts.{Draft, boolean, name, delay, lead, repeat, or, and, throughout, IsIn, uses, uses_of, uses_at, both_there, spelling_of, named_within, Spells, reaches_by, IsCyclic}
 use Rattle.types_sequences.specs.Outlines.{map_draft, map_written}
 use Rattle.types_sequences.proofs.SpellLaws.{spelled_deeper}
 
@@ -89,28 +89,28 @@ module _ {B C : Type 0} (f : B → C) where
   one_map g h same (Some v) = ap Some (same v)
 
   pub spelled_map : (m : ℕ → Option (Written B)) (n : ℕ → Option (Written C)) → ((p : ℕ) → n p ≡ option_map (map_written f) (m p)) →
-      (d : Draft B) → spelled n (map_draft f d) ≡ option_map (map_written f) (spelled m d)
+      (d : Draft B) → spelling_of n (map_draft f d) ≡ option_map (map_written f) (spelling_of m d)
   spelled_map m n same (boolean b) = refl
   spelled_map m n same (name p) = same p
   spelled_map m n same (delay r least extra s) =
-      rw (spelled_map m n same r, spelled_map m n same s) (sym (both_map (λ v w. written.delay v least (least + extra) w) (λ v w. written.delay v least (least + extra) w) (λ v w. refl) (spelled m r) (spelled m s)))
+      rw (spelled_map m n same r, spelled_map m n same s) (sym (both_map (λ v w. written.delay v least (least + extra) w) (λ v w. written.delay v least (least + extra) w) (λ v w. refl) (spelling_of m r) (spelling_of m s)))
   spelled_map m n same (lead least extra s) =
-      rw (spelled_map m n same s) (sym (one_map (written.lead least (least + extra)) (written.lead least (least + extra)) (λ v. refl) (spelled m s)))
+      rw (spelled_map m n same s) (sym (one_map (written.lead least (least + extra)) (written.lead least (least + extra)) (λ v. refl) (spelling_of m s)))
   spelled_map m n same (repeat r least extra) =
-      rw (spelled_map m n same r) (sym (one_map (λ v. written.repeat v least (least + extra)) (λ v. written.repeat v least (least + extra)) (λ v. refl) (spelled m r)))
-  spelled_map m n same (or r s) = rw (spelled_map m n same r, spelled_map m n same s) (sym (both_map written.or written.or (λ v w. refl) (spelled m r) (spelled m s)))
-  spelled_map m n same (and r s) = rw (spelled_map m n same r, spelled_map m n same s) (sym (both_map written.and written.and (λ v w. refl) (spelled m r) (spelled m s)))
-  spelled_map m n same (throughout b r) = rw (spelled_map m n same r) (sym (one_map (written.throughout b) (written.throughout (f b)) (λ v. refl) (spelled m r)))
+      rw (spelled_map m n same r) (sym (one_map (λ v. written.repeat v least (least + extra)) (λ v. written.repeat v least (least + extra)) (λ v. refl) (spelling_of m r)))
+  spelled_map m n same (or r s) = rw (spelled_map m n same r, spelled_map m n same s) (sym (both_map written.or written.or (λ v w. refl) (spelling_of m r) (spelling_of m s)))
+  spelled_map m n same (and r s) = rw (spelled_map m n same r, spelled_map m n same s) (sym (both_map written.and written.and (λ v w. refl) (spelling_of m r) (spelling_of m s)))
+  spelled_map m n same (throughout b r) = rw (spelled_map m n same r) (sym (one_map (written.throughout b) (written.throughout (f b)) (λ v. refl) (spelling_of m r)))
 
   bind_map : (m : ℕ → Option (Written B)) (n : ℕ → Option (Written C)) → ((p : ℕ) → n p ≡ option_map (map_written f) (m p)) → (o : Option (Draft B)) →
-      option_and_then (spelled n) (option_map (map_draft f) o) ≡ option_map (map_written f) (option_and_then (spelled m) o)
+      option_and_then (spelling_of n) (option_map (map_draft f) o) ≡ option_map (map_written f) (option_and_then (spelling_of m) o)
   bind_map m n same None = refl
   bind_map m n same (Some d) = spelled_map m n same d
 
   pub named_map : (bodies : List (Draft B)) (depth p : ℕ) → named_within (map (map_draft f) bodies) depth p ≡ option_map (map_written f) (named_within bodies depth p)
   named_map bodies zero p = refl
   named_map bodies (suc depth) p =
-      ap (option_and_then (spelled (named_within (map (map_draft f) bodies) depth))) (slice_get-map (map_draft f) bodies p)
+      ap (option_and_then (spelling_of (named_within (map (map_draft f) bodies) depth))) (slice_get-map (map_draft f) bodies p)
       ∙ bind_map (named_within bodies depth) (named_within (map (map_draft f) bodies) depth) (named_map bodies depth) (slice_get bodies p)
 
   pub spells_map : (bodies : List (Draft B)) (d : Draft B) (w : Written B) → Spells bodies d w → Spells (map (map_draft f) bodies) (map_draft f d) (map_written f w)
@@ -123,4 +123,4 @@ some_same a b o x y = let e : Some a ≡ Some b = sym x ∙ y in cc
 -- A sequence spells one thing.
 pub spells_one : {B : Type 0} (bodies : List (Draft B)) (d : Draft B) (v w : Written B) → Spells bodies d v → Spells bodies d w → v ≡ w
 spells_one bodies d v w a b =
-    some_same v w (spelled (named_within bodies (max a.0 b.0)) d) (spelled_deeper bodies d v a.0 (max a.0 b.0) (omega arith) a.1) (spelled_deeper bodies d w b.0 (max a.0 b.0) (omega arith) b.1)
+    some_same v w (spelling_of (named_within bodies (max a.0 b.0)) d) (spelled_deeper bodies d v a.0 (max a.0 b.0) (omega arith) a.1) (spelled_deeper bodies d w b.0 (max a.0 b.0) (omega arith) b.1)

@@ -5,14 +5,14 @@ use Rattle.assertions.specs.declared.sequence.Boolean.{Boolean}
 use Rattle.assertions.specs.declared.sequence.Boolean.TheVariants.{One}
 use Rattle.assertions.specs.Written.{Written, boolean, delay, lead, repeat, or, and, throughout, kernel, weight, after, later, IsOrdered}
 use Rattle.assertions.specs.Emptiness.{admits_empty}
-use Rattle.types_sequences.specs.Entries.{Says}
+use Rattle.types_sequences.specs.Entries.{SaysSame}
 use Rattle.types_sequences.proofs.AlikeLaws.{alike_same, alike_one_of, alike_after, alike_later, alike_times, alike_either, alike_both, alike_during}
 use Rattle.types_sequences.proofs.ConstantLaws.{alike_empty, alike_never}
 
-pub says_boolean : (b : Boolean) → Says (boolean b) (boolean b)
+pub says_boolean : (b : Boolean) → SaysSame (boolean b) (boolean b)
 says_boolean b = record { ordered = tt; light = omega arith; alike = λ holds. alike_same holds (kernel One (boolean b)) }
 
-pub says_delay : (v w a b : Written Boolean) (least most : ℕ) → least ≤ most → Says v a → Says w b → Says (delay v least most w) (delay a least most b)
+pub says_delay : (v w a b : Written Boolean) (least most : ℕ) → least ≤ most → SaysSame v a → SaysSame w b → SaysSame (delay v least most w) (delay a least most b)
 says_delay v w a b least most le x y =
     record {
       ordered = (le, x.ordered, y.ordered);
@@ -20,7 +20,7 @@ says_delay v w a b least most le x y =
       alike = λ holds. alike_one_of holds holds least (most - least) (after One (kernel One v) (kernel One w)) (after One (kernel One a) (kernel One b)) (alike_after holds holds One One (kernel One v) (kernel One w) (kernel One a) (kernel One b) (λ k. refl) (x.alike holds) (y.alike holds));
     }
 
-pub says_lead : (w b : Written Boolean) (least most : ℕ) → least ≤ most → Says w b → Says (lead least most w) (lead least most b)
+pub says_lead : (w b : Written Boolean) (least most : ℕ) → least ≤ most → SaysSame w b → SaysSame (lead least most w) (lead least most b)
 says_lead w b least most le y =
     record {
       ordered = (le, y.ordered);
@@ -28,7 +28,7 @@ says_lead w b least most le y =
       alike = λ holds. alike_one_of holds holds least (most - least) (later One (kernel One w)) (later One (kernel One b)) (alike_later holds holds One One (kernel One w) (kernel One b) (λ k. refl) (y.alike holds));
     }
 
-pub says_repeat : (w b : Written Boolean) (least most : ℕ) → least ≤ most → Says w b → Says (repeat w least most) (repeat b least most)
+pub says_repeat : (w b : Written Boolean) (least most : ℕ) → least ≤ most → SaysSame w b → SaysSame (repeat w least most) (repeat b least most)
 says_repeat w b least most le y =
     record {
       ordered = (le, y.ordered);
@@ -36,7 +36,7 @@ says_repeat w b least most le y =
       alike = λ holds. alike_times holds holds (kernel One w) (kernel One b) least most (y.alike holds);
     }
 
-pub says_or : (v w a b : Written Boolean) → Says v a → Says w b → Says (or v w) (or a b)
+pub says_or : (v w a b : Written Boolean) → SaysSame v a → SaysSame w b → SaysSame (or v w) (or a b)
 says_or v w a b x y =
     record {
       ordered = (x.ordered, y.ordered);
@@ -47,7 +47,7 @@ says_or v w a b x y =
 lighter_product : (a b c d : ℕ) → a ≤ c → b ≤ d → (a + 1) * (b + 1) ≤ (c + 1) * (d + 1)
 lighter_product a b c d h k = mul-le-mul (let x : a + 1 ≤ c + 1 = omega (arith, h) in x) (let y : b + 1 ≤ d + 1 = omega (arith, k) in y)
 
-pub says_and : (v w a b : Written Boolean) → Says v a → Says w b → Says (and v w) (and a b)
+pub says_and : (v w a b : Written Boolean) → SaysSame v a → SaysSame w b → SaysSame (and v w) (and a b)
 says_and v w a b x y =
     record {
       ordered = (x.ordered, y.ordered);
@@ -55,7 +55,7 @@ says_and v w a b x y =
       alike = λ holds. alike_both holds holds (kernel One v) (kernel One w) (kernel One a) (kernel One b) (x.alike holds) (y.alike holds);
     }
 
-pub says_throughout : (b : Boolean) (v a : Written Boolean) → Says v a → Says (throughout b v) (throughout b a)
+pub says_throughout : (b : Boolean) (v a : Written Boolean) → SaysSame v a → SaysSame (throughout b v) (throughout b a)
 says_throughout b v a x =
     record {
       ordered = x.ordered;
@@ -63,8 +63,8 @@ says_throughout b v a x =
       alike = λ holds. alike_during holds holds b b (kernel One v) (kernel One a) (λ k. refl) (x.alike holds);
     }
 
-pub says_empty : (w : Written Boolean) → IsOrdered w → weight w ≡ 0 → admits_empty w ≡ true → Says w (repeat (boolean One) 0 0)
+pub says_empty : (w : Written Boolean) → IsOrdered w → weight w ≡ 0 → admits_empty w ≡ true → SaysSame w (repeat (boolean One) 0 0)
 says_empty w o z e = record { ordered = (omega arith, tt); light = omega arith; alike = λ holds. alike_empty holds w o z e }
 
-pub says_never : (w : Written Boolean) → IsOrdered w → weight w ≡ 0 → admits_empty w ≡ false → Says w (delay (repeat (boolean One) 0 0) 0 0 (repeat (boolean One) 0 0))
+pub says_never : (w : Written Boolean) → IsOrdered w → weight w ≡ 0 → admits_empty w ≡ false → SaysSame w (delay (repeat (boolean One) 0 0) 0 0 (repeat (boolean One) 0 0))
 says_never w o z e = record { ordered = (omega arith, (omega arith, tt), (omega arith, tt)); light = omega arith; alike = λ holds. alike_never holds w o z e }

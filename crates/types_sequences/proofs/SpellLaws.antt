@@ -4,7 +4,7 @@ use Rattle.std.specs.Prelude.{option_map, option_and_then}
 use Rattle.assertions.specs.Written.{Written}
 use Rattle.assertions.specs.Written as written
 use Rattle.assertions.specs.declared.sequence.Boolean.{Boolean}
-use Rattle.types_sequences.specs.Drafts.{Draft, boolean, name, delay, lead, repeat, or, and, throughout, both_there, spelled, named_within, Spells}
+use Rattle.types_sequences.specs.Drafts.{Draft, boolean, name, delay, lead, repeat, or, and, throughout, both_there, spelling_of, named_within, Spells}
 use Rattle.types_sequences.specs.declared.entry.Entry.{Entry}
 use Rattle.types_sequences.specs.Entries.{IsEntry, HasEntry, IsEntryOf}
 
@@ -26,38 +26,38 @@ bind_grows : {A C : Type 0} (f g : A → Option C) (a : Option A) → ((x : A) �
 bind_grows f g None h = tt
 bind_grows f g (Some x) h = h x
 
-pub spelled_grows : {B : Type 0} (f g : ℕ → Option (Written B)) (d : Draft B) → ((p : ℕ) → Grows (f p) (g p)) → Grows (spelled f d) (spelled g d)
+pub spelled_grows : {B : Type 0} (f g : ℕ → Option (Written B)) (d : Draft B) → ((p : ℕ) → Grows (f p) (g p)) → Grows (spelling_of f d) (spelling_of g d)
 spelled_grows f g (boolean b) h = refl
 spelled_grows f g (name p) h = h p
 spelled_grows f g (delay r least extra s) h =
-    both_grow (λ v w. written.delay v least (least + extra) w) (spelled f r) (spelled g r) (spelled f s) (spelled g s) (spelled_grows f g r h) (spelled_grows f g s h)
-spelled_grows f g (lead least extra s) h = map_grows (written.lead least (least + extra)) (spelled f s) (spelled g s) (spelled_grows f g s h)
-spelled_grows f g (repeat r least extra) h = map_grows (λ v. written.repeat v least (least + extra)) (spelled f r) (spelled g r) (spelled_grows f g r h)
-spelled_grows f g (or r s) h = both_grow written.or (spelled f r) (spelled g r) (spelled f s) (spelled g s) (spelled_grows f g r h) (spelled_grows f g s h)
-spelled_grows f g (and r s) h = both_grow written.and (spelled f r) (spelled g r) (spelled f s) (spelled g s) (spelled_grows f g r h) (spelled_grows f g s h)
-spelled_grows f g (throughout b r) h = map_grows (written.throughout b) (spelled f r) (spelled g r) (spelled_grows f g r h)
+    both_grow (λ v w. written.delay v least (least + extra) w) (spelling_of f r) (spelling_of g r) (spelling_of f s) (spelling_of g s) (spelled_grows f g r h) (spelled_grows f g s h)
+spelled_grows f g (lead least extra s) h = map_grows (written.lead least (least + extra)) (spelling_of f s) (spelling_of g s) (spelled_grows f g s h)
+spelled_grows f g (repeat r least extra) h = map_grows (λ v. written.repeat v least (least + extra)) (spelling_of f r) (spelling_of g r) (spelled_grows f g r h)
+spelled_grows f g (or r s) h = both_grow written.or (spelling_of f r) (spelling_of g r) (spelling_of f s) (spelling_of g s) (spelled_grows f g r h) (spelled_grows f g s h)
+spelled_grows f g (and r s) h = both_grow written.and (spelling_of f r) (spelling_of g r) (spelling_of f s) (spelling_of g s) (spelled_grows f g r h) (spelled_grows f g s h)
+spelled_grows f g (throughout b r) h = map_grows (written.throughout b) (spelling_of f r) (spelling_of g r) (spelled_grows f g r h)
 
 pub named_grows : {B : Type 0} (bodies : List (Draft B)) (n more p : ℕ) → Grows (named_within bodies n p) (named_within bodies (more + n) p)
 named_grows bodies zero more p = tt
 named_grows {B} bodies (suc n) more p =
     subst (λ (k : ℕ). Grows (named_within bodies (suc n) p) (named_within bodies k p)) (let e : suc (more + n) ≡ more + suc n = omega arith in e)
-    (bind_grows (spelled (named_within bodies n)) (spelled (named_within bodies (more + n))) (slice_get bodies p)
+    (bind_grows (spelling_of (named_within bodies n)) (spelling_of (named_within bodies (more + n))) (slice_get bodies p)
     (λ d. spelled_grows (named_within bodies n) (named_within bodies (more + n)) d (λ q. named_grows bodies n more q)))
 
 found_by : {A : Type 0} (a b : Option A) (x : A) → Grows a b → a ≡ Some x → b ≡ Some x
 found_by a b x g e = (subst (λ (o : Option _). Grows o b) e g)
 
-pub spelled_deeper : {B : Type 0} (bodies : List (Draft B)) (d : Draft B) (w : Written B) (n m : ℕ) → n ≤ m → spelled (named_within bodies n) d ≡ Some w → spelled (named_within bodies m) d ≡ Some w
+pub spelled_deeper : {B : Type 0} (bodies : List (Draft B)) (d : Draft B) (w : Written B) (n m : ℕ) → n ≤ m → spelling_of (named_within bodies n) d ≡ Some w → spelling_of (named_within bodies m) d ≡ Some w
 spelled_deeper bodies d w n m le e =
-    subst (λ (k : ℕ). spelled (named_within bodies k) d ≡ Some w) (let h : (m - n) + n ≡ m = omega (arith, le) in h)
-    (found_by (spelled (named_within bodies n) d) (spelled (named_within bodies ((m - n) + n)) d) w
+    subst (λ (k : ℕ). spelling_of (named_within bodies k) d ≡ Some w) (let h : (m - n) + n ≡ m = omega (arith, le) in h)
+    (found_by (spelling_of (named_within bodies n) d) (spelling_of (named_within bodies ((m - n) + n)) d) w
     (spelled_grows (named_within bodies n) (named_within bodies ((m - n) + n)) d (named_grows bodies n (m - n))) e)
 
 -- what two parts spell, at one depth
 pub record SpellBoth {B : Type 0} (bodies : List (Draft B)) (r s : Draft B) (v w : Written B) : Type 0 where
   pub depth : ℕ
-  pub first : spelled (named_within bodies depth) r ≡ Some v
-  pub second : spelled (named_within bodies depth) s ≡ Some w
+  pub first : spelling_of (named_within bodies depth) r ≡ Some v
+  pub second : spelling_of (named_within bodies depth) s ≡ Some w
 
 pub spell_both : {B : Type 0} (bodies : List (Draft B)) (r s : Draft B) (v w : Written B) → Spells bodies r v → Spells bodies s w → SpellBoth bodies r s v w
 spell_both bodies r s v w a b =

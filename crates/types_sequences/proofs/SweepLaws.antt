@@ -3,7 +3,7 @@ use Rattle.std.proofs.Common.{◌≡◌, ◌⊎◌, inl, inr, ℕ, suc, ◌+◌,
 use Rattle.std.proofs.lemmas.List.{length-set, get_or-set_same, get_or-set_other}
 use Rattle.std.proofs.lemmas.Bool.{or_cases, or_parts, eqb-true, cases_eq, false≢true}
 use Rattle.types_sequences.specs.Drafts.{Draft, IsIn, uses_at}
-use Rattle.types_sequences.specs.Marks.{some_use, marked, leads}
+use Rattle.types_sequences.specs.Marks.{some_use, mark_at, leads}
 use Rattle.types_sequences.specs.Sweeps.{Reaches, AreSound, Covers, AreQuiet}
 use Rattle.types_sequences.proofs.InLaws.{in_front, in_back, in_either, in_last}
 
@@ -35,7 +35,7 @@ no_use_passes test (u ∷ us) q h (inr i) = no_use_passes test us q ((or_parts (
 
 -- a use that leads on reaches the goal
 reaches_goal : {B : Type 0} (bodies : List (Draft B)) (goal : ℕ) (marks : List Bool) (p q : ℕ) →
-    AreSound bodies goal marks → IsIn q (uses_at bodies p) → ((q == goal) ≡ true) ⊎ (marked marks q ≡ true) → Reaches bodies p goal
+    AreSound bodies goal marks → IsIn q (uses_at bodies p) → ((q == goal) ≡ true) ⊎ (mark_at marks q ≡ true) → Reaches bodies p goal
 reaches_goal bodies goal marks p q sound i (inl e) = (0, subst (λ (x : ℕ). IsIn x (uses_at bodies p)) (eqb-true q goal e) i)
 reaches_goal bodies goal marks p q sound i (inr m) = (let r = sound q m in (suc r.0, (q, i, r.1)))
 
@@ -43,20 +43,20 @@ leads_reaches : {B : Type 0} (bodies : List (Draft B)) (goal : ℕ) (marks : Lis
     AreSound bodies goal marks → some_use (leads marks goal) (uses_at bodies p) ≡ true → Reaches bodies p goal
 leads_reaches bodies goal marks p sound h =
     let f = some_use_passes (leads marks goal) (uses_at bodies p) h in
-    reaches_goal bodies goal marks p f.0 sound f.1 (or_cases (f.0 == goal) (marked marks f.0) f.2)
+    reaches_goal bodies goal marks p f.0 sound f.1 (or_cases (f.0 == goal) (mark_at marks f.0) f.2)
 
 -- a mark more
-marked_same : (marks : List Bool) (q : ℕ) → q < length marks → marked (set marks q true) q ≡ true
+marked_same : (marks : List Bool) (q : ℕ) → q < length marks → mark_at (set marks q true) q ≡ true
 marked_same marks q h = get_or-set_same marks q true false h
 
-marked_kept : (marks : List Bool) (p q : ℕ) → q < length marks → marked marks p ≡ true → marked (set marks q true) p ≡ true
+marked_kept : (marks : List Bool) (p q : ℕ) → q < length marks → mark_at marks p ≡ true → mark_at (set marks q true) p ≡ true
 marked_kept marks p q h m = by_place (cases_eq p q)
   where
-    by_place : (p ≡ q) ⊎ (p ≢ q) → marked (set marks q true) p ≡ true
-    by_place (inl e) = subst (λ (x : ℕ). marked (set marks q true) x ≡ true) (sym e) (marked_same marks q h)
+    by_place : (p ≡ q) ⊎ (p ≢ q) → mark_at (set marks q true) p ≡ true
+    by_place (inl e) = subst (λ (x : ℕ). mark_at (set marks q true) x ≡ true) (sym e) (marked_same marks q h)
     by_place (inr n) = get_or-set_other marks q p true false n ∙ m
 
-marked_before : (marks : List Bool) (p q : ℕ) → p ≢ q → marked (set marks q true) p ≡ true → marked marks p ≡ true
+marked_before : (marks : List Bool) (p q : ℕ) → p ≢ q → mark_at (set marks q true) p ≡ true → mark_at marks p ≡ true
 marked_before marks p q n m = sym (get_or-set_other marks q p true false n) ∙ m
 
 sound_more : {B : Type 0} (bodies : List (Draft B)) (goal : ℕ) (marks : List Bool) (q : ℕ) → AreSound bodies goal marks → Reaches bodies q goal → AreSound bodies goal (set marks q true)
@@ -78,7 +78,7 @@ start bodies goal before places =
       quiet = λ e p i. elim i [ ];
     }
 
-covered_after : (marks more : List Bool) (rest still : List ℕ) (p q : ℕ) → (marked marks p ≡ true → marked more p ≡ true) → (p ≡ q → Covers more (rest ++ still) p) →
+covered_after : (marks more : List Bool) (rest still : List ℕ) (p q : ℕ) → (mark_at marks p ≡ true → mark_at more p ≡ true) → (p ≡ q → Covers more (rest ++ still) p) →
     Covers marks ((rest ++ q ∷ []) ++ still) p → Covers more (rest ++ still) p
 covered_after marks more rest still p q keeps last (inl m) = inl (keeps m)
 covered_after marks more rest still p q keeps last (inr i) = by_part (in_either p (rest ++ q ∷ []) still i)
@@ -98,7 +98,7 @@ mark {B} bodies goal before places marks left rest still q e h leads_on s =
     record {
       long = length-set marks q true ∙ s.long;
       sound = λ b. sound_more bodies goal marks q (s.sound b) (leads_reaches bodies goal marks q (s.sound b) leads_on);
-      covers = λ p h2 c. covered_after marks (set marks q true) rest still p q (marked_kept marks p q h) (λ same. inl (subst (λ (x : ℕ). marked (set marks q true) x ≡ true) (sym same) (marked_same marks q h))) (subst (λ (xs : List ℕ). Covers marks (xs ++ still) p) e (s.covers p h2 c));
+      covers = λ p h2 c. covered_after marks (set marks q true) rest still p q (marked_kept marks p q h) (λ same. inl (subst (λ (x : ℕ). mark_at (set marks q true) x ≡ true) (sym same) (marked_same marks q h))) (subst (λ (xs : List ℕ). Covers marks (xs ++ still) p) e (s.covers p h2 c));
       fewer = omega (arith, s.fewer, shorter);
       same = λ same. elim (too_few same) [ ];
       quiet = λ same. elim (too_few same) [ ];

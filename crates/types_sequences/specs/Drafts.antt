@@ -39,24 +39,24 @@ both_there join None s = None
 both_there join (Some a) s = option_map (join a) s
 
 -- what is written, where each name is what the function says of its place
-abbrev pub spelled : {B : Type 0} → (ℕ → Option (Written B)) → Draft B → Option (Written B)
-spelled named (boolean b) = Some (written.boolean b)
-spelled named (name p) = named p
-spelled named (delay r least extra s) = both_there (λ v w. written.delay v least (least + extra) w) (spelled named r) (spelled named s)
-spelled named (lead least extra s) = option_map (written.lead least (least + extra)) (spelled named s)
-spelled named (repeat r least extra) = option_map (λ v. written.repeat v least (least + extra)) (spelled named r)
-spelled named (or r s) = both_there written.or (spelled named r) (spelled named s)
-spelled named (and r s) = both_there written.and (spelled named r) (spelled named s)
-spelled named (throughout b r) = option_map (written.throughout b) (spelled named r)
+abbrev pub spelling_of : {B : Type 0} → (ℕ → Option (Written B)) → Draft B → Option (Written B)
+spelling_of named (boolean b) = Some (written.boolean b)
+spelling_of named (name p) = named p
+spelling_of named (delay r least extra s) = both_there (λ v w. written.delay v least (least + extra) w) (spelling_of named r) (spelling_of named s)
+spelling_of named (lead least extra s) = option_map (written.lead least (least + extra)) (spelling_of named s)
+spelling_of named (repeat r least extra) = option_map (λ v. written.repeat v least (least + extra)) (spelling_of named r)
+spelling_of named (or r s) = both_there written.or (spelling_of named r) (spelling_of named s)
+spelling_of named (and r s) = both_there written.and (spelling_of named r) (spelling_of named s)
+spelling_of named (throughout b r) = option_map (written.throughout b) (spelling_of named r)
 
 -- what a name stands for, where names are nested in its declaration less than so deep
 abbrev pub named_within : {B : Type 0} → List (Draft B) → ℕ → ℕ → Option (Written B)
 named_within bodies zero p = None
-named_within bodies (suc depth) p = option_and_then (spelled (named_within bodies depth)) (slice_get bodies p)
+named_within bodies (suc depth) p = option_and_then (spelling_of (named_within bodies depth)) (slice_get bodies p)
 
 -- It is what is written, with the names written out.
 abbrev pub Spells : {B : Type 0} → List (Draft B) → Draft B → Written B → Type 0
-Spells bodies d w = (depth : ℕ) × (spelled (named_within bodies depth) d ≡ Some w)
+Spells bodies d w = (depth : ℕ) × (spelling_of (named_within bodies depth) d ≡ Some w)
 
 abbrev pub uses_of : {B : Type 0} → Option (Draft B) → List ℕ
 uses_of None = []

@@ -7,7 +7,7 @@ use Rattle.assertions.specs.declared.sequence.Sequence.{Sequence}
 use Rattle.assertions.specs.Segments.{Seq, Matches}
 use Rattle.assertions.specs.Written.{Written, kernel, weight, IsOrdered}
 use Rattle.assertions.specs.Emptiness.{admits_empty, takes_ticks}
-use Rattle.assertions.specs.Shapes.{written}
+use Rattle.assertions.specs.Shapes.{written_form}
 use Rattle.types_sequences.specs.declared.facts.Facts.{Facts}
 use Rattle.types_sequences.specs.declared.entry.Entry.{Entry}
 use Rattle.types_sequences.specs.Drafts.{Draft, IsIn, named_within, Spells, uses_at}
@@ -27,7 +27,7 @@ pub record IsFacts (w : Written Boolean) (f : Facts) : Type 0 where
   pub ticks : f.ticks ≡ takes_ticks w
 
 -- What is written second says the same as the first, and weighs no more.
-pub record Says (w u : Written Boolean) : Type 0 where
+pub record SaysSame (w u : Written Boolean) : Type 0 where
   pub ordered : IsOrdered u
   pub light : weight u ≤ weight w
   pub alike : (holds : Boolean → ℕ → Bool) → Alike holds holds (kernel One w) (kernel One u)
@@ -35,7 +35,7 @@ pub record Says (w u : Written Boolean) : Type 0 where
 -- There is a sequence, and it says the same.
 abbrev pub HasSame : Written Boolean → Option (Box Sequence Global) → Type 0
 HasSame w None = ⊥
-HasSame w (Some s) = Says w (written s.value)
+HasSame w (Some s) = SaysSame w (written_form s.value)
 
 -- The entry is that of what is written.
 pub record IsEntry (w : Written Boolean) (e : Entry) : Type 0 where

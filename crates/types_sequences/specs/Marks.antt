@@ -7,12 +7,12 @@ some_use test [] = false
 some_use test (p ∷ ps) = test p || some_use test ps
 
 -- a place with a mark
-abbrev pub marked : List Bool → ℕ → Bool
-marked marks p = slice_index_or marks p false
+abbrev pub mark_at : List Bool → ℕ → Bool
+mark_at marks p = slice_index_or marks p false
 
 -- the goal, or a place with a mark
 abbrev pub leads : List Bool → ℕ → ℕ → Bool
-leads marks goal p = (p == goal) || marked marks p
+leads marks goal p = (p == goal) || mark_at marks p
 
 -- whether each of the numbers is below the count
 abbrev pub all_below : ℕ → List ℕ → Bool

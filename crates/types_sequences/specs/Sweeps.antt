@@ -1,7 +1,7 @@
 -- Marks on declarations that reach a goal.
 use Rattle.std.specs.Prelude.{◌≡◌, ◌⊎◌, ℕ, List, Bool, true, false}
 use Rattle.types_sequences.specs.Drafts.{Draft, IsIn, uses_at, reaches_by}
-use Rattle.types_sequences.specs.Marks.{some_use, marked, leads}
+use Rattle.types_sequences.specs.Marks.{some_use, mark_at, leads}
 
 -- the declaration at p reaches the goal
 abbrev pub Reaches : {B : Type 0} → List (Draft B) → ℕ → ℕ → Type 0
@@ -9,11 +9,11 @@ Reaches bodies p goal = (more : ℕ) × reaches_by bodies more p goal
 
 -- each marked declaration reaches the goal
 abbrev pub AreSound : {B : Type 0} → List (Draft B) → ℕ → List Bool → Type 0
-AreSound bodies goal marks = (p : ℕ) → marked marks p ≡ true → Reaches bodies p goal
+AreSound bodies goal marks = (p : ℕ) → mark_at marks p ≡ true → Reaches bodies p goal
 
 -- each of these has a mark or is left
 abbrev pub Covers : List Bool → List ℕ → ℕ → Type 0
-Covers marks left p = (marked marks p ≡ true) ⊎ IsIn p left
+Covers marks left p = (mark_at marks p ≡ true) ⊎ IsIn p left
 
 -- none of these uses the goal or a mark
 abbrev pub AreQuiet : {B : Type 0} → List (Draft B) → ℕ → List Bool → List ℕ → Type 0

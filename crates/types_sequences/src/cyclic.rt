@@ -3,7 +3,7 @@
 ghost use Rattle.std.specs.Prelude.{◌≡◌, ◌<◌, ◌≤◌, ◌↔◌, ◌⊎◌, ℕ, true, false, map, length, IsTrue, IfOk, OnOk};
 ghost use Rattle.types_sequences.specs.Drafts.{IsIn, uses, uses_at, IsCyclic};
 ghost use Rattle.types_sequences.specs.Views.{draft_of};
-ghost use Rattle.types_sequences.specs.Marks.{some_use, marked, leads};
+ghost use Rattle.types_sequences.specs.Marks.{some_use, mark_at, leads};
 ghost use Rattle.types_sequences.specs.Sweeps.{AreSound, Covers, AreQuiet};
 
 use crate::draft::Draft;
@@ -73,7 +73,7 @@ fn sweep(
 /// So many places without a mark.
 fn no_marks(alloc: Global, count: usize) -> Result<Vec<bool>, AllocError>
     ensures long { IfOk result (λ marks. length marks.items ≡ count) }
-    ensures none { IfOk result (λ marks. (p : ℕ) → marked marks.items p ≡ false) }
+    ensures none { IfOk result (λ marks. (p : ℕ) → mark_at marks.items p ≡ false) }
 {
     vec![in alloc; false; count]
 }

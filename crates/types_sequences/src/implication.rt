@@ -2,7 +2,7 @@
 
 ghost use Rattle.std.specs.Prelude.{◌≡◌, IfOk};
 ghost use Rattle.assertions.specs.declared.sequence.Boolean.TheVariants.{One};
-ghost use Rattle.types_sequences.specs.Implications.{rewritten};
+ghost use Rattle.types_sequences.specs.Implications.{rewritten_antecedent};
 ghost use Rattle.types_sequences.specs.Views.{draft_of};
 
 use crate::draft::Draft;
@@ -23,7 +23,7 @@ pub fn rewrite_antecedent(
     antecedent: Box<Draft>,
     implication: Implication,
 ) -> Result<Box<Draft>, AllocError>
-    ensures { IfOk result (λ d. draft_of d.value ≡ rewritten One implication (draft_of antecedent.value)) }
+    ensures { IfOk result (λ d. draft_of d.value ≡ rewritten_antecedent One implication (draft_of antecedent.value)) }
 {
     match implication {
         Implication::Overlapped => Ok(antecedent),

@@ -3,17 +3,17 @@
 ghost use Rattle.std.specs.Prelude.{◌≡◌, ◌+◌, ◌≤◌, true, false, IfOk};
 ghost use Rattle.assertions.specs.declared.sequence.Boolean.{Boolean};
 ghost use Rattle.assertions.specs.declared.sequence.Boolean.TheVariants.{One};
-ghost use Rattle.assertions.specs.Shapes.{written};
+ghost use Rattle.assertions.specs.Shapes.{written_form};
 ghost use Rattle.assertions.specs.Written.{Written, boolean, delay, lead, repeat, or, and, throughout, weight, IsOrdered};
 ghost use Rattle.assertions.specs.Emptiness.{admits_empty};
-ghost use Rattle.types_sequences.specs.Entries.{Says, HasSame};
+ghost use Rattle.types_sequences.specs.Entries.{SaysSame, HasSame};
 
 use assertions::{Boolean, Sequence};
 use std::alloc::{AllocError, Global};
 
 /// The empty segment alone: `1[*0]`.
 fn empty_segment(alloc: Global) -> Result<Box<Sequence>, AllocError>
-    ensures { IfOk result (λ b. written b.value ≡ repeat (boolean One) 0 0) }
+    ensures { IfOk result (λ b. written_form b.value ≡ repeat (boolean One) 0 0) }
 {
     let one = Box::new(alloc, Sequence::Boolean(Boolean::One))?;
     Ok(Box::new(alloc, Sequence::Repeat(one, 0, 0))?)
@@ -22,7 +22,7 @@ fn empty_segment(alloc: Global) -> Result<Box<Sequence>, AllocError>
 /// What weighs nothing: the empty segment, or no segment.
 #[tactic(auto, using(crate::proofs::SameLaws::says_empty, crate::proofs::SameLaws::says_never))]
 pub(crate) fn weightless(alloc: Global, empty: bool) -> Result<Box<Sequence>, AllocError>
-    ensures { IfOk result (λ b. (w : Written Boolean) → IsOrdered w → weight w ≡ 0 → admits_empty w ≡ empty → Says w (written b.value)) }
+    ensures { IfOk result (λ b. (w : Written Boolean) → IsOrdered w → weight w ≡ 0 → admits_empty w ≡ empty → SaysSame w (written_form b.value)) }
 {
     let first = empty_segment(alloc)?;
     if empty {
@@ -34,7 +34,7 @@ pub(crate) fn weightless(alloc: Global, empty: bool) -> Result<Box<Sequence>, Al
 
 /// A copy of a sequence.
 pub(crate) fn copy_of(alloc: Global, sequence: &Sequence) -> Result<Box<Sequence>, AllocError>
-    ensures { IfOk result (λ b. written b.value ≡ written sequence.now) }
+    ensures { IfOk result (λ b. written_form b.value ≡ written_form sequence.now) }
 {
     let copy = match sequence {
         Sequence::Boolean(boolean) => Sequence::Boolean(*boolean),

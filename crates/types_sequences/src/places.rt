@@ -2,7 +2,7 @@
 
 ghost use Rattle.std.specs.Prelude.{◌≡◌, ◌++◌, ℕ, List, IfOk, OnOk};
 ghost use Rattle.expressions.specs.declared.expr.Expr.{Expr};
-ghost use Rattle.assertions.specs.Shapes.{written};
+ghost use Rattle.assertions.specs.Shapes.{written_form};
 ghost use Rattle.assertions.specs.Written.{weight, IsOrdered};
 ghost use Rattle.types_sequences.specs.Placed.{IsPlaced, IsPlacedBoolean, Extends};
 
@@ -31,9 +31,9 @@ pub fn place_sequence(
     places: &mut Vec<usize>,
 ) -> Result<Box<Sequence>, AllocError>
     ensures grows { OnOk result (Extends places.old.items places.new.items) }
-    ensures placed { (booleans : List Expr) (more : List ℕ) → IfOk result (λ b. IsPlaced booleans (places.new.items ++ more) (written sequence.now) (written b.value)) }
-    ensures weighs { IfOk result (λ b. weight (written b.value) ≡ weight (written sequence.now)) }
-    ensures ordered { IfOk result (λ b. IsOrdered (written sequence.now) → IsOrdered (written b.value)) }
+    ensures placed { (booleans : List Expr) (more : List ℕ) → IfOk result (λ b. IsPlaced booleans (places.new.items ++ more) (written_form sequence.now) (written_form b.value)) }
+    ensures weighs { IfOk result (λ b. weight (written_form b.value) ≡ weight (written_form sequence.now)) }
+    ensures ordered { IfOk result (λ b. IsOrdered (written_form sequence.now) → IsOrdered (written_form b.value)) }
 {
     match sequence {
         Sequence::Boolean(boolean) => {

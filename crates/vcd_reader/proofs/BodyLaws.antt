@@ -11,7 +11,7 @@ use Rattle.vcd_reader.specs.declared.item.Seen.TheVariants as code
 use Rattle.vcd_reader.specs.declared.fault.Fault.{Fault}
 use Rattle.vcd_reader.specs.declared.fault.Fault.TheVariants.{BadToken, TimeBack, UnclosedSection, Truncated, TooLarge}
 use Rattle.vcd_reader.specs.declared.item.Item.TheVariants.{Timed, Changed}
-use Rattle.vcd_reader.specs.Tokens.{Token}
+use Rattle.vcd_reader.specs.Tokens.{DumpToken}
 use Rattle.vcd_reader.specs.Numbers.{bit_of, bits_from, bits_value}
 use Rattle.vcd_reader.specs.Values.{ValueChange}
 use Rattle.vcd_reader.specs.Variables.{place_of}
@@ -76,7 +76,7 @@ kept-scalar declared len digit (c ∷ text) place count now rest =
 
 -- what each kind of token leads to
 module _ (declared : List (List ℕ)) (len count now : ℕ) where
-  module _ (t : Token) (items : Next) (vectors : List ℕ → Result Rest Fault) (second words : Result Rest Fault) where
+  module _ (t : DumpToken) (items : Next) (vectors : List ℕ → Result Rest Fault) (second words : Result Rest Fault) where
     by-time : (k : Kind) (time : ℕ) → code.Time time ≡ seen_kind k → kept_result (by_kind k declared len t count now items vectors second words) ≡ with_item (Timed time t.place) count now (λ c n. kept_result (items c n))
     by-time (Time n) time e = let h : n ≡ time = cc in rw h (kept-with_time time t.place count now items)
     by-time k time e = absurd cc
@@ -105,16 +105,16 @@ module _ (declared : List (List ℕ)) (len count now : ℕ) where
     by-bad Bad e = refl
     by-bad k e = absurd cc
 
-  pub body-none : (ts : List Token) → ts ≡ [] → kept_result (body declared len count now ts) ≡ Ok ([], [])
+  pub body-none : (ts : List DumpToken) → ts ≡ [] → kept_result (body declared len count now ts) ≡ Ok ([], [])
   unfolding body
   body-none ts e = rw e refl
 
-  vector-cons : (digits : List ℕ) (ts : List Token) (text : List ℕ) (place : ℕ) (rest : List Token) → ts ≡ record { text = text; place = place } ∷ rest
+  vector-cons : (digits : List ℕ) (ts : List DumpToken) (text : List ℕ) (place : ℕ) (rest : List DumpToken) → ts ≡ record { text = text; place = place } ∷ rest
       → vector declared len count now digits ts ≡ change_by_code (place_of declared text) text digits place count now (λ c n. body declared len c n rest)
   unfolding body vector
   vector-cons digits ts text place rest e = rw e refl
 
-  module _ (ts : List Token) (text : List ℕ) (place : ℕ) (rest : List Token) (e : ts ≡ record { text = text; place = place } ∷ rest) where
+  module _ (ts : List DumpToken) (text : List ℕ) (place : ℕ) (rest : List DumpToken) (e : ts ≡ record { text = text; place = place } ∷ rest) where
     body-cons : body declared len count now ts
         ≡ by_kind (kind_of text) declared len (record { text = text; place = place }) count now (λ c n. body declared len c n rest) (λ digits. vector declared len count now digits rest) (behind_ignored declared len count now rest) (section declared len count now place rest)
     unfolding body
@@ -132,7 +132,7 @@ module _ (declared : List (List ℕ)) (len count now : ℕ) where
     body-vector_none value k n = let v = by-vector (record { text = text; place = place }) (λ c m. body declared len c m rest) (λ digits. vector declared len count now digits rest) (behind_ignored declared len count now rest) (section declared len count now place rest) (kind_of text) value k in
         ap kept_result body-cons ∙ v.2 ∙ rw n refl
 
-    pub body-vector : (value : ℕ) (text' : List ℕ) (place' : ℕ) (rest' : List Token) → code.Vector value ≡ seen_kind (kind_of text) → rest ≡ record { text = text'; place = place' } ∷ rest'
+    pub body-vector : (value : ℕ) (text' : List ℕ) (place' : ℕ) (rest' : List DumpToken) → code.Vector value ≡ seen_kind (kind_of text) → rest ≡ record { text = text'; place = place' } ∷ rest'
         → kept_result (body declared len count now ts) ≡ (code_item (place_of declared text') text' value place' >>= λ i. with_item i count now (λ c n. kept_result (body declared len c n rest')))
     body-vector value text' place' rest' k n =
         let v = by-vector (record { text = text; place = place }) (λ c m. body declared len c m rest) (λ digits. vector declared len count now digits rest) (behind_ignored declared len count now rest) (section declared len count now place rest) (kind_of text) value k in
@@ -143,7 +143,7 @@ module _ (declared : List (List ℕ)) (len count now : ℕ) where
     unfolding body behind_ignored
     body-text_none k n = ap kept_result body-cons ∙ by-text _ _ _ _ _ (kind_of text) k ∙ rw n refl
 
-    pub body-text : (skipped : Token) (rest' : List Token) → code.Text ≡ seen_kind (kind_of text) → rest ≡ skipped ∷ rest' → kept_result (body declared len count now ts) ≡ kept_result (body declared len count now rest')
+    pub body-text : (skipped : DumpToken) (rest' : List DumpToken) → code.Text ≡ seen_kind (kind_of text) → rest ≡ skipped ∷ rest' → kept_result (body declared len count now ts) ≡ kept_result (body declared len count now rest')
     unfolding body behind_ignored
     body-text skipped rest' k n = ap kept_result body-cons ∙ by-text _ _ _ _ _ (kind_of text) k ∙ rw n refl
 
@@ -156,15 +156,15 @@ module _ (declared : List (List ℕ)) (len count now : ℕ) where
     pub body-bad : code.Bad ≡ seen_kind (kind_of text) → kept_result (body declared len count now ts) ≡ Err (BadToken place)
     body-bad k = ap kept_result body-cons ∙ by-bad _ _ _ _ _ (kind_of text) k
 
-  pub section-none : (place : ℕ) (ts : List Token) → ts ≡ [] → section declared len count now place ts ≡ Err (UnclosedSection place)
+  pub section-none : (place : ℕ) (ts : List DumpToken) → ts ≡ [] → section declared len count now place ts ≡ Err (UnclosedSection place)
   unfolding body section
   section-none place ts e = rw e refl
 
-  pub section-end : (place : ℕ) (ts : List Token) (text : List ℕ) (at : ℕ) (rest : List Token) → ts ≡ record { text = text; place = at } ∷ rest → bytes_eq text (codes "$end") ≡ true → section declared len count now place ts ≡ body declared len count now rest
+  pub section-end : (place : ℕ) (ts : List DumpToken) (text : List ℕ) (at : ℕ) (rest : List DumpToken) → ts ≡ record { text = text; place = at } ∷ rest → bytes_eq text (codes "$end") ≡ true → section declared len count now place ts ≡ body declared len count now rest
   unfolding body section
   section-end place ts text at rest e h = rw (e, h) refl
 
-  pub section-more : (place : ℕ) (ts : List Token) (text : List ℕ) (at : ℕ) (rest : List Token) → ts ≡ record { text = text; place = at } ∷ rest → bytes_eq text (codes "$end") ≡ false → section declared len count now place ts ≡ section declared len count now place rest
+  pub section-more : (place : ℕ) (ts : List DumpToken) (text : List ℕ) (at : ℕ) (rest : List DumpToken) → ts ≡ record { text = text; place = at } ∷ rest → bytes_eq text (codes "$end") ≡ false → section declared len count now place ts ≡ section declared len count now place rest
   unfolding body section
   section-more place ts text at rest e h = rw (e, h) refl
 

@@ -5,7 +5,7 @@ use Rattle.vcd_reader.specs.declared.fault.ReadError.{ReadError}
 use Rattle.vcd_reader.specs.declared.fault.ReadError.TheVariants as errors
 use Rattle.vcd_reader.specs.declared.scope.Scope.{Scope}
 use Rattle.vcd_reader.specs.declared.variable.Variable.{Variable}
-use Rattle.vcd_reader.specs.Tokens.{Token, tokens}
+use Rattle.vcd_reader.specs.Tokens.{DumpToken, tokens}
 use Rattle.vcd_reader.specs.Faults.{◌>>=◌, Fails}
 use Rattle.vcd_reader.specs.Values.{Moment}
 use Rattle.vcd_reader.specs.Variables.{Declared}
@@ -38,7 +38,7 @@ fails bytes vars read errors.Memory k e = tt
 fails bytes vars (Ok ms) (errors.Fault f) k e = absurd cc
 fails bytes vars (Err g) (errors.Fault f) k e = e ∙ (let h : g ≡ f = cc in ap (λ (x : Fault). Err x) h)
 
-module _ (bytes : List ℕ) (ss : List Scope) (vs : List Variable) (ts : List Token) (read : header [] [] (tokens 0 bytes) ≡ Ok (map (declaration_of ss) vs, ts)) where
+module _ (bytes : List ℕ) (ss : List Scope) (vs : List Variable) (ts : List DumpToken) (read : header [] [] (tokens 0 bytes) ≡ Ok (map (declaration_of ss) vs, ts)) where
   joined : dump_of bytes ≡ finish (map (declaration_of ss) vs) (steps_of (body (codes_in vs) (length bytes) 0 0 ts))
   unfolding finish dump_of contents_behind
   joined = rw (read, codes-texts ss vs) refl

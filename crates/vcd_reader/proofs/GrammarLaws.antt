@@ -6,7 +6,7 @@ use Rattle.std.proofs.lemmas.List.{append-nil}
 use Rattle.std.proofs.lemmas.Bool.Decides.{eqb_tells}
 use Rattle.vcd_reader.specs.declared.header.Word.{Word}
 use Rattle.vcd_reader.specs.declared.header.Word.TheVariants as words
-use Rattle.vcd_reader.specs.Tokens.{Token, tokens}
+use Rattle.vcd_reader.specs.Tokens.{DumpToken, tokens}
 use Rattle.vcd_reader.specs.Numbers.{is_empty, decimal_below}
 use Rattle.vcd_reader.specs.Values.{ValueChange, Moment}
 use Rattle.vcd_reader.specs.Variables.{Declared, is_code_byte, codes_of, place_of}
@@ -17,36 +17,36 @@ use Rattle.vcd_reader.specs.Grammar.{AreInner, IsEnd, Part, Opens, Closes, Decla
 
 -- sections of the header
 module _ (scopes : List (List ℕ)) (vars : List Declared) where
-  pub header-word : (t : Token) (ts : List Token) (w : Word) → w ≡ word_of t.text → header scopes vars (t ∷ ts) ≡ by_word w t (header_end vars t ts) (scope_type scopes vars t ts) (closing_token (outer_scopes scopes) vars t ts) (var_type scopes vars t ts) (skipped_section scopes vars t ts)
+  pub header-word : (t : DumpToken) (ts : List DumpToken) (w : Word) → w ≡ word_of t.text → header scopes vars (t ∷ ts) ≡ by_word w t (header_end vars t ts) (scope_type scopes vars t ts) (closing_token (outer_scopes scopes) vars t ts) (var_type scopes vars t ts) (skipped_section scopes vars t ts)
   unfolding header
   header-word t ts w e = rw e refl
 
-  closed-end : (word stop : Token) (ts : List Token) → IsEnd stop → closing_token scopes vars word (stop ∷ ts) ≡ header scopes vars ts
+  closed-end : (word stop : DumpToken) (ts : List DumpToken) → IsEnd stop → closing_token scopes vars word (stop ∷ ts) ≡ header scopes vars ts
   unfolding header closing_token
   closed-end word stop ts e = rw e refl
 
-  skipped-inner : (word : Token) (inner : List Token) (stop : Token) (ts : List Token) → AreInner inner → IsEnd stop → skipped_section scopes vars word (inner ++ stop ∷ ts) ≡ header scopes vars ts
+  skipped-inner : (word : DumpToken) (inner : List DumpToken) (stop : DumpToken) (ts : List DumpToken) → AreInner inner → IsEnd stop → skipped_section scopes vars word (inner ++ stop ∷ ts) ≡ header scopes vars ts
   unfolding header skipped_section
   skipped-inner word [] stop ts all e = rw e refl
   skipped-inner word (t ∷ inner) stop ts all e = let h = all.0 in rw h (skipped-inner word inner stop ts all.1 e)
 
-  scope-read : (word type name stop : Token) (ts : List Token) → is_end type.text ≡ false → is_end name.text ≡ false → scope_type scopes vars word (type ∷ name ∷ stop ∷ ts) ≡ closing_token (scopes ++ name.text ∷ []) vars word (stop ∷ ts)
+  scope-read : (word type name stop : DumpToken) (ts : List DumpToken) → is_end type.text ≡ false → is_end name.text ≡ false → scope_type scopes vars word (type ∷ name ∷ stop ∷ ts) ≡ closing_token (scopes ++ name.text ∷ []) vars word (stop ∷ ts)
   unfolding header scope_type scope_name
   scope-read word type name stop ts a b = rw (a, b) refl
 
-  more-read : (word : Token) (h : Head) (text : List ℕ) (more : List Token) (stop : Token) (ts : List Token) → AreInner more → IsEnd stop → var_more scopes vars word h text (more ++ stop ∷ ts) ≡ header scopes (vars ++ variable scopes h (text ++ joined_text more) ∷ []) ts
+  more-read : (word : DumpToken) (h : Head) (text : List ℕ) (more : List DumpToken) (stop : DumpToken) (ts : List DumpToken) → AreInner more → IsEnd stop → var_more scopes vars word h text (more ++ stop ∷ ts) ≡ header scopes (vars ++ variable scopes h (text ++ joined_text more) ∷ []) ts
   unfolding header var_more
   more-read word h text [] stop ts all e = rw e (ap (λ (r : List ℕ). header scopes (vars ++ variable scopes h r ∷ []) ts) (sym (append-nil text)))
   more-read word h text (t ∷ more) stop ts all e =
       let i = all.0 in
       rw i (more-read word h (text ++ t.text) more stop ts all.1 e ∙ ap (λ (r : List ℕ). header scopes (vars ++ variable scopes h r ∷ []) ts) (append_assoc text t.text (joined_text more)))
 
-  var-read : (word type size code first : Token) (n : ℕ) (ts : List Token) → is_end type.text ≡ false → is_end size.text ≡ false → is_end code.text ≡ false → is_end first.text ≡ false → decimal_below (2 ^ 32) size.text ≡ Some n → list_all is_code_byte code.text ≡ true
+  var-read : (word type size code first : DumpToken) (n : ℕ) (ts : List DumpToken) → is_end type.text ≡ false → is_end size.text ≡ false → is_end code.text ≡ false → is_end first.text ≡ false → decimal_below (2 ^ 32) size.text ≡ Some n → list_all is_code_byte code.text ≡ true
       → var_type scopes vars word (type ∷ size ∷ code ∷ first ∷ ts) ≡ var_more scopes vars word (record { type = type.text; size = n; code = code.text }) first.text ts
   unfolding header var_type var_size var_code var_reference
   var-read word type size code first n ts a b c d e f = rw (a, b, e, c, f, d) refl
 
-reads-parts : (scopes : List (List ℕ)) (vars : List Declared) (ps : List Part) (ends stop : Token) (ts : List Token) → AllByRecursion IsPart ps → words.Ends ≡ word_of ends.text → IsEnd stop
+reads-parts : (scopes : List (List ℕ)) (vars : List Declared) (ps : List Part) (ends stop : DumpToken) (ts : List DumpToken) → AllByRecursion IsPart ps → words.Ends ≡ word_of ends.text → IsEnd stop
     → header scopes vars (flat_map part_tokens ps ++ ends ∷ stop ∷ ts) ≡ Ok (vars ++ declared_by scopes ps, ts)
 reads-parts scopes vars [] ends stop ts all w e = header-word scopes vars ends (stop ∷ ts) words.Ends w ∙ rw e (ap (λ (vs : List Declared). Ok (vs, ts)) (sym (append-nil vars)))
 reads-parts scopes vars (Opens word type name s ∷ ps) ends stop ts all w e =
@@ -60,8 +60,8 @@ reads-parts scopes vars (Declares word type size n code first more s ∷ ps) end
     let rest = flat_map part_tokens ps ++ ends ∷ stop ∷ ts in
     let h : Head = record { type = type.text; size = n; code = code.text } in
     let v = variable scopes h (first.text ++ joined_text more) in
-    let flat : (more ++ s ∷ []) ++ flat_map part_tokens ps ++ ends ∷ stop ∷ ts ≡ more ++ s ∷ rest = ap (λ (xs : List Token). xs ++ ends ∷ stop ∷ ts) (append_assoc more (s ∷ []) (flat_map part_tokens ps)) ∙ append_assoc more (s ∷ flat_map part_tokens ps) (ends ∷ stop ∷ ts) in
-    ap (λ (xs : List Token). header scopes vars (word ∷ type ∷ size ∷ code ∷ first ∷ xs)) flat
+    let flat : (more ++ s ∷ []) ++ flat_map part_tokens ps ++ ends ∷ stop ∷ ts ≡ more ++ s ∷ rest = ap (λ (xs : List DumpToken). xs ++ ends ∷ stop ∷ ts) (append_assoc more (s ∷ []) (flat_map part_tokens ps)) ∙ append_assoc more (s ∷ flat_map part_tokens ps) (ends ∷ stop ∷ ts) in
+    ap (λ (xs : List DumpToken). header scopes vars (word ∷ type ∷ size ∷ code ∷ first ∷ xs)) flat
     ∙ header-word scopes vars word (type ∷ size ∷ code ∷ first ∷ more ++ s ∷ rest) words.Var all.0.0
     ∙ var-read scopes vars word type size code first n (more ++ s ∷ rest) all.0.1.0 all.0.1.1.0 all.0.1.1.1.0 all.0.1.1.1.1.0 all.0.2 all.0.3
     ∙ more-read scopes vars word h first.text more s rest all.0.1.1.1.1.1 all.0.4
@@ -69,27 +69,27 @@ reads-parts scopes vars (Declares word type size n code first more s ∷ ps) end
     ∙ ap (λ (vs : List Declared). Ok (vs, ts)) (append_assoc vars (v ∷ []) (declared_by scopes ps))
 reads-parts scopes vars (Skipped word inner s ∷ ps) ends stop ts all w e =
     let rest = flat_map part_tokens ps ++ ends ∷ stop ∷ ts in
-    let flat : (inner ++ s ∷ []) ++ flat_map part_tokens ps ++ ends ∷ stop ∷ ts ≡ inner ++ s ∷ rest = ap (λ (xs : List Token). xs ++ ends ∷ stop ∷ ts) (append_assoc inner (s ∷ []) (flat_map part_tokens ps)) ∙ append_assoc inner (s ∷ flat_map part_tokens ps) (ends ∷ stop ∷ ts) in
-    ap (λ (xs : List Token). header scopes vars (word ∷ xs)) flat
+    let flat : (inner ++ s ∷ []) ++ flat_map part_tokens ps ++ ends ∷ stop ∷ ts ≡ inner ++ s ∷ rest = ap (λ (xs : List DumpToken). xs ++ ends ∷ stop ∷ ts) (append_assoc inner (s ∷ []) (flat_map part_tokens ps)) ∙ append_assoc inner (s ∷ flat_map part_tokens ps) (ends ∷ stop ∷ ts) in
+    ap (λ (xs : List DumpToken). header scopes vars (word ∷ xs)) flat
     ∙ header-word scopes vars word (inner ++ s ∷ rest) words.Other all.0.0 ∙ skipped-inner scopes vars word inner s rest all.0.1 all.0.2 ∙ reads-parts scopes vars ps ends stop ts all.1 w e
 
 -- entries of the body
 module _ (declared : List (List ℕ)) (len count now : ℕ) where
-  pub body-kind : (t : Token) (ts : List Token) (k : Kind) → kind_of t.text ≡ k
+  pub body-kind : (t : DumpToken) (ts : List DumpToken) (k : Kind) → kind_of t.text ≡ k
       → body declared len count now (t ∷ ts) ≡ by_kind k declared len t count now (λ c n. body declared len c n ts) (λ digits. vector declared len count now digits ts) (behind_ignored declared len count now ts) (section declared len count now t.place ts)
   unfolding body
   body-kind t ts k e = rw e refl
 
-  section-inner : (place : ℕ) (inner : List Token) (stop : Token) (ts : List Token) → AreInner inner → IsEnd stop → section declared len count now place (inner ++ stop ∷ ts) ≡ body declared len count now ts
+  section-inner : (place : ℕ) (inner : List DumpToken) (stop : DumpToken) (ts : List DumpToken) → AreInner inner → IsEnd stop → section declared len count now place (inner ++ stop ∷ ts) ≡ body declared len count now ts
   unfolding body section
   section-inner place [] stop ts all e = rw e refl
   section-inner place (t ∷ inner) stop ts all e = let h = all.0 in rw h (section-inner place inner stop ts all.1 e)
 
-  pub vector-cons : (digits : List ℕ) (t : Token) (ts : List Token) → vector declared len count now digits (t ∷ ts) ≡ change_by_code (place_of declared t.text) t.text digits t.place count now (λ c n. body declared len c n ts)
+  pub vector-cons : (digits : List ℕ) (t : DumpToken) (ts : List DumpToken) → vector declared len count now digits (t ∷ ts) ≡ change_by_code (place_of declared t.text) t.text digits t.place count now (λ c n. body declared len c n ts)
   unfolding body vector
   vector-cons digits t ts = refl
 
-  pub ignored-cons : (t : Token) (ts : List Token) → behind_ignored declared len count now (t ∷ ts) ≡ body declared len count now ts
+  pub ignored-cons : (t : DumpToken) (ts : List DumpToken) → behind_ignored declared len count now (t ∷ ts) ≡ body declared len count now ts
   unfolding body behind_ignored
   ignored-cons t ts = refl
 
@@ -134,7 +134,7 @@ reads-entries declared len count now (Ignored t u ∷ es) all rises few =
 reads-entries declared len count now (Alone t ∷ es) all rises few =
     body-kind declared len count now t (flat_map entry_tokens es) Lone all.0 ∙ reads-entries declared len count now es all.1 rises few
 reads-entries declared len count now (Comment word inner stop ∷ es) all rises few =
-    ap (λ (ts : List Token). body declared len count now (word ∷ ts)) (append_assoc inner (stop ∷ []) (flat_map entry_tokens es))
+    ap (λ (ts : List DumpToken). body declared len count now (word ∷ ts)) (append_assoc inner (stop ∷ []) (flat_map entry_tokens es))
     ∙ body-kind declared len count now word (inner ++ stop ∷ flat_map entry_tokens es) Section all.0.0
     ∙ section-inner declared len count now word.place inner stop (flat_map entry_tokens es) all.0.1 all.0.2
     ∙ reads-entries declared len count now es all.1 rises few

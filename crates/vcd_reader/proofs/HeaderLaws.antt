@@ -7,77 +7,77 @@ use Rattle.vcd_reader.specs.declared.fault.ReadError.{ReadError}
 use Rattle.vcd_reader.specs.declared.header.Word.{Word}
 use Rattle.vcd_reader.specs.declared.header.Word.TheVariants as words
 use Rattle.vcd_reader.specs.Faults.{Fails}
-use Rattle.vcd_reader.specs.Tokens.{Token}
+use Rattle.vcd_reader.specs.Tokens.{DumpToken}
 use Rattle.vcd_reader.specs.Numbers.{decimal_below}
 use Rattle.vcd_reader.specs.Variables.{Declared, is_code_byte}
 use Rattle.vcd_reader.specs.Header.{Header, Head, is_end, field, close, with_size, by_word, word_of, header_end, outer_scopes, variable, header, closing_token, skipped_section, scope_type, scope_name, var_type, var_size, var_code, var_reference, var_more}
 
-module _ (scopes : List (List ℕ)) (vars : List Declared) (word : Token) where
-  pub scope_type-field : (ts : List Token) → scope_type scopes vars word ts ≡ field word ts (λ t us. scope_name scopes vars word us)
+module _ (scopes : List (List ℕ)) (vars : List Declared) (word : DumpToken) where
+  pub scope_type-field : (ts : List DumpToken) → scope_type scopes vars word ts ≡ field word ts (λ t us. scope_name scopes vars word us)
   unfolding header scope_type
   scope_type-field [] = refl
   scope_type-field (t ∷ ts) = refl
 
-  pub scope_name-field : (ts : List Token) → scope_name scopes vars word ts ≡ field word ts (λ t us. closing_token (scopes ++ t.text ∷ []) vars word us)
+  pub scope_name-field : (ts : List DumpToken) → scope_name scopes vars word ts ≡ field word ts (λ t us. closing_token (scopes ++ t.text ∷ []) vars word us)
   unfolding header scope_name
   scope_name-field [] = refl
   scope_name-field (t ∷ ts) = refl
 
-  pub closed-close : (ts : List Token) → closing_token scopes vars word ts ≡ close word ts (λ us. header scopes vars us)
+  pub closed-close : (ts : List DumpToken) → closing_token scopes vars word ts ≡ close word ts (λ us. header scopes vars us)
   unfolding header closing_token
   closed-close [] = refl
   closed-close (t ∷ ts) = refl
 
-  pub var_type-field : (ts : List Token) → var_type scopes vars word ts ≡ field word ts (λ t us. var_size scopes vars word t.text us)
+  pub var_type-field : (ts : List DumpToken) → var_type scopes vars word ts ≡ field word ts (λ t us. var_size scopes vars word t.text us)
   unfolding header var_type
   var_type-field [] = refl
   var_type-field (t ∷ ts) = refl
 
-  pub var_size-field : (type : List ℕ) (ts : List Token) → var_size scopes vars word type ts ≡ field word ts (λ t us. with_size (decimal_below (2 ^ 32) t.text) t (λ size. var_code scopes vars word type size us))
+  pub var_size-field : (type : List ℕ) (ts : List DumpToken) → var_size scopes vars word type ts ≡ field word ts (λ t us. with_size (decimal_below (2 ^ 32) t.text) t (λ size. var_code scopes vars word type size us))
   unfolding header var_size
   var_size-field type [] = refl
   var_size-field type (t ∷ ts) = refl
 
-  pub var_code-field : (type : List ℕ) (size : ℕ) (ts : List Token) → var_code scopes vars word type size ts
+  pub var_code-field : (type : List ℕ) (size : ℕ) (ts : List DumpToken) → var_code scopes vars word type size ts
       ≡ field word ts (λ t us. cond (list_all is_code_byte t.text) (var_reference scopes vars word (record { type = type; size = size; code = t.text }) us) (Err (BadToken t.place)))
   unfolding header var_code
   var_code-field type size [] = refl
   var_code-field type size (t ∷ ts) = refl
 
-  pub var_reference-field : (h : Head) (ts : List Token) → var_reference scopes vars word h ts ≡ field word ts (λ t us. var_more scopes vars word h t.text us)
+  pub var_reference-field : (h : Head) (ts : List DumpToken) → var_reference scopes vars word h ts ≡ field word ts (λ t us. var_more scopes vars word h t.text us)
   unfolding header var_reference
   var_reference-field h [] = refl
   var_reference-field h (t ∷ ts) = refl
 
-  pub skipped-none : (ts : List Token) → ts ≡ [] → skipped_section scopes vars word ts ≡ Err (UnclosedSection word.place)
+  pub skipped-none : (ts : List DumpToken) → ts ≡ [] → skipped_section scopes vars word ts ≡ Err (UnclosedSection word.place)
   unfolding header skipped_section
   skipped-none ts e = rw e refl
 
-  pub skipped-end : (ts : List Token) (text : List ℕ) (place : ℕ) (rest : List Token) → ts ≡ record { text = text; place = place } ∷ rest → is_end text ≡ true → skipped_section scopes vars word ts ≡ header scopes vars rest
+  pub skipped-end : (ts : List DumpToken) (text : List ℕ) (place : ℕ) (rest : List DumpToken) → ts ≡ record { text = text; place = place } ∷ rest → is_end text ≡ true → skipped_section scopes vars word ts ≡ header scopes vars rest
   unfolding header skipped_section
   skipped-end ts text place rest e h = rw (e, h) refl
 
-  pub skipped-more : (ts : List Token) (text : List ℕ) (place : ℕ) (rest : List Token) → ts ≡ record { text = text; place = place } ∷ rest → is_end text ≡ false → skipped_section scopes vars word ts ≡ skipped_section scopes vars word rest
+  pub skipped-more : (ts : List DumpToken) (text : List ℕ) (place : ℕ) (rest : List DumpToken) → ts ≡ record { text = text; place = place } ∷ rest → is_end text ≡ false → skipped_section scopes vars word ts ≡ skipped_section scopes vars word rest
   unfolding header skipped_section
   skipped-more ts text place rest e h = rw (e, h) refl
 
-  pub more-none : (h : Head) (reference : List ℕ) (ts : List Token) → ts ≡ [] → var_more scopes vars word h reference ts ≡ Err (UnclosedSection word.place)
+  pub more-none : (h : Head) (reference : List ℕ) (ts : List DumpToken) → ts ≡ [] → var_more scopes vars word h reference ts ≡ Err (UnclosedSection word.place)
   unfolding header var_more
   more-none h reference ts e = rw e refl
 
-  pub more-end : (h : Head) (reference : List ℕ) (ts : List Token) (text : List ℕ) (place : ℕ) (rest : List Token) → ts ≡ record { text = text; place = place } ∷ rest → is_end text ≡ true
+  pub more-end : (h : Head) (reference : List ℕ) (ts : List DumpToken) (text : List ℕ) (place : ℕ) (rest : List DumpToken) → ts ≡ record { text = text; place = place } ∷ rest → is_end text ≡ true
       → var_more scopes vars word h reference ts ≡ header scopes (vars ++ variable scopes h reference ∷ []) rest
   unfolding header var_more
   more-end h reference ts text place rest e is = rw (e, is) refl
 
-  pub more-more : (h : Head) (reference : List ℕ) (ts : List Token) (text : List ℕ) (place : ℕ) (rest : List Token) → ts ≡ record { text = text; place = place } ∷ rest → is_end text ≡ false
+  pub more-more : (h : Head) (reference : List ℕ) (ts : List DumpToken) (text : List ℕ) (place : ℕ) (rest : List DumpToken) → ts ≡ record { text = text; place = place } ∷ rest → is_end text ≡ false
       → var_more scopes vars word h reference ts ≡ var_more scopes vars word h (reference ++ text) rest
   unfolding header var_more
   more-more h reference ts text place rest e is = rw (e, is) refl
 
 -- what each word leads to
-module _ (scopes : List (List ℕ)) (vars : List Declared) (text : List ℕ) (place : ℕ) (ts : List Token) where
-  abbrev opener : Token
+module _ (scopes : List (List ℕ)) (vars : List Declared) (text : List ℕ) (place : ℕ) (ts : List DumpToken) where
+  abbrev opener : DumpToken
   opener = record { text = text; place = place }
 
   at-word : (w : Word) → w ≡ word_of text → header scopes vars (opener ∷ ts) ≡ by_word w opener (header_end vars opener ts) (scope_type scopes vars opener ts) (closing_token (outer_scopes scopes) vars opener ts) (var_type scopes vars opener ts) (skipped_section scopes vars opener ts)
@@ -108,6 +108,6 @@ pub ruleset sections = (at-no_word)
 pub fails-along : {a b : Result Header Fault} (e : ReadError) → a ≡ b → Fails e b → Fails e a
 fails-along {a} {b} e p h = subst (λ (r : Result Header Fault). Fails e r) (sym p) h
 
-pub header-none : (scopes : List (List ℕ)) (vars : List Declared) (ts : List Token) → ts ≡ [] → header scopes vars ts ≡ Err Truncated
+pub header-none : (scopes : List (List ℕ)) (vars : List Declared) (ts : List DumpToken) → ts ≡ [] → header scopes vars ts ≡ Err Truncated
 unfolding header
 header-none scopes vars ts e = rw e refl

@@ -5,7 +5,7 @@ use Rattle.std.specs.Str.{bytes_eq}
 use Rattle.vcd_reader.specs.declared.fault.Fault.{Fault}
 use Rattle.vcd_reader.specs.declared.fault.Fault.TheVariants.{BadToken, UnknownCode, TimeBack, UnclosedSection, Truncated, TooLarge}
 use Rattle.vcd_reader.specs.Variables.{is_code_byte, place_of}
-use Rattle.vcd_reader.specs.Tokens.{Token}
+use Rattle.vcd_reader.specs.Tokens.{DumpToken}
 use Rattle.vcd_reader.specs.Numbers.{is_empty, decimal_below, is_bit}
 use Rattle.vcd_reader.specs.Values.{ValueChange, Moment}
 use Rattle.vcd_reader.specs.Faults.{◌>>=◌}
@@ -83,7 +83,7 @@ behind_first [] = []
 behind_first (b ∷ bs) = bs
 
 -- What a token of that kind leads to, where behind it stand further items, the code of a vector, a text's second token, or the rest of a section.
-abbrev pub by_kind : Kind → List (List ℕ) → ℕ → Token → ℕ → ℕ → Next → (List ℕ → Result Rest Fault) → Result Rest Fault → Result Rest Fault → Result Rest Fault
+abbrev pub by_kind : Kind → List (List ℕ) → ℕ → DumpToken → ℕ → ℕ → Next → (List ℕ → Result Rest Fault) → Result Rest Fault → Result Rest Fault → Result Rest Fault
 by_kind (Time time) declared len t count now items code second words = with_time time t.place count now items
 by_kind (Scalar digit) declared len t count now items code second words = scalar declared len digit (behind_first t.text) t.place count now items
 by_kind (Vector digits) declared len t count now items code second words = code digits
@@ -95,20 +95,20 @@ by_kind Bad declared len t count now items code second words = Err (BadToken t.p
 -- The tokens of the body, with the header's codes, the length of the input, how many changes stood before, and the time of the open step:
 -- those behind an item, behind the word of a section, behind the digits of a vector, and behind a text.
 unfoldable mutual
-  pub body : List (List ℕ) → ℕ → ℕ → ℕ → List Token → Result Rest Fault
+  pub body : List (List ℕ) → ℕ → ℕ → ℕ → List DumpToken → Result Rest Fault
   body declared len count now [] = Ok ([], [])
   body declared len count now (t ∷ ts) = by_kind (kind_of t.text) declared len t count now
       (λ c n. body declared len c n ts) (λ digits. vector declared len count now digits ts) (behind_ignored declared len count now ts) (section declared len count now t.place ts)
 
-  pub section : List (List ℕ) → ℕ → ℕ → ℕ → ℕ → List Token → Result Rest Fault
+  pub section : List (List ℕ) → ℕ → ℕ → ℕ → ℕ → List DumpToken → Result Rest Fault
   section declared len count now place [] = Err (UnclosedSection place)
   section declared len count now place (t ∷ ts) = if bytes_eq t.text (codes "$end") then body declared len count now ts else section declared len count now place ts
 
-  pub vector : List (List ℕ) → ℕ → ℕ → ℕ → List ℕ → List Token → Result Rest Fault
+  pub vector : List (List ℕ) → ℕ → ℕ → ℕ → List ℕ → List DumpToken → Result Rest Fault
   vector declared len count now digits [] = Err Truncated
   vector declared len count now digits (t ∷ ts) = change_by_code (place_of declared t.text) t.text digits t.place count now (λ c n. body declared len c n ts)
 
-  pub behind_ignored : List (List ℕ) → ℕ → ℕ → ℕ → List Token → Result Rest Fault
+  pub behind_ignored : List (List ℕ) → ℕ → ℕ → ℕ → List DumpToken → Result Rest Fault
   behind_ignored declared len count now [] = Err Truncated
   behind_ignored declared len count now (t ∷ ts) = body declared len count now ts
 

@@ -2,7 +2,7 @@
 use Rattle.std.specs.Prelude.{◌≡◌, ℕ, suc, ◌^◌, ◌≤◌, ◌==◌, ◌↔◌, List, [], ◌∷◌, ◌++◌, true, false, Some, Ok, if◌then◌else◌}
 use Rattle.std.specs.List.{flat_map, list_all, AllByRecursion}
 use Rattle.vcd_reader.specs.declared.header.Word.TheVariants as words
-use Rattle.vcd_reader.specs.Tokens.{Token, tokens}
+use Rattle.vcd_reader.specs.Tokens.{DumpToken, tokens}
 use Rattle.vcd_reader.specs.Numbers.{is_empty, decimal_below}
 use Rattle.vcd_reader.specs.Values.{ValueChange, Moment}
 use Rattle.vcd_reader.specs.Variables.{Declared, is_code_byte, codes_of, place_of}
@@ -11,24 +11,24 @@ use Rattle.vcd_reader.specs.Body.{Time, Scalar, Vector, Text, Lone, Section, Res
 use Rattle.vcd_reader.specs.Dump.{Contents, dump_of}
 
 -- none of the tokens is $end
-abbrev pub AreInner : List Token → Type 0
+abbrev pub AreInner : List DumpToken → Type 0
 AreInner ts = AllByRecursion (λ t. is_end t.text ≡ false) ts
 
-abbrev pub IsEnd : Token → Type 0
+abbrev pub IsEnd : DumpToken → Type 0
 IsEnd t = is_end t.text ≡ true
 
 -- a section of the header, with its tokens
 pub data Part : Type 0 where
   -- $scope type name $end
-  Opens : Token → Token → Token → Token → Part
+  Opens : DumpToken → DumpToken → DumpToken → DumpToken → Part
   -- $upscope $end
-  Closes : Token → Token → Part
+  Closes : DumpToken → DumpToken → Part
   -- $var type size code reference.. $end, and the number that its size is
-  Declares : Token → Token → Token → ℕ → Token → Token → List Token → Token → Part
+  Declares : DumpToken → DumpToken → DumpToken → ℕ → DumpToken → DumpToken → List DumpToken → DumpToken → Part
   -- any other section
-  Skipped : Token → List Token → Token → Part
+  Skipped : DumpToken → List DumpToken → DumpToken → Part
 
-abbrev pub part_tokens : Part → List Token
+abbrev pub part_tokens : Part → List DumpToken
 part_tokens (Opens word type name stop) = word ∷ type ∷ name ∷ stop ∷ []
 part_tokens (Closes word stop) = word ∷ stop ∷ []
 part_tokens (Declares word type size n code first more stop) = word ∷ type ∷ size ∷ code ∷ first ∷ more ++ stop ∷ []
@@ -43,7 +43,7 @@ IsPart (Declares word type size n code first more stop) =
 IsPart (Skipped word inner stop) = (words.Other ≡ word_of word.text) × AreInner inner × IsEnd stop
 
 -- the text that tokens make, with nothing between
-abbrev pub joined_text : List Token → List ℕ
+abbrev pub joined_text : List DumpToken → List ℕ
 joined_text ts = flat_map (λ t. t.text) ts
 
 -- the variables that sections declare inside these scopes
@@ -57,19 +57,19 @@ declared_by scopes (Skipped word inner stop ∷ ps) = declared_by scopes ps
 -- an entry of the body, with its tokens
 pub data Entry : Type 0 where
   -- #time
-  Instant : Token → ℕ → Entry
+  Instant : DumpToken → ℕ → Entry
   -- a digit with its code
-  Bit : Token → ValueChange → Entry
+  Bit : DumpToken → ValueChange → Entry
   -- digits, then the code
-  Digits : Token → Token → ValueChange → Entry
+  Digits : DumpToken → DumpToken → ValueChange → Entry
   -- a real or a string, and the token behind
-  Ignored : Token → Token → Entry
+  Ignored : DumpToken → DumpToken → Entry
   -- $dumpvars and its kin, and $end
-  Alone : Token → Entry
+  Alone : DumpToken → Entry
   -- any other section
-  Comment : Token → List Token → Token → Entry
+  Comment : DumpToken → List DumpToken → DumpToken → Entry
 
-abbrev pub entry_tokens : Entry → List Token
+abbrev pub entry_tokens : Entry → List DumpToken
 entry_tokens (Instant t time) = t ∷ []
 entry_tokens (Bit t c) = t ∷ []
 entry_tokens (Digits t code c) = t ∷ code ∷ []
@@ -123,8 +123,8 @@ steps_said es = record { time = 0; changes = (said_rest 0 es).0 } ∷ (said_rest
 -- The bytes are a dump that says this.
 pub record IsDump (bytes : List ℕ) (c : Contents) : Type 0 where
   pub parts : List Part
-  pub ends : Token
-  pub stop : Token
+  pub ends : DumpToken
+  pub stop : DumpToken
   pub entries : List Entry
   -- the tokens are those of the header's sections, of $enddefinitions $end, and of the body's entries
   pub spelled : flat_map part_tokens parts ++ ends ∷ stop ∷ flat_map entry_tokens entries ≡ tokens 0 bytes

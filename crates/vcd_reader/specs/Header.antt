@@ -6,7 +6,7 @@ use Rattle.vcd_reader.specs.declared.fault.Fault.{Fault}
 use Rattle.vcd_reader.specs.declared.fault.Fault.TheVariants.{BadToken, UnclosedSection, BadSize, Truncated}
 use Rattle.vcd_reader.specs.declared.header.Word.{Word}
 use Rattle.vcd_reader.specs.declared.header.Word.TheVariants.{Ends, Scope, Upscope, Var, Other, NoWord}
-use Rattle.vcd_reader.specs.Tokens.{Token}
+use Rattle.vcd_reader.specs.Tokens.{DumpToken}
 use Rattle.vcd_reader.specs.Numbers.{decimal_below}
 use Rattle.vcd_reader.specs.Variables.{Declared, is_code_byte, path_of, can_bind}
 
@@ -56,9 +56,9 @@ variable scopes h reference = record { path = path_of scopes (name_of reference)
 
 -- the header's variables, and the tokens of the body
 abbrev pub Header : Type 0
-Header = List Declared × List Token
+Header = List Declared × List DumpToken
 
-abbrev pub by_word : Word → Token → Result Header Fault → Result Header Fault → Result Header Fault → Result Header Fault → Result Header Fault → Result Header Fault
+abbrev pub by_word : Word → DumpToken → Result Header Fault → Result Header Fault → Result Header Fault → Result Header Fault → Result Header Fault → Result Header Fault
 by_word Ends t ends scope upscope var other = ends
 by_word Scope t ends scope upscope var other = scope
 by_word Upscope t ends scope upscope var other = upscope
@@ -67,68 +67,68 @@ by_word Other t ends scope upscope var other = other
 by_word NoWord t ends scope upscope var other = Err (BadToken t.place)
 
 -- the next token of the section that the word opens, which needs one more
-abbrev pub field : Token → List Token → (Token → List Token → Result Header Fault) → Result Header Fault
+abbrev pub field : DumpToken → List DumpToken → (DumpToken → List DumpToken → Result Header Fault) → Result Header Fault
 field word [] go = Err (UnclosedSection word.place)
 field word (t ∷ ts) go = if is_end t.text then Err (BadToken t.place) else go t ts
 
 -- the end of the section that the word opens, which has no more
-abbrev pub close : Token → List Token → (List Token → Result Header Fault) → Result Header Fault
+abbrev pub close : DumpToken → List DumpToken → (List DumpToken → Result Header Fault) → Result Header Fault
 close word [] go = Err (UnclosedSection word.place)
 close word (t ∷ ts) go = if is_end t.text then go ts else Err (BadToken t.place)
 
-abbrev pub with_size : Option ℕ → Token → (ℕ → Result Header Fault) → Result Header Fault
+abbrev pub with_size : Option ℕ → DumpToken → (ℕ → Result Header Fault) → Result Header Fault
 with_size None t go = Err (BadSize t.place)
 with_size (Some n) t go = go n
 
 -- $enddefinitions
-abbrev pub header_end : List Declared → Token → List Token → Result Header Fault
+abbrev pub header_end : List Declared → DumpToken → List DumpToken → Result Header Fault
 header_end vars word ts = close word ts (λ rest. Ok (vars, rest))
 
 unfoldable mutual
   -- between sections
-  pub header : List (List ℕ) → List Declared → List Token → Result Header Fault
+  pub header : List (List ℕ) → List Declared → List DumpToken → Result Header Fault
   header scopes vars [] = Err Truncated
   header scopes vars (t ∷ ts) = by_word (word_of t.text) t (header_end vars t ts) (scope_type scopes vars t ts) (closing_token (outer_scopes scopes) vars t ts) (var_type scopes vars t ts) (skipped_section scopes vars t ts)
 
   -- before the $end of a section with nothing left to say
-  pub closing_token : List (List ℕ) → List Declared → Token → List Token → Result Header Fault
+  pub closing_token : List (List ℕ) → List Declared → DumpToken → List DumpToken → Result Header Fault
   closing_token scopes vars word [] = Err (UnclosedSection word.place)
   closing_token scopes vars word (t ∷ ts) = if is_end t.text then header scopes vars ts else Err (BadToken t.place)
 
   -- in a section that is skipped
-  pub skipped_section : List (List ℕ) → List Declared → Token → List Token → Result Header Fault
+  pub skipped_section : List (List ℕ) → List Declared → DumpToken → List DumpToken → Result Header Fault
   skipped_section scopes vars word [] = Err (UnclosedSection word.place)
   skipped_section scopes vars word (t ∷ ts) = if is_end t.text then header scopes vars ts else skipped_section scopes vars word ts
 
   -- $scope type name $end
-  pub scope_type : List (List ℕ) → List Declared → Token → List Token → Result Header Fault
+  pub scope_type : List (List ℕ) → List Declared → DumpToken → List DumpToken → Result Header Fault
   scope_type scopes vars word [] = Err (UnclosedSection word.place)
   scope_type scopes vars word (t ∷ ts) = if is_end t.text then Err (BadToken t.place) else scope_name scopes vars word ts
 
-  pub scope_name : List (List ℕ) → List Declared → Token → List Token → Result Header Fault
+  pub scope_name : List (List ℕ) → List Declared → DumpToken → List DumpToken → Result Header Fault
   scope_name scopes vars word [] = Err (UnclosedSection word.place)
   scope_name scopes vars word (t ∷ ts) = if is_end t.text then Err (BadToken t.place) else closing_token (scopes ++ t.text ∷ []) vars word ts
 
   -- $var type size code reference.. $end
-  pub var_type : List (List ℕ) → List Declared → Token → List Token → Result Header Fault
+  pub var_type : List (List ℕ) → List Declared → DumpToken → List DumpToken → Result Header Fault
   var_type scopes vars word [] = Err (UnclosedSection word.place)
   var_type scopes vars word (t ∷ ts) = if is_end t.text then Err (BadToken t.place) else var_size scopes vars word t.text ts
 
-  pub var_size : List (List ℕ) → List Declared → Token → List ℕ → List Token → Result Header Fault
+  pub var_size : List (List ℕ) → List Declared → DumpToken → List ℕ → List DumpToken → Result Header Fault
   var_size scopes vars word type [] = Err (UnclosedSection word.place)
   var_size scopes vars word type (t ∷ ts) = if is_end t.text then Err (BadToken t.place) else with_size (decimal_below (2 ^ 32) t.text) t (λ size. var_code scopes vars word type size ts)
 
-  pub var_code : List (List ℕ) → List Declared → Token → List ℕ → ℕ → List Token → Result Header Fault
+  pub var_code : List (List ℕ) → List Declared → DumpToken → List ℕ → ℕ → List DumpToken → Result Header Fault
   var_code scopes vars word type size [] = Err (UnclosedSection word.place)
   var_code scopes vars word type size (t ∷ ts) =
       if is_end t.text then Err (BadToken t.place)
       else (if list_all is_code_byte t.text then var_reference scopes vars word (record { type = type; size = size; code = t.text }) ts else Err (BadToken t.place))
 
-  pub var_reference : List (List ℕ) → List Declared → Token → Head → List Token → Result Header Fault
+  pub var_reference : List (List ℕ) → List Declared → DumpToken → Head → List DumpToken → Result Header Fault
   var_reference scopes vars word h [] = Err (UnclosedSection word.place)
   var_reference scopes vars word h (t ∷ ts) = if is_end t.text then Err (BadToken t.place) else var_more scopes vars word h t.text ts
 
   -- further tokens of the reference, behind this text of those before
-  pub var_more : List (List ℕ) → List Declared → Token → Head → List ℕ → List Token → Result Header Fault
+  pub var_more : List (List ℕ) → List Declared → DumpToken → Head → List ℕ → List DumpToken → Result Header Fault
   var_more scopes vars word h reference [] = Err (UnclosedSection word.place)
   var_more scopes vars word h reference (t ∷ ts) = if is_end t.text then header scopes (vars ++ variable scopes h reference ∷ []) ts else var_more scopes vars word h (reference ++ t.text) ts

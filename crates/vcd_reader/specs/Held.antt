@@ -19,29 +19,29 @@ unfoldable pub high_of : Dump → List ℕ
 high_of d = d.high.items
 
 -- The dump has these contents: the same variables, and the same steps and changes, each with the number of its digits.
-pub record Holds (d : Dump) (c : Contents) : Type 0 where
+pub record HoldsContents (d : Dump) (c : Contents) : Type 0 where
   pub variables : variables_of d ≡ c.variables
   pub steps : map (stored_step (high_of d)) (steps_in d) ≡ map kept_step c.steps
 
 -- a dump as the source gave it
 abbrev pub ReadsAs : Option (List ℕ) → Option (List ℕ) → Dump → Type 0
-ReadsAs old new d = (c : Contents) × GaveDump old new c × Holds d c
+ReadsAs old new d = (c : Contents) × GaveDump old new c × HoldsContents d c
 
 -- the variable is one of the dump's that can be bound
 abbrev pub IsOf : Dump → VarId → Type 0
 IsOf d v = is_bindable (variables_of d) v.place ≡ true
 
 -- the number that the dump stores for a change
-unfoldable pub value_in : Dump → Change → ℕ
-value_in d c = stored_value (high_of d) c
+unfoldable pub value_of_change : Dump → Change → ℕ
+value_of_change d c = stored_value (high_of d) c
 
 -- the change is of the variable's code
 abbrev pub IsChangeOf : Dump → Change → VarId → Type 0
 IsChangeOf d c v = c.code ≡ code_number (variables_of d) v.place
 
-abbrev pub named : Name → Named
-named n = record { path = n.path.items; width = n.width }
+abbrev pub named_of : Name → Named
+named_of n = record { path = n.path.items; width = n.width }
 
 -- a dump that says what the bytes say
 abbrev pub Parses : List ℕ → Dump → Type 0
-Parses bytes d = (c : Contents) × (dump_of bytes ≡ Ok c) × Holds d c
+Parses bytes d = (c : Contents) × (dump_of bytes ≡ Ok c) × HoldsContents d c

@@ -5,7 +5,7 @@ use Rattle.vcd_reader.specs.declared.span.Span.{Span}
 use Rattle.vcd_reader.specs.declared.header.Section.{Section}
 use Rattle.vcd_reader.specs.declared.header.Section.TheVariants.{Ended, Opened, Closed, Declared, Skipped}
 use Rattle.vcd_reader.specs.declared.header.VarHead.{VarHead}
-use Rattle.vcd_reader.specs.Tokens.{Token, tokens}
+use Rattle.vcd_reader.specs.Tokens.{DumpToken, tokens}
 use Rattle.vcd_reader.specs.Variables as variables
 use Rattle.vcd_reader.specs.Stored.{declaration_in}
 use Rattle.vcd_reader.specs.Header.{Header, Head, header, outer_scopes}
@@ -14,7 +14,7 @@ abbrev pub text_at : List ℕ → Span → List ℕ
 text_at bytes s = slice_range bytes s.from s.end
 
 -- the tokens from a place on
-abbrev pub tokens_at : List ℕ → ℕ → List Token
+abbrev pub tokens_at : List ℕ → ℕ → List DumpToken
 tokens_at bytes place = tokens place (drop place bytes)
 
 abbrev pub head_at : List ℕ → VarHead → Head

@@ -2,7 +2,7 @@
 
 ghost use Rattle.std.specs.Prelude.{◌≡◌, ℕ, ◌<◌, ◌≤◌, ◌++◌, ◌∷◌, [], List, Result, map, length, drop, slice_range, IfOk, MatchResult};
 ghost use Rattle.std.specs.List.{list_all};
-ghost use Rattle.vcd_reader.specs.Tokens.{Token};
+ghost use Rattle.vcd_reader.specs.Tokens.{DumpToken};
 ghost use Rattle.vcd_reader.specs.Faults.{Gives, Fails, read_on};
 ghost use Rattle.vcd_reader.specs.Variables as variables;
 ghost use Rattle.vcd_reader.specs.Stored.{declaration_of, declaration_in};
@@ -92,7 +92,7 @@ pub(crate) fn is_code(text: &[u8]) -> bool
 fn next_field(bytes: &[u8], at: usize, word: usize) -> Result<Span, Fault>
     requires { at ≤ length bytes.now }
     ensures high { IfOk result (λ s. (at < s.end) × (s.end ≤ length bytes.now)) }
-    ensures field { (opener : List ℕ) (go : Token → List Token → Result Header Fault) → field (record { text = opener; place = word }) (tokens_at bytes.now at) go
+    ensures field { (opener : List ℕ) (go : DumpToken → List DumpToken → Result Header Fault) → field (record { text = opener; place = word }) (tokens_at bytes.now at) go
         ≡ read_on result (λ s. go (record { text = text_at bytes.now s; place = s.from }) (tokens_at bytes.now s.end)) }
 {
     let Some((from, end)) = next_token(bytes, at) else {
@@ -108,7 +108,7 @@ fn next_field(bytes: &[u8], at: usize, word: usize) -> Result<Span, Fault>
 fn section_end(bytes: &[u8], at: usize, word: usize) -> Result<usize, Fault>
     requires { at ≤ length bytes.now }
     ensures high { IfOk result (λ end. (at < end) × (end ≤ length bytes.now)) }
-    ensures close { (opener : List ℕ) (go : List Token → Result Header Fault) → close (record { text = opener; place = word }) (tokens_at bytes.now at) go
+    ensures close { (opener : List ℕ) (go : List DumpToken → Result Header Fault) → close (record { text = opener; place = word }) (tokens_at bytes.now at) go
         ≡ read_on result (λ end. go (tokens_at bytes.now end)) }
 {
     let Some((from, end)) = next_token(bytes, at) else {

@@ -6,7 +6,7 @@ ghost use Rattle.vcd_reader.specs.Numbers.{bits_value};
 ghost use Rattle.vcd_reader.specs.Values.{digits_value};
 ghost use Rattle.vcd_reader.specs.Variables.{variable_named, names_of, is_place, code_number, size_of, variable_at_place};
 ghost use Rattle.vcd_reader.specs.Stored.{stored_value};
-ghost use Rattle.vcd_reader.specs.Held.{variables_of, steps_in, high_of, value_in, named, IsOf, IsChangeOf};
+ghost use Rattle.vcd_reader.specs.Held.{variables_of, steps_in, high_of, value_of_change, named_of, IsOf, IsChangeOf};
 
 use crate::dump::Dump;
 use crate::places::{Part, find_text};
@@ -99,8 +99,8 @@ impl Dump {
     pub fn cut(&self, change: &Change, var: VarId) -> u128
         requires of { IsOf self.now var }
         requires code { IsChangeOf self.now change.now var }
-        ensures value { result ≡ value_in self.now change.now % 2 ^ size_of (variables_of self.now) var.place }
-        ensures digits { (digits : List ℕ) → value_in self.now change.now ≡ bits_value digits → result ≡ digits_value (size_of (variables_of self.now) var.place) digits }
+        ensures value { result ≡ value_of_change self.now change.now % 2 ^ size_of (variables_of self.now) var.place }
+        ensures digits { (digits : List ℕ) → value_of_change self.now change.now ≡ bits_value digits → result ≡ digits_value (size_of (variables_of self.now) var.place) digits }
     {
         cut_to(value_of(&self.high, change), self.width(var))
     }
@@ -115,7 +115,7 @@ impl Dump {
 
     /// The paths that can be bound, with their widths, in the header's order.
     pub fn names(&self, alloc: Global) -> Result<Vec<Name>, AllocError>
-        ensures { IfOk result (λ ns. map named ns.items ≡ names_of (variables_of self.now)) }
+        ensures { IfOk result (λ ns. map named_of ns.items ≡ names_of (variables_of self.now)) }
     {
         let mut names = Vec::new(alloc);
         for place in 0..self.variables.len() {

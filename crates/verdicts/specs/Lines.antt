@@ -16,8 +16,8 @@ abbrev pub line : Line → LineData
 line l = record { name = string_bytes l.name; counts = l.counts; fails = l.fails.items }
 
 -- the line of an assertion with that name and these verdicts, one for each attempt, by start
-abbrev pub line_of : List ℕ → List Verdict → LineData
-line_of name verdicts = record { name = name; counts = tally_of verdicts; fails = failing_of verdicts }
+abbrev pub line_data_of : List ℕ → List Verdict → LineData
+line_data_of name verdicts = record { name = name; counts = tally_of verdicts; fails = failing_of verdicts }
 
 -- what the whole report says
 pub record ReportData : Type 0 where
@@ -26,17 +26,17 @@ pub record ReportData : Type 0 where
   pub total : Counts
 
 -- a total, held at 2^64 - 1
-abbrev pub held : ℕ → ℕ
-held n = min n (2 ^ 64 - 1)
+abbrev pub held_count : ℕ → ℕ
+held_count n = min n (2 ^ 64 - 1)
 
 -- the sums of the lines' counts
 abbrev pub total_of : List LineData → Counts
 total_of ls = record {
-  holds = held (sum_by (λ l. l.counts.holds) ls);
-  vacuous = held (sum_by (λ l. l.counts.vacuous) ls);
-  fails = held (sum_by (λ l. l.counts.fails) ls);
-  disabled = held (sum_by (λ l. l.counts.disabled) ls);
-  still_open = held (sum_by (λ l. l.counts.still_open) ls);
+  holds = held_count (sum_by (λ l. l.counts.holds) ls);
+  vacuous = held_count (sum_by (λ l. l.counts.vacuous) ls);
+  fails = held_count (sum_by (λ l. l.counts.fails) ls);
+  disabled = held_count (sum_by (λ l. l.counts.disabled) ls);
+  still_open = held_count (sum_by (λ l. l.counts.still_open) ls);
 }
 
 -- the report over so many clocks with these lines

@@ -3,5 +3,5 @@ use Rattle.std.specs.Prelude.{map}
 use Rattle.verdicts.specs.declared.report.Report.{Report}
 use Rattle.verdicts.specs.Lines.{ReportData, line}
 
-abbrev pub shown : Report → ReportData
-shown r = record { clocks = r.clocks; lines = map line r.lines.items; total = r.total }
+abbrev pub data_of : Report → ReportData
+data_of r = record { clocks = r.clocks; lines = map line r.lines.items; total = r.total }

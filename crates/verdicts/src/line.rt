@@ -93,12 +93,12 @@ fn count_open(verdicts: &[Verdict]) -> u64
 }
 
 impl Line {
-    ghost use Rattle.verdicts.specs.Lines.{line, line_of};
+    ghost use Rattle.verdicts.specs.Lines.{line, line_data_of};
     ghost use Rattle.std.specs.Prelude.{string_bytes, vec_len};
 
     /// The line of an assertion with these verdicts, one for each attempt, by start.
     pub fn new(alloc: Global, name: String, verdicts: &[Verdict]) -> Result<Line, AllocError>
-        ensures line { IfOk result (λ l. line l ≡ line_of (string_bytes name) verdicts.now) }
+        ensures line { IfOk result (λ l. line l ≡ line_data_of (string_bytes name) verdicts.now) }
         // Each failure that is counted is listed.
         ensures listed { IfOk result (λ l. vec_len l.fails ≡ l.counts.fails) }
     {

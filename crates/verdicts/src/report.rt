@@ -16,7 +16,7 @@ pub struct Report {
 }
 
 impl Counts {
-    ghost use Rattle.verdicts.specs.Totals.{added};
+    ghost use Rattle.verdicts.specs.Totals.{counts_sum};
 
     /// No attempt.
     pub fn none() -> Counts
@@ -33,7 +33,7 @@ impl Counts {
 
     /// The sums, each held at 2^64 - 1.
     pub fn plus(self, more: Counts) -> Counts
-        ensures { result ≡ added self more }
+        ensures { result ≡ counts_sum self more }
     {
         Counts {
             holds: self.holds.saturating_add(more.holds),
@@ -47,11 +47,11 @@ impl Counts {
 
 impl Report {
     ghost use Rattle.verdicts.specs.Lines.{line, report_of};
-    ghost use Rattle.verdicts.specs.Shown.{shown};
+    ghost use Rattle.verdicts.specs.Shown.{data_of};
 
     /// The report over so many clocks with these lines.
     pub fn new(clocks: u64, lines: Vec<Line>) -> Report
-        ensures { shown result ≡ report_of clocks (map line lines.items) }
+        ensures { data_of result ≡ report_of clocks (map line lines.items) }
     {
         let mut total = Counts::none();
         for line in &lines {

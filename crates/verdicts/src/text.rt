@@ -2,8 +2,8 @@
 
 ghost use Rattle.std.specs.Prelude.{◌≡◌, ◌++◌, OnOk, IfOk, string_bytes};
 ghost use Rattle.verdicts.specs.Lines.{line};
-ghost use Rattle.verdicts.specs.Shown.{shown};
-ghost use Rattle.verdicts.specs.Texts.{Grows, field, counts_text, fail_text, line_text, report_text};
+ghost use Rattle.verdicts.specs.Shown.{data_of};
+ghost use Rattle.verdicts.specs.Texts.{Grows, field_text, counts_text, fail_text, line_text, report_text};
 
 use crate::line::{Counts, Failure, Line};
 use crate::report::Report;
@@ -20,7 +20,7 @@ fn push_text(text: &mut String, piece: &str) -> Result<(), AllocError>
 
 /// Adds a label and a number.
 fn push_field(text: &mut String, label: &str, number: u64) -> Result<(), AllocError>
-    ensures { OnOk result (Grows (string_bytes text.old) (string_bytes text.new) (field label.now number)) }
+    ensures { OnOk result (Grows (string_bytes text.old) (string_bytes text.new) (field_text label.now number)) }
 {
     write!(text, "{label}{number}")
 }
@@ -66,7 +66,7 @@ fn push_line(text: &mut String, of: &Line) -> Result<(), AllocError>
 
 /// The text of a report.
 pub(crate) fn text_of(alloc: Global, report: &Report) -> Result<String, AllocError>
-    ensures { IfOk result (λ t. string_bytes t ≡ report_text (shown report.now)) }
+    ensures { IfOk result (λ t. string_bytes t ≡ report_text (data_of report.now)) }
 {
     let mut text = String::new(alloc);
     push_field(&mut text, "svamon 1\nclocks ", report.clocks)?;

@@ -3,7 +3,7 @@ use Rattle.vcd_reader.specs.Variables.{Declared}
 use Rattle.vcd_reader.specs.Held.{variables_of}
 use Rattle.cycle_window.specs.Bound.{IsClock}
 use Rattle.cycle_window.specs.Held.{code_in}
-use Rattle.verdicts.specs.Shown.{shown}
+use Rattle.verdicts.specs.Shown.{data_of}
 use Rattle.cli.specs.Named.{AreNamed}
 use Rattle.cli.proofs.ReportLaws.{named_by, have_places, reports}
 use Rattle.cli.proofs.report.report_on.Goals as goal
@@ -14,7 +14,7 @@ returns-clause-ok c = λ k holds.
     let names = suite.names.items in
     let code = code_in c.in-Ok.clocks in
     let clock = subst (λ (p : List ℕ). IsClock (variables_of c.args.dump.now) p code) c.as_str.ensures.value c.in-Ok.ensures.clock in
-    reports k suite code c.in_ok-rows.rows (shown c.in_ok-report_over.field-0)
+    reports k suite code c.in_ok-rows.rows (data_of c.in_ok-report_over.field-0)
     (subst (λ (vs : List Declared). IsClock vs (string_bytes suite.clock) code) holds.variables clock)
     (have_places k.variables names (subst (λ (vs : List Declared). AreNamed vs names) holds.variables c.requires.named))
     (λ signals named. c.in_ok-rows.ensures k signals holds (ap (λ (vs : List Declared). named_by vs names) holds.variables ∙ named))

@@ -5,7 +5,7 @@ use Rattle.expressions.specs.declared.operator.Comparison.{Comparison}
 use Rattle.expressions.specs.declared.operator.Connective.{Connective}
 use Rattle.expressions.specs.declared.node.Node.TheViews.{the_lemmas}
 use Rattle.expressions.specs.Terms.{Term, width_of, value_of}
-use Rattle.expressions.specs.Nodes.{Seen, seen, shape, step_of}
+use Rattle.expressions.specs.Nodes.{Seen, seen_node, node_term, step_of}
 use Rattle.expressions.specs.Rows.{samples_of}
 use Rattle.expressions.proofs.Chains.{step_at, typed_at, narrow_at, total_above, narrow_sums, width-shifted, one_tested, value-sums, value-shifts, value-comparisons, value-connections, value-joined}
 use Rattle.expressions.proofs.Opened.{opens_concat, opens_sums, opens_shifts, opens_compare, opens_connect, opens_choose}
@@ -34,9 +34,9 @@ connect_all-own_value-operand-requires t c =
 
 pub join_all-concat-bits-requires : goal.join_all-concat-bits-requires
 join_all-concat-bits-requires t c =
-    let e = step_at Seen seen c.args.parts.now c.loop-part.part-index c.part-item.result c.loop-part-test.true c.part-item.is in
+    let e = step_at Seen seen_node c.args.parts.now c.loop-part.part-index c.part-item.result c.loop-part-test.true c.part-item.is in
     let v = rw e at c.loop-part.invariant.width in
-    omega (arith, v, c.requires.fits, c.own_value.ensures.width, total_above (c.loop-part.bits.width + width_of (shape c.part-item.result)) (map seen (drop (c.loop-part.part-index + 1) c.args.parts.now)))
+    omega (arith, v, c.requires.fits, c.own_value.ensures.width, total_above (c.loop-part.bits.width + width_of (node_term c.part-item.result)) (map seen_node (drop (c.loop-part.part-index + 1) c.args.parts.now)))
 
 pub node_value-join_all-requires : goal.node_value-join_all-requires
 node_value-join_all-requires t c =
@@ -46,7 +46,7 @@ node_value-join_all-requires t c =
 pub node_value-zext-requires-in-Concat-clause-larger : goal.node_value-zext-requires-in-Concat-clause-larger
 node_value-zext-requires-in-Concat-clause-larger t c =
     let o = opens_concat c.args.node.now c.in-Concat.field-0 c.in-Concat.first c.in-Concat.parts c.in-Concat.is c.requires.typed in
-    let e : c.join_all.result.width ≡ width_of (shape c.args.node.now) =
+    let e : c.join_all.result.width ≡ width_of (node_term c.args.node.now) =
     c.join_all.ensures.width ∙ rw (c.deref-in-Concat-2.ensures.value, c.own_value-high.ensures.width, c.deref-in-Concat.ensures) o.total in
     omega (arith, e, c.requires.context)
 
@@ -54,32 +54,32 @@ pub node_value-returns-in-Concat-clause-value : goal.node_value-returns-in-Conca
 node_value-returns-in-Concat-clause-value t c =
     let s = samples_of c.args.rows.now in
     let o = opens_concat c.args.node.now c.in-Concat.field-0 c.in-Concat.first c.in-Concat.parts c.in-Concat.is c.requires.typed in
-    let v = ap (λ (x : Term). value_of s x c.args.tick c.args.width) o.term ∙ value-joined s c.args.tick c.args.width (shape c.in-Concat.first.value) (map seen c.in-Concat.parts.items) o.some in
+    let v = ap (λ (x : Term). value_of s x c.args.tick c.args.width) o.term ∙ value-joined s c.args.tick c.args.width (node_term c.in-Concat.first.value) (map seen_node c.in-Concat.parts.items) o.some in
     c.zext-in-Concat.ensures.value ∙ c.join_all.ensures.value ∙ rw (c.deref-in-Concat-2.ensures.value, c.own_value-high.ensures.value, c.deref-in-Concat.ensures) (sym v)
 
 pub node_value-node_value-sum-requires : goal.node_value-node_value-sum-requires
 node_value-node_value-sum-requires t c =
     let o = opens_sums c.args.node.now c.in-Arithmetic.field-0 c.in-Arithmetic.first c.in-Arithmetic.steps c.in-Arithmetic.is c.requires.typed in
-    let n = narrow_sums (shape c.in-Arithmetic.first.value) (map step_of c.in-Arithmetic.steps.items) c.args.width (rw o.chain.term at c.requires.context) in
+    let n = narrow_sums (node_term c.in-Arithmetic.first.value) (map step_of c.in-Arithmetic.steps.items) c.args.width (rw o.chain.term at c.requires.context) in
     (search (rules, the_lemmas), (rw c.deref-in-Arithmetic.ensures o.chain.first_typed, (rw c.deref-in-Arithmetic.ensures n.0, c.requires.at_most_128)))
 
 pub node_value-combine_all-requires : goal.node_value-combine_all-requires
 node_value-combine_all-requires t c =
     let o = opens_sums c.args.node.now c.in-Arithmetic.field-0 c.in-Arithmetic.first c.in-Arithmetic.steps c.in-Arithmetic.is c.requires.typed in
-    let n = narrow_sums (shape c.in-Arithmetic.first.value) (map step_of c.in-Arithmetic.steps.items) c.args.width (rw o.chain.term at c.requires.context) in
+    let n = narrow_sums (node_term c.in-Arithmetic.first.value) (map step_of c.in-Arithmetic.steps.items) c.args.width (rw o.chain.term at c.requires.context) in
     (search (rules, the_lemmas), (rw c.deref-in-Arithmetic-2.ensures.value o.chain.steps_typed, rw (c.deref-in-Arithmetic-2.ensures.value, c.node_value-sum.ensures.width) n.1))
 
 pub node_value-returns-in-Arithmetic-clause-value : goal.node_value-returns-in-Arithmetic-clause-value
 node_value-returns-in-Arithmetic-clause-value t c =
     let s = samples_of c.args.rows.now in
     let o = opens_sums c.args.node.now c.in-Arithmetic.field-0 c.in-Arithmetic.first c.in-Arithmetic.steps c.in-Arithmetic.is c.requires.typed in
-    let v = ap (λ (x : Term). value_of s x c.args.tick c.args.width) o.chain.term ∙ value-sums s c.args.tick c.args.width (shape c.in-Arithmetic.first.value) (map step_of c.in-Arithmetic.steps.items) in
+    let v = ap (λ (x : Term). value_of s x c.args.tick c.args.width) o.chain.term ∙ value-sums s c.args.tick c.args.width (node_term c.in-Arithmetic.first.value) (map step_of c.in-Arithmetic.steps.items) in
     c.combine_all.ensures.value ∙ rw (c.deref-in-Arithmetic-2.ensures.value, c.node_value-sum.ensures.width, c.node_value-sum.ensures.value, c.deref-in-Arithmetic.ensures) (sym v)
 
 pub node_value-node_value-shifted-requires : goal.node_value-node_value-shifted-requires
 node_value-node_value-shifted-requires t c =
     let o = opens_shifts c.args.node.now c.in-Shift.field-0 c.in-Shift.first c.in-Shift.steps c.in-Shift.is c.requires.typed in
-    let w : width_of (shape c.args.node.now) ≡ width_of (shape c.in-Shift.first.value) = ap width_of o.chain.term ∙ width-shifted (shape c.in-Shift.first.value) (map step_of c.in-Shift.steps.items) in
+    let w : width_of (node_term c.args.node.now) ≡ width_of (node_term c.in-Shift.first.value) = ap width_of o.chain.term ∙ width-shifted (node_term c.in-Shift.first.value) (map step_of c.in-Shift.steps.items) in
     (search (rules, the_lemmas), (rw c.deref-in-Shift.ensures o.chain.first_typed, (rw c.deref-in-Shift.ensures (omega (arith, w, c.requires.context)), c.requires.at_most_128)))
 
 pub node_value-shift_all-requires : goal.node_value-shift_all-requires
@@ -91,7 +91,7 @@ pub node_value-returns-in-Shift-clause-value : goal.node_value-returns-in-Shift-
 node_value-returns-in-Shift-clause-value t c =
     let s = samples_of c.args.rows.now in
     let o = opens_shifts c.args.node.now c.in-Shift.field-0 c.in-Shift.first c.in-Shift.steps c.in-Shift.is c.requires.typed in
-    let v = ap (λ (x : Term). value_of s x c.args.tick c.args.width) o.chain.term ∙ value-shifts s c.args.tick c.args.width (shape c.in-Shift.first.value) (map step_of c.in-Shift.steps.items) in
+    let v = ap (λ (x : Term). value_of s x c.args.tick c.args.width) o.chain.term ∙ value-shifts s c.args.tick c.args.width (node_term c.in-Shift.first.value) (map step_of c.in-Shift.steps.items) in
     c.shift_all.ensures.value ∙ rw (c.deref-in-Shift-2.ensures.value, c.node_value-shifted.ensures.width, c.node_value-shifted.ensures.value, c.deref-in-Shift.ensures) (sym v)
 
 pub node_value-node_value-left-requires : goal.node_value-node_value-left-requires
@@ -116,7 +116,7 @@ node_value-returns-in-Compare-clause-value t c =
     let s = samples_of c.args.rows.now in
     let o = opens_compare c.args.node.now c.in-Compare.larger c.in-Compare.first c.in-Compare.steps c.in-Compare.is c.requires.typed in
     let all = map step_of c.in-Compare.steps.items in
-    let v = ap (λ (x : Term). value_of s x c.args.tick c.args.width) o.chain.term ∙ value-comparisons s c.args.tick c.args.width (shape c.in-Compare.first.value) all c.in-Compare.larger o.width.is o.width.some_bits in
+    let v = ap (λ (x : Term). value_of s x c.args.tick c.args.width) o.chain.term ∙ value-comparisons s c.args.tick c.args.width (node_term c.in-Compare.first.value) all c.in-Compare.larger o.width.is o.width.some_bits in
     c.zext-in-Compare.ensures.value ∙ c.compare_all.ensures.value ∙ rw (c.deref-in-Compare-2.ensures.value, c.node_value-left.ensures.width, c.node_value-left.ensures.value, c.deref-in-Compare.ensures) (sym v)
 
 pub node_value-connect_all-requires : goal.node_value-connect_all-requires
@@ -136,7 +136,7 @@ node_value-returns-in-Connect-clause-value t c =
     let s = samples_of c.args.rows.now in
     let o = opens_connect c.args.node.now c.in-Connect.first c.in-Connect.steps c.in-Connect.is c.requires.typed in
     let all = map step_of c.in-Connect.steps.items in
-    let v = ap (λ (x : Term). value_of s x c.args.tick c.args.width) o.chain.term ∙ value-connections s c.args.tick c.args.width (shape c.in-Connect.first.value) all o.some in
+    let v = ap (λ (x : Term). value_of s x c.args.tick c.args.width) o.chain.term ∙ value-connections s c.args.tick c.args.width (node_term c.in-Connect.first.value) all o.some in
     c.zext-in-Connect.ensures.value ∙ c.connect_all.ensures.value ∙ rw (c.deref-in-Connect-2.ensures.value, c.own_value-left.ensures.value, c.deref-in-Connect.ensures) (sym v)
 
 pub node_value-node_value-requires-then-own_value-eq0 : goal.node_value-node_value-requires-then-own_value-eq0

@@ -1,5 +1,5 @@
 use Rattle.std.proofs.Common.{◌≡◌, map, drop, IsTrue}
-use Rattle.expressions.specs.Nodes.{seen, step_of, all_typed, all_parts_typed}
+use Rattle.expressions.specs.Nodes.{seen_node, step_of, all_typed, all_parts_typed}
 use Rattle.expressions.specs.Rows.{samples_of}
 use Rattle.expressions.specs.Chains.{sums_from, shifts_from, compares_from, connects_from, concats_from, total_of, tested_width, AllNarrow}
 use Rattle.expressions.proofs.evaluate.+evaluation.Given as goal
@@ -35,7 +35,7 @@ invariant-connect_all-loop-step l = record {
 
 abbrev pub invariant-join_all-loop-part : goal.invariant-join_all-loop-part
 invariant-join_all-loop-part l = record {
-  width : total_of l.bits.width (map seen (drop l.part-index l.parts)) ≡ total_of l.fn.first.width (map seen l.parts);
-  value : concats_from (samples_of l.rows) l.tick l.bits.value (map seen (drop l.part-index l.parts)) ≡ concats_from (samples_of l.rows) l.tick l.fn.first.value (map seen l.parts);
-  typed : IsTrue (all_parts_typed (map seen (drop l.part-index l.parts)));
+  width : total_of l.bits.width (map seen_node (drop l.part-index l.parts)) ≡ total_of l.fn.first.width (map seen_node l.parts);
+  value : concats_from (samples_of l.rows) l.tick l.bits.value (map seen_node (drop l.part-index l.parts)) ≡ concats_from (samples_of l.rows) l.tick l.fn.first.value (map seen_node l.parts);
+  typed : IsTrue (all_parts_typed (map seen_node (drop l.part-index l.parts)));
 }

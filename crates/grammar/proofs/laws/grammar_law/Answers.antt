@@ -1,7 +1,7 @@
 use Rattle.std.proofs.Common.{◌≡◌, ℕ, ◌<◌, List, [], ◌∷◌, Option, Some, sym, ap, ◌∙◌}
 use Rattle.lexer.specs.declared.token.Token.{Token}
 use Rattle.grammar.specs.Marks.{next_precedence}
-use Rattle.grammar.specs.Trees.{Tree, Item}
+use Rattle.grammar.specs.Trees.{Tree, ItemForm}
 use Rattle.grammar.specs.Expressions.{Spells}
 use Rattle.grammar.specs.ReadExpressions.{expression}
 use Rattle.grammar.specs.ReadFiles.{items, ReadsFile}
@@ -19,7 +19,7 @@ same-read {A = A} o a b us vs h k =
     let same : (a, us) ≡ (b, vs) = cc (e) in
     ap (λ (p : A × List Token). p.0) same
 
-one-file : (xs ys : List Item) (tokens : List Token) → ReadsFile xs tokens → ReadsFile ys tokens → xs ≡ ys
+one-file : (xs ys : List ItemForm) (tokens : List Token) → ReadsFile xs tokens → ReadsFile ys tokens → xs ≡ ys
 one-file xs ys tokens a b = same-read (items tokens) xs ys (a.last ∷ []) (b.last ∷ []) a.read b.read
 
 expression-read : (d : ℕ) (e : Tree) (ts rest : List Token) → 10 < next_precedence rest → Spells d e ts rest → expression d ts ≡ Some (e, rest)

@@ -4,7 +4,7 @@ use Rattle.assertions.specs.declared.sequence.Boolean.{Boolean}
 use Rattle.assertions.specs.declared.sequence.Boolean.TheVariants.{One}
 use Rattle.assertions.specs.Segments.{longest}
 use Rattle.assertions.specs.Written.{Written, kernel, weight, IsOrdered}
-use Rattle.assertions.specs.Shapes.{IsUnfit, written}
+use Rattle.assertions.specs.Shapes.{IsUnfit, written_form}
 use Rattle.assertions.proofs.WeightLaws.{weight_covers}
 use Rattle.judging.proofs.decision.most_ticks.Goals as goal
 
@@ -14,4 +14,4 @@ covered r (Some n) ordered light is = omega (arith, weight_covers Boolean One r 
 
 pub returns-clause-covers : goal.returns-clause-covers
 returns-clause-covers c =
-    omega (arith, c.unwrap_or.ensures, covered (written c.args.sequence.now) c.weight_of.result c.requires.ordered c.requires.light c.weight_of.ensures)
+    omega (arith, c.unwrap_or.ensures, covered (written_form c.args.sequence.now) c.weight_of.result c.requires.ordered c.requires.light c.weight_of.ensures)

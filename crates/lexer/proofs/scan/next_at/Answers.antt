@@ -1,7 +1,7 @@
 use Rattle.std.proofs.Common.{◌≡◌, ◌∙◌, ◌+◌, ◌-◌, ℕ, suc, drop, sym, ap, arith}
 use Rattle.lexer.specs.declared.scan.Next.TheVariants.{Gap}
 use Rattle.lexer.specs.Runs.{run}
-use Rattle.lexer.specs.Cutting.{stays_on_line, comment_gap, found}
+use Rattle.lexer.specs.Cutting.{stays_on_line, comment_gap, next_lexeme}
 use Rattle.lexer.proofs.CutLaws.{next-line, next-comment, next-token}
 use Rattle.lexer.proofs.scan.next_at.Goals as goal
 
@@ -19,7 +19,7 @@ pub returns-in-None-clause-value : goal.returns-in-None-clause-value
 returns-in-None-clause-value c = sym (next-comment c.args.bytes.now c.args.at c.if-is_space.ensures c.if-is_pair.ensures.value c.if-is_pair-2.ensures.value ∙ ap comment_gap c.in-None.ensures.value)
 
 pub returns-in-Some-token_at-clause-value : goal.returns-in-Some-token_at-clause-value
-returns-in-Some-token_at-clause-value c = ap found c.in-Some-token_at.ensures.value ∙ sym (next-token c.args.bytes.now c.args.at c.if-is_space.ensures c.if-is_pair.ensures.value c.if-is_pair-2.ensures.value)
+returns-in-Some-token_at-clause-value c = ap next_lexeme c.in-Some-token_at.ensures.value ∙ sym (next-token c.args.bytes.now c.args.at c.if-is_space.ensures c.if-is_pair.ensures.value c.if-is_pair-2.ensures.value)
 
 pub returns-in-None-token_at-clause-value : goal.returns-in-None-token_at-clause-value
-returns-in-None-token_at-clause-value c = ap found c.in-None-token_at.ensures.value ∙ sym (next-token c.args.bytes.now c.args.at c.if-is_space.ensures c.if-is_pair.ensures.value c.if-is_pair-2.ensures.value)
+returns-in-None-token_at-clause-value c = ap next_lexeme c.in-None-token_at.ensures.value ∙ sym (next-token c.args.bytes.now c.args.at c.if-is_space.ensures c.if-is_pair.ensures.value c.if-is_pair-2.ensures.value)

@@ -1,16 +1,16 @@
 use Rattle.std.proofs.Common.{◌∷◌, List, map, length, sym, ap, subst, arith, ◌∙◌}
 use Rattle.lexer.specs.declared.token.Token.{Token}
 use Rattle.grammar.specs.ReadFiles.{is_more, item}
-use Rattle.parser.specs.declared.tree.Item.{Item}
+use Rattle.parser.specs.declared.tree.ItemTree.{ItemTree}
 use Rattle.parser.specs.Views.{item_of}
-use Rattle.parser.proofs.LoopLaws.{Turns, turns-init, turns-stop, turns-fail, turns-next, map-push}
+use Rattle.parser_expressions.proofs.LoopLaws.{Turns, turns-init, turns-stop, turns-fail, turns-next, map-push}
 use Rattle.parser.proofs.FileLaws.{refuses, at-item-fails, at-item, items-are, items-fail}
 use Rattle.parser.proofs.PlaceLaws.{placed-drop}
 use Rattle.std.proofs.lemmas.List.{length-drop}
 use Rattle.parser.proofs.file.read_items.Goals as goal
 
 pub items-init : goal.items-init
-items-init c = (omega arith, subst (λ (xs : List Item). Turns is_more (λ t us. item (t ∷ us)) c.args.tokens.now (map item_of xs) c.args.tokens.now) (sym c.new-found.ensures.items) (turns-init is_more (λ t us. item (t ∷ us)) c.args.tokens.now))
+items-init c = (omega arith, subst (λ (xs : List ItemTree). Turns is_more (λ t us. item (t ∷ us)) c.args.tokens.now (map item_of xs) c.args.tokens.now) (sym c.new-found.ensures.items) (turns-init is_more (λ t us. item (t ∷ us)) c.args.tokens.now))
 
 pub returns-in_default-clause-read : goal.returns-in_default-clause-read
 returns-in_default-clause-read c = items-are _ _ (turns-stop is_more (λ t us. item (t ∷ us)) _ _ _ c.items.invariant.1 c.in_default.ensures.token)

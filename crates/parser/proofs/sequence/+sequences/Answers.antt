@@ -4,15 +4,15 @@ use Rattle.grammar.specs.Terminals.{is}
 use Rattle.grammar.specs.declared.terminal.Terminal.TheVariants.{Delay, And, Or}
 use Rattle.grammar.specs.declared.bound.Range.{Range}
 use Rattle.grammar.specs.ReadSequences.{sequences, late_part, during_with, conjunction_with}
-use Rattle.parser.specs.declared.tree.Sequence.{Sequence}
-use Rattle.parser.specs.Views.{sequence_of, step_of}
-use Rattle.parser.proofs.Steps.{gives-as}
+use Rattle.parser.specs.declared.tree.SequenceTree.{SequenceTree}
+use Rattle.parser.specs.Views.{sequence_of, delay_step_of}
+use Rattle.parser_expressions.proofs.Steps.{gives-as}
 use Rattle.parser.proofs.SequenceSteps.{delayed-fails, delayed-ok, conjunction-fails, conjunction-ok, with-during, with-fails, alternatives-fails, alternatives-ok, behind-ok}
-use Rattle.parser.proofs.LoopLaws.{Turns, turns-init, turns-stop, turns-fail, turns-next, expect-lead, map-push}
+use Rattle.parser_expressions.proofs.LoopLaws.{Turns, turns-init, turns-stop, turns-fail, turns-next, expect-lead, map-push}
 use Rattle.parser.proofs.sequence.+sequences.Goals as goal
 
 pub read_alternatives-alternatives-init : goal.read_alternatives-alternatives-init
-read_alternatives-alternatives-init t c = (omega arith, subst (λ (xs : List (Sequence)). Turns (is Or) (λ t. conjunction_with c.args.depth (sequences c.args.depth)) c.args.tokens.now (map sequence_of xs) c.args.tokens.now) (sym c.new-found.ensures.items) (turns-init (is Or) (λ t. conjunction_with c.args.depth (sequences c.args.depth)) c.args.tokens.now))
+read_alternatives-alternatives-init t c = (omega arith, subst (λ (xs : List (SequenceTree)). Turns (is Or) (λ t. conjunction_with c.args.depth (sequences c.args.depth)) c.args.tokens.now (map sequence_of xs) c.args.tokens.now) (sym c.new-found.ensures.items) (turns-init (is Or) (λ t. conjunction_with c.args.depth (sequences c.args.depth)) c.args.tokens.now))
 
 pub read_alternatives-returns-in_default-clause-read : goal.read_alternatives-returns-in_default-clause-read
 read_alternatives-returns-in_default-clause-read t c =
@@ -32,7 +32,7 @@ read_alternatives-alternatives-preserved t c = (
 )
 
 pub read_conjunction-conjuncts-init : goal.read_conjunction-conjuncts-init
-read_conjunction-conjuncts-init t c = (omega arith, subst (λ (xs : List (Sequence)). Turns (is And) (λ t. during_with c.args.depth (sequences c.args.depth)) c.args.tokens.now (map sequence_of xs) c.args.tokens.now) (sym c.new-found.ensures.items) (turns-init (is And) (λ t. during_with c.args.depth (sequences c.args.depth)) c.args.tokens.now))
+read_conjunction-conjuncts-init t c = (omega arith, subst (λ (xs : List (SequenceTree)). Turns (is And) (λ t. during_with c.args.depth (sequences c.args.depth)) c.args.tokens.now (map sequence_of xs) c.args.tokens.now) (sym c.new-found.ensures.items) (turns-init (is And) (λ t. during_with c.args.depth (sequences c.args.depth)) c.args.tokens.now))
 
 pub read_conjunction-returns-in_default-clause-read : goal.read_conjunction-returns-in_default-clause-read
 read_conjunction-returns-in_default-clause-read t c =
@@ -52,7 +52,7 @@ read_conjunction-conjuncts-preserved t c = (
 )
 
 pub read_delayed-steps-init : goal.read_delayed-steps-init
-read_delayed-steps-init t c = (omega arith, subst (λ (xs : List (Range × Sequence)). Turns (is Delay) (λ t. late_part c.args.depth (sequences c.args.depth)) c.args.tokens.now (map step_of xs) c.args.tokens.now) (sym c.new-found.ensures.items) (turns-init (is Delay) (λ t. late_part c.args.depth (sequences c.args.depth)) c.args.tokens.now))
+read_delayed-steps-init t c = (omega arith, subst (λ (xs : List (Range × SequenceTree)). Turns (is Delay) (λ t. late_part c.args.depth (sequences c.args.depth)) c.args.tokens.now (map delay_step_of xs) c.args.tokens.now) (sym c.new-found.ensures.items) (turns-init (is Delay) (λ t. late_part c.args.depth (sequences c.args.depth)) c.args.tokens.now))
 
 pub read_delayed-returns-in_default-clause-read : goal.read_delayed-returns-in_default-clause-read
 read_delayed-returns-in_default-clause-read t c =
@@ -66,9 +66,9 @@ read_delayed-returns-in-Err-clause-read t c = delayed-fails _ _ _ _ (turns-fail 
 pub read_delayed-steps-preserved : goal.read_delayed-steps-preserved
 read_delayed-steps-preserved t c = (
   omega (arith, ap length c.same-left.ensures, c.in-Ok.ensures.shorter, c.in-Some.ensures.shorter, c.steps.invariant.0),
-  subst (λ (ts : List Token). Turns (is Delay) (λ t. late_part c.args.depth (sequences c.args.depth)) c.args.tokens.now (map step_of c.push_step.new.found.items) ts) (sym c.same-left.ensures)
+  subst (λ (ts : List Token). Turns (is Delay) (λ t. late_part c.args.depth (sequences c.args.depth)) c.args.tokens.now (map delay_step_of c.push_step.new.found.items) ts) (sym c.same-left.ensures)
       (turns-next (is Delay) (λ t. late_part c.args.depth (sequences c.args.depth)) _ _ _ c.steps.invariant.1 _ _ (expect-lead Delay _ _ c.in-Some.ensures.token) c.in-Some.ensures.shorter _ _ _ (omega (arith, c.in-Ok.ensures.shorter))
-      c.in-Ok.ensures.read (ap (map step_of) c.in-Ok-push_step.ensures.ok ∙ map-push step_of _ _)),
+      c.in-Ok.ensures.read (ap (map delay_step_of) c.in-Ok-push_step.ensures.ok ∙ map-push delay_step_of _ _)),
 )
 
 pub read_behind-returns-clause-read : goal.read_behind-returns-clause-read

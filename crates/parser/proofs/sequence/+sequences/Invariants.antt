@@ -2,8 +2,8 @@ use Rattle.std.proofs.Common.{◌+◌, ◌*◌, ◌≤◌, map, length}
 use Rattle.grammar.specs.declared.terminal.Terminal.TheVariants.{Delay, And, Or}
 use Rattle.grammar.specs.Terminals.{is}
 use Rattle.grammar.specs.ReadSequences.{late_part, sequences, during_with, conjunction_with}
-use Rattle.parser.specs.Views.{sequence_of, step_of}
-use Rattle.parser.proofs.LoopLaws.{Turns}
+use Rattle.parser.specs.Views.{sequence_of, delay_step_of}
+use Rattle.parser_expressions.proofs.LoopLaws.{Turns}
 use Rattle.parser.proofs.sequence.+sequences.Given as goal
 
 abbrev pub decreases-read_body : goal.decreases-read_body
@@ -34,7 +34,7 @@ abbrev pub decreases-read_sequence : goal.decreases-read_sequence
 decreases-read_sequence l = 10 * l.depth + 8
 
 abbrev pub invariant-read_delayed-steps : goal.invariant-read_delayed-steps
-invariant-read_delayed-steps l = (length l.left ≤ length l.tokens) × Turns (is Delay) (λ t. late_part l.depth (sequences l.depth)) l.tokens (map step_of l.found.items) l.left
+invariant-read_delayed-steps l = (length l.left ≤ length l.tokens) × Turns (is Delay) (λ t. late_part l.depth (sequences l.depth)) l.tokens (map delay_step_of l.found.items) l.left
 
 abbrev pub decreases-read_delayed-steps : goal.decreases-read_delayed-steps
 decreases-read_delayed-steps l = length l.left

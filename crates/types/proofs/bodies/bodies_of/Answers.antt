@@ -3,7 +3,7 @@ use Rattle.grammar.specs.Trees as trees
 use Rattle.assertions.specs.declared.sequence.Boolean.{Boolean}
 use Rattle.types_sequences.specs.Drafts.{Draft}
 use Rattle.types_sequences.specs.Views.{draft_of}
-use Rattle.parser.specs.declared.tree.Item.{Item}
+use Rattle.parser.specs.declared.tree.ItemTree.{ItemTree}
 use Rattle.parser.specs.Views.{counter_of, declaration_of, assertion_of, item_of}
 use Rattle.types_expressions.specs.Views.{scope_of, columns_in}
 use Rattle.types_expressions.proofs.Lists.{at, past_end}
@@ -29,8 +29,8 @@ draft_of-requires-clause-sound c = λ k.
     let s = scope_of c.args.scope.now in
     let cs = columns_in c.args.columns.now in
     let rest = map item_of (drop (c.loop-item.item-index + 1) c.args.items.now) in
-    let cut = at trees.Item item_of c.args.items.now c.loop-item.item-index c.item-item.result c.loop-item-test.true c.item-item.is in
-    let is : map item_of (drop c.loop-item.item-index c.args.items.now) ≡ trees.declaration (declaration_of c.in-Declaration.declaration) ∷ rest = cut ∙ ap (λ (x : Item). item_of x ∷ rest) c.in-Declaration.is in
+    let cut = at trees.ItemForm item_of c.args.items.now c.loop-item.item-index c.item-item.result c.loop-item-test.true c.item-item.is in
+    let is : map item_of (drop c.loop-item.item-index c.args.items.now) ≡ trees.declaration (declaration_of c.in-Declaration.declaration) ∷ rest = cut ∙ ap (λ (x : ItemTree). item_of x ∷ rest) c.in-Declaration.is in
     let r = ready-item s cs _ _ rest is c.loop-item.invariant.ready in
     rw c.deref.ensures (r.0.sound k)
 
@@ -39,8 +39,8 @@ draft_of-requires-clause-listed c =
     let s = scope_of c.args.scope.now in
     let cs = columns_in c.args.columns.now in
     let rest = map item_of (drop (c.loop-item.item-index + 1) c.args.items.now) in
-    let cut = at trees.Item item_of c.args.items.now c.loop-item.item-index c.item-item.result c.loop-item-test.true c.item-item.is in
-    let is : map item_of (drop c.loop-item.item-index c.args.items.now) ≡ trees.declaration (declaration_of c.in-Declaration.declaration) ∷ rest = cut ∙ ap (λ (x : Item). item_of x ∷ rest) c.in-Declaration.is in
+    let cut = at trees.ItemForm item_of c.args.items.now c.loop-item.item-index c.item-item.result c.loop-item-test.true c.item-item.is in
+    let is : map item_of (drop c.loop-item.item-index c.args.items.now) ≡ trees.declaration (declaration_of c.in-Declaration.declaration) ∷ rest = cut ∙ ap (λ (x : ItemTree). item_of x ∷ rest) c.in-Declaration.is in
     let r = ready-item s cs _ _ rest is c.loop-item.invariant.ready in
     rw c.deref.ensures r.0.listed
 
@@ -49,8 +49,8 @@ loop-item-preserved-in-Declaration c =
     let s = scope_of c.args.scope.now in
     let cs = columns_in c.args.columns.now in
     let rest = map item_of (drop (c.loop-item.item-index + 1) c.args.items.now) in
-    let cut = at trees.Item item_of c.args.items.now c.loop-item.item-index c.item-item.result c.loop-item-test.true c.item-item.is in
-    let is : map item_of (drop c.loop-item.item-index c.args.items.now) ≡ trees.declaration (declaration_of c.in-Declaration.declaration) ∷ rest = cut ∙ ap (λ (x : Item). item_of x ∷ rest) c.in-Declaration.is in
+    let cut = at trees.ItemForm item_of c.args.items.now c.loop-item.item-index c.item-item.result c.loop-item-test.true c.item-item.is in
+    let is : map item_of (drop c.loop-item.item-index c.args.items.now) ≡ trees.declaration (declaration_of c.in-Declaration.declaration) ∷ rest = cut ∙ ap (λ (x : ItemTree). item_of x ∷ rest) c.in-Declaration.is in
     let r = ready-item s cs _ _ rest is c.loop-item.invariant.ready in
     let more = c.in_ok-body-in-Declaration.ensures.grows in
     record {
@@ -65,8 +65,8 @@ loop-item-preserved-in-Counter c =
     let s = scope_of c.args.scope.now in
     let cs = columns_in c.args.columns.now in
     let rest = map item_of (drop (c.loop-item.item-index + 1) c.args.items.now) in
-    let cut = at trees.Item item_of c.args.items.now c.loop-item.item-index c.item-item.result c.loop-item-test.true c.item-item.is in
-    let is : map item_of (drop c.loop-item.item-index c.args.items.now) ≡ trees.counter (counter_of c.in-Counter.field-0) ∷ rest = cut ∙ ap (λ (x : Item). item_of x ∷ rest) c.in-Counter.is in
+    let cut = at trees.ItemForm item_of c.args.items.now c.loop-item.item-index c.item-item.result c.loop-item-test.true c.item-item.is in
+    let is : map item_of (drop c.loop-item.item-index c.args.items.now) ≡ trees.counter (counter_of c.in-Counter.field-0) ∷ rest = cut ∙ ap (λ (x : ItemTree). item_of x ∷ rest) c.in-Counter.is in
     let r = ready-item s cs _ _ rest is c.loop-item.invariant.ready in
     record {
       ready = r.1;
@@ -79,8 +79,8 @@ loop-item-preserved c =
     let s = scope_of c.args.scope.now in
     let cs = columns_in c.args.columns.now in
     let rest = map item_of (drop (c.loop-item.item-index + 1) c.args.items.now) in
-    let cut = at trees.Item item_of c.args.items.now c.loop-item.item-index c.item-item.result c.loop-item-test.true c.item-item.is in
-    let is : map item_of (drop c.loop-item.item-index c.args.items.now) ≡ trees.assertion (assertion_of c.in-Assertion.field-0) ∷ rest = cut ∙ ap (λ (x : Item). item_of x ∷ rest) c.in-Assertion.is in
+    let cut = at trees.ItemForm item_of c.args.items.now c.loop-item.item-index c.item-item.result c.loop-item-test.true c.item-item.is in
+    let is : map item_of (drop c.loop-item.item-index c.args.items.now) ≡ trees.assertion (assertion_of c.in-Assertion.field-0) ∷ rest = cut ∙ ap (λ (x : ItemTree). item_of x ∷ rest) c.in-Assertion.is in
     let r = ready-item s cs _ _ rest is c.loop-item.invariant.ready in
     record {
       ready = r.1;
@@ -90,4 +90,4 @@ loop-item-preserved c =
 
 pub returns-clause-read : goal.returns-clause-read
 returns-clause-read c =
-    seen_all declarations_of _ (map item_of c.args.items.now) _ (past_end trees.Item item_of c.args.items.now c.loop-item.item-index c.loop-item-test.false) refl c.loop-item.invariant.read
+    seen_all declarations_of _ (map item_of c.args.items.now) _ (past_end trees.ItemForm item_of c.args.items.now c.loop-item.item-index c.loop-item-test.false) refl c.loop-item.invariant.read

@@ -1,6 +1,6 @@
 use Rattle.std.proofs.Common.{◌≡◌, ◌+◌, ◌∷◌, map, drop, refl, ap, ◌∙◌}
 use Rattle.grammar.specs.Trees as trees
-use Rattle.parser.specs.declared.tree.Item.{Item}
+use Rattle.parser.specs.declared.tree.ItemTree.{ItemTree}
 use Rattle.parser.specs.Views.{counter_of, declaration_of, assertion_of, item_of}
 use Rattle.types_expressions.specs.Views.{scope_of, columns_in}
 use Rattle.types_expressions.proofs.Lists.{at, past_end}
@@ -19,8 +19,8 @@ counter_of-requires-clause-sound c =
     let s = scope_of c.args.scope.now in
     let cs = columns_in c.args.columns.now in
     let rest = map item_of (drop (c.loop-item.item-index + 1) c.args.items.now) in
-    let cut = at trees.Item item_of c.args.items.now c.loop-item.item-index c.item-item.result c.loop-item-test.true c.item-item.is in
-    let is : map item_of (drop c.loop-item.item-index c.args.items.now) ≡ trees.counter (counter_of c.in-Counter.counter) ∷ rest = cut ∙ ap (λ (x : Item). item_of x ∷ rest) c.in-Counter.is in
+    let cut = at trees.ItemForm item_of c.args.items.now c.loop-item.item-index c.item-item.result c.loop-item-test.true c.item-item.is in
+    let is : map item_of (drop c.loop-item.item-index c.args.items.now) ≡ trees.counter (counter_of c.in-Counter.counter) ∷ rest = cut ∙ ap (λ (x : ItemTree). item_of x ∷ rest) c.in-Counter.is in
     let r = ready-item s cs _ _ rest is c.loop-item.invariant.ready in
     r.0.sound
 
@@ -29,8 +29,8 @@ counter_of-requires-clause-listed c =
     let s = scope_of c.args.scope.now in
     let cs = columns_in c.args.columns.now in
     let rest = map item_of (drop (c.loop-item.item-index + 1) c.args.items.now) in
-    let cut = at trees.Item item_of c.args.items.now c.loop-item.item-index c.item-item.result c.loop-item-test.true c.item-item.is in
-    let is : map item_of (drop c.loop-item.item-index c.args.items.now) ≡ trees.counter (counter_of c.in-Counter.counter) ∷ rest = cut ∙ ap (λ (x : Item). item_of x ∷ rest) c.in-Counter.is in
+    let cut = at trees.ItemForm item_of c.args.items.now c.loop-item.item-index c.item-item.result c.loop-item-test.true c.item-item.is in
+    let is : map item_of (drop c.loop-item.item-index c.args.items.now) ≡ trees.counter (counter_of c.in-Counter.counter) ∷ rest = cut ∙ ap (λ (x : ItemTree). item_of x ∷ rest) c.in-Counter.is in
     let r = ready-item s cs _ _ rest is c.loop-item.invariant.ready in
     r.0.listed
 
@@ -39,8 +39,8 @@ loop-item-preserved-in-Counter c =
     let s = scope_of c.args.scope.now in
     let cs = columns_in c.args.columns.now in
     let rest = map item_of (drop (c.loop-item.item-index + 1) c.args.items.now) in
-    let cut = at trees.Item item_of c.args.items.now c.loop-item.item-index c.item-item.result c.loop-item-test.true c.item-item.is in
-    let is : map item_of (drop c.loop-item.item-index c.args.items.now) ≡ trees.counter (counter_of c.in-Counter.counter) ∷ rest = cut ∙ ap (λ (x : Item). item_of x ∷ rest) c.in-Counter.is in
+    let cut = at trees.ItemForm item_of c.args.items.now c.loop-item.item-index c.item-item.result c.loop-item-test.true c.item-item.is in
+    let is : map item_of (drop c.loop-item.item-index c.args.items.now) ≡ trees.counter (counter_of c.in-Counter.counter) ∷ rest = cut ∙ ap (λ (x : ItemTree). item_of x ∷ rest) c.in-Counter.is in
     let r = ready-item s cs _ _ rest is c.loop-item.invariant.ready in
     record {
       ready = r.1;
@@ -52,8 +52,8 @@ loop-item-preserved-in-Declaration c =
     let s = scope_of c.args.scope.now in
     let cs = columns_in c.args.columns.now in
     let rest = map item_of (drop (c.loop-item.item-index + 1) c.args.items.now) in
-    let cut = at trees.Item item_of c.args.items.now c.loop-item.item-index c.item-item.result c.loop-item-test.true c.item-item.is in
-    let is : map item_of (drop c.loop-item.item-index c.args.items.now) ≡ trees.declaration (declaration_of c.in-Declaration.field-0) ∷ rest = cut ∙ ap (λ (x : Item). item_of x ∷ rest) c.in-Declaration.is in
+    let cut = at trees.ItemForm item_of c.args.items.now c.loop-item.item-index c.item-item.result c.loop-item-test.true c.item-item.is in
+    let is : map item_of (drop c.loop-item.item-index c.args.items.now) ≡ trees.declaration (declaration_of c.in-Declaration.field-0) ∷ rest = cut ∙ ap (λ (x : ItemTree). item_of x ∷ rest) c.in-Declaration.is in
     let r = ready-item s cs _ _ rest is c.loop-item.invariant.ready in
     record {
       ready = r.1;
@@ -65,8 +65,8 @@ loop-item-preserved c =
     let s = scope_of c.args.scope.now in
     let cs = columns_in c.args.columns.now in
     let rest = map item_of (drop (c.loop-item.item-index + 1) c.args.items.now) in
-    let cut = at trees.Item item_of c.args.items.now c.loop-item.item-index c.item-item.result c.loop-item-test.true c.item-item.is in
-    let is : map item_of (drop c.loop-item.item-index c.args.items.now) ≡ trees.assertion (assertion_of c.in-Assertion.field-0) ∷ rest = cut ∙ ap (λ (x : Item). item_of x ∷ rest) c.in-Assertion.is in
+    let cut = at trees.ItemForm item_of c.args.items.now c.loop-item.item-index c.item-item.result c.loop-item-test.true c.item-item.is in
+    let is : map item_of (drop c.loop-item.item-index c.args.items.now) ≡ trees.assertion (assertion_of c.in-Assertion.field-0) ∷ rest = cut ∙ ap (λ (x : ItemTree). item_of x ∷ rest) c.in-Assertion.is in
     let r = ready-item s cs _ _ rest is c.loop-item.invariant.ready in
     record {
       ready = r.1;
@@ -75,4 +75,4 @@ loop-item-preserved c =
 
 pub returns : goal.returns
 returns c =
-    completes_all (scope_of c.args.scope.now) (columns_in c.args.columns.now) _ _ _ (past_end trees.Item item_of c.args.items.now c.loop-item.item-index c.loop-item-test.false) c.loop-item.invariant.made
+    completes_all (scope_of c.args.scope.now) (columns_in c.args.columns.now) _ _ _ (past_end trees.ItemForm item_of c.args.items.now c.loop-item.item-index c.loop-item-test.false) c.loop-item.invariant.made

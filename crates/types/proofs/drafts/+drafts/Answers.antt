@@ -1,5 +1,5 @@
 use Rattle.std.proofs.Common.{rules, refl, ap}
-use Rattle.parser.specs.declared.tree.Sequence.TheViews.{the_lemmas}
+use Rattle.parser.specs.declared.tree.SequenceTree.TheViews.{the_lemmas}
 use Rattle.parser.specs.Views.{sequence_of}
 use Rattle.assertions.specs.declared.sequence.Boolean.TheVariants.{Listed}
 use Rattle.types_sequences.specs.Views.{draft_of}
@@ -108,18 +108,18 @@ pub draft_of-returns-in_ok-body-in-Repeated-clause-reads :
 draft_of-returns-in_ok-body-in-Repeated-clause-reads t c =
     let k = c.in-Repeated in
     let is = is-Repeated c.args.sequence.now k.body k.range c.deref-in-Repeated.result.now k.is c.deref-in-Repeated.ensures in
-    when_ok c.repeated.result
+    when_ok c.repeated_draft.result
     (λ d h. reads-repeated (scope_of c.args.scope.now) (columns_in c.args.columns.now) _ _ _ k.range (draft_of c.in_ok-body-in-Repeated.body.value) (draft_of d.value) is c.in_ok-body-in-Repeated.ensures.reads h)
-    c.repeated.ensures
+    c.repeated_draft.ensures
 
 pub draft_of-returns-in_ok-body-in-Late-clause-reads :
     goal.draft_of-returns-in_ok-body-in-Late-clause-reads
 draft_of-returns-in_ok-body-in-Late-clause-reads t c =
     let k = c.in-Late in
     let is = is-Late c.args.sequence.now k.field-0 k.range k.body c.deref-in-Late.result.now k.is c.deref-in-Late.ensures in
-    when_ok c.led.result
+    when_ok c.late_draft.result
     (λ d h. reads-late (scope_of c.args.scope.now) (columns_in c.args.columns.now) _ _ k.field-0 k.range _ (draft_of c.in_ok-body-in-Late.body.value) (draft_of d.value) is c.in_ok-body-in-Late.ensures.reads h)
-    c.led.ensures
+    c.late_draft.ensures
 
 pub draft_of-returns-in_ok-first-in-Delayed-clause-reads :
     goal.draft_of-returns-in_ok-first-in-Delayed-clause-reads

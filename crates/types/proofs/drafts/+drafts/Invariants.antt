@@ -1,6 +1,6 @@
 use Rattle.std.proofs.Common.{map, drop, List}
 use Rattle.grammar.specs.ReadSequences.{steps_of, others_of}
-use Rattle.parser.specs.Views.{sequence_of, step_of}
+use Rattle.parser.specs.Views.{sequence_of, delay_step_of}
 use Rattle.expressions.specs.declared.expr.Expr.{Expr}
 use Rattle.assertions.specs.declared.sequence.Boolean.{Boolean}
 use Rattle.types_sequences.specs.Drafts.{Draft}
@@ -13,11 +13,11 @@ use Rattle.types.proofs.drafts.+drafts.Given as goal
 
 abbrev pub invariant-with_steps-loop-step : goal.invariant-with_steps-loop-step
 invariant-with_steps-loop-step l = record {
-  ready : AreReadySteps (scope_of l.scope) (columns_in l.columns) (steps_of (map step_of (drop l.step-index l.steps)));
+  ready : AreReadySteps (scope_of l.scope) (columns_in l.columns) (steps_of (map delay_step_of (drop l.step-index l.steps)));
   grows : Extends l.fn.booleans.items l.booleans.items;
   reads : (later : List Expr) → Extends l.booleans.items later → (d : Draft Boolean) →
-      ReadsSteps (scope_of l.scope) (columns_in l.columns) later (draft_of l.whole.value) (steps_of (map step_of (drop l.step-index l.steps))) d →
-      ReadsSteps (scope_of l.scope) (columns_in l.columns) later (draft_of l.fn.first.value) (steps_of (map step_of l.steps)) d;
+      ReadsSteps (scope_of l.scope) (columns_in l.columns) later (draft_of l.whole.value) (steps_of (map delay_step_of (drop l.step-index l.steps))) d →
+      ReadsSteps (scope_of l.scope) (columns_in l.columns) later (draft_of l.fn.first.value) (steps_of (map delay_step_of l.steps)) d;
 }
 
 abbrev pub invariant-with_all-loop-other : goal.invariant-with_all-loop-other

@@ -1,5 +1,5 @@
 use Rattle.std.proofs.Common.{arith}
-use Rattle.parser.specs.Views.{tree_of}
+use Rattle.parser_expressions.specs.Views.{tree_of}
 use Rattle.types_expressions.specs.Views.{scope_of, columns_in}
 use Rattle.types.proofs.ReadingLaws.{new_atom}
 use Rattle.types.proofs.drafts.atom.Goals as goal

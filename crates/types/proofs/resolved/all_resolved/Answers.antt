@@ -1,6 +1,6 @@
 use Rattle.std.proofs.Common.{◌≡◌, ◌+◌, ◌∷◌, [], List, map, drop, refl, sym, ap, ◌∙◌, subst, arith}
 use Rattle.grammar.specs.Trees as trees
-use Rattle.parser.specs.declared.tree.Item.{Item}
+use Rattle.parser.specs.declared.tree.ItemTree.{ItemTree}
 use Rattle.parser.specs.Views.{counter_of, declaration_of, assertion_of, item_of}
 use Rattle.types_expressions.specs.Views.{scope_of, columns_in}
 use Rattle.types_expressions.proofs.Lists.{at, past_end}
@@ -27,8 +27,8 @@ resolved_of-requires-clause-sound c = λ k.
     let s = scope_of c.args.scope.now in
     let cs = columns_in c.args.columns.now in
     let rest = map item_of (drop (c.loop-item.item-index + 1) c.args.items.now) in
-    let cut = at trees.Item item_of c.args.items.now c.loop-item.item-index c.item-item.result c.loop-item-test.true c.item-item.is in
-    let is : map item_of (drop c.loop-item.item-index c.args.items.now) ≡ trees.assertion (assertion_of c.in-Assertion.assertion) ∷ rest = cut ∙ ap (λ (x : Item). item_of x ∷ rest) c.in-Assertion.is in
+    let cut = at trees.ItemForm item_of c.args.items.now c.loop-item.item-index c.item-item.result c.loop-item-test.true c.item-item.is in
+    let is : map item_of (drop c.loop-item.item-index c.args.items.now) ≡ trees.assertion (assertion_of c.in-Assertion.assertion) ∷ rest = cut ∙ ap (λ (x : ItemTree). item_of x ∷ rest) c.in-Assertion.is in
     let r = ready-item s cs _ _ rest is c.loop-item.invariant.ready in
     r.0.sound k
 
@@ -37,8 +37,8 @@ resolved_of-requires-clause-listed c =
     let s = scope_of c.args.scope.now in
     let cs = columns_in c.args.columns.now in
     let rest = map item_of (drop (c.loop-item.item-index + 1) c.args.items.now) in
-    let cut = at trees.Item item_of c.args.items.now c.loop-item.item-index c.item-item.result c.loop-item-test.true c.item-item.is in
-    let is : map item_of (drop c.loop-item.item-index c.args.items.now) ≡ trees.assertion (assertion_of c.in-Assertion.assertion) ∷ rest = cut ∙ ap (λ (x : Item). item_of x ∷ rest) c.in-Assertion.is in
+    let cut = at trees.ItemForm item_of c.args.items.now c.loop-item.item-index c.item-item.result c.loop-item-test.true c.item-item.is in
+    let is : map item_of (drop c.loop-item.item-index c.args.items.now) ≡ trees.assertion (assertion_of c.in-Assertion.assertion) ∷ rest = cut ∙ ap (λ (x : ItemTree). item_of x ∷ rest) c.in-Assertion.is in
     let r = ready-item s cs _ _ rest is c.loop-item.invariant.ready in
     r.0.listed
 
@@ -47,9 +47,9 @@ loop-item-preserved c =
     let s = scope_of c.args.scope.now in
     let cs = columns_in c.args.columns.now in
     let rest = map item_of (drop (c.loop-item.item-index + 1) c.args.items.now) in
-    let cut = at trees.Item item_of c.args.items.now c.loop-item.item-index c.item-item.result c.loop-item-test.true c.item-item.is in
+    let cut = at trees.ItemForm item_of c.args.items.now c.loop-item.item-index c.item-item.result c.loop-item-test.true c.item-item.is in
     let a = assertion_of c.in-Assertion.assertion in
-    let is : map item_of (drop c.loop-item.item-index c.args.items.now) ≡ trees.assertion a ∷ rest = cut ∙ ap (λ (x : Item). item_of x ∷ rest) c.in-Assertion.is in
+    let is : map item_of (drop c.loop-item.item-index c.args.items.now) ≡ trees.assertion a ∷ rest = cut ∙ ap (λ (x : ItemTree). item_of x ∷ rest) c.in-Assertion.is in
     let r = ready-item s cs _ _ rest is c.loop-item.invariant.ready in
     let more = c.in_ok-made-in-Assertion.ensures.grows in
     record {
@@ -65,9 +65,9 @@ loop-item-preserved-in-Counter c =
     let s = scope_of c.args.scope.now in
     let cs = columns_in c.args.columns.now in
     let rest = map item_of (drop (c.loop-item.item-index + 1) c.args.items.now) in
-    let cut = at trees.Item item_of c.args.items.now c.loop-item.item-index c.item-item.result c.loop-item-test.true c.item-item.is in
+    let cut = at trees.ItemForm item_of c.args.items.now c.loop-item.item-index c.item-item.result c.loop-item-test.true c.item-item.is in
     let x = trees.counter (counter_of c.in-Counter.field-0) in
-    let is : map item_of (drop c.loop-item.item-index c.args.items.now) ≡ x ∷ rest = cut ∙ ap (λ (y : Item). item_of y ∷ rest) c.in-Counter.is in
+    let is : map item_of (drop c.loop-item.item-index c.args.items.now) ≡ x ∷ rest = cut ∙ ap (λ (y : ItemTree). item_of y ∷ rest) c.in-Counter.is in
     let r = ready-item s cs _ _ rest is c.loop-item.invariant.ready in
     record { ready = r.1; grows = c.loop-item.invariant.grows; made = λ bodies table. seen_skip assertions_of _ _ (map item_of c.args.items.now) _ rest x is refl (λ us h. h) (c.loop-item.invariant.made bodies table) }
 
@@ -76,12 +76,12 @@ loop-item-preserved-in-Declaration c =
     let s = scope_of c.args.scope.now in
     let cs = columns_in c.args.columns.now in
     let rest = map item_of (drop (c.loop-item.item-index + 1) c.args.items.now) in
-    let cut = at trees.Item item_of c.args.items.now c.loop-item.item-index c.item-item.result c.loop-item-test.true c.item-item.is in
+    let cut = at trees.ItemForm item_of c.args.items.now c.loop-item.item-index c.item-item.result c.loop-item-test.true c.item-item.is in
     let x = trees.declaration (declaration_of c.in-Declaration.field-0) in
-    let is : map item_of (drop c.loop-item.item-index c.args.items.now) ≡ x ∷ rest = cut ∙ ap (λ (y : Item). item_of y ∷ rest) c.in-Declaration.is in
+    let is : map item_of (drop c.loop-item.item-index c.args.items.now) ≡ x ∷ rest = cut ∙ ap (λ (y : ItemTree). item_of y ∷ rest) c.in-Declaration.is in
     let r = ready-item s cs _ _ rest is c.loop-item.invariant.ready in
     record { ready = r.1; grows = c.loop-item.invariant.grows; made = λ bodies table. seen_skip assertions_of _ _ (map item_of c.args.items.now) _ rest x is refl (λ us h. h) (c.loop-item.invariant.made bodies table) }
 
 pub returns-clause-resolved : goal.returns-clause-resolved
 returns-clause-resolved c = λ bodies table.
-    seen_all assertions_of _ (map item_of c.args.items.now) _ (past_end trees.Item item_of c.args.items.now c.loop-item.item-index c.loop-item-test.false) refl (c.loop-item.invariant.made bodies table)
+    seen_all assertions_of _ (map item_of c.args.items.now) _ (past_end trees.ItemForm item_of c.args.items.now c.loop-item.item-index c.loop-item-test.false) refl (c.loop-item.invariant.made bodies table)

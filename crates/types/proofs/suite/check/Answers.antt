@@ -1,5 +1,5 @@
 use Rattle.std.proofs.Common.{◌≡◌, List, sym, ap, ◌∙◌, map, subst}
-use Rattle.grammar.specs.Trees.{Item}
+use Rattle.grammar.specs.Trees.{ItemForm}
 use Rattle.parser.specs.Views.{item_of, items_of}
 use Rattle.types_expressions.specs.Scopes.{Scope, scope_for, sequence_named}
 use Rattle.types_expressions.specs.Views.{scope_of, names_in}
@@ -21,8 +21,8 @@ suite_of-requires-clause-declared c = λ t p h.
 
 pub returns-clause-faultless : goal.returns-clause-faultless
 returns-clause-faultless c =
-    let is = c.in_ok-scope.ensures ∙ ap (λ (us : List Item). scope_for us (names_in c.args.names.now)) items in
-    when_ok c.suite_of.result (λ x h. subst (λ (z : Scope). IsFaultless z (items_of c.args.file.now)) is (subst (λ (us : List Item). IsFaultless (scope_of c.in_ok-scope.scope) us) items h)) c.suite_of.ensures.faultless
+    let is = c.in_ok-scope.ensures ∙ ap (λ (us : List ItemForm). scope_for us (names_in c.args.names.now)) items in
+    when_ok c.suite_of.result (λ x h. subst (λ (z : Scope). IsFaultless z (items_of c.args.file.now)) is (subst (λ (us : List ItemForm). IsFaultless (scope_of c.in_ok-scope.scope) us) items h)) c.suite_of.ensures.faultless
   where
     items : map item_of c.as_slice-items.result.now ≡ items_of c.args.file.now
     items = ap (map item_of) c.as_slice-items.ensures.value

@@ -1,6 +1,6 @@
 use Rattle.std.proofs.Common.{length, map, sym, ap, ◌∙◌}
 use Rattle.std.proofs.lemmas.List.{length-map}
-use Rattle.grammar.specs.Trees.{Declaration}
+use Rattle.grammar.specs.Trees.{DeclarationForm}
 use Rattle.parser.specs.Views.{item_of}
 use Rattle.types_sequences.specs.Views.{draft_of}
 use Rattle.types_expressions.specs.Views.{scope_of, columns_in}
@@ -16,12 +16,12 @@ resolve-requires c =
     let items = map item_of c.args.items.now in
     rw c.as_slice.ensures.value
     (all_declared (scope_of c.args.scope.now) (columns_in c.args.columns.now) c.bodies_of.new.booleans.items (length (declarations_of items)) c.requires.declared (bodies_in (declarations_of items))
-    (map draft_of c.in_ok-bodies.bodies.items) (length-map (declarations_of items) (λ (d : Declaration). d.body)) c.in_ok-bodies.ensures.read)
+    (map draft_of c.in_ok-bodies.bodies.items) (length-map (declarations_of items) (λ (d : DeclarationForm). d.body)) c.in_ok-bodies.ensures.read)
 
 pub check_cycles-requires-clause-bytes : goal.check_cycles-requires-clause-bytes
 check_cycles-requires-clause-bytes c =
     let items = map item_of c.args.items.now in
-    ap length (c.as_slice-3.ensures.value ∙ c.in_ok-bytes.ensures) ∙ length-map (declarations_of items) (λ (d : Declaration). d.name.at)
+    ap length (c.as_slice-3.ensures.value ∙ c.in_ok-bytes.ensures) ∙ length-map (declarations_of items) (λ (d : DeclarationForm). d.name.at)
     ∙ sym (body_count (scope_of c.args.scope.now) (columns_in c.args.columns.now) c.bodies_of.new.booleans.items items c.in_ok-bodies.bodies.items c.in_ok-bodies.ensures.read) ∙ sym (ap length c.as_slice-2.ensures.value)
 
 pub returns-in_err-check_cycles-clause-refused : goal.returns-in_err-check_cycles-clause-refused

@@ -1,6 +1,6 @@
 use Rattle.std.proofs.Common.{◌≡◌, ◌≤◌, ℕ, List, map, drop}
 use Rattle.parser.specs.Views.{item_of}
-use Rattle.types_expressions.specs.Scopes.{found, owns, owns_from}
+use Rattle.types_expressions.specs.Scopes.{look_up, owns, owns_from}
 use Rattle.types_expressions.specs.Views.{entries_in}
 use Rattle.types_expressions.proofs.EntryLaws.{first_of}
 use Rattle.types_expressions.proofs.scope.owns_of.Given as goal
@@ -10,5 +10,5 @@ abbrev pub invariant-loop-item : goal.invariant-loop-item
 invariant-loop-item l = record {
   counters : l.counters ≤ l.item-index;
   sequences : l.sequences ≤ l.item-index;
-  left : (q : List ℕ) → first_of (found (entries_in l.names) q) (found (owns_from l.counters l.sequences (map item_of (drop l.item-index l.items))) q) ≡ found (owns (map item_of l.items)) q;
+  left : (q : List ℕ) → first_of (look_up (entries_in l.names) q) (look_up (owns_from l.counters l.sequences (map item_of (drop l.item-index l.items))) q) ≡ look_up (owns (map item_of l.items)) q;
 }

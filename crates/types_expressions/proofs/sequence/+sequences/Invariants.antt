@@ -1,13 +1,13 @@
 use Rattle.std.proofs.Common.{◌≡◌, map, drop}
 use Rattle.grammar.specs.ReadSequences.{steps_of, others_of}
-use Rattle.parser.specs.Views.{sequence_of, step_of}
+use Rattle.parser.specs.Views.{sequence_of, delay_step_of}
 use Rattle.types_expressions.specs.Faults.{step_faults, other_faults, earlier, least}
 use Rattle.types_expressions.specs.Views.{scope_of}
 use Rattle.types_expressions.proofs.sequence.+sequences.Given as goal
 
 abbrev pub invariant-steps_fault-loop-step : goal.invariant-steps_fault-loop-step
 invariant-steps_fault-loop-step l =
-    earlier l.fault (least (step_faults (scope_of l.scope) l.sought (steps_of (map step_of (drop l.step-index l.steps))))) ≡ earlier l.fn.first (least (step_faults (scope_of l.scope) l.sought (steps_of (map step_of l.steps))))
+    earlier l.fault (least (step_faults (scope_of l.scope) l.sought (steps_of (map delay_step_of (drop l.step-index l.steps))))) ≡ earlier l.fn.first (least (step_faults (scope_of l.scope) l.sought (steps_of (map delay_step_of l.steps))))
 
 abbrev pub invariant-others_fault-loop-other : goal.invariant-others_fault-loop-other
 invariant-others_fault-loop-other l =

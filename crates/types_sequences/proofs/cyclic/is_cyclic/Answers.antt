@@ -2,7 +2,7 @@ use Rattle.std.proofs.Common.{rules, inr, ◌≡◌, ◌<◌, ℕ, true, false, 
 use Rattle.std.proofs.lemmas.Bool.{false≢true}
 use Rattle.std.proofs.lemmas.List.{length-map, get_or_default}
 use Rattle.types_sequences.specs.Views.{draft_of}
-use Rattle.types_sequences.specs.Marks.{marked}
+use Rattle.types_sequences.specs.Marks.{mark_at}
 use Rattle.types_sequences.proofs.CyclicLaws.{all_marked}
 use Rattle.types_sequences.proofs.cyclic.is_cyclic.Goals as goal
 
@@ -14,7 +14,7 @@ sweeps-init c =
       covers = λ p h. inr (c.in_ok-left.ensures p h);
     }
 
-read_mark : (marks : List Bool) (p : ℕ) (found want : Bool) → p < length marks → found ≡ get_or marks p found → found ≡ want → marked marks p ≡ want
+read_mark : (marks : List Bool) (p : ℕ) (found want : Bool) → p < length marks → found ≡ get_or marks p found → found ≡ want → mark_at marks p ≡ want
 read_mark marks p found want h e w = get_or_default marks p false found h ∙ sym e ∙ w
 
 pub returns-then-index : goal.returns-then-index

@@ -3,7 +3,7 @@ use Rattle.std.proofs.lemmas.List.{append-nil, map-append}
 use Rattle.vcd_reader.specs.declared.fault.Fault.{Fault}
 use Rattle.vcd_reader.specs.declared.scope.Scope.{Scope}
 use Rattle.vcd_reader.specs.declared.variable.Variable.{Variable}
-use Rattle.vcd_reader.specs.Tokens.{Token}
+use Rattle.vcd_reader.specs.Tokens.{DumpToken}
 use Rattle.vcd_reader.specs.Variables.{Declared}
 use Rattle.vcd_reader.specs.Stored.{declaration_of, declaration_in}
 use Rattle.vcd_reader.specs.Header.{Header, header}
@@ -30,13 +30,13 @@ pub returns-in-Err-clause-header : goal.returns-in-Err-clause-header
 returns-in-Err-clause-header c =
     let scopes = open_scopes c.sections.scopes.items c.sections.scope in
     let vars = map (declaration_of (c.sections.scopes.items ++ [])) c.sections.variables.items in
-    fails-along c.in-Err.e (c.sections.invariant.same [] ∙ ap (λ (ts : List Token). header scopes vars ts) c.in-Some.ensures.tokens) (c.in-Err.ensures.section scopes vars)
+    fails-along c.in-Err.e (c.sections.invariant.same [] ∙ ap (λ (ts : List DumpToken). header scopes vars ts) c.in-Some.ensures.tokens) (c.in-Err.ensures.section scopes vars)
 
 pub returns-in-Ok-Ended-clause-header : goal.returns-in-Ok-Ended-clause-header
 returns-in-Ok-Ended-clause-header c =
     let scopes = open_scopes c.sections.scopes.items c.sections.scope in
     let vars = map (declaration_of (c.sections.scopes.items ++ [])) c.sections.variables.items in
-    c.sections.invariant.same [] ∙ ap (λ (ts : List Token). header scopes vars ts) c.in-Some.ensures.tokens ∙ (rw c.in-Ok-Ended.field-0-is at c.in-Ok-Ended.ensures.section scopes vars)
+    c.sections.invariant.same [] ∙ ap (λ (ts : List DumpToken). header scopes vars ts) c.in-Some.ensures.tokens ∙ (rw c.in-Ok-Ended.field-0-is at c.in-Ok-Ended.ensures.section scopes vars)
     ∙ ap (λ (ss : List Scope). let r : Result Header Fault = Ok (map (declaration_of ss) c.sections.variables.items, tokens_at c.args.bytes.now c.in-Ok-Ended.stop) in r) (append-nil c.sections.scopes.items)
 
 pub sections-preserved-in-Ok-Opened : goal.sections-preserved-in-Ok-Opened
@@ -55,7 +55,7 @@ sections-preserved-in-Ok-Opened c =
       same = λ more.
           let vars = map (declaration_of (old ++ grown.0 ∷ more)) c.sections.variables.items in
           let longer : old ++ grown.0 ∷ more ≡ new ++ more = sym (append_assoc old (grown.0 ∷ []) more) ∙ ap (λ (ss : List Scope). ss ++ more) (sym grown.1) in
-          c.sections.invariant.same (grown.0 ∷ more) ∙ ap (λ (ts : List Token). header scopes vars ts) c.in-Some.ensures.tokens ∙ (rw c.in-Ok-Opened.field-0-is at c.in-Ok-Opened.ensures.section scopes vars)
+          c.sections.invariant.same (grown.0 ∷ more) ∙ ap (λ (ts : List DumpToken). header scopes vars ts) c.in-Some.ensures.tokens ∙ (rw c.in-Ok-Opened.field-0-is at c.in-Ok-Opened.ensures.section scopes vars)
           ∙ ap (λ (xs : List (List ℕ)). header xs vars rest) (sym c.in_ok-scope-in-Ok-Opened.ensures.opened)
           ∙ ap (λ (ss : List Scope). header (open_scopes new c.in_ok-scope-in-Ok-Opened.scope) (map (declaration_of ss) c.sections.variables.items) rest) longer;
     }
@@ -77,6 +77,6 @@ sections-preserved-in-Ok-Declared c =
           let one : declaration_in scopes v ≡ declaration_of (old ++ more) v = ap (λ (xs : List (List ℕ)). declaration_in xs v) (sym (opened-kept old more c.sections.scope c.sections.invariant.inside) ∙ ap (open_scopes (old ++ more)) (sym place)) in
           let all : vars ++ declaration_in scopes v ∷ [] ≡ map (declaration_of (old ++ more)) c.push.new.self.items =
           ap (λ (d : Declared). vars ++ d ∷ []) one ∙ sym (map-append (declaration_of (old ++ more)) c.sections.variables.items (v ∷ [])) ∙ ap (λ (vs : List Variable). map (declaration_of (old ++ more)) vs) (sym c.in_ok-push-in-Ok-Declared.ensures.items) in
-          c.sections.invariant.same more ∙ ap (λ (ts : List Token). header scopes vars ts) c.in-Some.ensures.tokens ∙ (rw c.in-Ok-Declared.field-0-is at c.in-Ok-Declared.ensures.section scopes vars)
+          c.sections.invariant.same more ∙ ap (λ (ts : List DumpToken). header scopes vars ts) c.in-Some.ensures.tokens ∙ (rw c.in-Ok-Declared.field-0-is at c.in-Ok-Declared.ensures.section scopes vars)
           ∙ ap (λ (ds : List Declared). header scopes ds rest) all;
     }

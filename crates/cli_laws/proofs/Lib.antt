@@ -1,0 +1,4 @@
+pub mod OneReport
+pub mod TokenLaws
+pub mod ItemLaws
+pub mod Unrefused

@@ -1,0 +1,5 @@
+pub mod Steps
+pub mod LoopLaws
+pub mod TreeLaws
+pub mod NameSteps
+pub mod PlaceLaws

@@ -1,0 +1,13 @@
+use Rattle.std.proofs.Common.{◌≤◌, length}
+use Rattle.grammar.specs.declared.terminal.Terminal.TheVariants.{Dot}
+use Rattle.grammar.specs.Terminals.{is}
+use Rattle.grammar.specs.Readers.{pick}
+use Rattle.grammar.specs.ReadExpressions.{word_of}
+use Rattle.parser_expressions.proofs.LoopLaws.{Turns}
+use Rattle.parser_expressions.proofs.expression.read_members.Given as goal
+
+abbrev pub invariant-members : goal.invariant-members
+invariant-members l = (length l.left ≤ length l.tokens) × Turns (is Dot) (λ dot. pick word_of) l.tokens l.found.items l.left
+
+abbrev pub decreases-members : goal.decreases-members
+decreases-members l = length l.left

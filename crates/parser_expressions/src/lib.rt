@@ -1,0 +1,32 @@
+//! Reads the tokens of an expression as its tree, and the single tokens that all readers take.
+//!
+//! A reader takes the tokens that are left, and answers what it read with the tokens behind it, or
+//! where and why it stopped. It reads as far as the grammar lets it go on.
+//!
+//! ```text
+//! let (left, rest) = read!(read_expression(alloc, tokens, 64));
+//! ```
+//!
+//! The grammar stands in `grammar/specs/Expressions.antt`, and the functions that read by it in
+//! `grammar/specs/ReadExpressions.antt`; `specs/Views.antt` says how a tree stands for the
+//! grammar's, and what it is that a reader gives what the function reads (`Gives`).
+//!
+//! The depth is how many more brackets and unfinished operators may open, from 0 to 64.
+//!
+//! Not promised: which of the reasons of `Stop` comes, and at which byte; the tests of
+//! `oracle_texts` show it.
+#![tactic(auto)]
+
+mod expression;
+mod node;
+mod read;
+mod stop;
+mod tree;
+
+pub use expression::{finish_expression, read_expression, read_path};
+pub use read::{
+    Read, accept, accept_name, deeper, expect, expect_bound, expect_name, expect_verb, first,
+    operator, place, same,
+};
+pub use stop::Stop;
+pub use tree::{ExprTree, Path};
