@@ -23,7 +23,7 @@ use Rattle.types.specs.declared.fault.TypeFault.{TypeFault}
 use Rattle.types.specs.declared.fault.TypeFault.TheVariants as types
 use Rattle.types.specs.Faults as faults
 use Rattle.types.specs.Faults.{IsFirst, IsFaultless}
-use Rattle.types.specs.Suites.{AreSignals, IsSuite}
+use Rattle.types_suites.specs.Suites.{AreSignals, IsSuite}
 use Rattle.vcd_reader.specs.Variables.{Declared, variable_named, size_of}
 use Rattle.vcd_reader.specs.Dump.{Contents}
 use Rattle.cycle_window.specs.declared.fault.WindowFault.{WindowFault}

@@ -6,7 +6,7 @@ use Rattle.grammar.specs.Trees.{ItemForm}
 use Rattle.grammar.specs.Files.{IsFile}
 use Rattle.assertions.specs.declared.suite.Suite.{Suite}
 use Rattle.types.specs.Faults.{IsFaultless}
-use Rattle.types.specs.Suites.{IsSuite}
+use Rattle.types_suites.specs.Suites.{IsSuite}
 use Rattle.vcd_reader.specs.Variables.{variable_named, size_of, code_number}
 use Rattle.vcd_reader.specs.Dump.{Contents, dump_of, most_bytes}
 use Rattle.cycle_window.specs.Ticks.{ticks_of, row_of}

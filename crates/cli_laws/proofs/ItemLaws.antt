@@ -10,7 +10,7 @@ use Rattle.types_expressions.specs.declared.own.Own.{Own}
 use Rattle.types_expressions.specs.Scopes.{Scope, look_up}
 use Rattle.types.specs.declared.fault.TypeFault.{TypeFault}
 use Rattle.types.specs.Faults.{FaultStands}
-use Rattle.types.specs.Suites.{IsSuite}
+use Rattle.types_suites.specs.Suites.{IsSuite}
 use Rattle.types_laws.proofs.MovedTrees.{moved_item}
 use Rattle.types_laws.proofs.MovedFiles.{file-moved}
 use Rattle.types_laws.proofs.MovedSuites.{owns-moved, suite-moved}

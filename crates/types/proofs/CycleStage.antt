@@ -16,9 +16,10 @@ use Rattle.types_sequences.proofs.CyclicLaws.{declared_by_reach}
 use Rattle.types_expressions.specs.Scopes.{Scope}
 use Rattle.types.specs.declared.fault.TypeFault.TheVariants.{CyclicSequence}
 use Rattle.types.specs.declared.fault.TypeFault.{TypeFault}
-use Rattle.types.specs.Readings.{Dot, dot}
-use Rattle.types.specs.Texts.{declarations_of}
-use Rattle.types.specs.Faults.{outlines_of, CycleAt, ClearTo, FaultStands, IsFirst, rank, byte_of}
+use Rattle.types_suites.specs.Readings.{Dot, dot}
+use Rattle.types_suites.specs.Texts.{declarations_of}
+use Rattle.types_suites.specs.Readings.{outlines_of}
+use Rattle.types.specs.Faults.{CycleAt, ClearTo, FaultStands, IsFirst, rank, byte_of}
 use Rattle.types.specs.Cycles.{IsLowest, AreOutlined}
 use Rattle.types.proofs.StageLaws.{clear_next, first_at, of_6}
 

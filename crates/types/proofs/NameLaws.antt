@@ -5,7 +5,7 @@ use Rattle.types_expressions.specs.Scopes.{look_up}
 use Rattle.types_expressions.specs.Entries.{with_entry}
 use Rattle.types_expressions.specs.Faults.{earlier, least}
 use Rattle.types_expressions.proofs.FaultLaws.{earlier-assoc}
-use Rattle.types.specs.Texts.{is_among, repeated_names, assertions_after}
+use Rattle.types_suites.specs.Texts.{is_among, repeated_names, assertions_after}
 use Rattle.grammar.specs.Trees.{ItemForm, counter, declaration, assertion}
 
 -- the names alone

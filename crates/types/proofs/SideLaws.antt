@@ -8,7 +8,7 @@ use Rattle.types_sequences.specs.declared.facts.Facts.{Facts}
 use Rattle.types_sequences.specs.Drafts.{Draft, IsIn, Spells}
 use Rattle.types_sequences.proofs.MapLaws.{spells_one}
 use Rattle.types.specs.declared.side.Side.{Side}
-use Rattle.types.specs.Readings.{Dot, dot}
+use Rattle.types_suites.specs.Readings.{Dot, dot}
 use Rattle.types.specs.Faults as faults
 use Rattle.types.specs.Faults.{IsSide, SideAt}
 use Rattle.types.specs.Sides.{IsWeighed, AreWeighed, AreLight, places_where, is_wide, is_degenerate, is_empty}

@@ -17,17 +17,18 @@ use Rattle.types_sequences.specs.Entries.{HasEntry}
 use Rattle.types_sequences.proofs.MapLaws.{spells_map, weight_map, empty_map, ticks_map, ordered_map, spells_one}
 use Rattle.types_expressions.specs.Scopes.{Scope}
 use Rattle.types.specs.declared.side.Side.{Side}
-use Rattle.types.specs.declared.resolved.Resolved.{Resolved}
-use Rattle.types.specs.Readings.{Dot, dot, outline}
-use Rattle.types.specs.Texts.{implication_by, sequence_byte}
-use Rattle.types.specs.Suites.{before_by, ReadsAntecedent, ReadsConsequent}
+use Rattle.types_suites.specs.declared.resolved.Resolved.{Resolved}
+use Rattle.types_suites.specs.Readings.{Dot, dot, outline}
+use Rattle.types_suites.specs.Texts.{implication_by, sequence_byte}
+use Rattle.types_suites.specs.Suites.{before_by, ReadsAntecedent, ReadsConsequent}
 use Rattle.types.specs.Faults as faults
 use Rattle.types.specs.Faults.{outline_before, antecedents_in, consequent_in, sides_of, consequents_of}
 use Rattle.types.specs.Sides.{IsWeighed, AreWeighed, AreLight}
-use Rattle.types.specs.Drawn.{antecedent_byte, consequent_byte}
-use Rattle.types.specs.Resolved.{AreResolved, side_at, consequent_side, sides_in, consequents_in}
-use Rattle.types.specs.Made.{AreFitting}
-use Rattle.types.proofs.OutlineLaws.{dotted, reads_outline}
+use Rattle.types_suites.specs.Drawn.{antecedent_byte, consequent_byte}
+use Rattle.types.specs.Sides.{side_at, consequent_side, sides_in, consequents_in}
+use Rattle.types_suites.specs.Resolved.{AreResolved}
+use Rattle.types_suites.specs.Made.{AreFitting}
+use Rattle.types_suites.proofs.OutlineLaws.{dotted, reads_outline}
 
 weighed_both : (o : List (Draft Dot)) (xs : List faults.Side) (ys : List Side) (us : List faults.Side) (vs : List Side) → AreWeighed o xs ys → AreWeighed o us vs → AreWeighed o (xs ++ us) (ys ++ vs)
 weighed_both o [] [] us vs h g = g

@@ -7,9 +7,9 @@ use Rattle.types_sequences.specs.Outlines.{map_draft}
 use Rattle.types_sequences.specs.declared.entry.Entry.{Entry}
 use Rattle.types_sequences.specs.Entries.{has_entry}
 use Rattle.types_expressions.specs.Scopes.{Scope}
-use Rattle.types.specs.Readings.{dot}
-use Rattle.types.specs.Texts.{declarations_of}
-use Rattle.types.specs.Faults.{outlines_of}
+use Rattle.types_suites.specs.Readings.{dot}
+use Rattle.types_suites.specs.Texts.{declarations_of}
+use Rattle.types_suites.specs.Readings.{outlines_of}
 
 -- One of the first so many declarations reaches itself and has the byte, and none of these that does has a lower one.
 pub record IsLowest {B : Type 0} (bodies : List (Draft B)) (bytes : List ℕ) (below at : ℕ) : Type 0 where

@@ -11,19 +11,12 @@ use Rattle.types_expressions.specs.Faults.{file_faults}
 use Rattle.types_sequences.specs.declared.implication.Implication.{Implication}
 use Rattle.types.specs.declared.fault.TypeFault.{TypeFault}
 use Rattle.types.specs.declared.fault.TypeFault.TheVariants.{UnknownName, Duplicate, WiderThan128, SliceRange, Degenerate, AdmitsEmpty as Empty, OtherClock, CyclicSequence, TooWide, Memory}
-use Rattle.types.specs.Readings.{Dot, dot, outline}
-use Rattle.types.specs.Texts.{declarations_of, assertions_of, duplicates, other_clocks, sequence_byte, implication_by}
+use Rattle.types_suites.specs.Readings.{Dot, dot, outline, outlines_of}
+use Rattle.types_suites.specs.Texts.{declarations_of, assertions_of, duplicates, other_clocks, sequence_byte, implication_by}
 
--- where a text's names are looked up, and the text
-abbrev pub Where : Type 0
-Where = Scope
-
+-- a text, item by item
 abbrev pub Text : Type 0
 Text = List ItemForm
-
--- the outlines of the named sequences
-abbrev pub outlines_of : Scope → List ItemForm → List (Draft Dot)
-outlines_of s items = map (λ d. outline s d.body) (declarations_of items)
 
 -- A side of an assertion: its outline, with the antecedent of |=> as that of |->, and the byte of its first token but brackets.
 pub record Side : Type 0 where

@@ -1,10 +1,3 @@
-pub mod Readings
-pub mod Texts
 pub mod Faults
-pub mod Suites
 pub mod Cycles
 pub mod Sides
-pub mod Drawn
-pub mod Resolved
-pub mod Signals
-pub mod Made

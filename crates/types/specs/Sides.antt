@@ -1,11 +1,12 @@
 -- What is known of the sides of assertions.
-use Rattle.std.specs.Prelude.{◌≡◌, ℕ, ◌≤◌, min, List, [], ◌∷◌, Bool, nat_lt, not, if◌then◌else◌}
+use Rattle.std.specs.Prelude.{◌≡◌, ℕ, ◌≤◌, min, List, [], ◌∷◌, ◌++◌, Option, Some, None, Bool, nat_lt, not, if◌then◌else◌}
 use Rattle.assertions.specs.Written.{Written, weight, IsOrdered}
 use Rattle.assertions.specs.Emptiness.{admits_empty, takes_ticks}
 use Rattle.types_sequences.specs.declared.facts.Facts.{Facts}
 use Rattle.types_sequences.specs.Drafts.{Draft, Spells}
 use Rattle.types.specs.declared.side.Side.{Side}
-use Rattle.types.specs.Readings.{Dot}
+use Rattle.types_suites.specs.declared.resolved.Resolved.{Resolved}
+use Rattle.types_suites.specs.Readings.{Dot}
 use Rattle.types.specs.Faults as faults
 
 -- What a side's outline says with the names written out, of which these are the weight, up to 128, and what its form tells.
@@ -44,3 +45,19 @@ is_degenerate f = not f.ticks
 
 abbrev pub is_empty : Facts → Bool
 is_empty f = f.empty
+
+-- what is known of its sides, the antecedent only where one is written
+abbrev pub side_at : Facts → Option ℕ → List Side
+side_at f None = []
+side_at f (Some at) = record { facts = f; at = at } ∷ []
+
+abbrev pub consequent_side : Resolved → Side
+consequent_side m = record { facts = m.consequent.facts; at = m.consequent_at }
+
+abbrev pub sides_in : List Resolved → List Side
+sides_in [] = []
+sides_in (m ∷ ms) = (side_at m.antecedent.facts m.antecedent_at ++ consequent_side m ∷ []) ++ sides_in ms
+
+abbrev pub consequents_in : List Resolved → List Side
+consequents_in [] = []
+consequents_in (m ∷ ms) = consequent_side m ∷ consequents_in ms

@@ -5,7 +5,7 @@ ghost use Rattle.parser_expressions.specs.Views.{path_of};
 ghost use Rattle.parser.specs.Views.{item_of};
 ghost use Rattle.types_expressions.specs.Faults.{least};
 ghost use Rattle.types_expressions.specs.Scopes.{first_byte};
-ghost use Rattle.types.specs.Texts.{assertions_of, clocks_unlike, clock_of};
+ghost use Rattle.types_suites.specs.Texts.{assertions_of, clocks_unlike, clock_of};
 
 use crate::least::earlier;
 use parser::{ItemTree, Path};

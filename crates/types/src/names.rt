@@ -3,40 +3,19 @@
 ghost use Rattle.std.specs.Prelude.{◌≡◌, ◌<◌, ◌++◌, ◌+◌, map, IfOk, OnOk, string_bytes, option_map, codes};
 ghost use Rattle.parser.specs.Views.{assertion_of, item_of};
 ghost use Rattle.types_expressions.specs.Faults.{least};
-ghost use Rattle.types.specs.Texts.{label_text, label_byte, name_made, assertions_after, duplicates};
+ghost use Rattle.types_suites.specs.Texts.{label_byte, name_made, assertions_after, duplicates};
 
 use crate::least::earlier;
-use lexer::Token;
 use parser::{AssertionTree, ItemTree};
 use std::alloc::{AllocError, Global};
-use std::fmt::Write;
 use types_expressions::Names;
+use types_suites::label_string;
 
 /// A name with the byte where it stands.
 #[derive(Drop)]
 pub(crate) struct Made {
     pub text: String,
     pub at: usize,
-}
-
-/// The name of an assertion, before which so many stand.
-pub(crate) fn label_string(
-    alloc: Global,
-    before: usize,
-    label: Option<Token>,
-) -> Result<String, AllocError>
-    requires { before < 18446744073709551615 }
-    ensures { IfOk result (λ s. string_bytes s ≡ label_text before label.entry) }
-{
-    match label {
-        Some(token) => String::from_str(alloc, token.text),
-        None => {
-            let mut text = String::new(alloc);
-            let number = before + 1;
-            write!(text, "assert_{number}")?;
-            Ok(text)
-        }
-    }
 }
 
 /// The name that an item makes.

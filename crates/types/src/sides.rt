@@ -1,12 +1,12 @@
 //! The sides of all assertions.
 
 ghost use Rattle.std.specs.Prelude.{◌≡◌, ◌++◌, IfOk, OnOk};
-ghost use Rattle.types.specs.Resolved.{side_at, sides_in, consequents_in};
+ghost use Rattle.types.specs.Sides.{side_at, sides_in, consequents_in};
 
-use crate::resolved::Resolved;
 use crate::side::Side;
 use std::alloc::{AllocError, Global};
 use types_sequences::Facts;
+use types_suites::Resolved;
 
 /// Adds what is known of an antecedent, if one is written.
 fn push_antecedent(sides: &mut Vec<Side>, facts: Facts, at: Option<usize>) -> Result<(), AllocError>

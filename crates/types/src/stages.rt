@@ -3,8 +3,9 @@
 ghost use Rattle.std.specs.Prelude.{◌≡◌, ◌<◌, ℕ, true, false, map, length, IfOk, IfErr};
 ghost use Rattle.parser.specs.Views.{item_of};
 ghost use Rattle.types_expressions.specs.Views.{scope_of};
-ghost use Rattle.types.specs.Texts.{assertions_of, clock_of};
-ghost use Rattle.types.specs.Faults.{Where, Text, outlines_of, sides_of, consequents_of, ClearTo, IsFaultless, IsTypeFault};
+ghost use Rattle.types_suites.specs.Texts.{assertions_of, clock_of};
+ghost use Rattle.types_suites.specs.Readings.{Where, outlines_of};
+ghost use Rattle.types.specs.Faults.{Text, sides_of, consequents_of, ClearTo, IsFaultless, IsTypeFault};
 ghost use Rattle.types.specs.Cycles.{AreOutlined};
 ghost use Rattle.types.specs.Sides.{AreWeighed, AreLight};
 ghost use Rattle.types_sequences.specs.Cycles.{ReachesCycle};

@@ -10,26 +10,26 @@ ghost use Rattle.types_expressions.specs.Columns.{all_listed, file_signals};
 ghost use Rattle.types_expressions.specs.Faults.{file_faults};
 ghost use Rattle.types_expressions.specs.Views.{scope_of, columns_in, names_in};
 ghost use Rattle.types_sequences.specs.Placed.{Extends};
-ghost use Rattle.types.specs.Texts.{declarations_of, assertions_of, clock_of};
-ghost use Rattle.types.specs.Faults.{Where, Text, outlines_of, sides_of, consequents_of, ClearTo, IsFaultless, IsTypeFault};
+ghost use Rattle.types_suites.specs.Texts.{declarations_of, assertions_of, clock_of};
+ghost use Rattle.types_suites.specs.Readings.{Where, outlines_of};
+ghost use Rattle.types.specs.Faults.{Text, sides_of, consequents_of, ClearTo, IsFaultless, IsTypeFault};
 ghost use Rattle.types.specs.Sides.{AreWeighed, AreLight};
-ghost use Rattle.types.specs.Suites.{IsSuite};
-ghost use Rattle.types.specs.Resolved.{HasBodies, sides_in, consequents_in};
+ghost use Rattle.types_suites.specs.Suites.{IsSuite};
+ghost use Rattle.types.specs.Sides.{sides_in, consequents_in};
+ghost use Rattle.types_suites.specs.Resolved.{HasBodies};
 
-use crate::bodies::{bodies_of, name_bytes};
 use crate::clocks::first_clock;
-use crate::counters::counters_of;
 use crate::fault::TypeFault;
-use crate::known::signals_of;
-use crate::resolved::{Resolved, all_resolved};
 use crate::sides::{all_consequents, all_sides};
 use crate::stages::{check_cycles, check_expressions, check_sides};
-use crate::typed_assertions::assertions_of;
 use assertions::Suite;
 use parser::{File, ItemTree};
 use std::alloc::Global;
 use types_expressions::{Names, Scope, SignalPaths, columns_of};
 use types_sequences::{Entry, resolve};
+use types_suites::{
+    Resolved, all_resolved, assertions_of, bodies_of, counters_of, name_bytes, signals_of,
+};
 
 /// The entries of the named sequences, by the places of their declarations, if none reaches itself (Y8).
 fn entries_of(

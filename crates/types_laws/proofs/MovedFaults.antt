@@ -12,9 +12,10 @@ use Rattle.types_expressions.specs.Widths.{own_width, chain_width, parts_width, 
 use Rattle.types_expressions.specs.Faults.{path_faults, wide_faults, faults, link_faults, part_faults, boolean_faults, sequence_faults, step_faults, other_faults, property_faults, optional_faults, clause_faults, counter_faults, assertion_faults, item_faults, file_faults}
 use Rattle.types.specs.declared.fault.TypeFault.{TypeFault}
 use Rattle.types.specs.declared.fault.TypeFault.TheVariants.{UnknownName, Duplicate, WiderThan128, SliceRange, Degenerate, AdmitsEmpty as Empty, OtherClock, CyclicSequence, TooWide, Memory}
-use Rattle.types.specs.Readings.{Dot, dot, outline, outline_steps, outline_all, outline_any, outline_by, least_of, extra_of}
-use Rattle.types.specs.Texts.{declarations_of, assertions_of, label_byte, assertions_after, name_made, names_from, repeated_names, duplicates, label_text, clocks_unlike, clock_of, other_clocks, tree_byte, sequence_byte, implication_by}
-use Rattle.types.specs.Faults.{Side, outlines_of, outline_before, antecedents_in, consequent_in, sides_of, consequents_of, CycleAt, SideAt, FaultStands}
+use Rattle.types_suites.specs.Readings.{Dot, dot, outline, outline_steps, outline_all, outline_any, outline_by, least_of, extra_of}
+use Rattle.types_suites.specs.Texts.{declarations_of, assertions_of, label_byte, assertions_after, name_made, names_from, repeated_names, duplicates, label_text, clocks_unlike, clock_of, other_clocks, tree_byte, sequence_byte, implication_by}
+use Rattle.types_suites.specs.Readings.{outlines_of}
+use Rattle.types.specs.Faults.{Side, outline_before, antecedents_in, consequent_in, sides_of, consequents_of, CycleAt, SideAt, FaultStands}
 use Rattle.types_laws.proofs.MovedTrees.{moved, moved_option, moved_tree, moved_links, moved_parts, moved_sequence, moved_steps, moved_others, moved_property, moved_condition, moved_rule, moved_counter, moved_declaration, moved_assertion, moved_item}
 use Rattle.types_laws.proofs.MovedReadings.{both_same, path_text-moved, meaning-moved, named-moved}
 use Rattle.types_laws.proofs.MovedSuites.{label-moved, clock-moved}

@@ -12,7 +12,7 @@ use Rattle.types_sequences.specs.Drafts.{Draft}
 use Rattle.types_expressions.specs.Scopes.{Scope, path_text, meaning_by, meaning, meaning_place, sequence_named}
 use Rattle.types_expressions.specs.Columns.{path_signals, signals, link_signals, part_signals, sequence_signals, step_signals, other_signals, column_of}
 use Rattle.types_expressions.specs.Meanings.{IsRead, Means, Chains, Joins, JoinsMore}
-use Rattle.types.specs.Readings.{IsAtom, ReadsBoolean, Reads, ReadsSteps, ReadsAll, ReadsAny}
+use Rattle.types_suites.specs.Readings.{IsAtom, ReadsBoolean, Reads, ReadsSteps, ReadsAll, ReadsAny}
 use Rattle.types_laws.proofs.MovedTrees.{moved, moved_tree, moved_links, moved_parts, moved_sequence, moved_steps, moved_others}
 
 -- joined lists

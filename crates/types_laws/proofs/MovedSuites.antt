@@ -15,9 +15,9 @@ use Rattle.types_expressions.specs.declared.own.Own.{Own}
 use Rattle.types_expressions.specs.declared.own.Own.TheVariants as own
 use Rattle.types_expressions.specs.Scopes.{Scope, width_in, owns_from}
 use Rattle.types_expressions.specs.Columns.{signals, sequence_signals, property_signals, optional_signals, clause_signals, item_signals, file_signals, with_paths, columns_of}
-use Rattle.types.specs.Texts.{label_text, declarations_of, counters_of, assertions_of, clock_of}
-use Rattle.types.specs.Readings.{AllRead}
-use Rattle.types.specs.Suites.{AreSignals, IsCondition, IsRule, IsCounter, AreCounters, ReadsAntecedent, ReadsConsequent, IsDisabling, IsAssertion, AreAssertions, IsSuite}
+use Rattle.types_suites.specs.Texts.{label_text, declarations_of, counters_of, assertions_of, clock_of}
+use Rattle.types_suites.specs.Readings.{AllRead}
+use Rattle.types_suites.specs.Suites.{AreSignals, IsCondition, IsRule, IsCounter, AreCounters, ReadsAntecedent, ReadsConsequent, IsDisabling, IsAssertion, AreAssertions, IsSuite}
 use Rattle.types_laws.proofs.MovedTrees.{moved_option, moved_tree, moved_sequence, moved_property, moved_condition, moved_rule, moved_counter, moved_assertion, moved_item}
 use Rattle.types_laws.proofs.MovedReadings.{path_text-moved, both_same, signals-moved, sequence_signals-moved, means-moved, atom-moved, reads-moved}
 

@@ -14,7 +14,7 @@ use Rattle.types_sequences.specs.Placed.{atom_true}
 use Rattle.types_expressions.specs.Scopes.{Scope, sequence_named}
 use Rattle.types_expressions.specs.Meanings.{Means}
 use Rattle.types_expressions.proofs.OneMeaning.{one-meaning}
-use Rattle.types.specs.Readings.{least_of, extra_of, IsAtom, ReadsBoolean, Reads, ReadsSteps, ReadsAll, ReadsAny, AllRead}
+use Rattle.types_suites.specs.Readings.{least_of, extra_of, IsAtom, ReadsBoolean, Reads, ReadsSteps, ReadsAll, ReadsAny, AllRead}
 
 -- what one tree means is true at the same ticks
 pub one_truth : (s : Scope) (cs : List (List ℕ)) (t : Tree) (e f : Term) → Means s cs t e → Means s cs t f → (x : Samples) (k : ℕ) → is_true x e k ≡ is_true x f k

@@ -20,8 +20,8 @@ use Rattle.types_sequences.specs.Drafts.{Draft}
 use Rattle.types_sequences.specs.Placed.{atom_true}
 use Rattle.types_expressions.specs.Scopes.{Scope}
 use Rattle.types_expressions.specs.Columns.{columns_of}
-use Rattle.types.specs.Texts.{declarations_of, counters_of, assertions_of, implication_by}
-use Rattle.types.specs.Suites.{AreSignals, before_by, ReadsAntecedent, ReadsConsequent, IsMeant, IsDisabling, IsAssertion, AreAssertions, IsSuite}
+use Rattle.types_suites.specs.Texts.{declarations_of, counters_of, assertions_of, implication_by}
+use Rattle.types_suites.specs.Suites.{AreSignals, before_by, ReadsAntecedent, ReadsConsequent, IsMeant, IsDisabling, IsAssertion, AreAssertions, IsSuite}
 use Rattle.types_laws.specs.Same.{AreAlike, SaySame}
 use Rattle.types_laws.proofs.AttemptLaws.{alike_turned, alike_on, SeenAlike, same_verdict, seen_turned}
 use Rattle.types_laws.proofs.PairLaws.{IsPaired, ArePaired, paired_by, paired_boolean, paired_delay, atoms_alike, reads_paired, all_read_paired}

@@ -3,7 +3,7 @@ use Rattle.std.specs.Prelude.{List}
 use Rattle.grammar.specs.Trees.{ItemForm}
 use Rattle.assertions.specs.declared.suite.Suite.{Suite}
 use Rattle.types_expressions.specs.Scopes.{Scope}
-use Rattle.types.specs.Suites.{IsSuite}
+use Rattle.types_suites.specs.Suites.{IsSuite}
 use Rattle.types_laws.specs.Same.{SaySame}
 
 -- A text says one suite over a scope: any two that it may be said to say, say the same.

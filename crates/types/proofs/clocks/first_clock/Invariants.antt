@@ -1,6 +1,6 @@
 use Rattle.std.proofs.Common.{◌≡◌, map, drop}
 use Rattle.parser.specs.Views.{item_of}
-use Rattle.types.specs.Texts.{assertions_of, clock_of}
+use Rattle.types_suites.specs.Texts.{assertions_of, clock_of}
 use Rattle.types.proofs.clocks.first_clock.Given as goal
 
 abbrev pub invariant-loop-item : goal.invariant-loop-item

@@ -7,7 +7,7 @@ use Rattle.types_expressions.specs.Faults.{earlier, least}
 use Rattle.types_expressions.specs.Views.{names_in}
 use Rattle.types_expressions.specs.Entries.{with_entry}
 use Rattle.types_expressions.proofs.Lists.{at}
-use Rattle.types.specs.Texts.{name_made, assertions_after, names_from, repeated_names}
+use Rattle.types_suites.specs.Texts.{name_made, assertions_after, names_from, repeated_names}
 use Rattle.types.proofs.NameLaws.{texts_of, known_step, new_step, some_map, after_most}
 use Rattle.types.proofs.names.first_duplicate.Goals as goal
 

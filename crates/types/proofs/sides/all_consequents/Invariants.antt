@@ -1,5 +1,5 @@
 use Rattle.std.proofs.Common.{◌≡◌, ◌++◌, drop}
-use Rattle.types.specs.Resolved.{consequents_in}
+use Rattle.types.specs.Sides.{consequents_in}
 use Rattle.types.proofs.sides.all_consequents.Given as goal
 
 abbrev pub invariant-loop-assertion : goal.invariant-loop-assertion

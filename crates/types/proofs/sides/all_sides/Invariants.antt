@@ -1,5 +1,5 @@
 use Rattle.std.proofs.Common.{◌≡◌, ◌++◌, drop}
-use Rattle.types.specs.Resolved.{sides_in}
+use Rattle.types.specs.Sides.{sides_in}
 use Rattle.types.proofs.sides.all_sides.Given as goal
 
 abbrev pub invariant-loop-assertion : goal.invariant-loop-assertion

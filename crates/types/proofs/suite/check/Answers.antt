@@ -5,7 +5,7 @@ use Rattle.types_expressions.specs.Scopes.{Scope, scope_for, sequence_named}
 use Rattle.types_expressions.specs.Views.{scope_of, names_in}
 use Rattle.types.specs.Faults.{IsFaultless}
 use Rattle.types_expressions.proofs.Lists.{when_ok}
-use Rattle.types.proofs.OutlineLaws.{named_below}
+use Rattle.types_suites.proofs.OutlineLaws.{named_below}
 use Rattle.types.proofs.StageLaws.{refused_memory}
 use Rattle.types.proofs.suite.check.Goals as goal
 

@@ -2,14 +2,16 @@ use Rattle.std.proofs.Common.{ℕ, List, length, map, ap, arith, subst}
 use Rattle.parser.specs.Views.{item_of}
 use Rattle.types_expressions.specs.Views.{scope_of, columns_in}
 use Rattle.types_expressions.proofs.ColumnLaws.{columns-all}
-use Rattle.types.specs.Readings.{AllRead}
-use Rattle.types.specs.Resolved.{AreResolved, sides_in, consequents_in}
+use Rattle.types_suites.specs.Readings.{AllRead}
+use Rattle.types.specs.Sides.{sides_in, consequents_in}
+use Rattle.types_suites.specs.Resolved.{AreResolved}
 use Rattle.types.specs.Sides.{AreWeighed}
-use Rattle.types.specs.Suites.{AreSignals, AreCounters, AreAssertions}
-use Rattle.types.specs.Faults.{outlines_of, sides_of, consequents_of}
-use Rattle.types.specs.Texts.{declarations_of, assertions_of, counters_of}
-use Rattle.types.proofs.BodyLaws.{bodies_in, outlined, bodies_stay}
-use Rattle.types.proofs.SignalLaws.{columns_known}
+use Rattle.types_suites.specs.Suites.{AreSignals, AreCounters, AreAssertions}
+use Rattle.types_suites.specs.Readings.{outlines_of}
+use Rattle.types.specs.Faults.{sides_of, consequents_of}
+use Rattle.types_suites.specs.Texts.{declarations_of, assertions_of, counters_of}
+use Rattle.types_suites.proofs.BodyLaws.{bodies_in, outlined, bodies_stay}
+use Rattle.types_suites.proofs.SignalLaws.{columns_known}
 use Rattle.types.proofs.WeighLaws.{sides_weighed, consequents_weighed, sides_fit}
 use Rattle.types.proofs.StageLaws.{clear_sound, refused_memory, refused_same}
 use Rattle.types.proofs.suite.suite_of.Goals as goal

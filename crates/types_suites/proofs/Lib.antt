@@ -1,0 +1,9 @@
+pub mod ReadingLaws
+pub mod DrawnLaws
+pub mod OutlineLaws
+pub mod CounterLaws
+pub mod SeenLaws
+pub mod BodyLaws
+pub mod ResolvedLaws
+pub mod SignalLaws
+pub mod MadeLaws

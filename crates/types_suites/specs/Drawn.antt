@@ -1,0 +1,37 @@
+-- What the code keeps of an assertion before it is written out.
+use Rattle.std.specs.Prelude.{◌≡◌, ℕ, List, Option, Some, None, string_bytes}
+use Rattle.grammar.specs.Trees as trees
+use Rattle.grammar.specs.Trees.{Tree, PropertyForm, plain, implication}
+use Rattle.expressions.specs.declared.expr.Expr.{Expr}
+use Rattle.assertions.specs.declared.sequence.Boolean.TheVariants.{Listed}
+use Rattle.types_sequences.specs.Views.{draft_of}
+use Rattle.types_expressions.specs.Scopes.{Scope}
+use Rattle.types_suites.specs.declared.drawn.Drawn.{Drawn}
+use Rattle.types_suites.specs.Readings.{IsAtom}
+use Rattle.types_suites.specs.Texts.{label_text, sequence_byte}
+use Rattle.types_suites.specs.Suites.{ReadsAntecedent, ReadsConsequent}
+
+-- where the antecedent begins, if one is written, and the consequent
+abbrev pub antecedent_byte : PropertyForm → Option ℕ
+antecedent_byte (plain q) = None
+antecedent_byte (implication a t c) = Some (sequence_byte a)
+
+abbrev pub consequent_byte : PropertyForm → ℕ
+consequent_byte (plain q) = sequence_byte q
+consequent_byte (implication a t c) = sequence_byte c
+
+-- the place of the disabling expression, if there is one
+abbrev pub IsDisabledBy : Scope → List (List ℕ) → List Expr → Option Tree → Option ℕ → Type 0
+IsDisabledBy s columns booleans None None = Unit {0}
+IsDisabledBy s columns booleans None (Some p) = ⊥
+IsDisabledBy s columns booleans (Some t) None = ⊥
+IsDisabledBy s columns booleans (Some t) (Some p) = IsAtom s columns booleans t (Listed p)
+
+-- The sides of an assertion, before which so many stand, as drafts.
+pub record IsDrawn (s : Scope) (columns : List (List ℕ)) (booleans : List Expr) (before : ℕ) (a : trees.AssertionForm) (m : Drawn) : Type 0 where
+  pub name : string_bytes m.name ≡ label_text before a.label
+  pub antecedent : ReadsAntecedent s columns booleans a.property (draft_of m.antecedent.value)
+  pub consequent : ReadsConsequent s columns booleans a.property (draft_of m.consequent.value)
+  pub antecedent_at : m.antecedent_at ≡ antecedent_byte a.property
+  pub consequent_at : m.consequent_at ≡ consequent_byte a.property
+  pub disabling : IsDisabledBy s columns booleans a.disable m.disabling

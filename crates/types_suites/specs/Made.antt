@@ -1,0 +1,47 @@
+-- Assertions that are made of what is resolved.
+use Rattle.std.specs.Prelude.{ℕ, ◌≤◌, List, [], ◌∷◌, Option, Some, None}
+use Rattle.grammar.specs.Trees as trees
+use Rattle.expressions.specs.declared.expr.Expr.{Expr}
+use Rattle.assertions.specs.declared.sequence.Boolean.{Boolean}
+use Rattle.assertions.specs.declared.sequence.Boolean.TheVariants.{Listed}
+use Rattle.assertions.specs.Written.{Written}
+use Rattle.types_sequences.specs.declared.entry.Entry.{Entry}
+use Rattle.types_sequences.specs.Drafts.{Draft}
+use Rattle.types_sequences.specs.Entries.{IsEntry}
+use Rattle.types_sequences.specs.Placed.{IsPlacedBoolean}
+use Rattle.types_suites.specs.declared.resolved.Resolved.{Resolved}
+
+-- the expressions of a suite, what a side says, assertions of a text
+abbrev pub Expressions : Type 0
+Expressions = List Expr
+
+abbrev pub SideDraft : Type 0
+SideDraft = Draft Boolean
+
+abbrev pub Statement : Type 0
+Statement = trees.AssertionForm
+
+abbrev pub Statements : Type 0
+Statements = List trees.AssertionForm
+
+-- It is the entry of something, which weighs at most 127.
+pub record IsFitting (e : Entry) : Type 0 where
+  pub meant : Written Boolean
+  pub entry : IsEntry meant e
+  pub light : e.facts.weight ≤ 127
+
+-- Both sides fit, of each of these.
+pub record SidesFit (m : Resolved) : Type 0 where
+  pub antecedent : IsFitting m.antecedent
+  pub consequent : IsFitting m.consequent
+
+abbrev pub AreFitting : List Resolved → Type 0
+AreFitting [] = Unit {0}
+AreFitting (m ∷ ms) = SidesFit m × AreFitting ms
+
+-- a boolean in an assertion's list, for one at a place of the suite's, if there is one
+abbrev pub IsPlacedAt : List Expr → List ℕ → Option ℕ → Option Boolean → Type 0
+IsPlacedAt booleans places None None = Unit {0}
+IsPlacedAt booleans places None (Some b) = ⊥
+IsPlacedAt booleans places (Some p) None = ⊥
+IsPlacedAt booleans places (Some p) (Some b) = IsPlacedBoolean booleans places (Listed p) b

@@ -1,0 +1,33 @@
+//! The parts of the suite that a text says, for a text in which no fault of types stands.
+//!
+//! Each function here asks, as a `requires`, that its part of the text has no fault, and answers
+//! what the text says there; `types` looks for the faults, and calls these behind them.
+//!
+//! ```text
+//! let bodies = bodies_of(alloc, scope, &columns, items, &mut expressions)?;
+//! let assertions = all_resolved(alloc, scope, &columns, items, &entries, &mut expressions)?;
+//! ```
+//!
+//! The definitions: what a text says in `specs/Suites.antt`, and of a sequence in
+//! `specs/Readings.antt`; its names and bytes in `specs/Texts.antt`; what is kept of an assertion
+//! between the two in `specs/Drawn.antt` and `specs/Resolved.antt`.
+//!
+//! Not promised: anything of a text with faults.
+#![tactic(auto)]
+
+mod bodies;
+mod bytes;
+mod counters;
+mod drafts;
+mod drawn;
+mod known;
+mod label;
+mod resolved;
+mod typed_assertions;
+
+pub use bodies::{bodies_of, name_bytes};
+pub use counters::counters_of;
+pub use known::signals_of;
+pub use label::label_string;
+pub use resolved::{Resolved, all_resolved};
+pub use typed_assertions::assertions_of;
