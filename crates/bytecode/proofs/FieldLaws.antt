@@ -199,9 +199,6 @@ width-in-byte w h = and_from (in_byte w) (is_width w) (lt-ltb w 256 (omega (arit
 pub width-codec : IsCodec is_width byte width_at
 width-codec = refit (λ w. in_byte w && is_width w) is_width byte width_at (λ w h. (and_parts (in_byte w) (is_width w) h).1) width-in-byte (checked-codec in_byte byte byte_at byte-codec is_width)
 
-in_length : List ℕ → Bool
-in_length text = in_two (length text)
-
 bytes-takes : (bytes text rest : List ℕ) → IsBytes bytes → bytes_at bytes ≡ Ok (text, rest) → Takes bytes (text_spelling text) rest × (in_two (length text) ≡ true)
 unfolding bytes_at
 bytes-takes bytes text rest fits e =

@@ -19,10 +19,6 @@ regroup : {A : Type 0} (front : List A) (x : A) (read : Result (List A × List �
 regroup front x (Ok y) = ap (λ xs. Ok (xs, y.1)) (simp append_assoc)
 regroup front x (Err f) = refl
 
-with_none : {A : Type 0} (read : Result (List A × List ℕ) Stop) → with_front [] read ≡ read
-with_none (Ok y) = refl
-with_none (Err f) = refl
-
 module _ {A : Type 0} (read : Reader A) (count i : ℕ) (front : List A) (rest : List ℕ) (total : Result (List A × List ℕ) Stop) (so_far : Turns read count i front rest total) where
   pub turns-next : (x : A) (behind : List ℕ) (more : List A) → i < count → read rest ≡ Ok (x, behind) → more ≡ front ++ x ∷ [] → Turns read count (i + 1) more behind total
   unfolding many_at
@@ -53,9 +49,6 @@ module _ {A : Type 0} (read : Reader A) (count i : ℕ) (front : List A) (rest :
       let k : count - i ≡ 0 = omega arith in
       let one : with_front front (many_at read (count - i) rest) ≡ Ok (front, rest) = rw k (ap (λ (xs : List A). Ok (xs, rest)) (append-nil front)) in
       sym so_far.same ∙ one
-
-pub turns-init : {A : Type 0} (read : Reader A) (count : ℕ) (rest : List ℕ) → Turns read count 0 [] rest (many_at read count rest)
-turns-init read count rest = record { same = with_none (many_at read (count - 0) rest) ∙ ap (λ (n : ℕ). many_at read n rest) (omega arith) }
 
 pub pushed : {A B : Type 0} (view : A → B) (xs ys : List A) (x : A) → ys ≡ xs ++ x ∷ [] → map view ys ≡ map view xs ++ view x ∷ []
 pushed view xs ys x e = ap (map view) e ∙ map_push view xs x

@@ -73,9 +73,6 @@ limits-codec = record { takes = limits-takes; again = limits-again }
 
 -- ---- sections
 
-blocks-spelling : List (List BlockInstr) → List ℕ
-blocks-spelling blocks = flat_map (counted_spelling block_spelling) blocks
-
 steps-codec : IsCodec (fits_list fits_block) (counted_spelling block_spelling) (counted_at step_at)
 steps-codec = counted-codec fits_block block_spelling step_at step-codec
 
@@ -215,8 +212,8 @@ header-codec = record { takes = header-takes; again = header-again }
 right_grouped : (a b c d e f : List ℕ) → a ++ b ++ c ++ d ++ e ++ f ≡ a ++ (b ++ (c ++ (d ++ (e ++ f))))
 right_grouped a b c d e f = append_assoc (a ++ b ++ c ++ d) e f ∙ append_assoc (a ++ b ++ c) d (e ++ f) ∙ append_assoc (a ++ b) c (d ++ (e ++ f)) ∙ append_assoc a b (c ++ (d ++ (e ++ f)))
 
-six-taken : (s a b c d e f g : List ℕ) (x y z u v w : List ℕ) → Takes s x a → Takes a y b → Takes b z c → Takes c u d → Takes d v e → Takes e w f → Takes s (x ++ y ++ z ++ u ++ v ++ w) f
-six-taken s a b c d e f g x y z u v w p q r t k m =
+six-taken : (s a b c d e f : List ℕ) (x y z u v w : List ℕ) → Takes s x a → Takes a y b → Takes b z c → Takes c u d → Takes d v e → Takes e w f → Takes s (x ++ y ++ z ++ u ++ v ++ w) f
+six-taken s a b c d e f x y z u v w p q r t k m =
     subst (λ (text : List ℕ). Takes s text f) (sym (right_grouped x y z u v w))
     (Takes-then s x a (y ++ (z ++ (u ++ (v ++ w)))) f p (Takes-then a y b (z ++ (u ++ (v ++ w))) f q (Takes-then b z c (u ++ (v ++ w)) f r (Takes-then c u d (v ++ w) f t (Takes-then d v e w f k m)))))
 
@@ -229,7 +226,7 @@ module _ (header : HeaderData) (signals : List SlotData) (counters : List ℕ) (
   unfolding made
   made-taken bytes h a b c d e f start p q r t k m =
       Takes-then bytes head_spelling h (header_spelling header ++ counted_spelling slot_spelling signals ++ counted_spelling byte counters ++ counted_spelling sample_spelling sample ++ section_spelling antecedent ++ section_spelling consequent) f start
-      (six-taken h a b c d e f f (header_spelling header) (counted_spelling slot_spelling signals) (counted_spelling byte counters) (counted_spelling sample_spelling sample) (section_spelling antecedent) (section_spelling consequent) p q r t k m)
+      (six-taken h a b c d e f (header_spelling header) (counted_spelling slot_spelling signals) (counted_spelling byte counters) (counted_spelling sample_spelling sample) (section_spelling antecedent) (section_spelling consequent) p q r t k m)
 
   made-fits : fits_header header ≡ true → fits_list fits_slot signals ≡ true → fits_list is_width counters ≡ true → fits_list fits_sample sample ≡ true → fits_section antecedent ≡ true → fits_section consequent ≡ true → fits_program made ≡ true
   unfolding made
@@ -242,14 +239,6 @@ module _ (header : HeaderData) (signals : List SlotData) (counters : List ℕ) (
 
 abbrev ok_program : ProgramData → List ℕ → Result (ProgramData × List ℕ) Stop
 ok_program x rest = Ok (x, rest)
-
--- what was read, and what of it is known
-record IsTaken (bytes : List ℕ) (x : ProgramData) (rest : List ℕ) : Type 0 where
-  pub taken : Takes bytes (spelling x) rest
-  pub fits : fits_program x ≡ true
-
-taken-is : (bytes : List ℕ) (x y : ProgramData) (a b : List ℕ) → ok_program x a ≡ Ok (y, b) → IsTaken bytes x a → IsTaken bytes y b
-taken-is bytes x y a b e h = subst (λ (p : ProgramData × List ℕ). IsTaken bytes p.0 p.1) (ok_is (x, a) (y, b) e) h
 
 record Rest5 (header : HeaderData) (signals : List SlotData) (counters : List ℕ) (sample : List SampleInstr) (antecedent : SectionData) (bytes : List ℕ) (x : ProgramData) (rest : List ℕ) : Type 0 where
   pub consequent' : SectionData
@@ -467,9 +456,6 @@ program-again x rest fits =
     ap program_at texts
     ∙ ap (λ (r : Result (List ℕ) Stop). r >>= λ a. header_at a >>= λ n_header. counted_at slot_at n_header.1 >>= λ n_signals. counted_at width_at n_signals.1 >>= λ n_counters. counted_at sample_at n_counters.1 >>= λ n_sample. section_at n_sample.1 >>= λ n_antecedent. section_at n_antecedent.1 >>= λ n_consequent. ok_program (record { header = n_header.0; signals = n_signals.0; counters = n_counters.0; sample = n_sample.0; antecedent = n_antecedent.0; consequent = n_consequent.0 }) n_consequent.1) (head-again (header_spelling x.header ++ (counted_spelling slot_spelling x.signals ++ (counted_spelling byte x.counters ++ (counted_spelling sample_spelling x.sample ++ (section_spelling x.antecedent ++ (section_spelling x.consequent ++ rest)))))))
     ∙ again0 x.header x.signals x.counters x.sample x.antecedent x.consequent rest p0.0 p1.0 p2.0 p3.0 p4.0 p4.1
-
-pub program-codec : IsCodec fits_program spelling program_at
-program-codec = record { takes = program-takes; again = program-again }
 
 -- ---- whole files
 
