@@ -1,5 +1,5 @@
 -- What fits a file, part by part.
-use Rattle.std.proofs.Common.{◌++◌, ap, append_assoc, ◌≡◌, ℕ, ◌<◌, Bool, true, false, ◌&&◌, ltb, List, map, length, get_or, sym, ◌∙◌, string_bytes, inl, inr}
+use Rattle.std.proofs.Common.{◌++◌, ap, append_assoc, ◌≡◌, ℕ, ◌<◌, Bool, true, ◌&&◌, List, map, length, get_or, sym, ◌∙◌, string_bytes, inl, inr}
 use Rattle.std.specs.List.{list_all}
 use Rattle.std.proofs.lemmas.Bool.{cases_Bool, both_ways, ltb-true, and_parts}
 use Rattle.std.proofs.lemmas.List.Folds.{list_all_at, list_all-map}
@@ -7,7 +7,7 @@ use Rattle.std.proofs.Common.{Vec, Global}
 use Rattle.bytecode.specs.declared.slot.Slot.{Slot}
 use Rattle.bytecode.specs.declared.block_instr.BlockInstr.{BlockInstr}
 use Rattle.bytecode.specs.Texts.{is_path}
-use Rattle.bytecode.specs.Values.{SectionData, ProgramData, in_two, in_byte, is_width, fits_list, fits_text, fits_slot, fits_block, fits_sample, fits_section, fits_header, fits_program}
+use Rattle.bytecode.specs.Values.{ProgramData, in_two, is_width, fits_list, fits_text, fits_slot, fits_block, fits_sample, fits_section, fits_header, fits_program}
 use Rattle.bytecode.proofs.LoopLaws.{items_of_block}
 use Rattle.bytecode.specs.Views.{slot_data}
 

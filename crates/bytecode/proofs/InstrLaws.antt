@@ -1,5 +1,5 @@
 -- Instructions: what is read is spelled so, and what is spelled is read.
-use Rattle.std.proofs.Common.{◌≡◌, ℕ, ◌+◌, ◌*◌, ◌^◌, ◌<◌, ◌≤◌, Bool, true, false, ◌&&◌, ltb, leb, eqb, List, [], ◌∷◌, ◌++◌, length, Option, Some, None, Result, Ok, Err, refl, sym, ap, subst, ◌∙◌, append_assoc, arith, inl, inr}
+use Rattle.std.proofs.Common.{◌≡◌, ℕ, ◌^◌, ◌<◌, ◌≤◌, Bool, true, false, ◌&&◌, ltb, leb, eqb, List, [], ◌++◌, length, Option, Some, None, Result, Ok, Err, refl, sym, subst, arith, inl, inr}
 use Rattle.std.specs.Prelude.{if◌then◌else◌, ◌⊎◌}
 use Rattle.std.specs.Int.{w16}
 use Rattle.std.proofs.lemmas.Bool.{ltb-false, ltb-true, le-ltb, lt-ltb, leb-true, le-leb, and_parts, and_from, eqb-true, eqb-false, ne_eqb}
@@ -20,7 +20,7 @@ use Rattle.bytecode.specs.Opcodes.{sample_opcode, block_opcode}
 use Rattle.bytecode.specs.Values.{in_byte, in_two, is_width, fits_sample, fits_block}
 use Rattle.bytecode.specs.Spelling.{byte, two, sixteen, sample_operands, sample_spelling, block_operands, block_spelling}
 use Rattle.bytecode.specs.Reading.{◌>>=◌, Reader, number_at, sixteen_at, byte_at, width_at, join_of, reduce_of, lone_of, as_join, as_reduce, plain_of, push_at, past_at, slice_at, one_at, plain_at, operands_at, sample_at, unless_at, enter_at, step_at}
-use Rattle.bytecode.proofs.FieldLaws.{IsBytes, bind_ok, test_ok, guard_ok, ok_is, Takes, Takes-then, IsCodec, in_sixteen, byte-codec, two-codec, sixteen-codec, width-codec}
+use Rattle.bytecode.proofs.FieldLaws.{IsBytes, bind_ok, test_ok, guard_ok, ok_is, Takes, Takes-then, IsCodec, byte-codec, two-codec, sixteen-codec, width-codec}
 
 -- which way a test went
 chosen : {A : Type 0} (b : Bool) (x y z : A) → (if b then x else y) ≡ z → ((b ≡ true) × (x ≡ z)) ⊎ ((b ≡ false) × (y ≡ z))

@@ -1,12 +1,11 @@
 -- Programs: what is read is spelled so, and what is spelled is read.
-use Rattle.std.proofs.Common.{◌≡◌, ℕ, suc, ◌+◌, ◌*◌, ◌^◌, ◌<◌, ◌≤◌, Bool, true, false, ◌&&◌, ltb, leb, eqb, List, [], ◌∷◌, ◌++◌, length, Option, Some, None, Result, Ok, Err, refl, sym, ap, subst, ◌∙◌, append_assoc, arith, inl, inr}
-use Rattle.std.specs.Prelude.{if◌then◌else◌, ◌⊎◌}
+use Rattle.std.proofs.Common.{◌≡◌, ℕ, Bool, true, false, ◌&&◌, eqb, List, [], ◌++◌, length, Option, Some, None, Result, Ok, Err, refl, sym, ap, subst, ◌∙◌, append_assoc, arith}
+use Rattle.std.specs.Prelude.{if◌then◌else◌}
 use Rattle.std.specs.Int.{w16, w32}
 use Rattle.std.specs.List.{flat_map, list_all}
-use Rattle.std.proofs.lemmas.Bool.{ltb-true, lt-ltb, and_parts, and_from, eqb-true, eqb-false, ne_eqb, cases_eq}
+use Rattle.std.proofs.lemmas.Bool.{ltb-true, lt-ltb, and_parts, and_from, eqb-true, eqb-false, ne_eqb}
 use Rattle.std.proofs.lemmas.List.{append-nil, nil_from_length}
 use Rattle.bytecode.specs.declared.limits.Limits.{Limits}
-use Rattle.bytecode.specs.declared.block_instr.BlockInstr.{BlockInstr}
 use Rattle.bytecode.specs.declared.sample_instr.SampleInstr.{SampleInstr}
 use Rattle.bytecode.specs.declared.fault.CodeFault.TheVariants as faults
 use Rattle.bytecode.specs.declared.stop.Stop.{Stop}
@@ -14,8 +13,8 @@ use Rattle.bytecode.specs.declared.stop.Stop.TheVariants as stops
 use Rattle.bytecode.specs.Texts.{is_word, is_path}
 use Rattle.bytecode.specs.Values.{SlotData, SectionData, HeaderData, ProgramData, in_byte, in_two, in_four, is_width, fits_sample, fits_block, fits_list, fits_text, fits_slot, fits_section, fits_limits, fits_disable, fits_header, fits_program}
 use Rattle.bytecode.specs.Spelling.{byte, two, four, sixteen, counted_spelling, text_spelling, sample_spelling, block_spelling, slot_spelling, section_spelling, limits_spelling, disable_spelling, head_spelling, header_spelling, spelling}
-use Rattle.bytecode.specs.Reading.{◌>>=◌, Fails, fault_of, Reader, number_at, sixteen_at, byte_at, width_at, text_at, many_at, counted_at, sample_at, step_at, slot_at, section_at, head_at, limits_at, disable_of, header_at, program_at, whole_of}
-use Rattle.bytecode.proofs.FieldLaws.{IsBytes, bind_ok, test_ok, guard_ok, ok_is, Takes, Takes-then, IsCodec, in_sixteen, byte-codec, two-codec, four-codec, sixteen-codec, width-codec, text-codec, many-takes, many-again, counted-codec}
+use Rattle.bytecode.specs.Reading.{◌>>=◌, Fails, fault_of, number_at, sixteen_at, byte_at, width_at, text_at, many_at, counted_at, sample_at, step_at, slot_at, section_at, head_at, limits_at, disable_of, header_at, program_at, whole_of}
+use Rattle.bytecode.proofs.FieldLaws.{IsBytes, bind_ok, test_ok, ok_is, Takes, Takes-then, IsCodec, in_sixteen, byte-codec, two-codec, four-codec, sixteen-codec, width-codec, text-codec, many-takes, many-again, counted-codec}
 use Rattle.bytecode.proofs.InstrLaws.{sample-codec, step-codec}
 
 slot-takes : (bytes : List ℕ) (x : SlotData) (rest : List ℕ) → IsBytes bytes → slot_at bytes ≡ Ok (x, rest) → Takes bytes (slot_spelling x) rest × (fits_slot x ≡ true)

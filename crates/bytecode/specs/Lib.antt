@@ -6,3 +6,4 @@ pub mod Views
 pub mod Reading
 pub mod Programs
 pub mod Laws
+pub mod Instructions

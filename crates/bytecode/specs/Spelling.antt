@@ -4,7 +4,7 @@ use Rattle.std.specs.List.{flat_map}
 use Rattle.std.specs.Int.{w16, w32, w64, to_be_bytes}
 use Rattle.bytecode.specs.declared.limits.Limits.{Limits}
 use Rattle.bytecode.specs.declared.sample_instr.SampleInstr.{SampleInstr}
-use Rattle.bytecode.specs.declared.sample_instr.SampleInstr.TheVariants.{Push, Load, Past, Join, Compare, Shift, Not, Reduce, Concat, Zext, Slice, Mux, Jump, JumpIfZero, SetAtom, Store, Halt}
+use Rattle.bytecode.specs.declared.sample_instr.SampleInstr.TheVariants.{Push, Load, Past, Zext, Slice, Jump, JumpIfZero, SetAtom, Store}
 use Rattle.bytecode.specs.declared.block_instr.BlockInstr.{BlockInstr}
 use Rattle.bytecode.specs.declared.block_instr.BlockInstr.TheVariants.{Unless, Enter, Accept, Stop}
 use Rattle.bytecode.specs.Opcodes.{sample_opcode, block_opcode}

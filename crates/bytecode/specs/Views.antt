@@ -1,5 +1,5 @@
 -- What a program in memory holds, field by field.
-use Rattle.std.specs.Prelude.{ℕ, Bool, List, map, Option, Vec, String, string_bytes}
+use Rattle.std.specs.Prelude.{ℕ, map, Option, Vec, String, string_bytes}
 use Rattle.std.specs.declared.alloc.Global.{Global}
 use Rattle.bytecode.specs.declared.limits.Limits.{Limits}
 use Rattle.bytecode.specs.declared.slot.Slot.{Slot}

@@ -1,5 +1,7 @@
 //! Instructions of blocks.
 
+use crate::flow::Flow;
+
 /// An instruction of a position's block.
 #[derive(Clone, Copy, PartialEq, Eq, Debug)]
 pub enum BlockInstr {
@@ -9,4 +11,20 @@ pub enum BlockInstr {
     Enter(u8),
     Accept,
     Stop,
+}
+
+impl BlockInstr {
+    ghost use Rattle.std.specs.Prelude.{◌≡◌};
+    ghost use Rattle.bytecode.specs.Instructions.{block_flow};
+
+    /// Where it leads.
+    pub fn flow(self) -> Flow
+        ensures { result ≡ block_flow self }
+    {
+        match self {
+            BlockInstr::Stop => Flow::Stops,
+            BlockInstr::Unless(_, target) => Flow::Branches(target),
+            _ => Flow::GoesOn,
+        }
+    }
 }

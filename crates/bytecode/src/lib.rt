@@ -13,7 +13,8 @@
 //! A `Program` holds only what a file can spell (its ghost field `fits`). The definitions: what that
 //! is in `specs/Values.antt`, the spelling of each field and instruction in `specs/Spelling.antt` and
 //! `specs/Opcodes.antt`, words and paths in `specs/Texts.antt`, reading up to the first fault in
-//! `specs/Reading.antt`, the laws in `specs/Laws.antt`. Numbers are spelled with the highest byte
+//! `specs/Reading.antt`, the laws in `specs/Laws.antt`. `specs/Instructions.antt` is the one table of what
+//! instructions do to the operands on the stack, what they name and where they lead. Numbers are spelled with the highest byte
 //! first; a place is a byte from 0.
 //!
 //! Not promised: that a program makes sense. Slots, atoms and targets may be anything that a file can
@@ -27,6 +28,7 @@ mod copy;
 mod fault;
 mod field;
 mod field_writing;
+mod flow;
 mod laws;
 mod limits;
 mod list_reading;
@@ -47,6 +49,7 @@ mod text;
 
 pub use block_instr::BlockInstr;
 pub use fault::CodeFault;
+pub use flow::Flow;
 pub use laws::spelling_law;
 pub use limits::Limits;
 pub use operator::{CompareOperator, JoinOperator, ReduceOperator, ShiftOperator};

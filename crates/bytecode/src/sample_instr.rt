@@ -1,5 +1,6 @@
 //! Instructions of sample code.
 
+use crate::flow::Flow;
 use crate::operator::{CompareOperator, JoinOperator, ReduceOperator, ShiftOperator};
 
 /// An instruction of sample code, which runs once at each tick over a stack of values.
@@ -33,4 +34,21 @@ pub enum SampleInstr {
     /// The counter, from 0, that becomes the value that it takes.
     Store(u8),
     Halt,
+}
+
+impl SampleInstr {
+    ghost use Rattle.std.specs.Prelude.{◌≡◌};
+    ghost use Rattle.bytecode.specs.Instructions.{sample_flow};
+
+    /// Where it leads.
+    pub fn flow(self) -> Flow
+        ensures { result ≡ sample_flow self }
+    {
+        match self {
+            SampleInstr::Halt => Flow::Stops,
+            SampleInstr::Jump(target) => Flow::Jumps(target),
+            SampleInstr::JumpIfZero(target) => Flow::Branches(target),
+            _ => Flow::GoesOn,
+        }
+    }
 }
