@@ -1,0 +1,10 @@
+pub mod Rules
+pub mod Inference
+pub mod Order
+pub mod Typing
+pub mod Arrivals
+pub mod Views
+pub mod Scans
+pub mod Sections
+pub mod Marks
+pub mod Laws

@@ -1,0 +1,9 @@
+//! Laws of typing, each a call that does nothing.
+
+ghost use Rattle.inference.specs.Laws.{SampleIsTypableWhereFaultless, SectionIsWellFormedWhereFaultless};
+
+/// No fault stands in code exactly where tables of lists type it.
+pub fn typing_law()
+    ensures sample { SampleIsTypableWhereFaultless }
+    ensures section { SectionIsWellFormedWhereFaultless }
+{}

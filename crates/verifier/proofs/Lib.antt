@@ -1,0 +1,6 @@
+pub mod HeaderLaws
+pub mod ProgramLaws
+pub mod VerifyLaws
+pub mod LimitLaws
+pub mod LimitFaultLaws
+pub mod ShortLaws

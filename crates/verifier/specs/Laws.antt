@@ -1,0 +1,23 @@
+-- Laws of acceptance.
+use Rattle.std.specs.Prelude.{◌≡◌, ◌↔◌, ℕ, List, []}
+use Rattle.bytecode.specs.Values.{ProgramData}
+use Rattle.bytecode.specs.Instructions.{frame_of}
+use Rattle.inference.specs.Rules.{sample_rules}
+use Rattle.inference.specs.Typing.{IsTyped, AreShort, longest_list}
+use Rattle.verifier.specs.Programs.{part_faults, all_faults, least_stack, IsWellFormed, HasRoom, IsAccepted}
+
+-- No fault stands exactly where a program is accepted.
+abbrev pub IsAcceptedWhereFaultless : Type 0
+IsAcceptedWhereFaultless = (p : ProgramData) → (all_faults p ≡ []) ↔ IsAccepted p
+
+-- No fault but those of the limits stands exactly where a program is well formed and nothing is over the most.
+abbrev pub IsFormedWhereFaultless : Type 0
+IsFormedWhereFaultless = (p : ProgramData) → (part_faults p ≡ []) ↔ (IsWellFormed p × HasRoom p)
+
+-- The least stack is the longest list of any table that types the sample code.
+abbrev pub LeastStackIsOfAnyTable : Type 0
+LeastStackIsOfAnyTable =
+    (p : ProgramData) (table : ℕ → List ℕ) →
+    IsTyped (sample_rules (frame_of p)) 0 p.sample table →
+    AreShort (sample_rules (frame_of p)) 0 p.sample table →
+    least_stack p ≡ longest_list table 0 p.sample
