@@ -1,12 +1,15 @@
 -- What is kept of what was sent.
-use Rattle.std.proofs.Common.{◌≡◌, ◌⊎◌, inl, inr, ℕ, zero, suc, ◌+◌, ◌<◌, ◌≤◌, ◌==◌, true, false, cond, List, [], ◌∷◌, ◌++◌, length, reverse, set, Some, refl, sym, ap, ◌∙◌, subst, arith}
+use Rattle.std.proofs.Common.{◌≡◌, ◌⊎◌, inl, inr, ℕ, zero, suc, ◌+◌, ◌<◌, ◌≤◌, ◌==◌, true, false}
+use Rattle.std.proofs.Common.{cond, List, [], ◌∷◌, ◌++◌, length, reverse, set, Some, refl, sym, ap}
+use Rattle.std.proofs.Common.{◌∙◌, subst, arith}
 use Rattle.std.specs.Prelude.{slice_get}
 use Rattle.std.specs.Str.{bytes_eq}
 use Rattle.std.proofs.lemmas.List.{reverse-append, reverse-reverse}
 use Rattle.std.proofs.lemmas.Slice.Eq.{bytes_eq-Decides}
 use Rattle.std.proofs.lemmas.Bool.Decides.{same_from_decides}
 use Rattle.std.proofs.lemmas.Bool.{cases_eq, eq-eqb, ne_eqb}
-use Rattle.inference.specs.Inference.{Message, ArrivalData, nothing, agreed, mismatch, merge, arrival_at, entry}
+use Rattle.inference.specs.Inference.{Message, ArrivalData, nothing, agreed, mismatch, merge}
+use Rattle.inference.specs.Inference.{arrival_at, entry}
 use Rattle.inference.specs.Arrivals.{arrived, HoldsFrom}
 use Rattle.inference.specs.declared.arrival.Arrival.{Arrival}
 

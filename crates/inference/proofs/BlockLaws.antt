@@ -1,5 +1,6 @@
 -- The scan of a block.
-use Rattle.std.proofs.Common.{◌≡◌, ℕ, ◌+◌, ◌<◌, ◌≤◌, Bool, true, false, cond, List, [], ◌∷◌, length, get_or, Some, None, refl, sym, ap, subst, arith}
+use Rattle.std.proofs.Common.{◌≡◌, ℕ, ◌+◌, ◌<◌, ◌≤◌, Bool, true, false, cond, List, [], ◌∷◌, length}
+use Rattle.std.proofs.Common.{get_or, Some, None, refl, sym, ap, subst, arith}
 use Rattle.std.specs.Prelude.{slice_get, nat_lt}
 use Rattle.bytecode.specs.declared.block_instr.BlockInstr.{BlockInstr}
 use Rattle.bytecode.specs.declared.block_instr.BlockInstr.TheVariants.{Unless, Enter, Accept, Stop}
@@ -7,7 +8,8 @@ use Rattle.inference.specs.declared.refusal.Refusal.{Refusal}
 use Rattle.inference.specs.declared.refusal.Refusal.TheVariants.{SlotRange, Cycle}
 use Rattle.inference.specs.Rules.{block_rules}
 use Rattle.bytecode.specs.Instructions.{block_flow}
-use Rattle.inference.specs.Inference.{Message, sends, jump_faults, end_faults, faults_at, left_by, code_faults, found, entry}
+use Rattle.inference.specs.Inference.{Message, sends, jump_faults, end_faults, faults_at, left_by}
+use Rattle.inference.specs.Inference.{code_faults, found, entry}
 use Rattle.inference.specs.Order.{part_of, IsFirst, first_of}
 use Rattle.inference.specs.Scans.{list_at, HasRead}
 use Rattle.inference.specs.Marks.{marked, Reached}

@@ -1,5 +1,6 @@
 -- Code and sections: in which section faults stand, and that none stands exactly where a table types.
-use Rattle.std.proofs.Common.{◌≡◌, ◌⊎◌, inl, inr, ℕ, ◌+◌, ◌^◌, ◌<◌, ◌≤◌, Bool, true, false, cond, List, [], ◌∷◌, ◌++◌, length, map, refl, sym, ap, ◌∙◌, subst, arith}
+use Rattle.std.proofs.Common.{◌≡◌, ◌⊎◌, inl, inr, ℕ, ◌+◌, ◌^◌, ◌<◌, ◌≤◌, Bool, true, false, cond}
+use Rattle.std.proofs.Common.{List, [], ◌∷◌, ◌++◌, length, map, refl, sym, ap, ◌∙◌, subst, arith}
 use Rattle.std.specs.Prelude.{nat_lt}
 use Rattle.std.proofs.lemmas.Bool.{lt-ltb, ltb-true, cases_Bool}
 use Rattle.bytecode.specs.declared.block_instr.BlockInstr.{BlockInstr}
@@ -12,7 +13,8 @@ use Rattle.inference.specs.Inference.{Found, found, code_faults, entry}
 use Rattle.inference.specs.Order.{IsIn, IsFirstRefusal}
 use Rattle.inference.specs.Typing.{IsTyped, AreShort}
 use Rattle.bytecode.specs.Values.{SectionData}
-use Rattle.inference.specs.Sections.{blocks_faults, start_faults, section_faults, AreTyped, IsSection}
+use Rattle.inference.specs.Sections.{blocks_faults, start_faults, section_faults, AreTyped}
+use Rattle.inference.specs.Sections.{IsSection}
 use Rattle.inference.proofs.OrderLaws.{in_append, in_left, stands_from}
 use Rattle.inference.proofs.TypingLaws.{nil_parts, typed_by, table_of, no_faults}
 

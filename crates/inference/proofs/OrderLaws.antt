@@ -1,13 +1,18 @@
 -- Faults in their order.
-use Rattle.std.proofs.Common.{◌≡◌, ◌⊎◌, inl, inr, ℕ, ◌+◌, ◌<◌, ◌≤◌, ◌==◌, Bool, true, false, cond, List, [], ◌∷◌, ◌++◌, length, map, refl, sym, ap, ◌∙◌, subst, arith}
+use Rattle.std.proofs.Common.{◌≡◌, ◌⊎◌, inl, inr, ℕ, ◌+◌, ◌<◌, ◌≤◌, ◌==◌, Bool, true, false, cond}
+use Rattle.std.proofs.Common.{List, [], ◌∷◌, ◌++◌, length, map, refl, sym, ap, ◌∙◌, subst, arith}
 use Rattle.std.specs.Prelude.{nat_lt, nat_le}
 use Rattle.bytecode.specs.declared.flow.Flow.{Flow}
 use Rattle.bytecode.specs.declared.flow.Flow.TheVariants.{Stops, GoesOn, Jumps, Branches}
 use Rattle.inference.specs.declared.refusal.Refusal.{Refusal}
-use Rattle.inference.specs.declared.refusal.Refusal.TheVariants.{Overflow, JumpRange, BackwardJump, NoHalt}
+use Rattle.inference.specs.declared.refusal.Refusal.TheVariants.{Overflow, JumpRange, BackwardJump}
+use Rattle.inference.specs.declared.refusal.Refusal.TheVariants.{NoHalt}
 use Rattle.bytecode.specs.Instructions.{Effect, leaves, too_few, misfit}
 use Rattle.inference.specs.Rules.{Rules}
-use Rattle.inference.specs.Inference.{Message, ArrivalData, nothing, agreed, mismatch, arrival_at, effect_faults, operand_faults, target_faults, jump_faults, arrival_faults, end_faults, faults_at, told, Found, found, faults_from}
+use Rattle.inference.specs.Inference.{Message, ArrivalData, nothing, agreed, mismatch, arrival_at}
+use Rattle.inference.specs.Inference.{effect_faults, operand_faults, target_faults, jump_faults}
+use Rattle.inference.specs.Inference.{arrival_faults, end_faults, faults_at, told, Found, found}
+use Rattle.inference.specs.Inference.{faults_from}
 use Rattle.inference.specs.Order.{number_of, part_of, IsUpTo, place_of, IsIn, IsFirst}
 
 pub in_append : {A : Type 0} (y : A) (xs ys : List A) → IsIn y (xs ++ ys) → IsIn y xs ⊎ IsIn y ys

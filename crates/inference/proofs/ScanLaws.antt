@@ -1,12 +1,16 @@
 -- The steps of a scan.
-use Rattle.std.proofs.Common.{◌≡◌, ◌⊎◌, inl, inr, ℕ, ◌+◌, ◌<◌, ◌≤◌, max, List, [], ◌∷◌, ◌++◌, length, map, drop, get_or, Some, refl, sym, ap, ◌∙◌, subst, arith}
+use Rattle.std.proofs.Common.{◌≡◌, ◌⊎◌, inl, inr, ℕ, ◌+◌, ◌<◌, ◌≤◌, max, List, [], ◌∷◌, ◌++◌}
+use Rattle.std.proofs.Common.{length, map, drop, get_or, Some, refl, sym, ap, ◌∙◌, subst, arith}
 use Rattle.std.proofs.lemmas.List.{drop_more, drop_all}
 use Rattle.inference.specs.declared.refusal.Refusal.{Refusal}
 use Rattle.inference.specs.declared.refusal.Refusal.TheVariants.{NoHalt, Memory}
 use Rattle.inference.specs.Rules.{Rules}
-use Rattle.inference.specs.Inference.{Message, ArrivalData, arrival_at, sends, faults_at, left_by, if_faultless, told, Found, found, faults_from, code_faults, entry}
+use Rattle.inference.specs.Inference.{Message, ArrivalData, arrival_at, sends, faults_at, left_by}
+use Rattle.inference.specs.Inference.{if_faultless, told, Found, found, faults_from, code_faults}
+use Rattle.inference.specs.Inference.{entry}
 use Rattle.inference.specs.Scans.{list_at, longest_from, IsHead, IsHeadOr, HasRead}
-use Rattle.inference.specs.Order.{IsUpTo, place_of, part_of, IsIn, IsFirst, IsFirstRefusal, first_of}
+use Rattle.inference.specs.Order.{IsUpTo, place_of, part_of, IsIn, IsFirst, IsFirstRefusal}
+use Rattle.inference.specs.Order.{first_of}
 use Rattle.inference.proofs.OrderLaws.{NamesRise, faults_rise, Rises, stands_from, first_here}
 
 pub head_front : (r : Refusal) (xs ys : List Refusal) → IsHeadOr r xs → IsHeadOr r (xs ++ ys)

@@ -1,17 +1,25 @@
 -- No fault stands exactly where there is a table of lists.
-use Rattle.std.proofs.Common.{◌≡◌, ◌⊎◌, inl, inr, ℕ, zero, suc, ◌+◌, ◌-◌, ◌<◌, ◌≤◌, max, ◌==◌, Bool, true, false, cond, List, [], ◌∷◌, ◌++◌, length, map, Some, refl, sym, ap, ◌∙◌, subst, arith}
+use Rattle.std.proofs.Common.{◌≡◌, ◌⊎◌, inl, inr, ℕ, zero, suc, ◌+◌, ◌-◌, ◌<◌, ◌≤◌, max, ◌==◌, Bool}
+use Rattle.std.proofs.Common.{true, false, cond, List, [], ◌∷◌, ◌++◌, length, map, Some, refl, sym}
+use Rattle.std.proofs.Common.{ap, ◌∙◌, subst, arith}
 use Rattle.std.specs.Prelude.{slice_get, nat_lt, nat_le}
 use Rattle.std.specs.Str.{bytes_eq}
 use Rattle.std.proofs.lemmas.Slice.Eq.{bytes_eq-Decides}
-use Rattle.std.proofs.lemmas.Bool.{cases_Bool, cases_eq, eqb-true, eqb-false, eq-eqb, ne_eqb, ltb-false, leb-false, le-ltb, lt-leb}
+use Rattle.std.proofs.lemmas.Bool.{cases_Bool, cases_eq, eqb-true, eqb-false, eq-eqb, ne_eqb}
+use Rattle.std.proofs.lemmas.Bool.{ltb-false, leb-false, le-ltb, lt-leb}
 use Rattle.std.proofs.lemmas.Option.{slice_get_within}
 use Rattle.bytecode.specs.declared.flow.Flow.{Flow}
 use Rattle.bytecode.specs.declared.flow.Flow.TheVariants.{Stops, GoesOn, Jumps, Branches}
 use Rattle.inference.specs.declared.refusal.Refusal.{Refusal}
-use Rattle.inference.specs.declared.refusal.Refusal.TheVariants.{Overflow, JumpRange, BackwardJump, NoHalt}
+use Rattle.inference.specs.declared.refusal.Refusal.TheVariants.{Overflow, JumpRange, BackwardJump}
+use Rattle.inference.specs.declared.refusal.Refusal.TheVariants.{NoHalt}
 use Rattle.bytecode.specs.Instructions.{Effect, leaves, too_few, misfit}
 use Rattle.inference.specs.Rules.{Rules}
-use Rattle.inference.specs.Inference.{Message, ArrivalData, nothing, agreed, mismatch, merge, arrival_at, sends, effect_faults, operand_faults, target_faults, jump_faults, arrival_faults, end_faults, faults_at, after_of, left_by, if_faultless, told, found, faults_from, entry}
+use Rattle.inference.specs.Inference.{Message, ArrivalData, nothing, agreed, mismatch, merge}
+use Rattle.inference.specs.Inference.{arrival_at, sends, effect_faults, operand_faults}
+use Rattle.inference.specs.Inference.{target_faults, jump_faults, arrival_faults, end_faults}
+use Rattle.inference.specs.Inference.{faults_at, after_of, left_by, if_faultless, told, found}
+use Rattle.inference.specs.Inference.{faults_from, entry}
 use Rattle.inference.specs.Scans.{list_at, longest_from}
 use Rattle.inference.specs.Order.{IsIn}
 use Rattle.bytecode.specs.Instructions.{LeadsTo}

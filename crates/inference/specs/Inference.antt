@@ -1,10 +1,13 @@
 -- The faults of code: what arrives at each instruction, and what it then does wrong.
-use Rattle.std.specs.Prelude.{ℕ, ◌+◌, ◌==◌, nat_le, nat_lt, if◌then◌else◌, List, [], ◌∷◌, ◌++◌, length, map}
+use Rattle.std.specs.Prelude.{ℕ, ◌+◌, ◌==◌, nat_le, nat_lt, if◌then◌else◌, List, [], ◌∷◌, ◌++◌}
+use Rattle.std.specs.Prelude.{length, map}
 use Rattle.std.specs.Str.{bytes_eq}
 use Rattle.bytecode.specs.declared.flow.Flow.{Flow}
 use Rattle.bytecode.specs.declared.flow.Flow.TheVariants.{Stops, GoesOn, Jumps, Branches}
 use Rattle.inference.specs.declared.refusal.Refusal.{Refusal}
-use Rattle.inference.specs.declared.refusal.Refusal.TheVariants.{Operand, Underflow, Overflow, JumpRange, BackwardJump, JoinMismatch, Unreached, NoHalt}
+use Rattle.inference.specs.declared.refusal.Refusal.TheVariants.{Operand, Underflow, Overflow}
+use Rattle.inference.specs.declared.refusal.Refusal.TheVariants.{JumpRange, BackwardJump}
+use Rattle.inference.specs.declared.refusal.Refusal.TheVariants.{JoinMismatch, Unreached, NoHalt}
 use Rattle.bytecode.specs.Instructions.{Effect, leaves, too_few, misfit}
 use Rattle.inference.specs.Rules.{Rules}
 
@@ -34,9 +37,11 @@ abbrev pub sends : ℕ → Flow → List ℕ → List Message → List Message
 sends pc Stops ws ms = ms
 sends pc GoesOn ws ms = record { to = pc + 1; list = ws } ∷ ms
 sends pc (Jumps target) ws ms = record { to = target; list = ws } ∷ ms
-sends pc (Branches target) ws ms = record { to = pc + 1; list = ws } ∷ record { to = target; list = ws } ∷ ms
+sends pc (Branches target) ws ms =
+    record { to = pc + 1; list = ws } ∷ record { to = target; list = ws } ∷ ms
 
--- The faults at pc, of code that ends at end. First those of the operands, where one list is agreed on.
+-- The faults at pc, of code that ends at end. First those of the operands, where one list is
+-- agreed on.
 abbrev pub effect_faults : ℕ → Effect → List Refusal
 effect_faults pc misfit = Operand pc ∷ []
 effect_faults pc too_few = Underflow pc ∷ []
@@ -47,7 +52,9 @@ operand_faults r pc i (agreed ws) = effect_faults pc (r.effect i ws)
 operand_faults r pc i a = []
 
 abbrev pub target_faults : ℕ → ℕ → ℕ → List Refusal
-target_faults end pc target = if nat_le end target then JumpRange pc ∷ [] else (if nat_le target pc then BackwardJump pc ∷ [] else [])
+target_faults end pc target =
+    if nat_le end target then JumpRange pc ∷ []
+    else (if nat_le target pc then BackwardJump pc ∷ [] else [])
 
 abbrev pub jump_faults : ℕ → ℕ → Flow → List Refusal
 jump_faults end pc (Jumps target) = target_faults end pc target
@@ -66,7 +73,9 @@ end_faults end pc flow = if pc + 1 == end then NoHalt ∷ [] else []
 
 abbrev pub faults_at : {I : Type 0} → Rules I → ℕ → ℕ → I → ArrivalData → List Refusal
 faults_at r end pc i a =
-    operand_faults r pc i a ++ (jump_faults end pc (r.flow i) ++ (arrival_faults pc a ++ (end_faults end pc (r.flow i) ++ r.names pc i)))
+    operand_faults r pc i a
+    ++ (jump_faults end pc (r.flow i)
+    ++ (arrival_faults pc a ++ (end_faults end pc (r.flow i) ++ r.names pc i)))
 
 -- the list that is left where no fault stands
 abbrev pub after_of : Effect → List ℕ
@@ -84,7 +93,8 @@ if_faultless (x ∷ xs) new ms = ms
 -- What was sent once the instruction at pc was read: a faulty one sends nothing.
 abbrev pub told : {I : Type 0} → Rules I → ℕ → ℕ → I → List Message → List Message
 told r end pc i ms =
-    if_faultless (faults_at r end pc i (arrival_at pc ms)) (sends pc (r.flow i) (left_by r i (arrival_at pc ms)) ms) ms
+    if_faultless (faults_at r end pc i (arrival_at pc ms))
+    (sends pc (r.flow i) (left_by r i (arrival_at pc ms)) ms) ms
 
 -- A fault, and where it stands.
 pub record Found : Type 0 where
@@ -99,7 +109,8 @@ found section pc refusal = record { section = section; pc = pc; refusal = refusa
 abbrev pub faults_from : {I : Type 0} → Rules I → ℕ → ℕ → List I → List Message → List Found
 faults_from r end pc [] ms = []
 faults_from r end pc (i ∷ is) ms =
-    map (found r.section pc) (faults_at r end pc i (arrival_at pc ms)) ++ faults_from r end (pc + 1) is (told r end pc i ms)
+    map (found r.section pc) (faults_at r end pc i (arrival_at pc ms))
+    ++ faults_from r end (pc + 1) is (told r end pc i ms)
 
 -- the first instruction has the empty list
 abbrev pub entry : ℕ → List Message

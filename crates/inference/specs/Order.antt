@@ -4,7 +4,13 @@ use Rattle.inference.specs.declared.pool.Pool.TheVariants as pools
 use Rattle.inference.specs.declared.field.Field.{Field}
 use Rattle.inference.specs.declared.field.Field.TheVariants as fields
 use Rattle.inference.specs.declared.refusal.Refusal.{Refusal}
-use Rattle.inference.specs.declared.refusal.Refusal.TheVariants.{Operand, Underflow, Overflow, JumpRange, BackwardJump, JoinMismatch, Unreached, NoHalt, SlotRange, HistoryTooShort, StackTooShort, Cycle, PoolTooSmall, BudgetTooSmall, LimitTooLarge, Memory}
+use Rattle.inference.specs.declared.refusal.Refusal.TheVariants.{Operand, Underflow, Overflow}
+use Rattle.inference.specs.declared.refusal.Refusal.TheVariants.{JumpRange, BackwardJump}
+use Rattle.inference.specs.declared.refusal.Refusal.TheVariants.{JoinMismatch, Unreached, NoHalt}
+use Rattle.inference.specs.declared.refusal.Refusal.TheVariants.{SlotRange, HistoryTooShort}
+use Rattle.inference.specs.declared.refusal.Refusal.TheVariants.{StackTooShort, Cycle, PoolTooSmall}
+use Rattle.inference.specs.declared.refusal.Refusal.TheVariants.{BudgetTooSmall, LimitTooLarge}
+use Rattle.inference.specs.declared.refusal.Refusal.TheVariants.{Memory}
 use Rattle.inference.specs.Inference.{Found}
 
 abbrev pub number_of : Refusal → ℕ

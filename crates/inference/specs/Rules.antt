@@ -1,10 +1,12 @@
--- Rules of instructions: what the faults of code and its typing need to know of each, for sample code and for blocks.
+-- Rules of instructions: what the faults of code and its typing need to know of each, for sample
+-- code and for blocks.
 use Rattle.std.specs.Prelude.{ℕ, nat_lt, if◌then◌else◌, List, [], ◌∷◌}
 use Rattle.bytecode.specs.declared.flow.Flow.{Flow}
 use Rattle.bytecode.specs.declared.sample_instr.SampleInstr.{SampleInstr}
 use Rattle.bytecode.specs.declared.block_instr.BlockInstr.{BlockInstr}
 use Rattle.bytecode.specs.declared.block_instr.BlockInstr.TheVariants.{Unless, Enter, Accept, Stop}
-use Rattle.bytecode.specs.Instructions.{FrameData, Effect, leaves, sample_flow, sample_effect, is_there, block_flow}
+use Rattle.bytecode.specs.Instructions.{FrameData, Effect, leaves, sample_flow, sample_effect}
+use Rattle.bytecode.specs.Instructions.{is_there, block_flow}
 use Rattle.inference.specs.declared.refusal.Refusal.{Refusal}
 use Rattle.inference.specs.declared.refusal.Refusal.TheVariants.{SlotRange, Cycle}
 

@@ -1,9 +1,11 @@
 -- What a scan over code keeps.
-use Rattle.std.specs.Prelude.{◌≡◌, ◌⊎◌, ℕ, ◌+◌, max, List, [], ◌∷◌, length, drop, Option, Some, None}
+use Rattle.std.specs.Prelude.{◌≡◌, ◌⊎◌, ℕ, ◌+◌, max, List, [], ◌∷◌, length, drop, Option, Some}
+use Rattle.std.specs.Prelude.{None}
 use Rattle.inference.specs.declared.refusal.Refusal.{Refusal}
 use Rattle.inference.specs.declared.refusal.Refusal.TheVariants.{Memory}
 use Rattle.inference.specs.Rules.{Rules}
-use Rattle.inference.specs.Inference.{Message, ArrivalData, agreed, arrival_at, told, Found, faults_from, code_faults, entry}
+use Rattle.inference.specs.Inference.{Message, ArrivalData, agreed, arrival_at, told, Found}
+use Rattle.inference.specs.Inference.{faults_from, code_faults, entry}
 use Rattle.inference.specs.Order.{IsFirst, part_of}
 
 -- the list that is agreed on
@@ -14,7 +16,8 @@ list_at a = []
 -- the longest list that is agreed on, from pc on
 abbrev pub longest_from : {I : Type 0} → Rules I → ℕ → ℕ → List I → List Message → ℕ
 longest_from r end pc [] ms = 0
-longest_from r end pc (i ∷ is) ms = max (length (list_at (arrival_at pc ms))) (longest_from r end (pc + 1) is (told r end pc i ms))
+longest_from r end pc (i ∷ is) ms =
+    max (length (list_at (arrival_at pc ms))) (longest_from r end (pc + 1) is (told r end pc i ms))
 
 abbrev pub entry_longest : {I : Type 0} → Rules I → List I → ℕ
 entry_longest r instrs = longest_from r (length instrs) 0 instrs (entry 0)
@@ -27,17 +30,22 @@ IsHead r rs = (rest : List Refusal) × (rs ≡ r ∷ rest)
 abbrev pub IsHeadOr : Refusal → List Refusal → Type 0
 IsHeadOr r rs = (r ≡ Memory) ⊎ IsHead r rs
 
--- The first k instructions of code that begins at base were read without a fault, and what is left of it decides.
+-- The first k instructions of code that begins at base were read without a fault, and what is left
+-- of it decides.
 -- Holds says what is kept of the messages so far.
-pub record HasRead {I : Type 0} (r : Rules I) (base : ℕ) (instrs : List I) (Holds : List Message → Type 0) (longest end pc k : ℕ) : Type 0 where
+pub record HasRead {I : Type 0} (r : Rules I) (base : ℕ) (instrs : List I)
+    (Holds : List Message → Type 0) (longest end pc k : ℕ) : Type 0 where
   pub sent : List Message
   pub holds : Holds sent
   pub end_is : end ≡ base + length instrs
   pub pc_is : pc ≡ base + k
   pub left : faults_from r end pc (drop k instrs) sent ≡ code_faults r base instrs
-  pub most : max longest (longest_from r end pc (drop k instrs) sent) ≡ longest_from r end base instrs (entry base)
+  pub most :
+      max longest (longest_from r end pc (drop k instrs) sent)
+      ≡ longest_from r end base instrs (entry base)
 
--- the first of the faults, or none where none stands; among those of sample code and of sections there is one of a number at a place
+-- the first of the faults, or none where none stands; among those of sample code and of sections
+-- there is one of a number at a place
 abbrev pub IsFirstOf : List Found → Option Found → Type 0
 IsFirstOf fs None = fs ≡ []
 IsFirstOf fs (Some x) = IsFirst x fs × (part_of x.refusal ≡ 0)

@@ -11,20 +11,24 @@ use Rattle.inference.specs.Typing.{IsTyped}
 abbrev pub blocks_faults : ℕ → ℕ → ℕ → ℕ → ℕ → List (List BlockInstr) → List Found
 blocks_faults section atoms positions p base [] = []
 blocks_faults section atoms positions p base (b ∷ bs) =
-    code_faults (block_rules section atoms positions p) base b ++ blocks_faults section atoms positions (p + 1) (base + length b) bs
+    code_faults (block_rules section atoms positions p) base b
+    ++ blocks_faults section atoms positions (p + 1) (base + length b) bs
 
 -- a start bit past the positions
 abbrev pub start_faults : ℕ → SectionData → List Found
-start_faults section s = if nat_lt s.start (2 ^ length s.blocks) then [] else found section 0 (SlotRange 0) ∷ []
+start_faults section s =
+    if nat_lt s.start (2 ^ length s.blocks) then [] else found section 0 (SlotRange 0) ∷ []
 
 abbrev pub section_faults : ℕ → ℕ → SectionData → List Found
-section_faults section atoms s = start_faults section s ++ blocks_faults section atoms (length s.blocks) 0 0 s.blocks
+section_faults section atoms s =
+    start_faults section s ++ blocks_faults section atoms (length s.blocks) 0 0 s.blocks
 
 -- The blocks from position p on are typed, each by the table of empty lists.
 abbrev pub AreTyped : ℕ → ℕ → ℕ → ℕ → ℕ → List (List BlockInstr) → Type 0
 AreTyped section atoms positions p base [] = Unit {0}
 AreTyped section atoms positions p base (b ∷ bs) =
-    IsTyped (block_rules section atoms positions p) base b (λ pc. []) × AreTyped section atoms positions (p + 1) (base + length b) bs
+    IsTyped (block_rules section atoms positions p) base b (λ pc. [])
+    × AreTyped section atoms positions (p + 1) (base + length b) bs
 
 pub record IsSection (section atoms : ℕ) (s : SectionData) : Type 0 where
   pub start : s.start < 2 ^ length s.blocks

@@ -1,12 +1,14 @@
 -- Well formed code: there is a table of lists.
-use Rattle.std.specs.Prelude.{◌≡◌, ℕ, ◌+◌, ◌-◌, ◌<◌, ◌≤◌, max, List, [], ◌∷◌, length, Some, slice_get}
+use Rattle.std.specs.Prelude.{◌≡◌, ℕ, ◌+◌, ◌-◌, ◌<◌, ◌≤◌, max, List, [], ◌∷◌, length, Some}
+use Rattle.std.specs.Prelude.{slice_get}
 use Rattle.bytecode.specs.declared.flow.Flow.TheVariants.{Stops}
 use Rattle.bytecode.specs.declared.sample_instr.SampleInstr.{SampleInstr}
 use Rattle.bytecode.specs.Instructions.{FrameData, leaves, LeadsTo}
 use Rattle.inference.specs.Rules.{Rules, sample_rules}
 
 -- An instruction at pc, of code that ends at end.
-pub record IsFine {I : Type 0} (r : Rules I) (end : ℕ) (table : ℕ → List ℕ) (pc : ℕ) (i : I) : Type 0 where
+pub record IsFine {I : Type 0} (r : Rules I) (end : ℕ) (table : ℕ → List ℕ) (pc : ℕ) (i : I) :
+    Type 0 where
   -- its list meets its rule, and what it leaves is the list of each of its successors
   pub after : List ℕ
   pub rule : r.effect i (table pc) ≡ leaves after
@@ -17,18 +19,27 @@ pub record IsFine {I : Type 0} (r : Rules I) (end : ℕ) (table : ℕ → List �
   pub names : r.names pc i ≡ []
 
 -- The code that begins at base is typed by the table.
-pub record IsTyped {I : Type 0} (r : Rules I) (base : ℕ) (code : List I) (table : ℕ → List ℕ) : Type 0 where
+pub record IsTyped {I : Type 0} (r : Rules I) (base : ℕ) (code : List I) (table : ℕ → List ℕ) :
+    Type 0 where
   pub some : 0 < length code
   pub begins : table base ≡ []
-  pub each : (k : ℕ) (i : I) → slice_get code k ≡ Some i → IsFine r (base + length code) table (base + k) i
+  pub each :
+      (k : ℕ) (i : I) → slice_get code k ≡ Some i →
+      IsFine r (base + length code) table (base + k) i
   -- the last instruction ends it
   pub ends : (i : I) → slice_get code (length code - 1) ≡ Some i → r.flow i ≡ Stops
   -- every other instruction is a successor of an earlier one
-  pub reached : (k : ℕ) → 0 < k → k < length code → (j : ℕ) × (i : I) × (j < k) × (slice_get code j ≡ Some i) × LeadsTo (r.flow i) (base + j) (base + k)
+  pub reached :
+      (k : ℕ) → 0 < k → k < length code →
+      (j : ℕ) × (i : I) × (j < k) × (slice_get code j ≡ Some i)
+      × LeadsTo (r.flow i) (base + j) (base + k)
 
 -- no list that is left is longer than 1,024
-pub record AreShort {I : Type 0} (r : Rules I) (base : ℕ) (code : List I) (table : ℕ → List ℕ) : Type 0 where
-  pub each : (k : ℕ) (i : I) (after : List ℕ) → slice_get code k ≡ Some i → r.effect i (table (base + k)) ≡ leaves after → length after ≤ 1024
+pub record AreShort {I : Type 0} (r : Rules I) (base : ℕ) (code : List I) (table : ℕ → List ℕ) :
+    Type 0 where
+  pub each :
+      (k : ℕ) (i : I) (after : List ℕ) → slice_get code k ≡ Some i →
+      r.effect i (table (base + k)) ≡ leaves after → length after ≤ 1024
 
 -- the longest of the lists from pc on
 abbrev pub longest_list : {I : Type 0} → (ℕ → List ℕ) → ℕ → List I → ℕ
@@ -38,4 +49,5 @@ longest_list table pc (i ∷ is) = max (length (table pc)) (longest_list table (
 -- The sample code is typed by some table, and no list that is left is longer than 1,024.
 abbrev pub IsTypable : FrameData → List SampleInstr → Type 0
 IsTypable f code =
-    (table : ℕ → List ℕ) × IsTyped (sample_rules f) 0 code table × AreShort (sample_rules f) 0 code table
+    (table : ℕ → List ℕ) × IsTyped (sample_rules f) 0 code table
+    × AreShort (sample_rules f) 0 code table

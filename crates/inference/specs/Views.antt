@@ -3,12 +3,18 @@ use Rattle.std.specs.Prelude.{ℕ, List, map, Option, Some, None}
 use Rattle.std.specs.Global.{Vec}
 use Rattle.bytecode.specs.declared.block_instr.BlockInstr.{BlockInstr}
 use Rattle.bytecode.specs.Instructions.{FrameData, Effect, leaves, too_few, misfit}
+use Rattle.bytecode.specs.declared.sample_instr.SampleInstr.{SampleInstr}
+use Rattle.inference.specs.Rules.{Rules, sample_rules}
 use Rattle.inference.specs.declared.frame.Frame.{Frame}
 use Rattle.inference.specs.declared.stack.Outcome.{Outcome}
 use Rattle.inference.specs.declared.stack.Outcome.TheVariants.{Leaves, TooFew, Misfit}
 
 abbrev pub frame_data : Frame → FrameData
 frame_data f = record { slots = f.slots.items; counters = f.counters.items; atoms = f.atoms }
+
+-- the rules of sample code in a frame
+abbrev pub rules_of : Frame → Rules SampleInstr
+rules_of f = sample_rules (frame_data f)
 
 -- an outcome, where this list is left
 abbrev pub effect_when : Outcome → List ℕ → Effect

@@ -1,6 +1,7 @@
 //! What arrives at the instructions that are still to be read.
 
-ghost use Rattle.std.specs.Prelude.{◌≡◌, ◌<◌, ◌≤◌, ◌+◌, ℕ, List, ◌∷◌, length, reverse, slice_get, IfOk};
+ghost use Rattle.std.specs.Prelude.{◌≡◌, ◌<◌, ◌≤◌, ◌+◌, ℕ, List, ◌∷◌, length, reverse, slice_get};
+ghost use Rattle.std.specs.Prelude.{IfOk};
 ghost use Rattle.inference.specs.Inference.{Message, merge, entry};
 ghost use Rattle.inference.specs.Arrivals.{arrived, HoldsFrom};
 
@@ -45,7 +46,8 @@ pub(crate) fn send(pending: &mut [Arrival], to: usize, list: Vec<u8>)
 pub(crate) fn take_arrival(pending: &mut [Arrival], pc: usize) -> Arrival
     requires { pc < length pending.old }
     ensures taken { slice_get pending.old pc ≡ Some result }
-    ensures rest { (ms : List Message) → HoldsFrom pc pending.old ms → HoldsFrom (pc + 1) pending.new ms }
+    ensures rest { (ms : List Message) → HoldsFrom pc pending.old ms →
+        HoldsFrom (pc + 1) pending.new ms }
 {
     mem::replace(&mut pending[pc], Arrival::Nothing)
 }

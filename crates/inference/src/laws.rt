@@ -1,6 +1,7 @@
 //! Laws of typing, each a call that does nothing.
 
-ghost use Rattle.inference.specs.Laws.{SampleIsTypableWhereFaultless, SectionIsWellFormedWhereFaultless};
+ghost use Rattle.inference.specs.Laws.{SampleIsTypableWhereFaultless};
+ghost use Rattle.inference.specs.Laws.{SectionIsWellFormedWhereFaultless};
 
 /// No fault stands in code exactly where tables of lists type it.
 pub fn typing_law()

@@ -1,8 +1,9 @@
 //! One forward pass over code: what stands on the stack at each instruction, or the first fault.
 //!
-//! Sample code is typed as the JVM types methods, but in one pass, since every jump goes forward: each
-//! instruction takes the list of widths that all of its predecessors send, and sends what it leaves to
-//! its successors. Blocks have no operands, and are read by the same rules with empty lists.
+//! Sample code is typed as the JVM types methods, but in one pass, since every jump goes forward:
+//! each instruction takes the list of widths that all of its predecessors send, and sends what it
+//! leaves to its successors. Blocks have no operands, and are read by the same rules with empty
+//! lists.
 //!
 //! ```text
 //! let frame = Frame::of(alloc, &program)?;
@@ -11,9 +12,10 @@
 //! ```
 //!
 //! The definitions: rules of instructions in `specs/Rules.antt`, faults by what arrives in
-//! `specs/Inference.antt`, their order in `specs/Order.antt`, tables of lists in `specs/Typing.antt`,
-//! sections in `specs/Sections.antt`. `typing_law` says that no fault stands in code exactly where
-//! a table of lists types it. The table of instructions itself is that of `bytecode`.
+//! `specs/Inference.antt`, their order in `specs/Order.antt`, tables of lists in
+//! `specs/Typing.antt`, sections in `specs/Sections.antt`. `typing_law` says that no fault stands
+//! in code exactly where a table of lists types it. The table of instructions itself is that of
+//! `bytecode`.
 //!
 //! Not promised: anything of the header and of the declared limits, which `verifier` adds.
 #![tactic(auto)]

@@ -1,14 +1,16 @@
 //! One forward pass over sample code.
 
-ghost use Rattle.std.specs.Prelude.{◌≡◌, ◌⊎◌, ◌<◌, ◌≤◌, ◌+◌, ◌++◌, ℕ, max, List, [], length, reverse, OnOk, IfOk, IfErr};
+ghost use Rattle.std.specs.Prelude.{◌≡◌, ◌⊎◌, ◌<◌, ◌≤◌, ◌+◌, ◌++◌, ℕ, max, List, [], length};
+ghost use Rattle.std.specs.Prelude.{reverse, OnOk, IfOk, IfErr};
 ghost use Rattle.inference.specs.declared.refusal.Refusal.{Refusal};
 ghost use Rattle.bytecode.specs.Instructions.{sample_flow};
-ghost use Rattle.inference.specs.Rules.{sample_rules, sample_names};
-ghost use Rattle.inference.specs.Inference.{Message, ArrivalData, sends, operand_faults, jump_faults, arrival_faults, end_faults, faults_at, left_by, code_faults, entry};
+ghost use Rattle.inference.specs.Inference.{Message, ArrivalData, sends, operand_faults};
+ghost use Rattle.inference.specs.Inference.{jump_faults, arrival_faults, end_faults, faults_at};
+ghost use Rattle.inference.specs.Inference.{left_by, code_faults, entry};
 ghost use Rattle.inference.specs.Arrivals.{arrived, HoldsFrom};
 ghost use Rattle.inference.specs.Scans.{list_at, IsHeadOr, longest_from, entry_longest};
 ghost use Rattle.inference.specs.Order.{IsFirstRefusal, first_of};
-ghost use Rattle.inference.specs.Views.{frame_data};
+ghost use Rattle.inference.specs.Views.{rules_of};
 
 use crate::arrival::{Arrival, first_arrivals, send, take_arrival};
 use crate::frame::Frame;
@@ -76,7 +78,7 @@ fn other_fault(
     requires { pc < end }
     ensures { (a : ArrivalData) → reached ≡ first_of (arrival_faults pc a) →
         result ≡ first_of (jump_faults end pc (sample_flow instr) ++ (arrival_faults pc a
-        ++ (end_faults end pc (sample_flow instr) ++ sample_names (frame_data frame.now) pc instr))) }
+        ++ (end_faults end pc (sample_flow instr) ++ (rules_of frame.now).names pc instr))) }
 {
     if let Some(refusal) = jump_fault(end, pc, instr.flow()) {
         return Some(refusal);
@@ -103,11 +105,11 @@ fn leave(
     arrival: Arrival,
 ) -> Result<Vec<u8>, Refusal>
     ensures ok { IfOk result (λ list.
-        operand_faults (sample_rules (frame_data frame.now)) pc instr (arrived arrival) ≡ []) }
+        operand_faults (rules_of frame.now) pc instr (arrived arrival) ≡ []) }
     ensures left { IfOk result (λ list.
-        left_by (sample_rules (frame_data frame.now)) instr (arrived arrival) ≡ reverse list.items) }
+        left_by (rules_of frame.now) instr (arrived arrival) ≡ reverse list.items) }
     ensures refused { IfErr result (λ r.
-        IsHeadOr r (operand_faults (sample_rules (frame_data frame.now)) pc instr (arrived arrival))) }
+        IsHeadOr r (operand_faults (rules_of frame.now) pc instr (arrived arrival))) }
 {
     let Arrival::Agreed(mut stack) = arrival else {
         return Ok(Vec::new(alloc));
@@ -135,11 +137,11 @@ fn check(
 ) -> Result<Vec<u8>, Refusal>
     requires { pc < end }
     ensures ok { IfOk result (λ list.
-        faults_at (sample_rules (frame_data frame.now)) end pc instr (arrived arrival) ≡ []) }
+        faults_at (rules_of frame.now) end pc instr (arrived arrival) ≡ []) }
     ensures left { IfOk result (λ list.
-        left_by (sample_rules (frame_data frame.now)) instr (arrived arrival) ≡ reverse list.items) }
+        left_by (rules_of frame.now) instr (arrived arrival) ≡ reverse list.items) }
     ensures refused { IfErr result (λ r.
-        IsHeadOr r (faults_at (sample_rules (frame_data frame.now)) end pc instr (arrived arrival))) }
+        IsHeadOr r (faults_at (rules_of frame.now) end pc instr (arrived arrival))) }
 {
     let reached = arrival_fault(pc, &arrival);
     let list = leave(alloc, frame, pc, instr, arrival)?;
@@ -203,11 +205,11 @@ fn scan(
     requires some { 0 < length code.now }
     requires long { length pending.old ≡ length code.now }
     requires entry { HoldsFrom 0 pending.old (entry 0) }
-    ensures ok { OnOk result (code_faults (sample_rules (frame_data frame.now)) 0 code.now ≡ []) }
+    ensures ok { OnOk result (code_faults (rules_of frame.now) 0 code.now ≡ []) }
     ensures longest { IfOk result (λ longest.
-        longest ≡ entry_longest (sample_rules (frame_data frame.now)) code.now) }
+        longest ≡ entry_longest (rules_of frame.now) code.now) }
     ensures refused { IfErr result (λ r. (r ≡ Refusal.Memory)
-        ⊎ IsFirstRefusal r (code_faults (sample_rules (frame_data frame.now)) 0 code.now)) }
+        ⊎ IsFirstRefusal r (code_faults (rules_of frame.now) 0 code.now)) }
 {
     let mut longest = 0;
     'code: for pc in 0..code.len() {
@@ -224,11 +226,11 @@ fn scan(
 ///
 /// A list is handed on from instruction to instruction; only a branch copies it.
 pub fn infer(alloc: Global, frame: &Frame, code: &[SampleInstr]) -> Result<usize, Refusal>
-    ensures ok { OnOk result (code_faults (sample_rules (frame_data frame.now)) 0 code.now ≡ []) }
+    ensures ok { OnOk result (code_faults (rules_of frame.now) 0 code.now ≡ []) }
     ensures longest { IfOk result (λ longest.
-        longest ≡ entry_longest (sample_rules (frame_data frame.now)) code.now) }
+        longest ≡ entry_longest (rules_of frame.now) code.now) }
     ensures refused { IfErr result (λ r. (r ≡ Refusal.Memory)
-        ⊎ IsFirstRefusal r (code_faults (sample_rules (frame_data frame.now)) 0 code.now)) }
+        ⊎ IsFirstRefusal r (code_faults (rules_of frame.now) 0 code.now)) }
 {
     if code.is_empty() {
         return Err(Refusal::NoHalt);

@@ -1,8 +1,10 @@
 //! One forward pass over each block of a section.
 
-ghost use Rattle.std.specs.Prelude.{◌≡◌, ◌<◌, ◌≤◌, ◌+◌, ◌^◌, ℕ, List, [], length, map, min, IfOk, Option, Some, None};
+ghost use Rattle.std.specs.Prelude.{◌≡◌, ◌<◌, ◌≤◌, ◌+◌, ◌^◌, ℕ, List, [], length, map, min, IfOk};
+ghost use Rattle.std.specs.Prelude.{Option, Some, None};
 ghost use Rattle.inference.specs.Rules.{block_names, block_rules};
-ghost use Rattle.inference.specs.Inference.{Message, sends, jump_faults, end_faults, faults_at, code_faults, entry};
+ghost use Rattle.inference.specs.Inference.{Message, sends, jump_faults, end_faults, faults_at};
+ghost use Rattle.inference.specs.Inference.{code_faults, entry};
 ghost use Rattle.inference.specs.Order.{first_of};
 ghost use Rattle.inference.specs.Scans.{IsFirstOf};
 ghost use Rattle.inference.specs.Marks.{marked, Reached, found_in};
@@ -59,7 +61,8 @@ fn block_fault(
     is_reached: bool,
 ) -> Option<Refusal>
     requires { pc < end }
-    ensures { (section : ℕ) → result ≡ first_of (faults_at (block_rules section atoms positions p) end pc instr (marked is_reached)) }
+    ensures { (section : ℕ) → result ≡ first_of
+        (faults_at (block_rules section atoms positions p) end pc instr (marked is_reached)) }
 {
     if let Some(refusal) = jump_fault(end, pc, instr.flow()) {
         return Some(refusal);
@@ -80,7 +83,8 @@ fn mark_on(marks: &mut [bool], base: usize, k: usize, flow: Flow)
     requires forward { jump_faults (base + length marks.old) (base + k) flow ≡ [] }
     requires ends { end_faults (base + length marks.old) (base + k) flow ≡ [] }
     ensures long { length marks.new ≡ length marks.old }
-    ensures marks { (ms : List Message) → Reached base marks.old ms → Reached base marks.new (sends (base + k) flow [] ms) }
+    ensures marks { (ms : List Message) → Reached base marks.old ms →
+        Reached base marks.new (sends (base + k) flow [] ms) }
 {
     match flow {
         Flow::Stops => {}
@@ -106,7 +110,9 @@ fn scan_marks(
     requires long { length marks.old ≡ length block.now }
     requires fits { base + length block.now < 2 ^ 64 }
     requires entry { Reached base marks.old (entry base) }
-    ensures { (section : ℕ) → IsFirstOf (code_faults (block_rules section atoms positions p) base block.now) (found_in section result) }
+    ensures { (section : ℕ) →
+        IsFirstOf (code_faults (block_rules section atoms positions p) base block.now)
+        (found_in section result) }
 {
     let end = base + block.len();
     'block: for k in 0..block.len() {
@@ -131,7 +137,9 @@ fn scan_block(
     block: &[BlockInstr],
 ) -> Result<Option<Fault>, AllocError>
     requires { base + length block.now < 2 ^ 64 }
-    ensures { IfOk result (λ first. (section : ℕ) → IsFirstOf (code_faults (block_rules section atoms positions p) base block.now) (found_in section first)) }
+    ensures { IfOk result (λ first. (section : ℕ) →
+        IsFirstOf (code_faults (block_rules section atoms positions p) base block.now)
+        (found_in section first)) }
 {
     if block.is_empty() {
         return Ok(Some(Fault {
@@ -152,7 +160,9 @@ pub fn section_fault(
 ) -> Result<Option<Fault>, AllocError>
     requires few { length section.now.blocks.items ≤ 127 }
     requires size { size_of (section_data section.now).blocks ≤ 4096 }
-    ensures { IfOk result (λ first. (number : ℕ) → IsFirstOf (section_faults number atoms (section_data section.now)) (found_in number first)) }
+    ensures { IfOk result (λ first. (number : ℕ) →
+        IsFirstOf (section_faults number atoms (section_data section.now))
+        (found_in number first)) }
 {
     let positions = section.blocks.len();
     let mut first = start_fault(section);
@@ -168,7 +178,8 @@ pub fn section_fault(
 /// The fault of a start bit past the positions.
 fn start_fault(section: &Section) -> Option<Fault>
     requires few { length section.now.blocks.items ≤ 127 }
-    ensures { (number : ℕ) → IsFirstOf (start_faults number (section_data section.now)) (found_in number result) }
+    ensures { (number : ℕ) →
+        IsFirstOf (start_faults number (section_data section.now)) (found_in number result) }
 {
     if section.start < 1 << section.blocks.len() {
         return None;

@@ -1,6 +1,7 @@
 //! What instructions do to lists of widths.
 
-ghost use Rattle.std.specs.Prelude.{◌≡◌, ◌<◌, ℕ, List, ◌∷◌, length, reverse, IfOk, slice_get, slice_index};
+ghost use Rattle.std.specs.Prelude.{◌≡◌, ◌<◌, ◌+◌, ◌-◌, ◌==◌, ◌&&◌, nat_le, nat_lt, ℕ};
+ghost use Rattle.std.specs.Prelude.{List, ◌∷◌, length, reverse, IfOk, slice_get, slice_index};
 ghost use Rattle.bytecode.specs.Instructions.{Effect, leaves, sample_effect, is_there, if_fits};
 ghost use Rattle.bytecode.specs.Instructions.{is_counter_width, one, two, three};
 ghost use Rattle.inference.specs.Views.{frame_data, effect_when, on_one, on_two, on_three};
@@ -117,7 +118,147 @@ fn leave_if(fits: bool, stack: &mut Vec<u8>, width: u8) -> Result<Outcome, Alloc
     leave(stack, width)
 }
 
-/// Does what the stack rule of an instruction says. Where it isn't met, what is left of the list means nothing.
+/// Two of one width, and one of it.
+fn join(stack: &mut Vec<u8>) -> Result<Outcome, AllocError>
+    ensures { IfOk result (λ o.
+        two (λ v w rest. if_fits (v == w) (v ∷ rest)) (reverse stack.old.items)
+        ≡ effect_when o (reverse stack.new.items)) }
+{
+    let Some((left, right)) = take_two(stack) else {
+        return Ok(Outcome::TooFew);
+    };
+    leave_if(left == right, stack, left)
+}
+
+/// Two of one width, and a bit.
+fn compare(stack: &mut Vec<u8>) -> Result<Outcome, AllocError>
+    ensures { IfOk result (λ o.
+        two (λ v w rest. if_fits (v == w) (1 ∷ rest)) (reverse stack.old.items)
+        ≡ effect_when o (reverse stack.new.items)) }
+{
+    let Some((left, right)) = take_two(stack) else {
+        return Ok(Outcome::TooFew);
+    };
+    leave_if(left == right, stack, 1)
+}
+
+/// A value and a count, and one of the value's width.
+fn shift(stack: &mut Vec<u8>) -> Result<Outcome, AllocError>
+    ensures { IfOk result (λ o.
+        two (λ w count rest. leaves (w ∷ rest)) (reverse stack.old.items)
+        ≡ effect_when o (reverse stack.new.items)) }
+{
+    let Some((value, _)) = take_two(stack) else {
+        return Ok(Outcome::TooFew);
+    };
+    leave(stack, value)
+}
+
+/// One, and one of its width.
+fn same(stack: &mut Vec<u8>) -> Result<Outcome, AllocError>
+    ensures { IfOk result (λ o.
+        one (λ w rest. leaves (w ∷ rest)) (reverse stack.old.items)
+        ≡ effect_when o (reverse stack.new.items)) }
+{
+    let Some(width) = take_one(stack) else {
+        return Ok(Outcome::TooFew);
+    };
+    leave(stack, width)
+}
+
+/// One, and a bit.
+fn reduce(stack: &mut Vec<u8>) -> Result<Outcome, AllocError>
+    ensures { IfOk result (λ o.
+        one (λ w rest. leaves (1 ∷ rest)) (reverse stack.old.items)
+        ≡ effect_when o (reverse stack.new.items)) }
+{
+    if take_one(stack).is_none() {
+        return Ok(Outcome::TooFew);
+    }
+    leave(stack, 1)
+}
+
+/// Two, and one of both widths.
+fn concat(stack: &mut Vec<u8>) -> Result<Outcome, AllocError>
+    ensures { IfOk result (λ o.
+        two (λ v w rest. if_fits (nat_le (v + w) 128) ((v + w) ∷ rest)) (reverse stack.old.items)
+        ≡ effect_when o (reverse stack.new.items)) }
+{
+    let Some((left, right)) = take_two(stack) else {
+        return Ok(Outcome::TooFew);
+    };
+    if usize::from(left) + usize::from(right) > 128 {
+        return Ok(Outcome::Misfit);
+    }
+    leave(stack, left + right)
+}
+
+/// One, and one that is at least as wide.
+fn extend(stack: &mut Vec<u8>, wider: u8) -> Result<Outcome, AllocError>
+    ensures { IfOk result (λ o.
+        one (λ w rest. if_fits (nat_le w wider) (wider ∷ rest)) (reverse stack.old.items)
+        ≡ effect_when o (reverse stack.new.items)) }
+{
+    let Some(width) = take_one(stack) else {
+        return Ok(Outcome::TooFew);
+    };
+    leave_if(width <= wider, stack, wider)
+}
+
+/// One, and its bits from `low` to `high`.
+fn slice(stack: &mut Vec<u8>, high: u8, low: u8) -> Result<Outcome, AllocError>
+    ensures { IfOk result (λ o.
+        one (λ w rest. if_fits (nat_lt high w) ((high - low + 1) ∷ rest)) (reverse stack.old.items)
+        ≡ effect_when o (reverse stack.new.items)) }
+{
+    let Some(width) = take_one(stack) else {
+        return Ok(Outcome::TooFew);
+    };
+    if high >= width {
+        return Ok(Outcome::Misfit);
+    }
+    leave(stack, high.saturating_sub(low) + 1)
+}
+
+/// A bit and two of one width, and one of it.
+fn choose(stack: &mut Vec<u8>) -> Result<Outcome, AllocError>
+    ensures { IfOk result (λ o.
+        three (λ bit v w rest. if_fits (bit == 1 && v == w) (v ∷ rest)) (reverse stack.old.items)
+        ≡ effect_when o (reverse stack.new.items)) }
+{
+    let Some((bit, left, right)) = take_three(stack) else {
+        return Ok(Outcome::TooFew);
+    };
+    leave_if(bit == 1 && left == right, stack, left)
+}
+
+/// A bit, and nothing.
+fn take_bit(stack: &mut Vec<u8>) -> Outcome
+    ensures { one (λ bit rest. if_fits (bit == 1) rest) (reverse stack.old.items)
+        ≡ effect_when result (reverse stack.new.items) }
+{
+    let Some(bit) = take_one(stack) else {
+        return Outcome::TooFew;
+    };
+    if_fits(bit == 1)
+}
+
+/// One of a counter's width, and nothing.
+fn store(frame: &Frame, stack: &mut Vec<u8>, counter: u8) -> Outcome
+    ensures { one
+        (λ w rest.
+        if_fits (is_counter_width (slice_get frame.now.counters.items counter) w) rest)
+        (reverse stack.old.items)
+        ≡ effect_when result (reverse stack.new.items) }
+{
+    let Some(width) = take_one(stack) else {
+        return Outcome::TooFew;
+    };
+    if_fits(is_counter_width(frame, counter, width))
+}
+
+/// Does what the stack rule of an instruction says. Where it isn't met, what is left of the list
+/// means nothing.
 pub(crate) fn apply(
     frame: &Frame,
     instr: SampleInstr,
@@ -131,85 +272,19 @@ pub(crate) fn apply(
         SampleInstr::Push(width, _) => leave(stack, width),
         SampleInstr::Load(slot) => leave(stack, slot_width(frame, slot)),
         SampleInstr::Past(slot, _) => leave(stack, slot_width(frame, slot)),
-        SampleInstr::Join(_) => {
-            let Some((left, right)) = take_two(stack) else {
-                return Ok(Outcome::TooFew);
-            };
-            leave_if(left == right, stack, left)
-        }
-        SampleInstr::Compare(_) => {
-            let Some((left, right)) = take_two(stack) else {
-                return Ok(Outcome::TooFew);
-            };
-            leave_if(left == right, stack, 1)
-        }
-        SampleInstr::Shift(_) => {
-            let Some((value, _)) = take_two(stack) else {
-                return Ok(Outcome::TooFew);
-            };
-            leave(stack, value)
-        }
-        SampleInstr::Not => {
-            let Some(width) = take_one(stack) else {
-                return Ok(Outcome::TooFew);
-            };
-            leave(stack, width)
-        }
-        SampleInstr::Reduce(_) => {
-            if take_one(stack).is_none() {
-                return Ok(Outcome::TooFew);
-            }
-            leave(stack, 1)
-        }
-        SampleInstr::Concat => {
-            let Some((left, right)) = take_two(stack) else {
-                return Ok(Outcome::TooFew);
-            };
-            if usize::from(left) + usize::from(right) > 128 {
-                return Ok(Outcome::Misfit);
-            }
-            leave(stack, left + right)
-        }
-        SampleInstr::Zext(wider) => {
-            let Some(width) = take_one(stack) else {
-                return Ok(Outcome::TooFew);
-            };
-            leave_if(width <= wider, stack, wider)
-        }
-        SampleInstr::Slice(high, low) => {
-            let Some(width) = take_one(stack) else {
-                return Ok(Outcome::TooFew);
-            };
-            if high >= width {
-                return Ok(Outcome::Misfit);
-            }
-            leave(stack, high.saturating_sub(low) + 1)
-        }
-        SampleInstr::Mux => {
-            let Some((bit, left, right)) = take_three(stack) else {
-                return Ok(Outcome::TooFew);
-            };
-            leave_if(bit == 1 && left == right, stack, left)
-        }
+        SampleInstr::Join(_) => join(stack),
+        SampleInstr::Compare(_) => compare(stack),
+        SampleInstr::Shift(_) => shift(stack),
+        SampleInstr::Not => same(stack),
+        SampleInstr::Reduce(_) => reduce(stack),
+        SampleInstr::Concat => concat(stack),
+        SampleInstr::Zext(wider) => extend(stack, wider),
+        SampleInstr::Slice(high, low) => slice(stack, high, low),
+        SampleInstr::Mux => choose(stack),
         SampleInstr::Jump(_) => Ok(Outcome::Leaves),
-        SampleInstr::JumpIfZero(_) => {
-            let Some(bit) = take_one(stack) else {
-                return Ok(Outcome::TooFew);
-            };
-            Ok(if_fits(bit == 1))
-        }
-        SampleInstr::SetAtom(_) => {
-            let Some(bit) = take_one(stack) else {
-                return Ok(Outcome::TooFew);
-            };
-            Ok(if_fits(bit == 1))
-        }
-        SampleInstr::Store(counter) => {
-            let Some(width) = take_one(stack) else {
-                return Ok(Outcome::TooFew);
-            };
-            Ok(if_fits(is_counter_width(frame, counter, width)))
-        }
+        SampleInstr::JumpIfZero(_) => Ok(take_bit(stack)),
+        SampleInstr::SetAtom(_) => Ok(take_bit(stack)),
+        SampleInstr::Store(counter) => Ok(store(frame, stack, counter)),
         SampleInstr::Halt => Ok(Outcome::Leaves),
     }
 }

@@ -1,12 +1,15 @@
 -- The header's faults, in their order.
-use Rattle.std.proofs.Common.{◌≡◌, ◌⊎◌, inl, inr, ℕ, ◌+◌, ◌*◌, ◌<◌, ◌≤◌, Bool, true, false, cond, List, [], ◌∷◌, ◌++◌, length, map, Option, Some, None, refl, sym, ap, ◌∙◌, subst, arith}
+use Rattle.std.proofs.Common.{◌≡◌, ◌⊎◌, inl, inr, ℕ, ◌+◌, ◌*◌, ◌<◌, ◌≤◌, Bool, true, false, cond}
+use Rattle.std.proofs.Common.{List, [], ◌∷◌, ◌++◌, length, map, Option, Some, None, refl, sym, ap}
+use Rattle.std.proofs.Common.{◌∙◌, subst, arith}
 use Rattle.std.specs.Prelude.{nat_lt}
 use Rattle.std.proofs.lemmas.Bool.{ltb-false, le-ltb, cases_eq, cases_Bool}
 use Rattle.inference.specs.declared.field.Field.{Field}
 use Rattle.inference.specs.declared.field.Field.TheVariants as fields
 use Rattle.inference.specs.declared.refusal.Refusal.{Refusal}
 use Rattle.inference.specs.declared.pool.Pool.TheVariants as pools
-use Rattle.inference.specs.declared.refusal.Refusal.TheVariants.{SlotRange, PoolTooSmall, LimitTooLarge}
+use Rattle.inference.specs.declared.refusal.Refusal.TheVariants.{SlotRange, PoolTooSmall}
+use Rattle.inference.specs.declared.refusal.Refusal.TheVariants.{LimitTooLarge}
 use Rattle.inference.specs.Inference.{Found, found}
 use Rattle.inference.specs.Order.{number_of, part_of, field_place, IsUpTo, place_of, IsIn, IsFirst}
 use Rattle.inference.specs.Scans.{IsHead}

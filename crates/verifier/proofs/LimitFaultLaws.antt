@@ -1,16 +1,20 @@
 -- The faults of the limits.
-use Rattle.std.proofs.Common.{◌≡◌, ◌⊎◌, inl, inr, ℕ, ◌≤◌, true, false, cond, List, [], ◌∷◌, ◌++◌, map, Option, Some, None, refl, sym, ap, ◌∙◌, subst, arith}
+use Rattle.std.proofs.Common.{◌≡◌, ◌⊎◌, inl, inr, ℕ, ◌≤◌, true, false, cond, List, [], ◌∷◌, ◌++◌}
+use Rattle.std.proofs.Common.{map, Option, Some, None, refl, sym, ap, ◌∙◌, subst, arith}
 use Rattle.std.specs.Prelude.{nat_lt}
 use Rattle.inference.specs.declared.refusal.Refusal.{Refusal}
 use Rattle.inference.specs.declared.pool.Pool.TheVariants as pools
-use Rattle.inference.specs.declared.refusal.Refusal.TheVariants.{HistoryTooShort, StackTooShort, PoolTooSmall, BudgetTooSmall}
+use Rattle.inference.specs.declared.refusal.Refusal.TheVariants.{HistoryTooShort, StackTooShort}
+use Rattle.inference.specs.declared.refusal.Refusal.TheVariants.{PoolTooSmall, BudgetTooSmall}
 use Rattle.inference.specs.Inference.{Found, found}
 use Rattle.inference.specs.Order.{IsFirstRefusal, first_of}
 use Rattle.verifier.specs.Limits.{farthest}
 use Rattle.bytecode.specs.Values.{ProgramData}
 use Rattle.bytecode.specs.declared.limits.Limits.{Limits}
 use Rattle.verifier.specs.declared.least.LeastLimits.{LeastLimits}
-use Rattle.verifier.specs.Programs.{below, least_stack, least_attempts, least_obligations, least_budget, limit_refusals, least_limits, part_faults, all_faults, IsWithinLimits, IsAcceptable}
+use Rattle.verifier.specs.Programs.{below, least_stack, least_attempts, least_obligations}
+use Rattle.verifier.specs.Programs.{least_budget, limit_refusals, least_limits, part_faults}
+use Rattle.verifier.specs.Programs.{all_faults, IsWithinLimits, IsAcceptable}
 use Rattle.inference.proofs.ScanLaws.{head_of}
 use Rattle.inference.proofs.BlockLaws.{none_first}
 use Rattle.inference.proofs.TypingLaws.{nil_parts, nil_map}

@@ -1,5 +1,6 @@
 -- All parts of a program.
-use Rattle.std.proofs.Common.{◌≡◌, ◌⊎◌, inl, inr, ℕ, ◌+◌, ◌<◌, true, false, cond, List, [], ◌∷◌, ◌++◌, length, map, Option, Some, None, refl, sym, ap, ◌∙◌, arith}
+use Rattle.std.proofs.Common.{◌≡◌, ◌⊎◌, inl, inr, ℕ, ◌+◌, ◌<◌, true, false, cond, List, [], ◌∷◌}
+use Rattle.std.proofs.Common.{◌++◌, length, map, Option, Some, None, refl, sym, ap, ◌∙◌, arith}
 use Rattle.std.specs.Prelude.{nat_lt}
 use Rattle.std.proofs.lemmas.Bool.{lt-ltb, ltb-true, cases_Bool}
 use Rattle.inference.specs.declared.refusal.Refusal.TheVariants.{SlotRange}
@@ -10,7 +11,8 @@ use Rattle.inference.specs.Sections.{section_faults}
 use Rattle.bytecode.specs.Instructions.{frame_of}
 use Rattle.inference.proofs.CodeLaws.{typed_code, faultless_code, typed_section, faultless_section}
 use Rattle.bytecode.specs.Values.{ProgramData}
-use Rattle.verifier.specs.Programs.{disable_faults, header_refusals, part_faults, least_stack, HasRoom, IsAtom, IsWellFormed}
+use Rattle.verifier.specs.Programs.{disable_faults, header_refusals, part_faults, least_stack}
+use Rattle.verifier.specs.Programs.{HasRoom, IsAtom, IsWellFormed}
 use Rattle.inference.proofs.TypingLaws.{nil_parts, nil_map, longest_typed}
 use Rattle.inference.specs.Scans.{longest_from}
 use Rattle.verifier.proofs.HeaderLaws.{header_clear, header_none}

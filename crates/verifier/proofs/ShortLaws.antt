@@ -1,11 +1,17 @@
 -- Lists that are left are lists of the table, so the stack bounds them.
-use Rattle.std.proofs.Common.{◌≡◌, ◌⊎◌, inl, inr, ℕ, zero, suc, ◌+◌, ◌<◌, ◌≤◌, List, [], ◌∷◌, length, Some, refl, sym, ap, ◌∙◌, subst, arith}
+use Rattle.std.proofs.Common.{◌≡◌, ◌⊎◌, inl, inr, ℕ, zero, suc, ◌+◌, ◌<◌, ◌≤◌, List, [], ◌∷◌}
+use Rattle.std.proofs.Common.{length, Some, refl, sym, ap, ◌∙◌, subst, arith}
 use Rattle.std.specs.Prelude.{slice_get}
 use Rattle.std.proofs.lemmas.Option.{slice_get_within}
 use Rattle.bytecode.specs.declared.flow.Flow.{Flow}
 use Rattle.bytecode.specs.declared.flow.Flow.TheVariants.{Stops, GoesOn, Jumps, Branches}
 use Rattle.bytecode.specs.declared.sample_instr.SampleInstr.{SampleInstr}
-use Rattle.bytecode.specs.declared.sample_instr.SampleInstr.TheVariants.{Push, Load, Past, Join, Compare, Shift, Not, Reduce, Concat, Zext, Slice, Mux, Jump, JumpIfZero, SetAtom, Store, Halt}
+use Rattle.bytecode.specs.declared.sample_instr.SampleInstr.TheVariants.{Push, Load, Past, Join}
+use Rattle.bytecode.specs.declared.sample_instr.SampleInstr.TheVariants.{Compare, Shift, Not}
+use Rattle.bytecode.specs.declared.sample_instr.SampleInstr.TheVariants.{Reduce, Concat, Zext}
+use Rattle.bytecode.specs.declared.sample_instr.SampleInstr.TheVariants.{Slice, Mux, Jump}
+use Rattle.bytecode.specs.declared.sample_instr.SampleInstr.TheVariants.{JumpIfZero, SetAtom, Store}
+use Rattle.bytecode.specs.declared.sample_instr.SampleInstr.TheVariants.{Halt}
 use Rattle.bytecode.specs.Instructions.{leaves}
 use Rattle.bytecode.specs.Instructions.{FrameData, sample_flow, sample_effect}
 use Rattle.inference.specs.Rules.{sample_rules}

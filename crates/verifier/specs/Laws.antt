@@ -4,13 +4,15 @@ use Rattle.bytecode.specs.Values.{ProgramData}
 use Rattle.bytecode.specs.Instructions.{frame_of}
 use Rattle.inference.specs.Rules.{sample_rules}
 use Rattle.inference.specs.Typing.{IsTyped, AreShort, longest_list}
-use Rattle.verifier.specs.Programs.{part_faults, all_faults, least_stack, IsWellFormed, HasRoom, IsAccepted}
+use Rattle.verifier.specs.Programs.{part_faults, all_faults, least_stack, IsWellFormed, HasRoom}
+use Rattle.verifier.specs.Programs.{IsAccepted}
 
 -- No fault stands exactly where a program is accepted.
 abbrev pub IsAcceptedWhereFaultless : Type 0
 IsAcceptedWhereFaultless = (p : ProgramData) → (all_faults p ≡ []) ↔ IsAccepted p
 
--- No fault but those of the limits stands exactly where a program is well formed and nothing is over the most.
+-- No fault but those of the limits stands exactly where a program is well formed and nothing is
+-- over the most.
 abbrev pub IsFormedWhereFaultless : Type 0
 IsFormedWhereFaultless = (p : ProgramData) → (part_faults p ≡ []) ↔ (IsWellFormed p × HasRoom p)
 

@@ -1,5 +1,6 @@
 -- The least limits.
-use Rattle.std.specs.Prelude.{ℕ, ◌+◌, ◌-◌, ◌==◌, if◌then◌else◌, max, List, [], ◌∷◌, length, map, slice_index}
+use Rattle.std.specs.Prelude.{ℕ, ◌+◌, ◌-◌, ◌==◌, if◌then◌else◌, max, List, [], ◌∷◌, length, map}
+use Rattle.std.specs.Prelude.{slice_index}
 use Rattle.std.specs.Int.{bit_at}
 use Rattle.bytecode.specs.declared.flow.Flow.{Flow}
 use Rattle.bytecode.specs.declared.flow.Flow.TheVariants.{Stops, GoesOn, Jumps, Branches}
@@ -24,7 +25,8 @@ abbrev pub path_of : ℕ → Flow → List ℕ → ℕ
 path_of pc Stops later = 1
 path_of pc GoesOn later = 1 + slice_index later 0
 path_of pc (Jumps target) later = 1 + slice_index later (target - (pc + 1))
-path_of pc (Branches target) later = 1 + max (slice_index later 0) (slice_index later (target - (pc + 1)))
+path_of pc (Branches target) later =
+    1 + max (slice_index later 0) (slice_index later (target - (pc + 1)))
 
 abbrev pub with_path : ℕ → Flow → List ℕ → List ℕ
 with_path pc flow later = path_of pc flow later ∷ later
@@ -43,19 +45,22 @@ abbrev pub path_sum : ℕ → List (List BlockInstr) → ℕ
 path_sum base [] = 0
 path_sum base (b ∷ bs) = longest_path base (map block_flow b) + path_sum (base + length b) bs
 
--- the largest life of a position that the instructions enter, from the lives of the positions from next on
+-- the largest life of a position that the instructions enter, from the lives of the positions from
+-- next on
 abbrev pub entered_life : ℕ → List ℕ → BlockInstr → ℕ
 entered_life next later (Enter q) = slice_index later (q - next)
 entered_life next later i = 0
 
 abbrev pub longest_entered : ℕ → List ℕ → List BlockInstr → ℕ
 longest_entered next later [] = 0
-longest_entered next later (i ∷ is) = max (entered_life next later i) (longest_entered next later is)
+longest_entered next later (i ∷ is) =
+    max (entered_life next later i) (longest_entered next later is)
 
 abbrev pub with_life : ℕ → List BlockInstr → List ℕ → List ℕ
 with_life p b later = (1 + longest_entered (p + 1) later b) ∷ later
 
--- the lives of the positions from p on: each is 1 more than the largest of those that its block enters
+-- the lives of the positions from p on: each is 1 more than the largest of those that its block
+-- enters
 abbrev pub lives_from : ℕ → List (List BlockInstr) → List ℕ
 lives_from p [] = []
 lives_from p (b ∷ bs) = with_life p b (lives_from (p + 1) bs)

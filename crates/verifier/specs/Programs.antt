@@ -1,12 +1,15 @@
 -- Programs: all their faults, and which of them are well formed.
-use Rattle.std.specs.Prelude.{◌≡◌, ℕ, ◌+◌, ◌-◌, ◌*◌, ◌<◌, ◌≤◌, nat_lt, if◌then◌else◌, List, [], ◌∷◌, ◌++◌, length, map, Option, Some, None}
+use Rattle.std.specs.Prelude.{◌≡◌, ℕ, ◌+◌, ◌-◌, ◌*◌, ◌<◌, ◌≤◌, nat_lt, if◌then◌else◌, List, [], ◌∷◌}
+use Rattle.std.specs.Prelude.{◌++◌, length, map, Option, Some, None}
 use Rattle.bytecode.specs.declared.limits.Limits.{Limits}
 use Rattle.verifier.specs.declared.least.LeastLimits.{LeastLimits}
 use Rattle.inference.specs.declared.pool.Pool.TheVariants as pools
 use Rattle.inference.specs.declared.field.Field.{Field}
 use Rattle.inference.specs.declared.field.Field.TheVariants as fields
 use Rattle.inference.specs.declared.refusal.Refusal.{Refusal}
-use Rattle.inference.specs.declared.refusal.Refusal.TheVariants.{SlotRange, HistoryTooShort, StackTooShort, PoolTooSmall, BudgetTooSmall, LimitTooLarge}
+use Rattle.inference.specs.declared.refusal.Refusal.TheVariants.{SlotRange, HistoryTooShort}
+use Rattle.inference.specs.declared.refusal.Refusal.TheVariants.{StackTooShort, PoolTooSmall}
+use Rattle.inference.specs.declared.refusal.Refusal.TheVariants.{BudgetTooSmall, LimitTooLarge}
 use Rattle.bytecode.specs.Instructions.{frame_of, sample_flow}
 use Rattle.inference.specs.Rules.{sample_rules}
 use Rattle.inference.specs.Inference.{Found, found, code_faults}
@@ -40,7 +43,8 @@ header_refusals p =
     ++ over 127 (length p.consequent.blocks) fields.ConsequentPositions
     ++ over 4096 (size_of p.consequent.blocks) fields.ConsequentCode
 
--- The least limits. That of the stack is the longest list that is agreed on, which is the longest of the table.
+-- The least limits. That of the stack is the longest list that is agreed on, which is the longest
+-- of the table.
 abbrev pub least_stack : ProgramData → ℕ
 least_stack p = entry_longest (sample_rules (frame_of p)) p.sample
 

@@ -4,7 +4,8 @@ ghost use Rattle.std.specs.Prelude.{◌≡◌, ◌⊎◌, ◌++◌, List, [], If
 ghost use Rattle.inference.specs.declared.refusal.Refusal.{Refusal};
 ghost use Rattle.inference.specs.Order.{first_of, IsFirstRefusal};
 ghost use Rattle.bytecode.specs.Programs.{data_of};
-ghost use Rattle.verifier.specs.Programs.{sample_faults, part_faults, all_faults, least_stack, least_limits};
+ghost use Rattle.verifier.specs.Programs.{sample_faults, part_faults, all_faults, least_stack};
+ghost use Rattle.verifier.specs.Programs.{least_limits};
 ghost use Rattle.verifier.specs.Programs.{below, limit_refusals, HasRoom, IsAccepted};
 
 use crate::header::header_fault;
@@ -124,7 +125,8 @@ fn limit_fault(declared: Limits, least: LeastLimits) -> Option<Refusal>
 fn check(alloc: Global, program: &Program) -> Result<LeastLimits, Refusal>
     ensures accepted { OnOk result (IsAccepted (data_of program.now)) }
     ensures least { IfOk result (λ least. least ≡ least_limits (data_of program.now)) }
-    ensures refused { IfErr result (λ r. (r ≡ Refusal.Memory) ⊎ (IsAccepted (data_of program.now) → ⊥)) }
+    ensures refused { IfErr result (λ r.
+        (r ≡ Refusal.Memory) ⊎ (IsAccepted (data_of program.now) → ⊥)) }
     ensures first { IfErr result (λ r.
         (r ≡ Refusal.Memory) ⊎ IsFirstRefusal r (all_faults (data_of program.now))) }
 {
@@ -140,8 +142,10 @@ fn check(alloc: Global, program: &Program) -> Result<LeastLimits, Refusal>
 pub fn verify(alloc: Global, program: Program) -> Result<Verified, Refusal>
     ensures same { IfOk result (λ verified. verified ≡ data_of program) }
     ensures accepted { OnOk result (IsAccepted (data_of program)) }
-    ensures refused { IfErr result (λ r. (r ≡ Refusal.Memory) ⊎ (IsAccepted (data_of program) → ⊥)) }
-    ensures first { IfErr result (λ r. (r ≡ Refusal.Memory) ⊎ IsFirstRefusal r (all_faults (data_of program))) }
+    ensures refused { IfErr result (λ r.
+        (r ≡ Refusal.Memory) ⊎ (IsAccepted (data_of program) → ⊥)) }
+    ensures first { IfErr result (λ r.
+        (r ≡ Refusal.Memory) ⊎ IsFirstRefusal r (all_faults (data_of program))) }
 {
     let least = check(alloc, &program)?;
     Ok(Verified { program, least })

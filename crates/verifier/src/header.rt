@@ -30,7 +30,8 @@ fn disable_fault(disable: Option<u8>, atoms: u8) -> Option<Refusal>
 
 /// The fault that was found, or else that of a number over the most that there may be.
 fn or_over(first: Option<Refusal>, most: usize, number: usize, field: Field) -> Option<Refusal>
-    ensures { (rs : List Refusal) → first ≡ first_of rs → result ≡ first_of (rs ++ over most number field) }
+    ensures { (rs : List Refusal) → first ≡ first_of rs →
+        result ≡ first_of (rs ++ over most number field) }
 {
     match first {
         Some(refusal) => Some(refusal),
@@ -46,7 +47,9 @@ fn or_over(first: Option<Refusal>, most: usize, number: usize, field: Field) -> 
 
 /// The same of a part's code.
 fn or_over_size(first: Option<Refusal>, section: &Section, field: Field) -> Option<Refusal>
-    ensures { (rs : List Refusal) → first ≡ first_of rs → result ≡ first_of (rs ++ over 4096 (size_of (section_data section.now).blocks) field) }
+    ensures { (rs : List Refusal) → first ≡ first_of rs →
+        result ≡ first_of
+        (rs ++ over 4096 (size_of (section_data section.now).blocks) field) }
 {
     or_over(first, 4096, capped_size(&section.blocks), field)
 }

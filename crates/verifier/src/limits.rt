@@ -54,7 +54,8 @@ fn least_budget(
     requires room { HasRoom (data_of program.now) }
     requires attempts { attempts ≤ 1024 }
     requires obligations { obligations ≤ 1024 }
-    ensures { IfOk result (λ least. least ≡ longest_path 0 (map sample_flow program.now.sample.items)
+    ensures { IfOk result (λ least. least
+        ≡ longest_path 0 (map sample_flow program.now.sample.items)
         + attempts * (2 + path_sum 0 (section_data program.now.antecedent).blocks)
         + obligations * (1 + path_sum 0 (section_data program.now.consequent).blocks)) }
 {

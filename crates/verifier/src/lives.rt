@@ -1,7 +1,8 @@
 //! Lives of positions, in ticks.
 
 ghost use Rattle.std.specs.Prelude.{◌≡◌, ◌≤◌, ◌+◌, ℕ, length, drop, slice_index, IfOk};
-ghost use Rattle.verifier.specs.Limits.{entered_life, longest_entered, lives_from, life_in, most_in, start_life};
+ghost use Rattle.verifier.specs.Limits.{entered_life, longest_entered, lives_from, life_in};
+ghost use Rattle.verifier.specs.Limits.{most_in, start_life};
 ghost use Rattle.inference.specs.Views.{blocks_of};
 ghost use Rattle.bytecode.specs.Views.{section_data};
 

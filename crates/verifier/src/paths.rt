@@ -1,6 +1,7 @@
 //! Longest paths through code, in instructions.
 
-ghost use Rattle.std.specs.Prelude.{◌≡◌, ◌<◌, ◌≤◌, ◌+◌, ◌-◌, ◌^◌, ℕ, List, length, map, max, drop, slice_index, IfOk};
+ghost use Rattle.std.specs.Prelude.{◌≡◌, ◌<◌, ◌≤◌, ◌+◌, ◌-◌, ◌^◌, ℕ, List, length, map, max, drop};
+ghost use Rattle.std.specs.Prelude.{slice_index, IfOk};
 ghost use Rattle.bytecode.specs.Instructions.{sample_flow, block_flow};
 ghost use Rattle.verifier.specs.Limits.{path_of, paths_from, longest_path, path_sum};
 ghost use Rattle.inference.specs.Sections.{size_of};
@@ -43,7 +44,8 @@ fn path_of(paths: &[usize], k: usize, pc: usize, flow: Flow) -> usize
     }
 }
 
-/// Fills in the longest path from each instruction of code that begins at `base`, the last one first.
+/// Fills in the longest path from each instruction of code that begins at `base`, the last one
+/// first.
 fn fill_paths(base: usize, flows: &[Flow], paths: &mut [usize])
     requires long { length paths.old ≡ length flows.now }
     requires size { base + length flows.now ≤ 4096 }

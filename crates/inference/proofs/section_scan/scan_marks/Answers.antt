@@ -4,7 +4,8 @@ use Rattle.bytecode.specs.declared.flow.Flow.{Flow}
 use Rattle.bytecode.specs.declared.block_instr.BlockInstr.TheVariants.{Unless}
 use Rattle.inference.specs.Inference.{sends, jump_faults, end_faults}
 use Rattle.inference.specs.Marks.{Reached}
-use Rattle.inference.proofs.BlockLaws.{block_start, block_refused, block_step, block_parts, block_stop}
+use Rattle.inference.proofs.BlockLaws.{block_start, block_refused, block_step, block_parts}
+use Rattle.inference.proofs.BlockLaws.{block_stop}
 use Rattle.inference.proofs.section_scan.scan_marks.Goals as goal
 
 pub block-init : goal.block-init

@@ -6,7 +6,8 @@ use Rattle.inference.specs.Sections.{section_faults}
 use Rattle.inference.specs.Scans.{IsFirstOf}
 use Rattle.inference.specs.Marks.{found_in}
 use Rattle.bytecode.specs.Programs.{data_of}
-use Rattle.verifier.proofs.VerifyLaws.{refused_header, room, refused_sample, refused_antecedent, refused_consequent, no_part}
+use Rattle.verifier.proofs.VerifyLaws.{refused_header, room, refused_sample, refused_antecedent}
+use Rattle.verifier.proofs.VerifyLaws.{refused_consequent, no_part}
 use Rattle.verifier.proofs.accept.longest_list.Goals as goal
 
 pub returns-in-Some-clause-refused : goal.returns-in-Some-clause-refused
