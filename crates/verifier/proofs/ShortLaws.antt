@@ -66,7 +66,7 @@ module _ (f : FrameData) (code : List SampleInstr) (table : ℕ → List ℕ) (t
       let inside = (fine.forward to leads).1 in
       omega (arith, at_most to (omega (arith, inside)), ap (length {A = ℕ}) (fine.sends to leads))
 
-  left_at_most : (pc : ℕ) (i : SampleInstr) (fine : IsFine (sample_rules f) (0 + length code) table pc i) → pc < length code → (flow : Flow) → sample_flow i ≡ flow → length fine.after ≤ longest_list table 0 code
+  pub left_at_most : (pc : ℕ) (i : SampleInstr) (fine : IsFine (sample_rules f) (0 + length code) table pc i) → pc < length code → (flow : Flow) → sample_flow i ≡ flow → length fine.after ≤ longest_list table 0 code
   left_at_most pc i fine below Stops is =
       omega (arith, at_most pc below, ap (length {A = ℕ}) (same_leaves (table pc) fine.after (sym (end_keeps f i (table pc) is) ∙ fine.rule)))
   left_at_most pc i fine below GoesOn is = sent_at_most pc i fine (pc + 1) (subst (λ (g : Flow). LeadsTo g pc (pc + 1)) (sym is) refl)

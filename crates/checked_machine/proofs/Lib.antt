@@ -1,0 +1,11 @@
+pub mod Outcomes
+pub mod Typing
+pub mod Blocks
+pub mod Limits
+pub mod Visits
+pub mod Rises
+pub mod Parts
+pub mod Clocks
+pub mod Samples
+pub mod Accepted
+pub mod Machine

@@ -1,0 +1,9 @@
+//! Laws of the checked machine, each a call that does nothing.
+
+ghost use Rattle.checked_machine.specs.Laws.{NeverTraps, FewAreLive};
+
+/// A verified program meets no trap over any rows, and what stands between its clocks is bounded.
+pub fn never_traps()
+    ensures reached { NeverTraps }
+    ensures few { FewAreLive }
+{}
