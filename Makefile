@@ -2,9 +2,14 @@ PREFIX ?= /usr/local
 DUMP ?= crates/oracle_dumps/data/fifo_arb_bug1.vcd
 CLOCK ?= tb.clk
 CASES ?= 1000
+MUTANTS ?= 100000
 SEED ?= 1
 EXAMPLES := $(wildcard crates/demo/data/*/dump.vcd crates/demo/data/*/assertion.sva)
 UNPROVED := Builds svamon without proof, with run-time checks: what you see is unproved and slow. make install proves and installs it.
+
+BYTECODE := crates/oracle_bytecode/out/oracle_bytecode
+REFUSING := scripts/fail_alloc 3 crates/svamon/out/svamon
+FILES = --vcd examples/$(1)/dump.vcd --sva examples/$(1)/assertion.sva
 
 help:
 	@echo 'make demo             shows the reports on examples/ within three minutes; unproved and slow: make install proves'
@@ -13,9 +18,9 @@ help:
 	@echo 'make test             the gate: proves all from nothing, and runs tests, programs, and the edits of what changed'
 	@echo 'make test-all         the gate with all edits'
 	@echo 'make edits NAME=      tries the must-fail edits of a crate, and writes its stamp'
-	@echo 'make bench            times reading against the plain C baseline, on dumps of 50 and 200 MB made from DUMP (clock CLOCK), and on odd shapes; reading and checking texts; and judging'
-	@echo 'make allocations      refuses each allocation of svamon in turn'
-	@echo 'make random           compares svamon with an independent judge on CASES random dumps and texts (SEED)'
+	@echo 'make bench            times reading against the plain C baseline, on dumps of 50 and 200 MB made from DUMP (clock CLOCK), and on odd shapes; reading and checking texts; bytecode; and judging'
+	@echo 'make allocations      refuses each allocation of svamon in turn, and of the reader and writer of bytecode; and looks at what counts in bytecode take'
+	@echo 'make random           compares svamon with an independent judge on CASES random dumps and texts (SEED), and the reader of bytecode with another on MUTANTS random mutants of each of two programs'
 
 demo:
 	@echo '$(UNPROVED)'
@@ -42,7 +47,11 @@ install:
 svamon:
 	cd crates/svamon && rm -f out/svamon && { rt run -- help; test -x out/svamon; }
 
-bench: svamon
+# Its run by rt has no cases, and fails.
+oracle_bytecode:
+	cd crates/oracle_bytecode && rm -f out/oracle_bytecode && { rt run > /dev/null 2>&1; test -x out/oracle_bytecode; }
+
+bench: svamon oracle_bytecode
 	cd crates/bench_dumps && rt run > /dev/null
 	bench/run $(DUMP) $(CLOCK)
 	bench/shapes
@@ -50,14 +59,17 @@ bench: svamon
 	bench/texts
 	cd crates/oracle_suites && rt run > /dev/null || test -x out/oracle_suites
 	bench/suites
+	bench/bytecode
 	bench/judge
 
-allocations: svamon
-	scripts/fail_alloc examples/fails_at_its_tick/dump.vcd examples/fails_at_its_tick/assertion.sva
-	scripts/fail_alloc examples/one_then_down/dump.vcd examples/one_then_down/assertion.sva
-	scripts/fail_alloc examples/whole_profile/dump.vcd examples/whole_profile/assertion.sva judge
+allocations: svamon oracle_bytecode
+	scripts/bytecode_memory.py $(BYTECODE)
+	$(REFUSING) check $(call FILES,fails_at_its_tick)
+	$(REFUSING) check $(call FILES,one_then_down)
+	$(REFUSING) judge $(call FILES,whole_profile)
 
-random: svamon
+random: svamon oracle_bytecode
+	scripts/random_bytecode.py $(BYTECODE) $(MUTANTS) $(SEED)
 	cd crates/svamon/out && ../../../scripts/random_judge.py ./svamon $(CASES) $(SEED)
 
-.PHONY: help demo try test test-all edits install svamon bench allocations random
+.PHONY: help demo try test test-all edits install svamon oracle_bytecode bench allocations random

@@ -1,11 +1,15 @@
 #!/usr/bin/env python3
-"""Makes files of bytecode with the answers of an independent reader: `scripts/bytecode_cases.py FOLDER` writes FOLDER/data/cases.txt, a
-file in hexadecimal digits on each line, and FOLDER/stdout, for each line `program` or the fault.
+"""Makes files of bytecode with the answers of an independent reader.
+
+`scripts/bytecode_cases.py FOLDER` writes FOLDER/data/cases.txt, a file in hexadecimal digits on
+each line, and FOLDER/stdout, for each line `program` or the fault. Of a line that begins with `=`
+the answer is all that the program holds.
 
 The reader here takes a file apart by a table of fields, and knows nothing of the repository's code.
 """
 import os
 import random
+import re
 import sys
 
 # The file of the smallest monitor: `r: .. top.x |-> top.y` at `top.clk`.
@@ -14,11 +18,27 @@ SMALL = bytes.fromhex(
     "0005 020001 3200 020002 3201 34 00000000000000000000000000000001 01 0003 40000002 42 43"
     "00000000000000000000000000000001 01 0003 40010002 42 43")
 
+# The same without positions.
+EMPTY = SMALL[:SMALL.index(b"\x34") + 1] + bytes(17) * 2
+
 # The operands behind each opcode of sample code, and of blocks: a width, a value of that width, a number of two bytes, one of
 # them but 0, a byte, the highest bit of a slice and its lowest.
 SAMPLE = {0x01: "wv", 0x02: "t", 0x03: "tp", 0x27: "w", 0x28: "hl", 0x30: "t", 0x31: "t", 0x32: "b", 0x33: "b"}
 SAMPLE |= {code: "" for code in [*range(0x10, 0x1B), *range(0x20, 0x27), 0x29, 0x34]}
 BLOCK = {0x40: "bt", 0x41: "b", 0x42: "", 0x43: ""}
+
+# What each instruction is called.
+NAMES = {
+    0x01: "Push", 0x02: "Load", 0x03: "Past",
+    0x10: "Join(And)", 0x11: "Join(Or)", 0x12: "Join(Xor)", 0x13: "Join(Add)", 0x14: "Join(Sub)",
+    0x15: "Join(AddSat)", 0x16: "Join(SubSat)", 0x17: "Compare(Eq)", 0x18: "Compare(Lt)",
+    0x19: "Shift(Shl)", 0x1a: "Shift(Shr)", 0x20: "Not",
+    0x21: "Reduce(RedAnd)", 0x22: "Reduce(RedOr)", 0x23: "Reduce(RedXor)",
+    0x24: "Reduce(Onehot)", 0x25: "Reduce(Onehot0)",
+    0x26: "Concat", 0x27: "Zext", 0x28: "Slice", 0x29: "Mux",
+    0x30: "Jump", 0x31: "JumpIfZero", 0x32: "SetAtom", 0x33: "Store", 0x34: "Halt",
+    0x40: "Unless", 0x41: "Enter", 0x42: "Accept", 0x43: "Stop",
+}
 
 
 class Fault(Exception):
@@ -54,67 +74,93 @@ class Reader:
         self.at += size
         words = text.split(b".") if dots else [text]
         first = b"ABCDEFGHIJKLMNOPQRSTUVWXYZabcdefghijklmnopqrstuvwxyz_"
-        if any(not word or word[0] not in first or any(it not in first + b"0123456789$" for it in word) for word in words):
+        later = first + b"0123456789$"
+        if any(not it or it[0] not in first or any(at not in later for at in it) for it in words):
             raise Fault(f"B5 BadField {begun}")
+        return '"' + text.decode("ascii") + '"'
+
+    def operand(self, kind, before):
+        if kind == "w":
+            return self.width()
+        if kind == "v":
+            return self.checked(16, lambda it: it < 1 << before)
+        if kind == "t":
+            return self.number(2)
+        if kind == "p":
+            return self.checked(2, lambda it: it > 0)
+        if kind == "b":
+            return self.number(1)
+        if kind == "h":
+            return self.checked(1, lambda it: it <= 127)
+        return self.checked(1, lambda it: it <= before)
 
     def instruction(self, table):
         begun = self.at
         code = self.number(1)
         if code not in table:
             raise Fault(f"B4 BadOpcode {begun}")
-        before = None
-        for operand in table[code]:
-            if operand == "w":
-                before = self.width()
-            elif operand == "v":
-                self.checked(16, lambda it: it < 1 << before)
-            elif operand == "t":
-                self.number(2)
-            elif operand == "p":
-                self.checked(2, lambda it: it > 0)
-            elif operand == "b":
-                self.number(1)
-            elif operand == "h":
-                before = self.checked(1, lambda it: it <= 127)
-            elif operand == "l":
-                self.checked(1, lambda it: it <= before)
+        operands = []
+        for kind in table[code]:
+            operands.append(self.operand(kind, operands[-1] if operands else None))
+        return NAMES[code] + (f"({listing(operands)})" if operands else "")
 
     def code(self, table):
-        for _ in range(self.number(2)):
-            self.instruction(table)
+        return f"[{listing([self.instruction(table) for _ in range(self.number(2))])}]"
 
     def section(self):
-        self.number(16)
-        for _ in range(self.number(1)):
-            self.code(BLOCK)
+        start = self.number(16)
+        blocks = listing([self.code(BLOCK) for _ in range(self.number(1))])
+        return f"Section {{ start: {start}, blocks: [{blocks}] }}"
+
+    def limits(self):
+        sizes = {"history": 2, "stack": 2, "attempts": 2, "obligations": 2, "budget": 4}
+        fields = listing([f"{name}: {self.number(size)}" for name, size in sizes.items()])
+        return f"Limits {{ {fields} }}"
+
+    def atom(self):
+        atom = self.number(1)
+        return "None" if atom == 255 else f"Some({atom})"
+
+    def slots(self):
+        made = lambda: f"Slot {{ width: {self.width()}, path: {self.text(True)} }}"
+        return f"[{listing([made() for _ in range(self.number(2))])}]"
+
+    def widths(self):
+        return f"[{listing([self.width() for _ in range(self.number(2))])}]"
 
     def program(self):
+        """All that the program holds."""
         if self.number(4) != 0x5356414D:
             raise Fault("B1 Magic")
         if self.number(1) != 1:
             raise Fault("B2 Version")
-        for size in (2, 2, 2, 2, 4, 1, 1):
-            self.number(size)
-        self.text(False)
-        self.text(True)
-        for _ in range(self.number(2)):
-            self.width()
-            self.text(True)
-        for _ in range(self.number(2)):
-            self.width()
-        self.code(SAMPLE)
-        self.section()
-        self.section()
+        fields = {
+            "limits": self.limits, "disable": self.atom, "atoms": lambda: self.number(1),
+            "name": lambda: self.text(False), "clock": lambda: self.text(True),
+            "signals": self.slots, "counters": self.widths, "sample": lambda: self.code(SAMPLE),
+            "antecedent": self.section, "consequent": self.section,
+        }
+        held = listing([f"{name}: {read()}" for name, read in fields.items()])
         if self.at < len(self.data):
             raise Fault(f"B6 TrailingBytes {self.at}")
+        return f"Program {{ {held} }}"
+
+
+def listing(parts):
+    return ", ".join(str(it) for it in parts)
+
+
+def listed(data):
+    """All that the program holds, or the fault."""
+    try:
+        return Reader(data).program()
+    except Fault as it:
+        return str(it)
 
 
 def answer(data):
-    try:
-        Reader(data).program()
-    except Fault as it:
-        return str(it)
-    return "program"
+    held = listed(data)
+    return "program" if held.startswith("Program") else held
 
 
 def text(it):
@@ -152,24 +198,75 @@ def mutants(data, rng, count):
         yield bytes(it)
 
 
+def lone_instructions():
+    """For each byte, with operands that it may have, one in sample code, and one in a block."""
+    front, behind = SMALL[:SMALL.index(b"\x00\x05\x02\x00\x01")], bytes(17)
+    operands = {"w": b"\x80", "v": bytes(range(0xe0, 0xf0)), "t": b"\x12\x34", "p": b"\x56\x78"}
+    operands |= {"b": b"\x9a", "h": b"\x7e", "l": b"\x7d"}
+    for code in range(256):
+        lone = bytes([code]) + b"".join(operands[it] for it in (SAMPLE | BLOCK).get(code, ""))
+        yield front + b"\x00\x01" + lone + behind * 2
+        yield front + bytes(2) + bytes(16) + b"\x01\x00\x01" + lone + behind
+
+
+def declared_counts():
+    """Of each list two files of a length: one declares as many as a count can, the other none."""
+    front = SMALL[:SMALL.index(b"\x00\x02\x01\x00\x05")]
+    signals = SMALL[:SMALL.index(b"\x00\x05\x02\x00\x01")]
+    for ahead in (front, front + bytes(2), front + bytes(4), signals, front[:-9]):
+        yield ahead + b"\xff\xff", ahead + bytes(2)
+    yield front + bytes(22) + b"\xff\xff\xff", front + bytes(25)
+
+
+def few_cases():
+    """Files for which each allocation can be refused in turn."""
+    every = every_instruction()
+    return [SMALL, every, EMPTY, SMALL[:90], every[:60], every + b"\0"]
+
+
+def listed_cases():
+    """Files of which all that they hold is to be printed."""
+    every = every_instruction()
+    yield from (SMALL, every, EMPTY, b"", b"SVAM", b"SVAN\x01", b"SVAM\x03")
+    yield from (SMALL + b"\0", every + b"\0", EMPTY + SMALL)
+    yield from lone_instructions()
+
+
 def cases():
     every = every_instruction()
-    empty = SMALL[:SMALL.index(b"\x34") + 1] + (bytes(16) + b"\0") * 2
-    yield from (SMALL, every, empty, b"", b"SVAM", b"SVAN\x01", b"SVAM\x03", SMALL + b"\0", every + b"\0", empty + SMALL)
     for whole in (SMALL, every):
         yield from (whole[:it] for it in range(len(whole)))
         for at, byte in enumerate(whole):
-            yield from (whole[:at] + bytes([it]) + whole[at + 1:] for it in (0, 255, (byte + 1) % 256))
-    declared = SMALL[:SMALL.index(b"\x00\x05\x02\x00\x01")]
-    yield declared + b"\xff\xff"
+            yield from (
+                whole[:at] + bytes([it]) + whole[at + 1:] for it in (0, 255, (byte + 1) % 256))
+    for declared, _ in declared_counts():
+        yield declared
     rng = random.Random(1)
     yield from mutants(SMALL, rng, 1000)
     yield from mutants(every, rng, 1000)
 
 
+def all_are_seen(answers):
+    """Whether each instruction stands in a program among what is listed."""
+    programs = "\n".join(it for it in answers if it.startswith("Program"))
+    return all(re.search(rf"[\[ ]{re.escape(it)}[(,\]]", programs) for it in NAMES.values())
+
+
+def write_listed(files, path):
+    """Writes a file of cases, each to be listed."""
+    with open(path, "w") as lines:
+        lines.writelines("=" + it.hex() + "\n" for it in files)
+
+
 def main(folder):
     os.makedirs(f"{folder}/data", exist_ok=True)
     with open(f"{folder}/data/cases.txt", "w") as lines, open(f"{folder}/stdout", "w") as answers:
+        held = []
+        for it in listed_cases():
+            lines.write("=" + it.hex() + "\n")
+            held.append(listed(it))
+        answers.writelines(it + "\n" for it in held)
+        assert all_are_seen(held)
         for it in cases():
             lines.write(it.hex() + "\n")
             answers.write(answer(it) + "\n")

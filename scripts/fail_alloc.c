@@ -1,16 +1,25 @@
-/* Refuses the allocation whose number is in FAIL_ALLOC, and all behind it where FAIL_ALLOC_ON is set. */
+/*
+ * Refuses the allocation whose number is in FAIL_ALLOC, and all behind it where FAIL_ALLOC_ON is
+ * set. Where COUNT_ALLOC names a file, writes into it how many bytes the largest request wanted,
+ * and how many all of them did, as the program ends.
+ */
 #define _GNU_SOURCE
 #include <dlfcn.h>
+#include <stdio.h>
 #include <stdlib.h>
 
 static long count;
+static size_t largest, total;
 
-static int refused(void)
+static int refused(size_t size)
 {
 	const char *fail = getenv("FAIL_ALLOC");
 	const long at = fail ? atol(fail) : 0;
 
 	count++;
+	total += size;
+	if (size > largest)
+		largest = size;
 	return at && (getenv("FAIL_ALLOC_ON") ? count >= at : count == at);
 }
 
@@ -20,7 +29,7 @@ void *malloc(size_t size)
 
 	if (!next)
 		next = (void *(*)(size_t))dlsym(RTLD_NEXT, "malloc");
-	return refused() ? NULL : next(size);
+	return refused(size) ? NULL : next(size);
 }
 
 void *realloc(void *old, size_t size)
@@ -29,5 +38,17 @@ void *realloc(void *old, size_t size)
 
 	if (!next)
 		next = (void *(*)(void *, size_t))dlsym(RTLD_NEXT, "realloc");
-	return refused() ? NULL : next(old, size);
+	return refused(size) ? NULL : next(old, size);
+}
+
+__attribute__((destructor)) static void write_counts(void)
+{
+	const char *path = getenv("COUNT_ALLOC");
+	const size_t seen[] = { largest, total };
+	FILE *file = path ? fopen(path, "w") : NULL;
+
+	if (file) {
+		fprintf(file, "%zu %zu\n", seen[0], seen[1]);
+		fclose(file);
+	}
 }

@@ -1,13 +1,20 @@
-//! Reads the files of `cases.txt`, one a line in hexadecimal digits, and prints of each whether it is a program, or else the fault. A
-//! program is written again, by itself and by its copy, and the bytes are to be the same.
+//! Reads the files of `cases.txt`, one a line in hexadecimal digits, and prints of each whether
+//! it is a program, or else the fault. Of a file behind the sign `=` it prints what the program
+//! holds. A program is written again, by itself and by its copy, and the bytes are to be the
+//! same. With a file's name as its word it prints how long reading and writing that file took at
+//! best.
 #![tactic(auto)]
+
+#[cfg(test)]
+mod tests;
 
 ghost use Rattle.std.specs.Prelude.{◌<◌};
 
-use anyhow::Result;
+use anyhow::{Result, bail};
 use bytecode::{Program, decode, encode};
 use std::alloc::Global;
-use std::fs;
+use std::time::Instant;
+use std::{env, fs};
 
 /// The value of a hexadecimal digit, 0 for other bytes.
 fn digit(byte: u8) -> u8
@@ -35,25 +42,84 @@ fn is_spelled(alloc: Global, program: &Program, bytes: &[u8]) -> Result<bool> {
     Ok(spelled.as_slice() == bytes)
 }
 
-/// What the bytes are.
-fn answer(alloc: Global, bytes: &[u8]) -> Result<String> {
+/// Whether a program and its copy are written as these bytes.
+fn is_kept(alloc: Global, program: &Program, bytes: &[u8]) -> Result<bool> {
+    let copied = program.copy(alloc)?;
+    Ok(is_spelled(alloc, program, bytes)? && is_spelled(alloc, &copied, bytes)?)
+}
+
+/// What the bytes are, with all that a program holds where it is to be listed.
+fn answer(alloc: Global, bytes: &[u8], is_listed: bool) -> Result<String> {
     let program = match decode(alloc, bytes) {
         Ok(program) => program,
         Err(fault) => return Ok(format!(in alloc; "{fault}")?),
     };
-    let copied = program.copy(alloc)?;
-    if is_spelled(alloc, &program, bytes)? && is_spelled(alloc, &copied, bytes)? {
-        return Ok(String::from_str(alloc, "program")?);
+    if !is_kept(alloc, &program, bytes)? {
+        return Ok(String::from_str(alloc, "another spelling")?);
     }
-    Ok(String::from_str(alloc, "another spelling")?)
+    if is_listed {
+        return Ok(format!(in alloc; "{program:?}")?);
+    }
+    Ok(String::from_str(alloc, "program")?)
+}
+
+/// What the file of a line is.
+fn answer_of_line(alloc: Global, line: &str) -> Result<String> {
+    match line.strip_prefix('=') {
+        Some(digits) => answer(alloc, bytes_of(alloc, digits)?.as_slice(), true),
+        None => answer(alloc, bytes_of(alloc, line)?.as_slice(), false),
+    }
+}
+
+/// What the files of all lines are, a line for each.
+fn answers_of(alloc: Global, lines: &str) -> Result<String> {
+    let mut answers = String::new(alloc);
+    for line in lines.lines() {
+        answers.push_str(answer_of_line(alloc, line)?.as_str())?;
+        answers.push('\n')?;
+    }
+    Ok(answers)
+}
+
+/// How many microseconds reading and writing a file took.
+fn time_once(rt: &HostRuntime, bytes: &[u8]) -> Result<(u128, u128)> {
+    let start = Instant::now(rt)?;
+    let decoded = decode(rt.alloc(), bytes);
+    let read = start.elapsed(rt)?.as_micros();
+    let program = match decoded {
+        Ok(program) => program,
+        Err(fault) => bail!("{fault}"),
+    };
+    let start = Instant::now(rt)?;
+    let spelled = encode(rt.alloc(), &program)?;
+    let written = start.elapsed(rt)?.as_micros();
+    if spelled.as_slice() != bytes {
+        bail!("another spelling");
+    }
+    Ok((read, written))
+}
+
+/// Prints the least times of a hundred rounds.
+fn time_file(rt: &HostRuntime, bytes: &[u8]) -> Result<()> {
+    let mut least = (u128::MAX, u128::MAX);
+    for _ in 0..100 {
+        let (read, written) = time_once(rt, bytes)?;
+        least = (least.0.min(read), least.1.min(written));
+    }
+    let (read, written) = least;
+    println!(rt; "decode {read} us encode {written} us")?;
+    Ok(())
 }
 
 fn main(rt: HostRuntime) -> Result<()> {
-    let text = fs::read_to_string(&rt, "cases.txt")?;
-    for line in text.lines() {
-        let bytes = bytes_of(rt.alloc(), line)?;
-        let answer = answer(rt.alloc(), bytes.as_slice())?;
-        println!(rt; "{answer}")?;
+    let mut args = env::args(&rt)?;
+    let _name = args.next();
+    if let Some(path) = args.next() {
+        let bytes = fs::read(&rt, path.as_str())?;
+        return time_file(&rt, bytes.as_slice());
     }
+    let lines = fs::read_to_string(&rt, "cases.txt")?;
+    let answers = answers_of(rt.alloc(), lines.as_str())?;
+    print!(rt; "{answers}")?;
     Ok(())
 }
