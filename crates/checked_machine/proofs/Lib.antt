@@ -9,3 +9,4 @@ pub mod Clocks
 pub mod Samples
 pub mod Accepted
 pub mod Machine
+pub mod Worked

@@ -6,15 +6,16 @@ use Rattle.checked_machine.specs.Outcomes.{Meets}
 use Rattle.checked_machine.specs.Machine.{opening, clocks}
 use Rattle.checked_machine.specs.Bounds.{IsReached}
 
--- Over any rows a program that the verifier accepts meets no trap: no bad operand, no jump outside its
--- code, no sample past its history, no full pool, and no tick over its budget. And what stands between two
--- clocks is bounded.
+-- Over any rows a program that the verifier accepts meets no trap: no bad operand, no jump outside
+-- its code, no sample past its history, no full pool, and no tick over its budget. And what stands
+-- between two clocks is bounded.
 abbrev pub NeverTraps : Type 0
 NeverTraps =
     (p : ProgramData) → IsAccepted p → (rows : List (List ℕ)) →
     Meets (λ s left. IsReached p s.standing) (clocks p (opening p) rows)
 
--- So many attempts and obligations are live between clocks that one more of each has room in pools of the least size.
+-- So many attempts and obligations are live between clocks that one more of each has room in pools
+-- of the least size.
 abbrev pub FewAreLive : Type 0
 FewAreLive =
     (p : ProgramData) → IsAccepted p → (rows : List (List ℕ)) →

@@ -5,3 +5,4 @@ pub mod Clocks
 pub mod Machine
 pub mod Bounds
 pub mod Laws
+pub mod Worked

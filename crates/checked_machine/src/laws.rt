@@ -1,9 +1,15 @@
 //! Laws of the checked machine, each a call that does nothing.
 
 ghost use Rattle.checked_machine.specs.Laws.{NeverTraps, FewAreLive};
+ghost use Rattle.checked_machine.specs.Worked.{TwoPositionsRun};
 
 /// A verified program meets no trap over any rows, and what stands between its clocks is bounded.
 pub fn never_traps()
     ensures reached { NeverTraps }
     ensures few { FewAreLive }
+{}
+
+/// A run of three clocks, worked out by hand.
+pub fn worked_run()
+    ensures { TwoPositionsRun }
 {}

@@ -1,10 +1,10 @@
 //! The checked machine: what a clock of a program is, with every test that a run could fail.
 //!
-//! The definitions alone. A clock pushes its row, runs the sample code, opens an attempt, visits what is
-//! live, opens an obligation where an attempt accepted, visits the obligations and settles the attempts;
-//! each instruction, visit and settling costs one tick. It comes to the next state with the attempts
-//! that it decided, or to a trap: a bad operand, a jump outside its code, a sample past its history, a
-//! full pool, or a tick over its budget.
+//! The definitions alone. A clock pushes its row, runs the sample code, opens an attempt, visits
+//! what is live, opens an obligation where an attempt accepted, visits the obligations and settles
+//! the attempts; each instruction, visit and settling costs one tick. It comes to the next state with
+//! the attempts that it decided, or to a trap: a bad operand, a jump outside its code, a sample past
+//! its history, a full pool, or a tick over its budget.
 //!
 //! ```text
 //! never_traps();    // a contract and no code: what a verified program never meets
@@ -12,7 +12,8 @@
 //!
 //! The definitions: `specs/Machine.antt` (a clock, clocks), `specs/Samples.antt` (sample code),
 //! `specs/Blocks.antt` (a visit), `specs/Clocks.antt` (what follows the sample code),
-//! `specs/Outcomes.antt` (traps), `specs/Bounds.antt` (what stands between clocks), `specs/Laws.antt`.
+//! `specs/Outcomes.antt` (traps), `specs/Bounds.antt` (what stands between clocks),
+//! `specs/Laws.antt`, `specs/Worked.antt` (a run by hand).
 //! An attempt keeps a mask of all ticks at which it accepted, which is never cleared: it awaits the
 //! obligation of such a tick while that is live.
 //!
@@ -21,4 +22,4 @@
 
 mod laws;
 
-pub use laws::never_traps;
+pub use laws::{never_traps, worked_run};
