@@ -1,5 +1,5 @@
 -- What is read up to the end is a file; and a file is read so.
-use Rattle.std.proofs.Common.{◌≡◌, true, false, List, [], ◌∷◌, Option, Some, None, refl, sym, ap, ◌∙◌, subst}
+use Rattle.std.proofs.Common.{◌≡◌, Bool, true, false, ◌||◌, List, [], ◌∷◌, ◌++◌, Option, Some, None, refl, sym, ap, ap₂, ◌∙◌, subst, map}
 use Rattle.lexer.specs.declared.token.Token.{Token}
 use Rattle.grammar.specs.declared.terminal.Terminal.TheVariants.{End}
 use Rattle.grammar.specs.Terminals.{terminal, is}
@@ -13,6 +13,9 @@ use Rattle.grammar.proofs.FilesSound.{file-found}
 use Rattle.parser.specs.declared.fault.ParseFault.{ParseFault}
 use Rattle.parser_expressions.specs.declared.stop.Stop.{Stop}
 use Rattle.parser_expressions.specs.declared.stop.Stop.TheVariants as stops
+use Rattle.parser.specs.declared.tree.ItemTree.{ItemTree}
+use Rattle.parser.specs.Views.{item_of}
+use Rattle.parser_expressions.proofs.LoopLaws.{map-push}
 use Rattle.parser.specs.Faults.{NamesStop, Refuses, IsParseFault}
 use Rattle.parser_expressions.specs.Views.{Fails}
 
@@ -38,15 +41,23 @@ pub items-fail : (ts : List Token) (x : Stop) → Fails x (each is_more (λ t us
 unfolding items
 items-fail ts x f = f
 
-pub asserts-none : (x : ItemForm) (more : List ItemForm) → false ≡ asserts (x ∷ []) → asserts (x ∷ more) ≡ asserts more
-asserts-none (counter c) more h = refl
-asserts-none (declaration s) more h = refl
-asserts-none (assertion a) more h = absurd cc
+asserts-push :
+    (xs : List ItemForm) (x : ItemForm) →
+    asserts (xs ++ x ∷ []) ≡ (asserts xs || asserts (x ∷ []))
+asserts-push [] x = refl
+asserts-push (counter c ∷ xs) x = asserts-push xs x
+asserts-push (declaration s ∷ xs) x = asserts-push xs x
+asserts-push (assertion a ∷ xs) x = refl
 
-pub asserts-some : (x : ItemForm) (more : List ItemForm) → true ≡ asserts (x ∷ []) → asserts (x ∷ more) ≡ true
-asserts-some (counter c) more h = absurd cc
-asserts-some (declaration s) more h = absurd cc
-asserts-some (assertion a) more h = refl
+-- one more item behind those that were found
+pub asserts-more :
+    (xs ys : List ItemTree) (x : ItemTree) (a b : Bool) →
+    ys ≡ xs ++ x ∷ [] → a ≡ asserts (map item_of xs) → b ≡ asserts (item_of x ∷ []) →
+    (a || b) ≡ asserts (map item_of ys)
+asserts-more xs ys x a b e h k =
+    let more : map item_of ys ≡ map item_of xs ++ item_of x ∷ [] =
+    ap (map item_of) e ∙ map-push item_of xs x in
+    ap₂ (λ p q. p || q) h k ∙ sym (ap asserts more ∙ asserts-push (map item_of xs) (item_of x))
 
 left-same : (p q : List ItemForm × List Token) → Some p ≡ Some q → p.1 ≡ q.1
 left-same p q h = let same : p ≡ q = cc in ap (λ (r : List ItemForm × List Token). r.1) same

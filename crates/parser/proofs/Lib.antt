@@ -1,5 +1,6 @@
 pub mod Steps
 pub mod TreeLaws
+pub mod BodyLaws
 pub mod SequenceSteps
 pub mod PropertySteps
 pub mod ItemSteps

@@ -1,6 +1,6 @@
 //! Sequences made of their parts.
 
-ghost use Rattle.std.specs.Prelude.{◌≡◌, ◌<◌, ◌≤◌, ◌++◌, [], ◌∷◌, length, map, Some, IfOk, IfErr, MatchResult};
+ghost use Rattle.std.specs.Prelude.{◌≡◌, true, false, ◌<◌, ◌≤◌, ◌++◌, [], ◌∷◌, length, map, Some, IfOk, IfErr, MatchResult};
 ghost use Rattle.parser_expressions.specs.declared.stop.Stop.TheVariants.{Memory};
 ghost use Rattle.grammar.specs.declared.terminal.Terminal.TheVariants.{Throughout};
 ghost use Rattle.grammar.specs.Trees.{boolean};
@@ -9,62 +9,52 @@ ghost use Rattle.grammar.specs.Readers.{expect};
 ghost use Rattle.grammar.specs.ReadSequences.{with_times, with_steps, with_conjuncts, with_alternatives};
 ghost use Rattle.parser_expressions.specs.Views.{tree_of, Gives, read_as};
 ghost use Rattle.parser.specs.Views.{sequence_of, delay_step_of};
-ghost use Rattle.parser.specs.Bodies.{body_of, IsProper, HasNoThroughout};
+ghost use Rattle.grammar.specs.Sequences.{IsNoExpression};
+ghost use Rattle.parser.specs.Bodies.{HasNoThroughout};
 
 use crate::tree::SequenceTree;
 use grammar::{Range, Terminal};
 use lexer::Token;
 use parser_expressions::{ExprTree, Read, Stop, accept};
-use std::alloc::{AllocError, Global};
+use std::alloc::Global;
 
-/// What may stand where a chain of delays has a part: an expression, or a sequence in brackets that is none.
-#[derive(Drop)]
-pub(crate) enum Body<'a> {
-    Expression(Box<ExprTree<'a>>),
-    Sequence(Box<SequenceTree<'a>>),
+/// Whether a sequence is an expression.
+fn is_expression(sequence: &SequenceTree) -> bool
+    ensures yes { result ≡ true → IsNoExpression (sequence_of sequence.now) → ⊥ }
+    ensures no { result ≡ false → IsNoExpression (sequence_of sequence.now) }
+{
+    matches!(sequence, SequenceTree::Boolean(_))
 }
 
-/// The sequence that a body is.
-#[tactic(auto, using(crate::proofs::TreeLaws::sequence_rules))]
-pub(crate) fn into_sequence<'a>(
-    alloc: Global,
-    body: Body<'a>,
-) -> Result<Box<SequenceTree<'a>>, AllocError>
-    ensures { IfOk result (λ s. sequence_of s.value ≡ body_of body.entry) }
+/// The expression that a sequence is; else the sequence.
+pub(crate) fn into_expression<'a>(
+    sequence: Box<SequenceTree<'a>>,
+) -> Result<Box<ExprTree<'a>>, Box<SequenceTree<'a>>>
+    ensures { MatchResult result
+        (λ e. boolean (tree_of e.value) ≡ sequence_of sequence.entry.value)
+        (λ s. (s ≡ sequence.entry) × IsNoExpression (sequence_of s.value)) }
 {
-    match body {
-        Body::Expression(expr) => Ok(Box::new(alloc, SequenceTree::Boolean(expr))?),
-        Body::Sequence(sequence) => Ok(sequence),
+    if !is_expression(&sequence) {
+        return Err(sequence);
+    }
+    match Box::into_inner(sequence) {
+        SequenceTree::Boolean(expr) => Ok(expr),
+        _ => unreachable!(),
     }
 }
 
-/// The body that a sequence is.
+/// An expression as a sequence.
 #[tactic(auto, using(crate::proofs::TreeLaws::sequence_rules))]
-pub(crate) fn into_body<'a>(
+pub(crate) fn plain<'t, 'a>(
     alloc: Global,
-    sequence: Box<SequenceTree<'a>>,
-) -> Result<Body<'a>, AllocError>
-    ensures same { IfOk result (λ b. body_of b ≡ sequence_of sequence.entry.value) }
-    ensures proper { IfOk result IsProper }
+    expr: Box<ExprTree<'a>>,
+    rest: &'t [Token<'a>],
+) -> Read<'t, 'a, Box<SequenceTree<'a>>>
+    ensures read { Gives (λ r. (sequence_of r.0.value, r.1.now)) result
+        (read_as (boolean (tree_of expr.entry.value)) rest.now) }
+    ensures shorter { IfOk result (λ r. length r.1.now ≤ length rest.now) }
 {
-    let sequence = match Box::into_inner(sequence) {
-        SequenceTree::Boolean(expr) => return Ok(Body::Expression(expr)),
-        SequenceTree::Repeated(body, range) => Box::new(
-            alloc,
-            SequenceTree::Repeated(body, range),
-        )?,
-        SequenceTree::Late(token, range, body) => {
-            Box::new(alloc, SequenceTree::Late(token, range, body))?
-        }
-        SequenceTree::Delayed(first, more) => Box::new(alloc, SequenceTree::Delayed(first, more))?,
-        SequenceTree::Throughout(expr, body) => Box::new(
-            alloc,
-            SequenceTree::Throughout(expr, body),
-        )?,
-        SequenceTree::And(first, more) => Box::new(alloc, SequenceTree::And(first, more))?,
-        SequenceTree::Or(first, more) => Box::new(alloc, SequenceTree::Or(first, more))?,
-    };
-    Ok(Body::Sequence(sequence))
+    Ok((Box::new(alloc, SequenceTree::Boolean(expr))?, rest))
 }
 
 /// A body with the counts of its repetition, if they are written.
@@ -204,21 +194,23 @@ pub(crate) fn push_step<'a>(
 }
 
 /// The expression, the word and the tokens behind it, where a body goes on with `throughout`; else the body.
+#[tactic(auto, using(crate::proofs::BodyLaws::for_throughout))]
 pub(crate) fn throughout_side<'t, 'a>(
     tokens: &'t [Token<'a>],
-    body: Body<'a>,
-) -> Result<(Box<ExprTree<'a>>, Token<'a>, &'t [Token<'a>]), Body<'a>>
-    requires proper { IsProper body }
+    body: Box<SequenceTree<'a>>,
+) -> Result<(Box<ExprTree<'a>>, Token<'a>, &'t [Token<'a>]), Box<SequenceTree<'a>>>
     ensures side { MatchResult result
-        (λ r. (body_of body.entry ≡ boolean (tree_of r.0.value)) × (expect Throughout tokens.now ≡ Some (r.1, r.2.now)))
-        (λ b. (body_of b ≡ body_of body.entry) × HasNoThroughout (body_of b) tokens.now) }
+        (λ r. (sequence_of body.entry.value ≡ boolean (tree_of r.0.value))
+        × (expect Throughout tokens.now ≡ Some (r.1, r.2.now)))
+        (λ b. (sequence_of b.value ≡ sequence_of body.entry.value)
+        × HasNoThroughout (sequence_of b.value) tokens.now) }
     ensures shorter { IfOk result (λ r. length r.2.now < length tokens.now) }
 {
-    match body {
-        Body::Expression(expr) => match accept(tokens, Terminal::Throughout) {
-            Some((word, rest)) => Ok((expr, word, rest)),
-            None => Err(Body::Expression(expr)),
-        },
-        Body::Sequence(sequence) => Err(Body::Sequence(sequence)),
+    let Some((word, rest)) = accept(tokens, Terminal::Throughout) else {
+        return Err(body);
+    };
+    match into_expression(body) {
+        Ok(expr) => Ok((expr, word, rest)),
+        Err(body) => Err(body),
     }
 }

@@ -15,8 +15,8 @@ use lexer::Token;
 use parser_expressions::{first, place, same};
 use std::alloc::Global;
 
-/// The items that stand first, and the tokens behind them.
-type Items<'t, 'a> = Result<(Vec<ItemTree<'a>>, &'t [Token<'a>]), ParseFault<'a>>;
+/// The items that stand first, whether one of them is an assertion, and the tokens behind them.
+type Items<'t, 'a> = Result<(Vec<ItemTree<'a>>, bool, &'t [Token<'a>]), ParseFault<'a>>;
 
 /// The first token, if it isn't that of the end.
 #[tactic(auto, using(crate::proofs::ItemSteps::for_more))]
@@ -42,28 +42,6 @@ fn last_of<'t, 'a>(tokens: &'t [Token<'a>], count: usize) -> &'t [Token<'a>]
     &tokens[tokens.len() - count..]
 }
 
-/// Items, up to the end.
-fn read_items<'t, 'a>(alloc: Global, tokens: &'t [Token<'a>]) -> Items<'t, 'a>
-    ensures read { MatchResult result
-        (λ r. items tokens.now ≡ Some (map item_of r.0.items, r.1.now))
-        (λ fault. Refuses fault (items tokens.now)) }
-    ensures placed { IfErr result (IsPlaced tokens.now) }
-{
-    let mut found = Vec::new(alloc);
-    let mut left = tokens;
-    'items: loop {
-        let Some((_, _)) = more(left) else {
-            return Ok((found, left));
-        };
-        let (item, rest) = match read_item(alloc, left) {
-            Ok(read) => read,
-            Err(stop) => return Err(fault_of(last_of(tokens, left.len()), stop)),
-        };
-        found.push(item)?;
-        left = same(rest);
-    }
-}
-
 /// Whether an item is an assertion.
 fn is_assertion(item: &ItemTree) -> bool
     ensures { result ≡ asserts (item_of item.now ∷ []) }
@@ -75,33 +53,28 @@ fn is_assertion(item: &ItemTree) -> bool
     }
 }
 
-/// The first item, and those behind it.
-fn first_item<'t, 'a>(items: &'t [ItemTree<'a>]) -> Option<(&'t ItemTree<'a>, &'t [ItemTree<'a>])>
-    ensures { MatchOption result (items.now ≡ []) (λ r. items.now ≡ r.0.now ∷ r.1.now) }
+/// Items, up to the end.
+fn read_items<'t, 'a>(alloc: Global, tokens: &'t [Token<'a>]) -> Items<'t, 'a>
+    ensures read { MatchResult result
+        (λ r. items tokens.now ≡ Some (map item_of r.0.items, r.2.now))
+        (λ fault. Refuses fault (items tokens.now)) }
+    ensures asserted { IfOk result (λ r. r.1 ≡ asserts (map item_of r.0.items)) }
+    ensures placed { IfErr result (IsPlaced tokens.now) }
 {
-    items.split_first()
-}
-
-/// The same items, with which a loop goes on.
-fn same_items<'t, 'a>(items: &'t [ItemTree<'a>]) -> &'t [ItemTree<'a>]
-    ensures { result.now ≡ items.now }
-{
-    items
-}
-
-/// Whether one of the items is an assertion.
-fn has_assertion(items: &[ItemTree]) -> bool
-    ensures { result ≡ asserts (map item_of items.now) }
-{
-    let mut left = items;
+    let mut found = Vec::new(alloc);
+    let mut asserted = false;
+    let mut left = tokens;
     'items: loop {
-        let Some((item, rest)) = first_item(left) else {
-            return false;
+        let Some((_, _)) = more(left) else {
+            return Ok((found, asserted, left));
         };
-        if is_assertion(item) {
-            return true;
-        }
-        left = same_items(rest);
+        let (item, rest) = match read_item(alloc, left) {
+            Ok(read) => read,
+            Err(stop) => return Err(fault_of(last_of(tokens, left.len()), stop)),
+        };
+        asserted |= is_assertion(&item);
+        found.push(item)?;
+        left = same(rest);
     }
 }
 
@@ -116,7 +89,7 @@ pub fn parse<'a>(alloc: Global, tokens: &[Token<'a>]) -> Result<File<'a>, ParseF
     // The fault stands at one of the tokens, if there is one, and P2 tells that token's text.
     ensures placed { IfErr result (λ fault. 0 < length tokens.now → IsPlaced tokens.now fault) }
 {
-    let (items, rest) = match read_items(alloc, tokens) {
+    let (items, asserted, rest) = match read_items(alloc, tokens) {
         Ok(read) => read,
         Err(fault) => return Err(fault),
     };
@@ -129,7 +102,7 @@ pub fn parse<'a>(alloc: Global, tokens: &[Token<'a>]) -> Result<File<'a>, ParseF
     if let Some((token, _)) = first(behind) {
         return Err(ParseFault::Expected("no more tokens", place_in(tokens, token.at)));
     }
-    if !has_assertion(items.as_slice()) {
+    if !asserted {
         return Err(ParseFault::Expected("an assertion", place_in(tokens, last.at)));
     }
     Ok(File { items })

@@ -4,10 +4,9 @@ ghost use Rattle.std.specs.Prelude.{◌≡◌, ◌<◌, ◌≤◌, ◌+◌, ◌=
 ghost use Rattle.grammar.specs.ReadSequences.{sequences, regroup, body_with, repeat_behind, late_part, delayed_behind, during_behind, throughout_reader, conjunction_behind, conjunction_with, alternatives_behind, sequence_behind, whole};
 ghost use Rattle.parser_expressions.specs.Views.{Gives};
 ghost use Rattle.parser.specs.Views.{sequence_of, boxed_step_of};
-ghost use Rattle.parser.specs.Bodies.{body_of, IsProper};
 
 use crate::body::{
-    Body, into_body, into_sequence, late, push_sequence, push_step, throughout, throughout_side,
+    into_expression, late, plain, push_sequence, push_step, throughout, throughout_side,
     with_alternatives, with_conjuncts, with_steps, with_times,
 };
 use crate::count::{read_counts, read_delay};
@@ -27,31 +26,35 @@ pub(crate) fn regroup<'t, 'a>(
     tokens: &'t [Token<'a>],
     inner: Box<SequenceTree<'a>>,
     depth: usize,
-) -> Read<'t, 'a, Body<'a>>
-    ensures read { Gives (λ r. (body_of r.0, r.1.now)) result (regroup depth (sequence_of inner.entry.value) tokens.now) }
-    ensures proper { IfOk result (λ r. IsProper r.0) }
+) -> Read<'t, 'a, Box<SequenceTree<'a>>>
+    ensures read { Gives (λ r. (sequence_of r.0.value, r.1.now)) result
+        (regroup depth (sequence_of inner.entry.value) tokens.now) }
     ensures shorter { IfOk result (λ r. length r.1.now ≤ length tokens.now) }
 {
-    match into_body(alloc, inner)? {
-        Body::Expression(expr) => {
+    match into_expression(inner) {
+        Ok(expr) => {
             let (expr, rest) = read!(finish_expression(alloc, tokens, expr, depth));
-            Ok((Body::Expression(expr), rest))
+            plain(alloc, expr, rest)
         }
-        Body::Sequence(sequence) => Ok((Body::Sequence(sequence), tokens)),
+        Err(sequence) => Ok((sequence, tokens)),
     }
 }
 
 /// An expression, or a sequence in brackets.
 #[tactic(auto, using(crate::proofs::SequenceSteps::for_body))]
 #[cycle(sequences)]
-fn read_body<'t, 'a>(alloc: Global, tokens: &'t [Token<'a>], depth: usize) -> Read<'t, 'a, Body<'a>>
-    ensures read { Gives (λ r. (body_of r.0, r.1.now)) result (body_with depth (sequences depth) tokens.now) }
-    ensures proper { IfOk result (λ r. IsProper r.0) }
+fn read_body<'t, 'a>(
+    alloc: Global,
+    tokens: &'t [Token<'a>],
+    depth: usize,
+) -> Read<'t, 'a, Box<SequenceTree<'a>>>
+    ensures read { Gives (λ r. (sequence_of r.0.value, r.1.now)) result
+        (body_with depth (sequences depth) tokens.now) }
     ensures shorter { IfOk result (λ r. length r.1.now ≤ length tokens.now) }
 {
     let Some((bracket, inside)) = accept(tokens, Terminal::OpenRound) else {
         let (expr, rest) = read!(read_expression(alloc, tokens, depth));
-        return Ok((Body::Expression(expr), rest));
+        return plain(alloc, expr, rest);
     };
     let inner = read!(deeper(depth, bracket));
     let (sequence, rest) = read!(read_sequence(alloc, inside, inner));
@@ -64,13 +67,13 @@ fn read_body<'t, 'a>(alloc: Global, tokens: &'t [Token<'a>], depth: usize) -> Re
 fn read_repeat<'t, 'a>(
     alloc: Global,
     tokens: &'t [Token<'a>],
-    body: Body<'a>,
+    body: Box<SequenceTree<'a>>,
     depth: usize,
 ) -> Read<'t, 'a, Box<SequenceTree<'a>>>
-    ensures read { Gives (λ r. (sequence_of r.0.value, r.1.now)) result (repeat_behind (sequences depth) (body_of body.entry) tokens.now) }
+    ensures read { Gives (λ r. (sequence_of r.0.value, r.1.now)) result
+        (repeat_behind (sequences depth) (sequence_of body.entry.value) tokens.now) }
     ensures shorter { IfOk result (λ r. length r.1.now ≤ length tokens.now) }
 {
-    let body = into_sequence(alloc, body)?;
     let (counts, rest) = read!(read_counts(tokens, depth));
     with_times(alloc, body, counts, rest)
 }
@@ -121,11 +124,11 @@ fn read_delayed<'t, 'a>(
 fn read_behind<'t, 'a>(
     alloc: Global,
     tokens: &'t [Token<'a>],
-    body: Body<'a>,
+    body: Box<SequenceTree<'a>>,
     depth: usize,
 ) -> Read<'t, 'a, Box<SequenceTree<'a>>>
-    requires proper { IsProper body }
-    ensures read { Gives (λ r. (sequence_of r.0.value, r.1.now)) result (during_behind depth (sequences depth) (body_of body.entry) tokens.now) }
+    ensures read { Gives (λ r. (sequence_of r.0.value, r.1.now)) result
+        (during_behind depth (sequences depth) (sequence_of body.entry.value) tokens.now) }
     ensures shorter { IfOk result (λ r. length r.1.now ≤ length tokens.now) }
 {
     let (expr, word, right) = match throughout_side(tokens, body) {
@@ -241,11 +244,11 @@ pub(crate) fn read_sequence<'t, 'a>(
 pub(crate) fn finish_sequence<'t, 'a>(
     alloc: Global,
     tokens: &'t [Token<'a>],
-    body: Body<'a>,
+    body: Box<SequenceTree<'a>>,
     depth: usize,
 ) -> Read<'t, 'a, Box<SequenceTree<'a>>>
-    requires proper { IsProper body }
-    ensures read { Gives (λ r. (sequence_of r.0.value, r.1.now)) result (sequence_behind depth (body_of body.entry) tokens.now) }
+    ensures read { Gives (λ r. (sequence_of r.0.value, r.1.now)) result
+        (sequence_behind depth (sequence_of body.entry.value) tokens.now) }
     ensures shorter { IfOk result (λ r. length r.1.now ≤ length tokens.now) }
 {
     let (side, rest) = read!(read_behind(alloc, tokens, body, depth));

@@ -1,7 +1,4 @@
-use Rattle.std.proofs.Common.{List, map, sym, ap, ◌∙◌}
-use Rattle.grammar.specs.ReadFiles.{asserts}
-use Rattle.parser.specs.declared.tree.ItemTree.{ItemTree}
-use Rattle.parser.specs.Views.{item_of}
+use Rattle.std.proofs.Common.{sym, ◌∙◌}
 use Rattle.parser.proofs.FileLaws.{no-end, other-end, behind-end, found, no-assertion, nothing-read}
 use Rattle.parser.proofs.file.parse.Goals as goal
 
@@ -17,10 +14,12 @@ returns-then-not-is-clause-err c = other-end _ _ _ c.in-Ok.ensures.read _ _ c.in
 pub returns-in-Some-first-clause-err : goal.returns-in-Some-first-clause-err
 returns-in-Some-first-clause-err c = behind-end _ _ _ c.in-Ok.ensures.read _ _ c.in-Some.ensures _ (λ none. let more = sym c.in-Some-first.ensures ∙ none in absurd cc)
 
-pub returns-then-not-has_assertion-clause-err : goal.returns-then-not-has_assertion-clause-err
-returns-then-not-has_assertion-clause-err c = no-assertion _ _ _ c.in-Ok.ensures.read _ (c.if-not-has_assertion.ensures ∙ ap (λ (xs : List ItemTree). asserts (map item_of xs)) c.as_slice.ensures.value)
+pub returns-then-not-asserted-clause-err : goal.returns-then-not-asserted-clause-err
+returns-then-not-asserted-clause-err c =
+    no-assertion _ _ _ c.in-Ok.ensures.read _
+    (sym c.if-not-asserted.true ∙ c.in-Ok.ensures.asserted)
 
 pub returns-clause-ok : goal.returns-clause-ok
 returns-clause-ok c =
     found _ _ _ c.in-Ok.ensures.read _ _ c.in-Some.ensures c.if-not-is.ensures c.in_default-first.ensures
-    (c.if-not-has_assertion.ensures ∙ ap (λ (xs : List ItemTree). asserts (map item_of xs)) c.as_slice.ensures.value)
+    (sym c.if-not-asserted.false ∙ c.in-Ok.ensures.asserted)

@@ -1,16 +1,22 @@
 use Rattle.std.proofs.Common.{◌∷◌, List, map, length, sym, ap, subst, arith, ◌∙◌}
 use Rattle.lexer.specs.declared.token.Token.{Token}
-use Rattle.grammar.specs.ReadFiles.{is_more, item}
+use Rattle.grammar.specs.ReadFiles.{asserts, is_more, item}
 use Rattle.parser.specs.declared.tree.ItemTree.{ItemTree}
 use Rattle.parser.specs.Views.{item_of}
 use Rattle.parser_expressions.proofs.LoopLaws.{Turns, turns-init, turns-stop, turns-fail, turns-next, map-push}
-use Rattle.parser.proofs.FileLaws.{refuses, at-item-fails, at-item, items-are, items-fail}
+use Rattle.parser.proofs.FileLaws.{refuses, at-item-fails, at-item, items-are, items-fail, asserts-more}
 use Rattle.parser.proofs.PlaceLaws.{placed-drop}
 use Rattle.std.proofs.lemmas.List.{length-drop}
 use Rattle.parser.proofs.file.read_items.Goals as goal
 
 pub items-init : goal.items-init
-items-init c = (omega arith, subst (λ (xs : List ItemTree). Turns is_more (λ t us. item (t ∷ us)) c.args.tokens.now (map item_of xs) c.args.tokens.now) (sym c.new-found.ensures.items) (turns-init is_more (λ t us. item (t ∷ us)) c.args.tokens.now))
+items-init c = (
+  omega arith,
+  subst (λ (xs : List ItemTree). Turns is_more (λ t us. item (t ∷ us))
+      c.args.tokens.now (map item_of xs) c.args.tokens.now) (sym c.new-found.ensures.items)
+      (turns-init is_more (λ t us. item (t ∷ us)) c.args.tokens.now),
+  ap (λ (xs : List ItemTree). asserts (map item_of xs)) (sym c.new-found.ensures.items),
+)
 
 pub returns-in_default-clause-read : goal.returns-in_default-clause-read
 returns-in_default-clause-read c = items-are _ _ (turns-stop is_more (λ t us. item (t ∷ us)) _ _ _ c.items.invariant.1 c.in_default.ensures.token)
@@ -28,6 +34,8 @@ items-preserved c = (
   subst (λ (ts : List Token). Turns is_more (λ t us. item (t ∷ us)) c.args.tokens.now (map item_of c.push.new.self.items) ts) (sym c.same-left.ensures)
       (turns-next is_more (λ t us. item (t ∷ us)) _ _ _ c.items.invariant.1 _ _ c.in-Some.ensures.token c.in-Some.ensures.shorter _ _ _ (omega (arith, c.in-Ok.ensures.shorter, ap length c.in-Some.ensures.whole))
       (at-item _ _ _ _ c.in-Some.ensures.whole c.in-Ok.ensures.read) (ap (map item_of) c.in_ok-push.ensures.items ∙ map-push item_of _ _)),
+  asserts-more _ _ _ _ _ c.in_ok-push.ensures.items c.items.invariant.2
+      c.is_assertion-asserted.ensures,
 )
 
 pub returns-in-Err-clause-placed : goal.returns-in-Err-clause-placed

@@ -1,11 +1,14 @@
-use Rattle.std.proofs.Common.{◌∷◌, ◌≤◌, map, length}
-use Rattle.grammar.specs.ReadFiles.{is_more, item}
+use Rattle.std.proofs.Common.{◌≡◌, ◌∷◌, ◌≤◌, map, length}
+use Rattle.grammar.specs.ReadFiles.{asserts, is_more, item}
 use Rattle.parser.specs.Views.{item_of}
 use Rattle.parser_expressions.proofs.LoopLaws.{Turns}
 use Rattle.parser.proofs.file.read_items.Given as goal
 
 abbrev pub invariant-items : goal.invariant-items
-invariant-items l = (length l.left ≤ length l.tokens) × Turns is_more (λ t us. item (t ∷ us)) l.tokens (map item_of l.found.items) l.left
+invariant-items l =
+    (length l.left ≤ length l.tokens)
+    × Turns is_more (λ t us. item (t ∷ us)) l.tokens (map item_of l.found.items) l.left
+    × (l.asserted ≡ asserts (map item_of l.found.items))
 
 abbrev pub decreases-items : goal.decreases-items
 decreases-items l = length l.left
