@@ -1,0 +1,142 @@
+//! Reads the files of `cases.txt`, one a line in hexadecimal digits, and prints of each the least
+//! limits and the lives of a program that is accepted, or else the fault. An accepted program and
+//! its copy are to say the same as the file. With a file's name as its word it prints how long
+//! verifying that file took at best.
+#![tactic(auto)]
+
+#[cfg(test)]
+mod tests;
+
+ghost use Rattle.std.specs.Prelude.{◌<◌};
+
+use anyhow::{Result, bail};
+use bytecode::{CodeFault, Limits, Program, decode, encode};
+use std::alloc::Global;
+use std::time::Instant;
+use std::{env, fs};
+use verifier::{Refusal, Verified, verify};
+
+/// The value of a hexadecimal digit, 0 for other bytes.
+fn digit(byte: u8) -> u8
+    ensures { result < 16 }
+{
+    match byte {
+        b'0'..=b'9' => byte - b'0',
+        b'a'..=b'f' => byte - b'a' + 10,
+        _ => 0,
+    }
+}
+
+/// The bytes that pairs of hexadecimal digits spell.
+fn bytes_of(alloc: Global, line: &str) -> Result<Vec<u8>> {
+    let mut bytes = Vec::new(alloc);
+    for pair in line.as_bytes().chunks_exact(2) {
+        bytes.push(digit(pair[0]) * 16 + digit(pair[1]))?;
+    }
+    Ok(bytes)
+}
+
+/// Whether a program is written as these bytes, and declares these limits.
+fn is_same(alloc: Global, verified: &Verified, declared: Limits, bytes: &[u8]) -> Result<bool> {
+    let spelled = encode(alloc, verified.program())?;
+    Ok(spelled.as_slice() == bytes && verified.limits() == declared)
+}
+
+/// Whether a copy says the same as the program of these bytes.
+fn is_copied(alloc: Global, verified: &Verified, declared: Limits, bytes: &[u8]) -> Result<bool> {
+    let copied = verified.copy(alloc)?;
+    Ok(
+        is_same(alloc, &copied, declared, bytes)?
+            && copied.least_limits() == verified.least_limits()
+            && copied.lives() == verified.lives(),
+    )
+}
+
+/// The least limits and the lives of a program that was accepted.
+fn accepted(alloc: Global, verified: &Verified) -> Result<String> {
+    let least = verified.least_limits();
+    let (history, stack, budget) = (least.history, least.stack, least.budget);
+    let (attempts, obligations) = (least.attempts, least.obligations);
+    let lives = verified.lives();
+    let (antecedent, consequent) = (lives.antecedent, lives.consequent);
+    let pools = format!(in alloc; "attempts {attempts} obligations {obligations}")?;
+    let limits = format!(in alloc; "history {history} stack {stack} {pools} budget {budget}")?;
+    Ok(format!(in alloc; "accepted {limits} lives {antecedent} {consequent}")?)
+}
+
+/// What `verify` answers for a program of these bytes.
+fn verdict(alloc: Global, program: Program, bytes: &[u8]) -> Result<String> {
+    let declared = program.limits;
+    match verify(alloc, program) {
+        Ok(verified) => {
+            if !is_same(alloc, &verified, declared, bytes)? {
+                return Ok(String::from_str(alloc, "another program")?);
+            }
+            if !is_copied(alloc, &verified, declared, bytes)? {
+                return Ok(String::from_str(alloc, "another copy")?);
+            }
+            accepted(alloc, &verified)
+        }
+        Err(Refusal::Memory) => bail!("out of memory"),
+        Err(refusal) => Ok(format!(in alloc; "{refusal}")?),
+    }
+}
+
+/// What the file of a line is.
+fn answer(alloc: Global, line: &str) -> Result<String> {
+    let bytes = bytes_of(alloc, line)?;
+    match decode(alloc, bytes.as_slice()) {
+        Ok(program) => verdict(alloc, program, bytes.as_slice()),
+        Err(CodeFault::Memory) => bail!("out of memory"),
+        Err(fault) => Ok(format!(in alloc; "{fault}")?),
+    }
+}
+
+/// What the files of all lines are, a line for each.
+fn answers_of(alloc: Global, lines: &str) -> Result<String> {
+    let mut answers = String::new(alloc);
+    for line in lines.lines() {
+        answers.push_str(answer(alloc, line)?.as_str())?;
+        answers.push('\n')?;
+    }
+    Ok(answers)
+}
+
+/// How many microseconds verifying a program took.
+fn time_once(rt: &HostRuntime, program: &Program) -> Result<u128> {
+    let copied = program.copy(rt.alloc())?;
+    let start = Instant::now(rt)?;
+    let verified = verify(rt.alloc(), copied);
+    let took = start.elapsed(rt)?.as_micros();
+    match verified {
+        Ok(_) => Ok(took),
+        Err(refusal) => bail!("{refusal}"),
+    }
+}
+
+/// Prints the least time of three hundred rounds.
+fn time_file(rt: &HostRuntime, bytes: &[u8]) -> Result<()> {
+    let program = match decode(rt.alloc(), bytes) {
+        Ok(program) => program,
+        Err(fault) => bail!("{fault}"),
+    };
+    let mut least = u128::MAX;
+    for _ in 0..300 {
+        least = least.min(time_once(rt, &program)?);
+    }
+    println!(rt; "verify {least} us")?;
+    Ok(())
+}
+
+fn main(rt: HostRuntime) -> Result<()> {
+    let mut args = env::args(&rt)?;
+    let _name = args.next();
+    if let Some(path) = args.next() {
+        let bytes = fs::read(&rt, path.as_str())?;
+        return time_file(&rt, bytes.as_slice());
+    }
+    let lines = fs::read_to_string(&rt, "cases.txt")?;
+    let answers = answers_of(rt.alloc(), lines.as_str())?;
+    print!(rt; "{answers}")?;
+    Ok(())
+}
