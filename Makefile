@@ -8,6 +8,7 @@ EXAMPLES := $(wildcard crates/demo/data/*/dump.vcd crates/demo/data/*/assertion.
 UNPROVED := Builds svamon without proof, with run-time checks: what you see is unproved and slow. make install proves and installs it.
 
 BYTECODE := crates/oracle_bytecode/out/oracle_bytecode
+VERIFIER := crates/oracle_verifier/out/oracle_verifier
 REFUSING := scripts/fail_alloc 3 crates/svamon/out/svamon
 FILES = --vcd examples/$(1)/dump.vcd --sva examples/$(1)/assertion.sva
 
@@ -18,9 +19,9 @@ help:
 	@echo 'make test             the gate: proves all from nothing, and runs tests, programs, and the edits of what changed'
 	@echo 'make test-all         the gate with all edits'
 	@echo 'make edits NAME=      tries the must-fail edits of a crate, and writes its stamp'
-	@echo 'make bench            times reading against the plain C baseline, on dumps of 50 and 200 MB made from DUMP (clock CLOCK), and on odd shapes; reading and checking texts; bytecode; and judging'
-	@echo 'make allocations      refuses each allocation of svamon in turn, and of the reader and writer of bytecode; and looks at what counts in bytecode take'
-	@echo 'make random           compares svamon with an independent judge on CASES random dumps and texts (SEED), and the reader of bytecode with another on MUTANTS random mutants of each of two programs'
+	@echo 'make bench            times reading against the plain C baseline, on dumps of 50 and 200 MB made from DUMP (clock CLOCK), and on odd shapes; reading and checking texts; bytecode; verifying; and judging'
+	@echo 'make allocations      refuses each allocation of svamon in turn, and of the reader and writer of bytecode, and of the verifier; and looks at what counts in bytecode take'
+	@echo 'make random           compares svamon with an independent judge on CASES random dumps and texts (SEED), the reader of bytecode with another on MUTANTS random mutants of each of two programs, and the verifier with another on CASES random programs and their mutants'
 
 demo:
 	@echo '$(UNPROVED)'
@@ -47,11 +48,11 @@ install:
 svamon:
 	cd crates/svamon && rm -f out/svamon && { rt run -- help; test -x out/svamon; }
 
-# Its run by rt has no cases, and fails.
-oracle_bytecode:
-	cd crates/oracle_bytecode && rm -f out/oracle_bytecode && { rt run > /dev/null 2>&1; test -x out/oracle_bytecode; }
+# Their runs by rt have no cases, and fail.
+oracle_bytecode oracle_verifier:
+	cd crates/$@ && rm -f out/$@ && { rt run > /dev/null 2>&1; test -x out/$@; }
 
-bench: svamon oracle_bytecode
+bench: svamon oracle_bytecode oracle_verifier
 	cd crates/bench_dumps && rt run > /dev/null
 	bench/run $(DUMP) $(CLOCK)
 	bench/shapes
@@ -60,16 +61,19 @@ bench: svamon oracle_bytecode
 	cd crates/oracle_suites && rt run > /dev/null || test -x out/oracle_suites
 	bench/suites
 	bench/bytecode
+	bench/verifier
 	bench/judge
 
-allocations: svamon oracle_bytecode
+allocations: svamon oracle_bytecode oracle_verifier
 	scripts/bytecode_memory.py $(BYTECODE)
+	scripts/verifier_memory $(VERIFIER)
 	$(REFUSING) check $(call FILES,fails_at_its_tick)
 	$(REFUSING) check $(call FILES,one_then_down)
 	$(REFUSING) judge $(call FILES,whole_profile)
 
-random: svamon oracle_bytecode
+random: svamon oracle_bytecode oracle_verifier
 	scripts/random_bytecode.py $(BYTECODE) $(MUTANTS) $(SEED)
+	scripts/random_verifier.py $(VERIFIER) $(CASES) $(SEED)
 	cd crates/svamon/out && ../../../scripts/random_judge.py ./svamon $(CASES) $(SEED)
 
-.PHONY: help demo try test test-all edits install svamon oracle_bytecode bench allocations random
+.PHONY: help demo try test test-all edits install svamon oracle_bytecode oracle_verifier bench allocations random
