@@ -15,8 +15,8 @@ import sys
 import bytecode_cases
 from verifier_makers import WIDTHS, random_program, settle
 from verifier_model import (
-    CODES, COMPARES, JOINS, MOST, NAMES, REDUCES, SHIFTS, Program, Section, answer_to, decode,
-    encode, faults_of)
+    CODES, COMPARES, JOINS, MOST, NAMES, REDUCES, SHIFTS, TAKEN, Program, Section, answer_to,
+    decode, encode, faults_of)
 
 HALT, STOP, ACCEPT = ("Halt",), ("Stop",), ("Accept",)
 LOAD, SET = ("Load", 0), ("SetAtom", 0)
@@ -274,6 +274,26 @@ def stack_cases():
         yield from (roomy(sample=pushes, stack=it) for it in (0, count - 1, count) if it <= 1024)
 
 
+def full_stack_cases():
+    """Instructions on a list of the most operands."""
+    more = [("Load", 0)] * 3
+    for instr in (("Push", 8, 0), ("Past", 0, 1), ("Not",), ("Zext", 2), ("Slice", 0, 0), ("And",),
+                  ("Eq",), ("Shl",), ("Concat",), ("Mux",), SET, ("JumpIfZero", 1025)):
+        count = TAKEN.get(instr[0], 0)
+        yield roomy(sample=[LOAD] * 1024 + [instr, *more[:count], HALT])
+    yield roomy(sample=[LOAD] * 1024 + [("Jump", 1025), LOAD, HALT])
+    yield roomy(sample=[LOAD] * 1024 + [("JumpIfZero", 1027), LOAD, LOAD, HALT])
+
+
+def leading_cases():
+    """Tests in two blocks, of which each leads anywhere."""
+    for target in range(8):
+        test = ("Unless", 0, target)
+        for blocks in ([[test, ACCEPT, STOP], [ACCEPT, STOP]], [[ACCEPT, STOP], [test, STOP]]):
+            yield roomy(antecedent=Section(3, blocks))
+            yield roomy(consequent=Section(3, blocks))
+
+
 def chain(positions):
     """A section in which each position enters the next one and the last."""
     blocks = [[("Enter", it), ("Enter", positions - 1), STOP] for it in range(1, positions)]
@@ -421,7 +441,7 @@ def all_cases():
     for made in (two_places, two_blocks, one_place, header_cases, two_sections):
         yield from made()
     yield from limit_cases(rng)
-    for made in (history_cases, stack_cases, border_cases):
+    for made in (history_cases, stack_cases, full_stack_cases, leading_cases, border_cases):
         yield from made()
     yield from random_cases(rng)
 

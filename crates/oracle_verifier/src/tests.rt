@@ -7,7 +7,7 @@ use crate::{digit, is_copied, is_same};
 use bytecode::{Limits, decode};
 use std::alloc::{AllocError, Global};
 use std::test::Fail;
-use verifier::{Field, LeastLimits, Lives, Pool, Refusal, Verified, verify};
+use verifier::{Field, LeastLimits, Lives, Pool, Refusal, Verified, least_limits, verify};
 
 /// The magic number and the version.
 const MAGIC: &str = "5356414d01";
@@ -114,20 +114,36 @@ const DECLARED: Limits = Limits {
     budget: 25,
 };
 
+/// The least limits of the program of two positions.
+const LEAST: LeastLimits = LeastLimits {
+    history: 0,
+    stack: 1,
+    attempts: 2,
+    obligations: 1,
+    budget: 25,
+};
+
 /// Whether the least limits and the lives of the program of two positions are right.
 fn has_needs(verified: &Verified) -> bool {
-    let least = LeastLimits {
-        history: 0,
-        stack: 1,
-        attempts: 2,
-        obligations: 1,
-        budget: 25,
-    };
     let lives = Lives {
         antecedent: 2,
         consequent: 1,
     };
-    verified.least_limits() == least && verified.lives() == lives
+    verified.least_limits() == LEAST && verified.lives() == lives
+}
+
+/// What a program needs, whatever it declares.
+#[test]
+fn least_limits_of_low_ones(rt: HostRuntime) -> Result<(), Fail> {
+    let limits = "000000000000000000000000";
+    let parts = [MAGIC, limits, NAMES, SAMPLE, START, TWO, START, SECOND];
+    let bytes = bytes_in(rt.alloc(), &parts)?;
+    let Ok(program) = decode(rt.alloc(), bytes.as_slice()) else {
+        assert!(rt; false);
+        return Ok(());
+    };
+    assert_eq!(rt; least_limits(rt.alloc(), &program), Ok(LEAST));
+    Ok(())
 }
 
 #[test]
