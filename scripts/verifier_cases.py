@@ -300,30 +300,54 @@ def chain(positions):
     return Section(1, [*blocks, [ACCEPT, STOP]])
 
 
-def border_cases():
-    """Sizes at the most, and one more."""
+def header_border_cases():
+    """Limits and atoms at the most and far over it, and disabling atoms at the border."""
     yield from (roomy(**{it: MOST[it] - below}) for it in [*LIMITS, "atoms"] for below in (0, 1))
     yield from (roomy(**{it: 65535}) for it in LIMITS)
     yield from (roomy(budget=4294967295), roomy(atoms=255), roomy(atoms=127, disable=126))
     yield from (roomy(atoms=127, disable=127), roomy(atoms=0, disable=0), roomy(atoms=0))
     yield from (roomy(disable=it) for it in range(4))
+
+
+def slot_cases():
+    """As many slots as there may be, and one more."""
     for size in (255, 256):
         load = [("Load", size - 1), ("Load", size), HALT]
         yield roomy(signals=[(1, b"s")] * size, sample=load)
         yield roomy(signals=[(1, b"s")] * (size - 5), counters=[9] * 5, sample=load)
         yield roomy(counters=[9] * size, sample=load[:1] + [HALT])
+
+
+def size_cases():
+    """As many instructions as there may be, and one more."""
     for size in (4096, 4097):
         yield roomy(sample=[LOAD] + [("Not",)] * (size - 2) + [HALT])
         for name in ("antecedent", "consequent"):
             yield roomy(**{name: Section(1, [[ACCEPT] * (size - 1) + [STOP]])})
             yield roomy(**{name: Section(1, [[STOP]] * 126 + [[ACCEPT] * (size - 127) + [STOP]])})
+
+
+def chain_cases():
+    """Positions that live as long as they can."""
     for count in (1, 2, 126, 127, 128, 255):
         yield roomy(antecedent=chain(count))
         yield roomy(consequent=chain(count))
     yield settle(roomy(antecedent=chain(127), consequent=chain(127)))
+
+
+def start_cases():
+    """Start sets of the last position, and of the one behind it."""
     for bit in (0, 1, 126, 127):
         yield roomy(antecedent=Section(1 << bit, [[STOP]] * bit + [[STOP]] * (bit < 127)))
         yield roomy(consequent=Section(1 << bit, [[STOP]] * bit))
+
+
+def fixed_cases():
+    """All cases that nothing random makes, but for the first."""
+    yield from itertools.chain(two_places(), two_blocks(), one_place(), header_cases())
+    yield from itertools.chain(two_sections(), history_cases(), stack_cases(), full_stack_cases())
+    yield from itertools.chain(leading_cases(), header_border_cases(), slot_cases(), size_cases())
+    yield from itertools.chain(chain_cases(), start_cases())
 
 
 def random_instr(rng, program, section, size):
@@ -438,11 +462,8 @@ def all_cases():
         yield program
     yield from operand_cases()
     yield from short_codes(rng)
-    for made in (two_places, two_blocks, one_place, header_cases, two_sections):
-        yield from made()
+    yield from fixed_cases()
     yield from limit_cases(rng)
-    for made in (history_cases, stack_cases, full_stack_cases, leading_cases, border_cases):
-        yield from made()
     yield from random_cases(rng)
 
 

@@ -28,13 +28,19 @@ const SECOND: &str = "010003400100024243";
 /// Two positions: `Unless 0 2, Enter 1, Stop` and `Unless 1 5, Accept, Stop`.
 const TWO: &str = "020003400000024101430003400100054243";
 
+/// Appends the bytes that hexadecimal digits spell.
+fn put_digits(bytes: &mut Vec<u8>, digits: &str) -> Result<(), AllocError> {
+    for pair in digits.as_bytes().chunks_exact(2) {
+        bytes.push(digit(pair[0]) * 16 + digit(pair[1]))?;
+    }
+    Ok(())
+}
+
 /// The bytes that hexadecimal digits spell, text behind text.
 fn bytes_in(alloc: Global, parts: &[&str]) -> Result<Vec<u8>, AllocError> {
     let mut bytes = Vec::new(alloc);
     for part in parts {
-        for pair in part.as_bytes().chunks_exact(2) {
-            bytes.push(digit(pair[0]) * 16 + digit(pair[1]))?;
-        }
+        put_digits(&mut bytes, part)?;
     }
     Ok(bytes)
 }
@@ -454,24 +460,24 @@ fn f15_limit_too_large(rt: HostRuntime) -> Result<(), Fail> {
     Ok(())
 }
 
-/// An antecedent of 127 blocks that only stop, and of 128.
+/// Why a program whose antecedent has so many blocks that only stop is refused.
+fn of_stops(alloc: Global, count: u8) -> Result<Option<Refusal>, AllocError> {
+    let mut bytes = bytes_in(alloc, &[MAGIC, LIMITS, NAMES, SAMPLE, START])?;
+    bytes.push(count)?;
+    for _ in 0..count {
+        bytes.extend_from_slice(&[0, 1, 0x43])?;
+    }
+    let rest = bytes_in(alloc, &[START, SECOND])?;
+    bytes.extend_from_slice(rest.as_slice())?;
+    Ok(refusal_in(alloc, bytes.as_slice()))
+}
+
 #[test]
 fn positions_at_the_most(rt: HostRuntime) -> Result<(), Fail> {
-    for (count, want) in [
-        (127, Some(Refusal::BudgetTooSmall(138))),
-        (
-            128,
-            Some(Refusal::LimitTooLarge(Field::AntecedentPositions)),
-        ),
-    ] {
-        let mut bytes = bytes_in(rt.alloc(), &[MAGIC, LIMITS, NAMES, SAMPLE, START])?;
-        bytes.push(count)?;
-        for _ in 0..count {
-            bytes.extend_from_slice(&[0, 1, 0x43])?;
-        }
-        let rest = bytes_in(rt.alloc(), &[START, SECOND])?;
-        bytes.extend_from_slice(rest.as_slice())?;
-        assert_eq!(rt; refusal_in(rt.alloc(), bytes.as_slice()), want, "{count}");
-    }
+    let refusal = of_stops(rt.alloc(), 127)?;
+    assert_eq!(rt; refusal, Some(Refusal::BudgetTooSmall(138)));
+    let refusal = of_stops(rt.alloc(), 128)?;
+    let field = Field::AntecedentPositions;
+    assert_eq!(rt; refusal, Some(Refusal::LimitTooLarge(field)));
     Ok(())
 }
