@@ -1,0 +1,17 @@
+-- The values that places hold.
+use Rattle.std.specs.Prelude.{◌≡◌, ℕ, ◌+◌, List, [], ◌∷◌, ◌++◌, length, take, drop, map, Option}
+use Rattle.std.specs.Prelude.{Some, None}
+
+-- the values of the places that hold one
+abbrev pub values_of : List (Option ℕ) → List ℕ
+values_of [] = []
+values_of (None ∷ places) = values_of places
+values_of (Some value ∷ places) = value ∷ values_of places
+
+-- each place holds a value
+abbrev pub AllHeld : List (Option ℕ) → Type 0
+AllHeld places = places ≡ map Some (values_of places)
+
+-- a row of values stands in the places from a place on, and the others are as they were
+abbrev pub IsRowWritten : ℕ → List ℕ → List (Option ℕ) → List (Option ℕ) → Type 0
+IsRowWritten at row old new = new ≡ take at old ++ map Some row ++ drop (at + length row) old
