@@ -25,8 +25,7 @@ abbrev pub cleared : ℕ → ℕ → History
 cleared depth slots = record {
   depth = depth;
   slots = slots;
-  rows =
-      replicate (depth + 1) (zeros slots);
+  rows = replicate (depth + 1) (zeros slots);
 }
 
 -- the row is the newest, and the oldest is gone
