@@ -38,16 +38,16 @@ get_or-held places i all lt = ap (λ cs. get_or cs i None) all ∙ get_or-Some (
 pub row-values : (places : List (Option ℕ)) (at : ℕ) (row : List ℕ) (new : List (Option ℕ))
     → AllHeld places
     → new ≡ take at places ++ map Some row ++ drop (at + length row) places
-    → new ≡ map Some (take at (values_of places) ++ row ++ drop (at + length row)
-    (values_of places))
+    → new
+    ≡ map Some (take at (values_of places) ++ row ++ drop (at + length row) (values_of places))
 row-values places at row new all e =
     let vs = values_of places in let n = at + length row in
     let front : take at places ≡ map Some (take at vs) = ap (λ cs. take at cs) all
     ∙ take-map Some at vs in
     let rest : drop n places ≡ map Some (drop n vs) = ap (λ cs. drop n cs) all
     ∙ drop-map Some n vs in
-    let both : map Some (take at vs ++ row ++ drop n vs) ≡ map Some
-    (take at vs) ++ map Some row ++ map Some (drop n vs) =
+    let both : map Some (take at vs ++ row ++ drop n vs)
+    ≡ map Some (take at vs) ++ map Some row ++ map Some (drop n vs) =
     map-append Some (take at vs ++ row) (drop n vs)
     ∙ ap (λ cs. cs ++ map Some (drop n vs)) (map-append Some (take at vs) row) in
     e ∙ ap (λ cs. cs ++ map Some row ++ drop n places) front
@@ -63,14 +63,15 @@ pub cleared_more : (n i : ℕ) (places : List (Option ℕ)) → i < n → IsClea
 cleared_more n i places lt h =
     let nought : ℕ = 0 in
     let here : i < length places = omega (arith, h.long) in
-    let more : map Some (replicate i nought) ++ Some nought ∷ [] ≡ map Some (replicate
-    (i + 1) nought) =
+    let more : map Some (replicate i nought) ++ Some nought ∷ []
+    ≡ map Some (replicate (i + 1) nought) =
     sym (map-append Some (replicate i nought) (nought ∷ []))
     ∙ ap (λ xs. map Some xs) (replicate_more i nought) in
     record {
       long = length-set places i (Some nought) ∙ h.long;
       holds = ap (λ k. take k (set places i (Some nought))) (add-one i)
-          ∙ take-suc-set places i (Some nought) here ∙ ap (λ cs. cs ++ Some nought ∷ []) h.holds ∙ more;
+          ∙ take-suc-set places i (Some nought) here
+          ∙ ap (λ cs. cs ++ Some nought ∷ []) h.holds ∙ more;
     }
 
 pub cleared_all : (n : ℕ) (places : List (Option ℕ)) → IsCleared n n places

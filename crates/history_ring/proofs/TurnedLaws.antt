@@ -216,11 +216,11 @@ history_of-written depth slots newest row values new t b long =
     turned-written (row * slots) new values fits in
     let same : behind ≡ drop (row * slots + slots) values ++ take (row * slots) values =
     ap (λ k. drop (row * slots + k) values ++ take (row * slots) values) long in
-    let older : rows_of depth slots behind ≡ take depth (rows_of (suc depth) slots (turned
-    (newest * slots) values)) =
+    let older : rows_of depth slots behind
+    ≡ take depth (rows_of (suc depth) slots (turned (newest * slots) values)) =
     ap (λ xs. rows_of depth slots xs) same ∙ sym (turned-kept depth slots newest row values t b) in
-    let rows : rows_of (suc depth) slots (new ++ behind) ≡ new ∷ take depth (rows_of
-    (suc depth) slots (turned (newest * slots) values)) =
+    let rows : rows_of (suc depth) slots (new ++ behind)
+    ≡ new ∷ take depth (rows_of (suc depth) slots (turned (newest * slots) values)) =
     rw (row_first new behind slots long, row_rest new behind slots long) (ap
     (λ rs. new ∷ rs) older) in
     ap (λ rs. let h : History = record {

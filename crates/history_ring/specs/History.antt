@@ -11,8 +11,9 @@ pub record History : Type 0 where
 -- a history is stored as the tuple of its fields
 abbrev pub history_code : Coded History
 history_code =
-    code_by (ℕ × (ℕ × List (List ℕ))) (coded× coded_ℕ (coded× coded_ℕ (coded_list
-    (coded_list coded_ℕ)))) (λ h. (h.depth, (h.slots, h.rows)))
+    code_by (ℕ × (ℕ × List (List ℕ)))
+    (coded× coded_ℕ (coded× coded_ℕ (coded_list (coded_list coded_ℕ))))
+    (λ h. (h.depth, (h.slots, h.rows)))
     (λ p. record { depth = p.0; slots = p.1.0; rows = p.1.1 }) (λ _. refl)
 
 -- a row of zeros
@@ -24,8 +25,7 @@ abbrev pub cleared : ℕ → ℕ → History
 cleared depth slots = record {
   depth = depth;
   slots = slots;
-  rows =
-      replicate (depth + 1) (zeros slots);
+  rows = replicate (depth + 1) (zeros slots);
 }
 
 -- the row is the newest, and the oldest is gone

@@ -17,8 +17,7 @@ unfoldable pub history_of : ℕ → ℕ → ℕ → List ℕ → History
 history_of depth slots newest values = record {
   depth = depth;
   slots = slots;
-  rows =
-      rows_of (suc depth) slots (turned (newest * slots) values);
+  rows = rows_of (suc depth) slots (turned (newest * slots) values);
 }
 
 -- the sizes, and that the newest row is one of the rows

@@ -8,8 +8,7 @@ invariant_of-self c =
       AllHeld-map _ _
           (row-values b.places.held c.args.at c.args.row.now _ h.0 c.write_row.ensures.written),
       h.1,
-      h.2
-          ∙ sym same.0,
+      h.2 ∙ sym same.0,
       h.3 ∙ sym same.1,
     )
 
