@@ -1,0 +1,5 @@
+pub mod RunLaws
+pub mod SetLaws
+pub mod BitLaws
+pub mod MarkLaws
+pub mod LifeLaws

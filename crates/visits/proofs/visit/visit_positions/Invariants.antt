@@ -1,0 +1,14 @@
+use Rattle.std.proofs.Common.{◌≡◌, ℕ}
+use Rattle.bytecode.specs.Views.{section_data}
+use Rattle.checked_machine.specs.Blocks.{visit}
+use Rattle.visits.specs.Records.{made_by}
+use Rattle.visits.proofs.SetLaws.{Goes}
+use Rattle.visits.proofs.visit.visit_positions.Given as goal
+
+-- the visit goes on from the position behind those that were visited
+abbrev pub invariant-loop-rest : goal.invariant-loop-rest
+invariant-loop-rest l =
+    Goes (section_data l.section) l.atoms l.set l.fn.left l.rest (made_by l.visit) l.left
+
+abbrev pub decreases-loop-rest : goal.decreases-loop-rest
+decreases-loop-rest l = l.rest

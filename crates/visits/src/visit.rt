@@ -1,0 +1,50 @@
+//! A visit: the blocks of a set of positions.
+
+ghost use Rattle.std.specs.Prelude.{◌≡◌, ◌<◌, ◌≤◌, length};
+ghost use Rattle.bytecode.specs.Views.{section_data};
+ghost use Rattle.inference.specs.Sections.{size_of};
+ghost use Rattle.checked_machine.specs.Outcomes.{done};
+ghost use Rattle.checked_machine.specs.Blocks.{visit};
+ghost use Rattle.checked_machine.specs.Bounds.{EachIn};
+ghost use Rattle.visits.specs.Bases.{AreBases};
+ghost use Rattle.visits.specs.Finishes.{Finishes};
+ghost use Rattle.visits.specs.Records.{made_by};
+
+use crate::block::run_block;
+use bytecode::Section;
+
+/// What a visit made: the positions of the next clock, and whether it accepted. Bit p of a set says
+/// whether position p is in it.
+#[derive(Clone, Copy, PartialEq, Eq, Debug)]
+pub struct Visit {
+    pub entered: u128,
+    pub accepted: bool,
+}
+
+/// Runs the blocks of a set of positions in rising order, and takes a tick for each instruction.
+pub fn visit_positions(
+    section: &Section,
+    bases: &[usize],
+    atoms: &[bool],
+    set: u128,
+    left: &mut u64,
+) -> Visit
+    requires few { length section.now.blocks.items ≤ 127 }
+    requires size { size_of (section_data section.now).blocks ≤ 4096 }
+    requires bases { AreBases (section_data section.now).blocks bases.now }
+    requires inside { EachIn (λ q. q < length section.now.blocks.items) set }
+    requires finishes { Finishes (visit (section_data section.now) atoms.now set left.old) }
+    ensures { visit (section_data section.now) atoms.now set left.old ≡ done (made_by result) left.new }
+{
+    let mut visit = Visit {
+        entered: 0,
+        accepted: false,
+    };
+    let mut rest = set;
+    while rest != 0 {
+        let p = rest.trailing_zeros() as usize;
+        rest ^= 1 << p;
+        run_block(section.blocks.as_slice(), p, bases[p], atoms, &mut visit, left);
+    }
+    visit
+}
