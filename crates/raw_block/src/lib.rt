@@ -15,8 +15,8 @@
 //! caller that forgets to give the block back does not compile. `Places` may move to another thread
 //! where their values may.
 //!
-//! The definitions: what places own and lend in `specs/Ownership.antt`, what they hold once a `&mut`
-//! to one of them has ended in `specs/Lends.antt`.
+//! The definitions: what places own and lend in `specs/Ownership.antt`, what they hold once a
+//! `&mut` to one of them has ended in `specs/Lends.antt`.
 //!
 //! Not promised: that memory suffices for a block.
 #![tactic(auto)]
