@@ -38,7 +38,8 @@ module _ {X : Type 0} where
 
     value_at : (k : ℕ) (d : X) → k < length (values_of places)
         → get_or places k None ≡ Some (get_or (values_of places) k d)
-    value_at k d lt = ap (λ l. get_or l k None) h.all ∙ get_or-map Some (values_of places) k d None lt
+    value_at k d lt = ap (λ l. get_or l k None) h.all
+        ∙ get_or-map Some (values_of places) k d None lt
 
     set_value : (k : ℕ) (x : X) → set places k (Some x) ≡ map Some (set (values_of places) k x)
     set_value k x = ap (λ l. set l k (Some x)) h.all ∙ sym (map-set Some (values_of places) k x)

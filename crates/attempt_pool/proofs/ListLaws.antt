@@ -1,5 +1,6 @@
 -- Lists of places, no two of which are equal.
-use Rattle.std.proofs.Common.{◌≡◌, ◌≢◌, ℕ, ◌+◌, List, [], ◌∷◌, ◌++◌, length, refl, sym, ap, subst, arith, ◌⊎◌, inl, inr}
+use Rattle.std.proofs.Common.{◌≡◌, ◌≢◌, ℕ, ◌+◌, List, [], ◌∷◌, ◌++◌, length, refl, sym, ap, subst}
+use Rattle.std.proofs.Common.{arith, ◌⊎◌, inl, inr}
 use Rattle.std.proofs.lemmas.Bool.Decides.{eqb_tells}
 use Rattle.std.specs.Prelude.{nat_eq, cond}
 use Rattle.attempt_pool.specs.Lists.{Has, Apart}
@@ -12,7 +13,11 @@ pub has-append : (s : ℕ) (xs ys : List ℕ) → Has s (xs ++ ys) → Has s xs 
 unfolding Has
 has-append s [] ys h = inr h
 has-append s (x ∷ xs) ys (inl e) = inl (inl e)
-has-append s (x ∷ xs) ys (inr h) = elim (has-append s xs ys h) [ inl a ↦ inl (inr a) | inr b ↦ inr b ]
+has-append s (x ∷ xs) ys (inr h) = elim (has-append s xs ys h) [
+  | inl a ↦ inl (inr a)
+  | inr b ↦
+      inr b
+]
 
 pub apart-push : (xs : List ℕ) (s : ℕ) → Apart xs → (Has s xs → ⊥) → Apart (xs ++ s ∷ [])
 unfolding Apart Has
@@ -58,7 +63,11 @@ unfolding Has without
 has-without j s [] h = h
 has-without j s (x ∷ xs) h = elim (which s x) [
   | inl e ↦ inr (subst (Has j) (without_here s x xs e) h)
-  | inr ne ↦ elim (subst (Has j) (without_past s x xs ne) h) as (λ _. Has j (x ∷ xs)) [ inl e ↦ inl e | inr u ↦ inr (has-without j s xs u) ]
+  | inr ne ↦ elim (subst (Has j) (without_past s x xs ne) h) as (λ _. Has j (x ∷ xs)) [
+    | inl e ↦
+        inl e
+    | inr u ↦ inr (has-without j s xs u)
+  ]
 ]
 
 pub gone : (s : ℕ) (xs : List ℕ) → Apart xs → Has s (without s xs) → ⊥
@@ -66,7 +75,8 @@ unfolding Has Apart
 gone s [] a h = subst (Has s) (empty-without s) h
 gone s (x ∷ xs) a h = elim (which s x) [
   | inl e ↦ a.0 (has_along s x xs e (subst (Has s) (without_here s x xs e) h))
-  | inr ne ↦ gone s xs a.1 (has_past s x (without s xs) ne (subst (Has s) (without_past s x xs ne) h))
+  | inr ne ↦ gone s xs a.1 (has_past s x (without s xs) ne
+      (subst (Has s) (without_past s x xs ne) h))
 ]
 
 pub apart-without : (s : ℕ) (xs : List ℕ) → Apart xs → Apart (without s xs)
@@ -74,7 +84,9 @@ unfolding Apart
 apart-without s [] a = subst Apart (sym (empty-without s)) a
 apart-without s (x ∷ xs) a = elim (which s x) [
   | inl e ↦ subst Apart (sym (without_here s x xs e)) a.1
-  | inr ne ↦ let more : Apart (x ∷ without s xs) = (λ h. a.0 (has-without x s xs h), apart-without s xs a.1) in subst Apart (sym (without_past s x xs ne)) more
+  | inr ne ↦ let more : Apart (x ∷ without s xs) =
+      (λ h. a.0 (has-without x s xs h), apart-without s xs a.1) in
+      subst Apart (sym (without_past s x xs ne)) more
 ]
 
 pub length-without : (s : ℕ) (xs : List ℕ) → Has s xs → length (without s xs) + 1 ≡ length xs
@@ -82,7 +94,11 @@ unfolding Has
 length-without s [] h = absurd h
 length-without s (x ∷ xs) h = elim (which s x) [
   | inl e ↦ omega (arith, ap length (without_here s x xs e))
-  | inr ne ↦ omega (arith, ap length (without_past s x xs ne), length-without s xs (has_past s x xs ne h))
+  | inr ne ↦ omega (
+    arith,
+    ap length (without_past s x xs ne),
+    length-without s xs (has_past s x xs ne h),
+  )
 ]
 
 pub has_head : (s x : ℕ) (xs : List ℕ) → Has s (x ∷ xs) → (s ≡ x) ⊎ Has s xs
@@ -107,4 +123,8 @@ apart_rest s xs a = a
 
 pub has-push : (j s : ℕ) (xs : List ℕ) → Has j (xs ++ s ∷ []) → Has j xs ⊎ (j ≡ s)
 unfolding Has
-has-push j s xs h = elim (has-append j xs (s ∷ []) h) [ inl u ↦ inl u | inr v ↦ elim v [ inl e ↦ inr e | inr w ↦ absurd w ] ]
+has-push j s xs h = elim (has-append j xs (s ∷ []) h) [
+  | inl u ↦ inl u
+  | inr v ↦
+      elim v [ inl e ↦ inr e | inr w ↦ absurd w ]
+]

@@ -1,6 +1,7 @@
 -- What the places own is taken apart and made, and a `&mut` to them is opened and closed.
 -- Assumes `Logic`.
-use Rattle.std.proofs.Common.{◌≡◌, ℕ, ◌*◌, ◌^◌, ◌<◌, List, [], ◌∷◌, ◌++◌, length, refl, sym, ap, ◌∙◌}
+use Rattle.std.proofs.Common.{◌≡◌, ℕ, ◌*◌, ◌^◌, ◌<◌, List, [], ◌∷◌, ◌++◌, length, refl, sym, ap}
+use Rattle.std.proofs.Common.{◌∙◌}
 use Rattle.std.proofs.Common.{w64}
 use seplogic.Ra.Ura.{Ura}
 use base.Fraction.{full_share}
@@ -9,7 +10,8 @@ use base.Stored.{Gv}
 use base.Fml.{Lft, GName, Share, Fml, fsep, flft, fobs, fauth, fbor, fobor}
 use mir.Val.{Val, vint, vptr, vstruct, of_list}
 use types.Logic.{Logic}
-use types.Kit.{Goal, Soaks, Step, step, Seq, Item, ‵, ◌$◌, move, drop, rewrite, fsplit, fjoin, fpick}
+use types.Kit.{Goal, Soaks, Step, step, Seq, Item, ‵, ◌$◌, move, drop, rewrite, fsplit, fjoin}
+use types.Kit.{fpick}
 use types.Kit.{fpack, feq_l, feq_i, flt_l, flt_i}
 use types.SemTy.{Body}
 use denote.RattleType.{RattleType, Valss}

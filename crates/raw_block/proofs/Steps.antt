@@ -1,6 +1,7 @@
 -- The names that the walks share.
 pub use Rattle.std.proofs.Common.{◌≡◌, ℕ, ◌+◌, ◌*◌, ◌/◌, ◌^◌, ◌<◌, List, [], ◌∷◌, ◌++◌, length}
-pub use Rattle.std.proofs.Common.{get_or, set, replicate, refl, sym, ap, ◌∙◌, subst, lit<, w64, arith}
+pub use Rattle.std.proofs.Common.{get_or, set, replicate, refl, sym, ap, ◌∙◌, subst, lit<, w64}
+pub use Rattle.std.proofs.Common.{arith}
 pub use Rattle.std.proofs.Common.{length-set}
 pub use Rattle.std.proofs.raw_atomic.Walks.{proved, proved_at, leaves}
 pub use Rattle.std_alloc.proofs.VecSteps.Shapes.{after}

@@ -77,12 +77,14 @@ allocate_spec 𝓤 𝓛 𝓜 𝓡 wired X A LX L g d dd met md =
     let Asked : Type 0 = FitsInBlock (R E) n in
     qed 𝓛 ((raw (alive 𝓛 T.signature κs qs) ⊛ ‵ (owns (types_at T.signature.params κs) a vss))
     ∷ (raw (fact 𝓤 (κ₁ ⊑ X.lives)) ⊛ raw (fact 𝓤 (κ₂ ⊑ A.lives)) ⊛ raw (fact 𝓤 Asked)) ∷ []) ∵
-    move ! (1 ∷ []) $ split ! $ drop ! $ split ! $ heard ! (κ₂ ⊑ A.lives) (λ le. heard ! Asked (λ asked.
+    move ! (1 ∷ []) $ split ! $ drop ! $ split ! $ heard ! (κ₂ ⊑ A.lives)
+    (λ le. heard ! Asked (λ asked.
     let small : n * s < 2 ^ 63 = asked.0 in let far : n * s < 2 ^ 64 = omega (arith, small) in
     let fits = are.1.0.1 in
     split ! $ move ! (1 ∷ []) $ fsplit ! $ fsplit ! $ drop ! $ move ! (1 ∷ []) $ drop ! $
     use1 𝓛 (‵ (seen Y κ p handle)) (id⊢ 𝓤 _) $ move ! (1 ∷ []) $
-    use1 𝓛 (‵ (flft κ q) ⊛ ‵ (flft κ₁ qs.1.0) ⊛ ‵ (flft κ₂ qs.1.1.0) ⊛ ‵ ftrue) (id⊢ 𝓤 _) $ split ! $ move ! (2 ∷ 0 ∷ []) $
+    use1 𝓛 (‵ (flft κ q) ⊛ ‵ (flft κ₁ qs.1.0) ⊛ ‵ (flft κ₂ qs.1.1.0) ⊛ ‵ ftrue) (id⊢ 𝓤 _) $ split !
+    $ move ! (2 ∷ 0 ∷ []) $
     -- [a `&` to the handle; the token of its lifetime; the other token]
     regoal ! (λ (us : List Val). prop (WpFn 𝓤 𝓛.H C Λ fn us Post))
     (λ i. are.0.0 i ++ (are.1.0.0 i ++ [])) refl $
@@ -96,7 +98,8 @@ allocate_spec 𝓤 𝓛 𝓜 𝓡 wired X A LX L g d dd met md =
     (Takes-goes Y 𝓛 𝓜.mem 𝓡.returns κ q p handle (⊑_trans κ κ₂ A.lives y.0.2.0 le) (n * s) al τ
     (block_size E n far) (block_align E n) far (capped_fits (align (elτ E)))) $
     calls_at ! (fm 𝓛 𝓜 𝓡) (Takes Y 𝓛 𝓜.mem 𝓡.returns) (met.allocate dd) call
-    (and_then ! (get ! refl) (and_then ! (get ! refl) (and_then ! (align_word !) (no_more !)))) (λ v.
+    (and_then ! (get ! refl) (and_then ! (get ! refl) (and_then ! (align_word !) (no_more !))))
+    (λ v.
     use1 𝓛 (later (raw (Answered Y 𝓛 𝓜.mem 𝓡.returns handle τ v) ⊛ ‵ (flft κ q)))
     (Takes-gives Y 𝓛 𝓜.mem 𝓡.returns κ q p handle (n * s) al τ v) $ await ! tt $ split ! $
     answers Y ! 𝓜.mem 𝓡.returns handle τ v

@@ -8,7 +8,8 @@ use Rattle.raw_block.proofs.Steps.{split, join, fsplit, fjoin, feq_i, flt_l, rew
 use Rattle.raw_block.proofs.Steps.{enter, of_opd, size_lit, bin, addr, load, look, stop, fld, first}
 use Rattle.raw_block.proofs.Steps.{blocks, exec, returns, alloc_all, pass_all, free_all, look_at}
 use Rattle.raw_block.proofs.Steps.{get, through, sets, sets_last, env, usize, RefOf, yes}
-use Rattle.raw_block.proofs.Steps.{RattleType, copied, bounded, uint_vals, uint_Tells, Ptr, block_ptr}
+use Rattle.raw_block.proofs.Steps.{RattleType, copied, bounded, uint_vals, uint_Tells, Ptr}
+use Rattle.raw_block.proofs.Steps.{block_ptr}
 use Rattle.raw_block.proofs.Steps.{in_a_block, ShrRef, shr_vals, shr_Tells, plain, nothing, heard}
 use Rattle.raw_block.proofs.Steps.{Ended, Stays, says, walk_of, stay_dropped, Goes-dropped, ends_at}
 use Rattle.raw_block.proofs.Steps.{Ghosts}
@@ -78,7 +79,8 @@ get_spec 𝓤 𝓛 𝓜 𝓡 wired X L copies g d met =
     fsplit ! $ flt_l ! (λ fit.
     let n = length h.held in let at = index * s + o in
     let tiny : s < 2 ^ 64 = omega (arith, one_below n s (2 ^ 63) (omega arith) fit) in
-    let far : index * s < 2 ^ 64 = omega (arith, times_below index n s (2 ^ 63) (omega arith) fit) in
+    let far : index * s < 2 ^ 64 =
+    omega (arith, times_below index n s (2 ^ 63) (omega arith) fit) in
     use1 𝓛 (‵ (place_lent (R E) b at (get_or h.held index None) κ))
     (place_seen E 𝓛 b κ o h.held index inside) $
     rewrite ! 0 (λ (place : Option (el_x E)). ‵ (place_lent (R E) b at place κ)) asked.1 refl $

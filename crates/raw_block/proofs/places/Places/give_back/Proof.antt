@@ -67,16 +67,19 @@ give_back_spec 𝓤 𝓛 𝓜 𝓡 wired X A LX L copies clone cloned g d dd cop
     let τ = block_ty E n in
     let told = places_told places.start n vss.0 are.0.0 in
     qed 𝓛 ((raw (alive 𝓛 T.signature κs qs) ⊛ ‵ (owns (types_at T.signature.params κs) a vss))
-    ∷ (raw (fact 𝓤 (κ₁ ⊑ X.lives)) ⊛ raw (fact 𝓤 (κ₂ ⊑ A.lives)) ⊛ raw (fact 𝓤 (lease.alloc ≡ handle))
+    ∷ (raw (fact 𝓤 (κ₁ ⊑ X.lives)) ⊛ raw (fact 𝓤 (κ₂ ⊑ A.lives)) ⊛ raw
+    (fact 𝓤 (lease.alloc ≡ handle))
     ⊛ raw (fact 𝓤 (lease.start ≡ places.start)) ⊛ raw (fact 𝓤 (lease.count ≡ n))) ∷ []) ∵
-    move ! (1 ∷ []) $ split ! $ drop ! $ split ! $ heard ! _ (λ le. split ! $ heard ! _ (λ same_alloc.
+    move ! (1 ∷ []) $ split ! $ drop ! $ split ! $ heard ! _
+    (λ le. split ! $ heard ! _ (λ same_alloc.
     split ! $ heard ! _ (λ same_start. heard ! _ (λ same_count.
     split ! $ move ! (1 ∷ []) $ fsplit3 ! $ fsplit ! $ drop ! $
     in_a_block ! places.start (λ p. places_owned (R E) p places.held) (id⊢ 𝓤 (never 𝓤)) (λ b o e.
     fsplit ! $ flt_l ! (λ fit.
     let small : n * s < 2 ^ 63 = subst (λ (k : ℕ). k * s < 2 ^ 63) (sym places.all) fit in
     let far : n * s < 2 ^ 64 = omega (arith, small) in
-    use1 𝓛 (‵ (froom (ty_array (elτ E) (length places.held)) b o)) (room_of_row E 𝓛 b places.held o) $
+    use1 𝓛 (‵ (froom (ty_array (elτ E) (length places.held)) b o))
+    (room_of_row E 𝓛 b places.held o) $
     rewrite ! 0 (λ (k : ℕ). ‵ (froom (ty_array (elτ E) k) b o)) (sym places.all) refl $
     as_raw ! (ty_array (elτ E) n) b o $
     move ! (1 ∷ []) $ fsplit ! $ drop ! $
@@ -84,7 +87,8 @@ give_back_spec 𝓤 𝓛 𝓜 𝓡 wired X A LX L copies clone cloned g d dd cop
     (λ i. (same_alloc i, same_count i, (same_start ∙ e) i)) refl $
     move ! (2 ∷ []) $ fsplit ! $ fsplit ! $ drop ! $ move ! (1 ∷ []) $ drop ! $
     use1 𝓛 (‵ (seen Y κ p handle)) (id⊢ 𝓤 _) $ move ! (3 ∷ []) $
-    use1 𝓛 (‵ (flft κ q) ⊛ ‵ (flft κ₁ qs.1.0) ⊛ ‵ (flft κ₂ qs.1.1.0) ⊛ ‵ ftrue) (id⊢ 𝓤 _) $ split ! $
+    use1 𝓛 (‵ (flft κ q) ⊛ ‵ (flft κ₁ qs.1.0) ⊛ ‵ (flft κ₂ qs.1.1.0) ⊛ ‵ ftrue) (id⊢ 𝓤 _) $ split !
+    $
     move ! (2 ∷ 0 ∷ []) $ join ! $ move ! (3 ∷ 2 ∷ []) $
     -- [the room; the right to free it; a `&` to the handle with a token; the other token]
     let call = at_gives Y 𝓛 𝓜.mem 𝓡.returns κ q p handle b o (n * s) al τ in

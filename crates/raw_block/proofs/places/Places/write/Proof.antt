@@ -9,7 +9,8 @@ use Rattle.raw_block.proofs.Steps.{use1, use3, split, join, fsplit, fsplit3, fjo
 use Rattle.raw_block.proofs.Steps.{rewrite, regoal, suffices, whole, sub, look_in, enter, of_opd}
 use Rattle.raw_block.proofs.Steps.{unit_lit, size_lit, bin, load, init, stop, fld, assigns_last}
 use Rattle.raw_block.proofs.Steps.{first, blocks, exec, returns, alloc_all, pass_all, free_all}
-use Rattle.raw_block.proofs.Steps.{look_at, get, through, sets, env, usize, yes, no, RattleType, copied}
+use Rattle.raw_block.proofs.Steps.{look_at, get, through, sets, env, usize, yes, no, RattleType}
+use Rattle.raw_block.proofs.Steps.{copied}
 use Rattle.raw_block.proofs.Steps.{bounded, owns, plain, types_at, nothing, heard, Ended, Stays}
 use Rattle.raw_block.proofs.Steps.{walk_of, stay_dropped, Goes-dropped, stay_ref, Goes-ref, ends_at}
 use Rattle.raw_block.proofs.Steps.{Ghosts}
@@ -76,9 +77,16 @@ write_spec 𝓤 𝓛 𝓜 𝓡 wired X L copies g d met =
     places_open E ! tt h rb ro (λ b o at counted fit.
     let n = length h.held in let held = set h.held index (Some value) in
     let tiny : s < 2 ^ 64 = omega (arith, one_below n s (2 ^ 63) (omega arith) fit) in
-    let far : index * s < 2 ^ 64 = omega (arith, times_below index n s (2 ^ 63) (omega arith) fit) in
+    let far : index * s < 2 ^ 64 =
+    omega (arith, times_below index n s (2 ^ 63) (omega arith) fit) in
     let same : length held ≡ n = length-set h.held index (Some value) in
-    let new : el_d E = record { start = h.start; count = h.count; held = held; all = h.all ∙ sym same } in
+    let new : el_d E = record {
+      start = h.start;
+      count = h.count;
+      held = held;
+      all =
+          h.all ∙ sym same;
+    } in
     use1 𝓛 (‵ (froom (elτ E) b (index * s + o)) ⊛ ‵ (others E b o h.held index))
     (room_out E 𝓛 b o h.held index inside) $ split ! $
     -- [the room; the other places; the two words; the open borrow; obs; auth; the value; its token]
@@ -97,6 +105,7 @@ write_spec 𝓤 𝓛 𝓜 𝓡 wired X L copies g d met =
     returns ! (look_at ! 0 refl) $ free_all ! refl $
     suffices ! _ (ends_at 𝓛 T stays c y vunit tt (new, (tt, (tt, tt))) (tt, (tt, (tt, tt)))) $
     says_two ! ((refl, refl), refl) $
-    feq_i ! (List Val) vss.0 (vptr rb ro ∷ []) are.0.0 $ fjoin3 ! $ nothing ! $ nothing ! $ fjoin ! $
+    feq_i ! (List Val) vss.0 (vptr rb ro ∷ []) are.0.0 $ fjoin3 ! $ nothing ! $ nothing ! $ fjoin !
+    $
     nothing ! $ fjoin ! $ move ! (1 ∷ 0 ∷ []) $ fjoin ! $ move ! (1 ∷ 2 ∷ []) $ join ! $
     feq_i ! (List Val) (vunit ∷ []) (vunit ∷ []) refl $ keep ! (1 ∷ 2 ∷ 0 ∷ []) $ done !))))
