@@ -10,8 +10,8 @@ use std::marker::Model;
 
 /// Places that all hold a value, with the right to give their block back.
 pub struct Store {
-    places: Places,
-    lease: Lease<Global>,
+    places: Places<u128>,
+    lease: Lease<u128, Global>,
     alloc: Global,
 }
 
@@ -39,7 +39,7 @@ impl Drop for Store {
 }
 
 /// Writes a zero into each place.
-fn clear(places: &mut Places, count: usize)
+fn clear(places: &mut Places<u128>, count: usize)
     requires { length places.old.held ≡ count }
     ensures same { (places.new.start ≡ places.old.start) × (places.new.count ≡ places.old.count) }
     ensures zeros { places.new.held ≡ map Some (replicate count 0) }
@@ -50,7 +50,7 @@ fn clear(places: &mut Places, count: usize)
 }
 
 /// Writes values into the places from `at` on.
-fn write_row(places: &mut Places, at: usize, row: &[u128])
+fn write_row(places: &mut Places<u128>, at: usize, row: &[u128])
     requires fits { at + length row.now < 2 ^ 64 }
     requires inside { at + length row.now ≤ length places.old.held }
     ensures same { (places.new.start ≡ places.old.start) × (places.new.count ≡ places.old.count) }

@@ -1,4 +1,5 @@
 pub mod Crosses
+pub mod Opens
 pub mod Rows
 pub mod Seen
 pub mod Sharing

@@ -4,6 +4,6 @@ use Rattle.core.specs.declared.alloc.Allocator.{Ghosts}
 use Rattle.raw_block.proofs.Crosses.{lease_send}
 use Rattle.raw_block.specs.contracts.places.Lease.{the_row}
 
-pub send : (A : RattleType) (g : Ghosts A.Denot) → IsSend A → Frees g g.dealloc_token
-    → IsSend (the_row A g)
-send A g s = lease_send A g
+pub send : (R A : RattleType) (g : Ghosts A.Denot) → IsSend A → Frees g g.dealloc_token
+    → IsSend (the_row R A g)
+send R A g s = lease_send R A g

@@ -1,117 +1,111 @@
--- `write` reaches one place through the pointer of the block. Assumes `Logic`.
-use Rattle.raw_block.proofs.Steps.{◌+◌, ◌*◌, ◌^◌, ◌<◌, List, [], ◌∷◌, length, set, refl, sym}
-use Rattle.raw_block.proofs.Steps.{ap, ◌∙◌, w64, arith, get_or, length-set, proved, after, says_two}
-use Rattle.raw_block.proofs.Steps.{full_share, id⊢, ftrue, flft, froom, named, w128, ty_int, Val}
-use Rattle.raw_block.proofs.Steps.{vunit, fact, tables, ‵, raw, ◌⊛◌, at_ret, ◌$◌, ◌∵◌, !, qed, done}
-use Rattle.raw_block.proofs.Steps.{move, keep, use1, use2, split, join, fsplit, fsplit3, fjoin}
-use Rattle.raw_block.proofs.Steps.{feq_i}
-use Rattle.raw_block.proofs.Steps.{frame, rewrite, suffices, group, whole, sub, look_in, enter}
-use Rattle.raw_block.proofs.Steps.{of_opd}
-use Rattle.raw_block.proofs.Steps.{lit, unit_lit, bin, load, init, stop, fld, assigns_last, first}
-use Rattle.raw_block.proofs.Steps.{blocks, exec, returns, alloc_all, pass_all, free_all, look_at}
-use Rattle.raw_block.proofs.Steps.{get}
-use Rattle.raw_block.proofs.Steps.{through, sets, env, u128, usize, yes, shows, cell_at, uint_in}
-use Rattle.raw_block.proofs.Steps.{uint_vals, uint_Tells, Ptr, in_a_block, MutRef, mut_vals}
-use Rattle.raw_block.proofs.Steps.{mut_Tells, plain, nothing, opens, closes, peeks, heard, Stays}
+-- `write` makes room of one place, and puts the value there. Assumes `Logic`.
+use Rattle.raw_block.proofs.Steps.{◌≡◌, ℕ, ◌+◌, ◌*◌, ◌^◌, ◌<◌, List, [], ◌∷◌, ◌++◌, length, set}
+use Rattle.raw_block.proofs.Steps.{refl, sym, ◌∙◌, subst, w64, arith, length-set, proved_at, after}
+use Rattle.raw_block.proofs.Steps.{says_two, El, el_x, elτ, lawful, one, times_below, one_below}
+use Rattle.raw_block.proofs.Steps.{SProp, ftrue, flft, froom, ◌⊑◌, fact, tables, inst_fn, Fn, Args}
+use Rattle.raw_block.proofs.Steps.{Dict, a_type, dcons, dnil, Val, vunit, vint, vptr, Env, WpFn, ‵}
+use Rattle.raw_block.proofs.Steps.{raw, ◌⊛◌, prop, at_ret, ◌$◌, ◌∵◌, !, qed, done, move, keep, drop}
+use Rattle.raw_block.proofs.Steps.{use1, use3, split, join, fsplit, fsplit3, fjoin, fjoin3, feq_i}
+use Rattle.raw_block.proofs.Steps.{rewrite, regoal, suffices, whole, sub, look_in, enter, of_opd}
+use Rattle.raw_block.proofs.Steps.{unit_lit, size_lit, bin, load, init, stop, fld, assigns_last}
+use Rattle.raw_block.proofs.Steps.{first, blocks, exec, returns, alloc_all, pass_all, free_all}
+use Rattle.raw_block.proofs.Steps.{look_at, get, through, sets, env, usize, yes, no, RattleType}
+use Rattle.raw_block.proofs.Steps.{copied}
+use Rattle.raw_block.proofs.Steps.{bounded, owns, plain, types_at, nothing, heard, Ended, Stays}
 use Rattle.raw_block.proofs.Steps.{walk_of, stay_dropped, Goes-dropped, stay_ref, Goes-ref, ends_at}
-use Rattle.std.specs.Prelude.{Some, None}
-use Rattle.raw_block.proofs.Rows.{others, place_out, place_in, place_room}
-use Rattle.raw_block.specs.Ownership.{place_owned, row_owned, places_owned}
+use Rattle.raw_block.proofs.Steps.{Ghosts}
+use Rattle.std.specs.Prelude.{Some}
+use Rattle.raw_block.proofs.Rows.{sz, others, room_out, value_in}
+use Rattle.raw_block.proofs.Opens.{el_d, row_at, places_open, places_close}
+use Rattle.raw_block.specs.contracts.places.Places as Places
 use Rattle.raw_block.specs.contracts.places.Places.write as f
-use Rattle.raw_block.specs.contracts.places.Places.{the_row as R}
-use Rattle.raw_block.proofs.places.Places.TheLaws.{lowers}
 use Rattle.raw_block.proofs.places.Places.write.Statement.{statement}
 use Rattle.raw_block.proofs.places.Places.write.Code as code
 
-abbrev stayed : Stays f.ended.signature.params f.ended.kept
-stayed = (stay_ref (0 ∷ []) tt (plain (λ _. R)), (stay_dropped _ yes, (stay_dropped _ yes, tt)))
+module _ (E : El) (g : Ghosts (el_x E)) (d : Dict) where
+  abbrev Y : RattleType
+  Y = copied 0 E.row
+
+  abbrev args : Args
+  args = bounded (a_type ∷ []) (E.row, tt) (dcons d dnil)
+
+  abbrev ended : Ended
+  ended = f.ended E.row g d
+
+  abbrev stayed : Stays ended.signature.params ended.kept
+  stayed = (
+    stay_ref (0 ∷ []) tt (plain (λ _. Places.the_row Y)),
+    (stay_dropped (plain (λ _. usize)) yes, (stay_dropped (plain (λ _. Y)) no, tt)),
+  )
 
 pub write_spec : {M : Type 1} → statement M
-write_spec 𝓤 𝓛 𝓜 𝓡 wired =
-    let c = f.clauses 𝓛 𝓜.mem 𝓡.returns in let W = walk_of 𝓛 f.ended stayed c in
-    let 𝓣 = tables 𝓤 𝓛.H 𝓜 𝓡 𝓡.env in
-    let number_goes = Goes-dropped 𝓛 1 (plain (λ _. usize)) yes (λ κs x w. refl) in
-    let value_goes = Goes-dropped 𝓛 1 (plain (λ _. u128)) yes (λ κs x w. refl) in
-    proved 𝓛 f.ended stayed c 𝓜 𝓡
-    (Goes-ref 𝓛 1 0 tt (plain (λ _. R)), (number_goes, (value_goes, tt)))
-    f.Key.name code.function (code.unfolded 𝓤 𝓛.H 𝓜 𝓡 wired)
-    (λ κs. (mut_vals, (uint_vals w64, (uint_vals w128, tt))))
-    (λ κs. (mut_Tells (named 0) κs.0 R, (uint_Tells w64, (uint_Tells w128, tt))))
-    (λ κs qs bounds a _ are.
-    let b = a.0.ref_ptr.0 in let o = a.0.ref_ptr.1 in let h = a.0.now in let vs = mut_vals a.0 in
-    let index = a.1.0 in let value = a.1.1.0 in
-    let y : W.Ghost = (
+write_spec 𝓤 𝓛 𝓜 𝓡 wired X L copies g d met =
+    let E : El = record { row = X; laws = L } in
+    let T = ended E g d in let stays = stayed E g d in
+    let c = f.clauses X g d 𝓛 𝓜.mem 𝓡.returns in
+    let fn : Fn = inst_fn (args E g d) code.function in
+    let C = (tables 𝓤 𝓛.H 𝓜 𝓡 𝓡.env).C in let Λ = (tables 𝓤 𝓛.H 𝓜 𝓡 𝓡.env).Λ in
+    proved_at 𝓛 T stays c 𝓜 𝓡 (
+      Goes-ref 𝓛 2 0 tt (plain (λ _. Places.the_row (Y E g d))),
       (
-        κs,
-        qs,
-        bounds,
-        a,
-        (
-          vs,
-          (
-            uint_vals w64 index,
-            (uint_vals w128 value, tt),
-          ),
-        ),
+        Goes-dropped 𝓛 2 (plain (λ _. usize)) yes (λ κs x w. refl),
+        (Goes-dropped 𝓛 2 (plain (λ _. Y E g d)) no (λ κs x w. refl), tt),
       ),
-      tt,
-    ) in
-    qed 𝓛 (((‵ (flft κs.0 qs.0) ⊛ ‵ ftrue) ⊛ ‵ ((MutRef (named 0) κs.0 R).own_val a.0 vs)
-    ⊛ ‵ (usize.own_val index (uint_vals w64 index)) ⊛ ‵ (u128.own_val value (uint_vals w128 value))
-    ⊛ ‵ ftrue) ∷ raw (fact 𝓤 (index < length h.held)) ∷ []) ∵
-    move ! (1 ∷ []) $ heard ! _ (λ inside.
-    split ! $ split ! $ move ! (2 ∷ []) $ split ! $ keep ! (0 ∷ 2 ∷ []) $
-    let far : index * 16 < 2 ^ 64 = omega (arith, inside, h.all, h.small) in
-    enter ! _ _ _ _ _ $ alloc_all ! (λ l. pass_all ! refl
-    ((tt, tt), ((tt, record { fits = are.1.0.1 }), ((tt, record { fits = are.1.1.0.1 }), tt))) $
-    fsplit3 ! $ move ! (1 ∷ 2 ∷ 3 ∷ []) $ opens ! tt R b o (λ us.
-    move ! (1 ∷ []) $ peeks ! R _ (shows 𝓛 R) h us (λ is. fsplit ! $ move ! (1 ∷ []) $
-    in_a_block ! h.start (λ p. places_owned p h.held) (id⊢ 𝓤 _) (λ b' o' e.
-    let at = index * 16 + o' in
-    use1 𝓛 (‵ (place_owned b' at (get_or h.held index None)) ⊛ ‵ (others 𝓛 b' o' h.held index))
-    (place_out 𝓛 b' o' h.held index inside) $ split ! $
-    use1 𝓛 (‵ (froom (ty_int w128) b' at)) (place_room 𝓛 b' at (get_or h.held index None)) $
-    let word = lowers.val_is h us is
-    ∙ ap (λ (p : Ptr). lowers.lowered (record h { start = p }) ∷ []) e in
-    let Cell = λ (ws : List Val). ‵ (cell_at full_share R.mir ws b o) in
-    rewrite ! 3 Cell word refl $
-    -- [the room; the other places; the fields; the struct's cell; the open borrow, in three
-    -- entries]
+    )
+    (f.Key.name (args E g d)) fn (code.unfolded 𝓤 𝓛.H 𝓜 𝓡 wired (X, tt) d) (λ y are.
+    let Post : Val → SProp 𝓤 = (walk_of 𝓛 T stays c).post y in
+    let κ = y.0.0.0 in let κ₁ = y.0.0.1.0 in let q = y.0.1.0 in let q₁ = y.0.1.1.0 in
+    let a = y.0.3 in let vss = y.0.4 in
+    let rb : ℕ = a.0.ref_ptr.0 in let ro : ℕ = a.0.ref_ptr.1 in let h : el_d E = a.0.now in
+    let index : ℕ = a.1.0 in let value : el_x E = a.1.1.0 in
+    let bits = one E vss.1.1.0 ((lawful E 𝓛).typed value vss.1.1.0 are.1.1.0) in
+    let v : Val = bits.0 in let s : ℕ = sz E in
+    qed 𝓛 (((‵ (flft κ q) ⊛ ‵ (flft κ₁ q₁) ⊛ ‵ ftrue)
+    ⊛ ‵ (owns (types_at T.signature.params y.0.0) a vss))
+    ∷ (raw (fact 𝓤 (κ₁ ⊑ X.lives)) ⊛ raw (fact 𝓤 (index < length h.held))) ∷ []) ∵
+    move ! (1 ∷ []) $ split ! $ drop ! $ heard ! (index < length h.held) (λ inside.
+    split ! $ split ! $ move ! (2 ∷ []) $ fsplit3 ! $ fsplit3 ! $ move ! (4 ∷ []) $ fsplit ! $
+    keep ! (3 ∷ 4 ∷ 6 ∷ 0 ∷ 7 ∷ []) $
+    -- [obs; the borrow; its token; what the value owns; the other token]
+    rewrite ! 3 (λ (ws : List Val). ‵ (X.own_val value ws)) bits.1 refl $
+    regoal ! (λ (us : List Val). prop (WpFn 𝓤 𝓛.H C Λ fn us Post))
+    (λ i. are.0.0 i ++ (are.1.0.0 i ++ (bits.1 i ++ []))) refl $
+    enter ! C Λ fn (vptr rb ro ∷ vint w64 index ∷ v ∷ []) Post $
+    alloc_all ! (λ l. pass_all ! refl
+    ((tt, tt), ((tt, record { fits = are.1.0.1 }), (bits.2, tt))) $
+    let En : Env 𝓤 𝓛.H = env fn.locals l in
+    places_open E ! tt h rb ro (λ b o at counted fit.
+    let n = length h.held in let held = set h.held index (Some value) in
+    let tiny : s < 2 ^ 64 = omega (arith, one_below n s (2 ^ 63) (omega arith) fit) in
+    let far : index * s < 2 ^ 64 =
+    omega (arith, times_below index n s (2 ^ 63) (omega arith) fit) in
+    let same : length held ≡ n = length-set h.held index (Some value) in
+    let new : el_d E = record {
+      start = h.start;
+      count = h.count;
+      held = held;
+      all =
+          h.all ∙ sym same;
+    } in
+    use1 𝓛 (‵ (froom (elτ E) b (index * s + o)) ⊛ ‵ (others E b o h.held index))
+    (room_out E 𝓛 b o h.held index inside) $ split ! $
+    -- [the room; the other places; the two words; the open borrow; obs; auth; the value; its token]
     first ! $ blocks ! $
     sets ! (of_opd ! (load ! (through ! refl (fld ! refl (stop !)))
-    (look_in ! 3 (sub ! 0 refl (whole !))))) refl (tt, tt) $
-    sets ! (bin ! (get ! refl) (lit ! tt) (record { fits = far })) refl (
-      tt,
-      record {
-        fits =
-            far;
-      },
-    ) $
+    (look_in ! 2 (sub ! 0 refl (whole !))))) refl (tt, tt) $
+    sets ! (bin ! (get ! refl) (size_lit ! (record { fits = tiny })) (record { fits = far })) refl
+    (tt, record { fits = far }) $
     sets ! (bin ! (get ! refl) (get ! refl) tt) refl (tt, tt) $
-    assigns_last ! (of_opd ! (get ! refl)) (through ! refl (stop !))
-    (init ! 0 refl (tt, record { fits = are.1.1.0.1 })) $
-    exec ! 𝓣.C 𝓣.Λ (env code.Mir.locals l) (after 1 (code.function).body) (at_ret _ (W.post y)) $
-    sets ! (of_opd ! (unit_lit !)) refl (tt, tt) $
-    let held = set h.held index (Some value) in
-    let new : R.Denot = record h {
-      held = held;
-      all = h.all
-          ∙ sym (length-set h.held index (Some value));
-    } in
-    use1 𝓛 (‵ (place_owned b' at (Some value))) (uint_in 𝓛 full_share w128 value b' at) $
-    use2 𝓛 (‵ (row_owned b' o' held)) (place_in 𝓛 b' o' h.held index inside (Some value)) $
-    rewrite ! 0 (λ (p : Ptr). ‵ (places_owned p held)) (sym e) refl $
-    rewrite ! 2 Cell (sym word) refl $
-    move ! (1 ∷ []) $ fjoin ! $ move ! (1 ∷ []) $ closes ! tt R new us b o $
-    returns ! (look_at ! 0 refl) $ free_all ! refl $ move ! (3 ∷ []) $
-    suffices ! _ (ends_at 𝓛 f.ended stayed c y vunit tt (new, (tt, (tt, tt))) (
-      tt,
-      (
-        tt,
-        (tt, tt),
-      ),
-    )) $
+    assigns_last ! (of_opd ! (get ! refl)) (through ! refl (stop !)) (init ! 0 refl bits.2) $
+    exec ! C Λ En (after 1 fn.body) (at_ret En Post) $
+    sets ! (of_opd ! (unit_lit !)) refl (tt, tt) $ move ! (0 ∷ 6 ∷ []) $
+    use3 𝓛 (‵ (row_at E new b o)) (value_in E 𝓛 b o h.held index inside value v) $
+    places_close E ! tt new b o rb ro at counted
+    (subst (λ (k : ℕ). k * s < 2 ^ 63) (sym same) fit) $
+    returns ! (look_at ! 0 refl) $ free_all ! refl $
+    suffices ! _ (ends_at 𝓛 T stays c y vunit tt (new, (tt, (tt, tt))) (tt, (tt, (tt, tt)))) $
     says_two ! ((refl, refl), refl) $
-    group ! 3 $ nothing ! $ nothing ! $ join ! $ nothing ! $ join ! $ move ! (1 ∷ 0 ∷ []) $ join ! $
-    nothing ! $ move ! (2 ∷ 0 ∷ []) $ join ! $ frame ! $ frame ! $
-    feq_i ! _ (vunit ∷ []) _ refl $ done !))))))
+    feq_i ! (List Val) vss.0 (vptr rb ro ∷ []) are.0.0 $ fjoin3 ! $ nothing ! $ nothing ! $ fjoin !
+    $
+    nothing ! $ fjoin ! $ move ! (1 ∷ 0 ∷ []) $ fjoin ! $ move ! (1 ∷ 2 ∷ []) $ join ! $
+    feq_i ! (List Val) (vunit ∷ []) (vunit ∷ []) refl $ keep ! (1 ∷ 2 ∷ 0 ∷ []) $ done !))))

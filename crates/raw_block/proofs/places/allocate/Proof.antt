@@ -1,103 +1,107 @@
--- `take` asks the allocator for a block and makes empty places of its room. Assumes `Logic`.
-use Rattle.raw_block.proofs.Steps.{◌≡◌, ℕ, ◌*◌, ◌^◌, ◌<◌, List, [], ◌∷◌, ◌++◌, replicate, refl, sym}
-use Rattle.raw_block.proofs.Steps.{lit<, w64, arith, proved_at, leaves, after, SProp, id⊢}
-use Rattle.raw_block.proofs.Steps.{Lft, Share, ftrue, flft, Ty, Fn, Val, vint, vptr, fact}
-use Rattle.raw_block.proofs.Steps.{tables, ‵, raw, ◌⊛◌, later, prop, at_ret, ◌$◌, ◌∵◌, !, qed, by}
-use Rattle.raw_block.proofs.Steps.{move, drop, use0, use1, use2, split, join, fsplit, fjoin, await}
-use Rattle.raw_block.proofs.Steps.{regoal, whole, agg, enter, of_opd, lit, bin, stop, fld, no_more}
-use Rattle.raw_block.proofs.Steps.{and_then, first, exec, returns, alloc_all, pass_all, free_all}
-use Rattle.raw_block.proofs.Steps.{look_at, get, get_in, sets, sets_last, lands_as, env, RattleType}
-use Rattle.raw_block.proofs.Steps.{owns, Ptr, block_ptr, types_at, type_at, nothing, heard, Stays}
-use Rattle.raw_block.proofs.Steps.{walk_of, stay_dropped, Goes-dropped}
+-- `allocate` asks the allocator for a block and makes empty places of its room. Assumes `Logic`.
+use Rattle.raw_block.proofs.Steps.{◌≡◌, ℕ, ◌*◌, ◌^◌, ◌<◌, List, [], ◌∷◌, ◌++◌, length, replicate}
+use Rattle.raw_block.proofs.Steps.{refl, sym, ap, subst, lit<, w64, arith, proved_at, leaves, after}
+use Rattle.raw_block.proofs.Steps.{El, R, el_x, elτ, SProp, id⊢, Lft, Share, ftrue, flft}
+use Rattle.raw_block.proofs.Steps.{◌⊑◌, ⊑_trans, fact, tables, inst_fn, Fn, Args, a_type, dcons}
+use Rattle.raw_block.proofs.Steps.{dnil, Val, vint, vptr, Env, WpFn, ‵, raw, ◌⊛◌, later, prop}
+use Rattle.raw_block.proofs.Steps.{at_ret, ◌$◌, ◌∵◌, !, qed, by, move, drop, use0, use1, use2}
+use Rattle.raw_block.proofs.Steps.{split, join, fsplit, fjoin, await, regoal, whole, agg, enter}
+use Rattle.raw_block.proofs.Steps.{of_opd, lit, bin, stop, fld, no_more, and_then, first, exec}
+use Rattle.raw_block.proofs.Steps.{returns, alloc_all, pass_all, free_all, look_at, get, get_in}
+use Rattle.raw_block.proofs.Steps.{sets, sets_last, lands_as, is, env, RattleType, owns, Ptr}
+use Rattle.raw_block.proofs.Steps.{block_ptr, param, bounded, types_at, type_at, nothing, heard}
+use Rattle.raw_block.proofs.Steps.{alive, Stays, walk_of, stay_dropped, Goes-dropped}
 use Rattle.std.proofs.lemmas.List.{length-replicate}
 use Rattle.std.specs.Prelude.{Option, Some, None}
-use mir.Syntax.{Args, a_type, dcons, dnil}
+use Rattle.std.specs.Vec.Ownership.{FitsInBlock}
+use mir.Syntax.{ty_array}
 use mir.Val.{vcons, vnil}
-use mir.MapTy.{inst_fn}
-use prog.Capped.{capped_is}
-use prog.Wp.{Env, WpFn}
-use contract.BorrowLft.{◌⊑◌, ⊑_trans}
+use prog.Capped.{capped_fits}
+use prog.Memory.{align, capped}
+use types.Kit.{flt_i}
 use types.Match.{live, vrt, in_variant}
-use types.Run.{switches_on}
+use types.Run.{switches_on, size_word, align_word}
 use types.ByLocal.{get_tag}
-use denote.Param.{param, bounded}
 use denote.Struct.Tuple.{Tuple}
-use denote.Triple.Entry.{alive}
 use denote.Triple.Call.{calls_at}
 use Rattle.core.proofs.alloc.Calls.{Al, seen, Takes, at_takes, Answered, Takes-goes, Takes-gives}
 use Rattle.core.proofs.alloc.Calls.{answers}
 use Rattle.core.proofs.alloc.Shapes.{head, arm_body}
 use Rattle.core.proofs.atomic.Steps.{fm}
 use Rattle.core.proofs.option.Made.{Some-of, none_of}
+use Rattle.core.proofs.slots.Leases.{uncapped, block_ty, block_size, block_align}
 use Rattle.std_alloc.proofs.Pairs.{pair_of, pair_val}
-use Rattle.raw_block.proofs.Rows.{room_out}
+use Rattle.std_alloc.proofs.RawLayout.{as_written}
+use Rattle.raw_block.proofs.Rows.{sz, row_of_room}
 use Rattle.raw_block.proofs.Values.{places_val, places_fields, places_made}
 use Rattle.raw_block.proofs.Values.{lease_val, lease_fields, lease_made}
 use Rattle.raw_block.proofs.Walks.{slot_at, then_runs, four, all_four}
-use Rattle.raw_block.specs.Ownership.{room_type, row_owned}
+use Rattle.raw_block.specs.Ownership.{row_owned}
 use Rattle.raw_block.specs.contracts.places.Places as Places
 use Rattle.raw_block.specs.contracts.places.Lease as Lease
-use Rattle.raw_block.specs.contracts.places.Places.take as f
-use Rattle.raw_block.proofs.places.Places.take.Statement.{statement}
-use Rattle.raw_block.proofs.places.Places.take.Code as code
+use Rattle.raw_block.specs.contracts.places.allocate as f
+use Rattle.raw_block.proofs.places.allocate.Statement.{statement}
+use Rattle.raw_block.proofs.places.allocate.Code as code
 
-pub take_spec : {M : Type 1} → statement M
-take_spec 𝓤 𝓛 𝓜 𝓡 wired A L g d dd met md =
-    let E = f.ended A g d dd in
-    let c = f.clauses A g d dd 𝓛 𝓜.mem 𝓡.returns in
-    let args : Args = bounded (a_type ∷ []) (A, tt) (dcons d (dcons dd dnil)) in
+pub allocate_spec : {M : Type 1} → statement M
+allocate_spec 𝓤 𝓛 𝓜 𝓡 wired X A LX L g d dd met md =
+    let E : El = record { row = X; laws = LX } in
+    let T = f.ended X A g d dd in
+    let c = f.clauses X A g d dd 𝓛 𝓜.mem 𝓡.returns in
+    let args : Args = bounded (a_type ∷ a_type ∷ []) (X, (A, tt)) (dcons d (dcons dd dnil)) in
     let fn : Fn = inst_fn args code.function in
-    let handle_slot = slot_at 0 E.signature.params in
-    let number_slot = slot_at 1 E.signature.params in
-    let stayed : Stays E.signature.params E.kept =
-    (stay_dropped handle_slot E.kept.0, (stay_dropped number_slot E.kept.1.0, tt)) in
+    let handle_slot = slot_at 0 T.signature.params in
+    let number_slot = slot_at 1 T.signature.params in
+    let stayed : Stays T.signature.params T.kept =
+    (stay_dropped handle_slot T.kept.0, (stay_dropped number_slot T.kept.1.0, tt)) in
     let C = (tables 𝓤 𝓛.H 𝓜 𝓡 𝓡.env).C in
     let Λ = (tables 𝓤 𝓛.H 𝓜 𝓡 𝓡.env).Λ in
-    proved_at 𝓛 E stayed c 𝓜 𝓡 (
-      Goes-dropped 𝓛 2 handle_slot E.kept.0 (λ κs x w. refl),
-      (Goes-dropped 𝓛 2 number_slot E.kept.1.0 (λ κs x w. refl), tt),
+    proved_at 𝓛 T stayed c 𝓜 𝓡 (
+      Goes-dropped 𝓛 3 handle_slot T.kept.0 (λ κs x w. refl),
+      (Goes-dropped 𝓛 3 number_slot T.kept.1.0 (λ κs x w. refl), tt),
     )
-    (f.Key.name args) fn (code.unfolded 𝓤 𝓛.H 𝓜 𝓡 wired (A, tt) d dd) (λ y are.
-    let Post : Val → SProp 𝓤 = (walk_of 𝓛 E stayed c).post y in
+    (f.Key.name args) fn (code.unfolded 𝓤 𝓛.H 𝓜 𝓡 wired (X, (A, tt)) d dd) (λ y are.
+    let Post : Val → SProp 𝓤 = (walk_of 𝓛 T stayed c).post y in
     let κs = y.0.0 in let qs = y.0.1 in let a = y.0.3 in let vss = y.0.4 in
-    let κ : Lft = κs.0 in let q : Share = qs.0 in let κ' : Lft = κs.1.0 in
+    let κ : Lft = κs.0 in let q : Share = qs.0 in
+    let κ₁ : Lft = κs.1.0 in let κ₂ : Lft = κs.1.1.0 in
     let Y : Al = record { row = A; laws = L; g = g; d = d; drops = dd } in
-    let Z : RattleType = param 0 A in
+    let Z : RattleType = param 1 A in
     let handle = a.0.now in let p = a.0.ref_ptr in let n = a.1.0 in
-    let τ : Ty = room_type n in
+    let s : ℕ = sz E in let al : ℕ = capped (align (elτ E)) in let τ = block_ty E n in
     let call =
-    at_takes Y 𝓛 𝓜.mem 𝓡.returns κ q p handle (n * 16) 16 τ in
-    let Out : RattleType = type_at E.signature.result κs in
-    let Both : RattleType = Tuple (Places.the_row ∷ Lease.the_row Z g ∷ []) in
-    let Asked : Type 0 = n < 2 ^ 59 in
-    qed 𝓛 ((raw (alive 𝓛 E.signature κs qs) ⊛ ‵ (owns (types_at E.signature.params κs) a vss))
-    ∷ (raw (fact 𝓤 (κ' ⊑ A.lives)) ⊛ raw (fact 𝓤 Asked)) ∷ []) ∵
-    move ! (1 ∷ []) $ split ! $ heard ! (κ' ⊑ A.lives) (λ le. heard ! Asked (λ asked.
-    let far : n * 16 < 2 ^ 64 = omega (arith, asked) in
+    at_takes Y 𝓛 𝓜.mem 𝓡.returns κ q p handle (n * s) al τ in
+    let Out : RattleType = type_at T.signature.result κs in
+    let Rp : RattleType = Places.the_row (R E) in let Rl : RattleType = Lease.the_row (R E) Z g in
+    let Both : RattleType = Tuple (Rp ∷ Rl ∷ []) in
+    let Asked : Type 0 = FitsInBlock (R E) n in
+    qed 𝓛 ((raw (alive 𝓛 T.signature κs qs) ⊛ ‵ (owns (types_at T.signature.params κs) a vss))
+    ∷ (raw (fact 𝓤 (κ₁ ⊑ X.lives)) ⊛ raw (fact 𝓤 (κ₂ ⊑ A.lives)) ⊛ raw (fact 𝓤 Asked)) ∷ []) ∵
+    move ! (1 ∷ []) $ split ! $ drop ! $ split ! $ heard ! (κ₂ ⊑ A.lives)
+    (λ le. heard ! Asked (λ asked.
+    let small : n * s < 2 ^ 63 = asked.0 in let far : n * s < 2 ^ 64 = omega (arith, small) in
     let fits = are.1.0.1 in
     split ! $ move ! (1 ∷ []) $ fsplit ! $ fsplit ! $ drop ! $ move ! (1 ∷ []) $ drop ! $
     use1 𝓛 (‵ (seen Y κ p handle)) (id⊢ 𝓤 _) $ move ! (1 ∷ []) $
-    use1 𝓛 (‵ (flft κ q) ⊛ ‵ (flft κ' qs.1.0) ⊛ ‵ ftrue) (id⊢ 𝓤 _) $ split ! $ move ! (2 ∷ 0 ∷ []) $
+    use1 𝓛 (‵ (flft κ q) ⊛ ‵ (flft κ₁ qs.1.0) ⊛ ‵ (flft κ₂ qs.1.1.0) ⊛ ‵ ftrue) (id⊢ 𝓤 _) $ split !
+    $ move ! (2 ∷ 0 ∷ []) $
     -- [a `&` to the handle; the token of its lifetime; the other token]
     regoal ! (λ (us : List Val). prop (WpFn 𝓤 𝓛.H C Λ fn us Post))
     (λ i. are.0.0 i ++ (are.1.0.0 i ++ [])) refl $
     enter ! C Λ fn (vptr p.0 p.1 ∷ vint w64 n ∷ []) Post $
     alloc_all ! (λ l. pass_all ! refl ((tt, tt), ((tt, record { fits = fits }), tt)) $
     let En : Env 𝓤 𝓛.H = env fn.locals l in
-    sets ! (bin ! (get ! refl) (lit ! tt) (record { fits = far })) refl (
-      tt,
-      record {
-        fits =
-            far;
-      },
-    ) $
+    sets ! (is ! (bin ! (get ! refl) (size_word !)
+    (record { fits = subst (λ (k : ℕ). k < 2 ^ 64) (sym (uncapped n s far)) far }))
+    (ap (vint w64) (uncapped n s far))) refl (tt, record { fits = far }) $
     use2 𝓛 (raw ((Takes Y 𝓛 𝓜.mem 𝓡.returns).pre call))
-    (Takes-goes Y 𝓛 𝓜.mem 𝓡.returns κ q p handle (⊑_trans κ κ' A.lives y.0.2.0 le) (n * 16) 16 τ
-    (capped_is (n * 16) far) refl far (lit< tt)) $
+    (Takes-goes Y 𝓛 𝓜.mem 𝓡.returns κ q p handle (⊑_trans κ κ₂ A.lives y.0.2.0 le) (n * s) al τ
+    (block_size E n far) (block_align E n) far (capped_fits (align (elτ E)))) $
     calls_at ! (fm 𝓛 𝓜 𝓡) (Takes Y 𝓛 𝓜.mem 𝓡.returns) (met.allocate dd) call
-    (and_then ! (get ! refl) (and_then ! (get ! refl) (and_then ! (lit ! tt) (no_more !)))) (λ v.
+    (and_then ! (get ! refl) (and_then ! (get ! refl) (and_then ! (align_word !) (no_more !))))
+    (λ v.
     use1 𝓛 (later (raw (Answered Y 𝓛 𝓜.mem 𝓡.returns handle τ v) ⊛ ‵ (flft κ q)))
-    (Takes-gives Y 𝓛 𝓜.mem 𝓡.returns κ q p handle (n * 16) 16 τ v) $ await ! tt $ split ! $
+    (Takes-gives Y 𝓛 𝓜.mem 𝓡.returns κ q p handle (n * s) al τ v) $ await ! tt $ split ! $
     answers Y ! 𝓜.mem 𝓡.returns handle τ v
     (λ b o e. move ! (2 ∷ 3 ∷ []) $ join ! $ move ! (1 ∷ 2 ∷ []) $
     -- [the room; the right to free it; the tokens]
@@ -120,34 +124,36 @@ take_spec 𝓤 𝓛 𝓜 𝓡 wired A L g d dd met md =
     sets ! (of_opd ! (get ! refl)) refl
     (tt, (record { fits = lit< tt }, (((tt, (record { fits = fits }, tt)), ((tt, tt), tt)), tt))) $
     returns ! (look_at ! 0 refl) $ free_all ! refl $
-    let none : Option ℕ = None in
+    let none : Option (el_x E) = None in
     let start : Ptr = block_ptr b o in let held = replicate n none in
-    let places : Places.the_row.Denot = record {
+    let places : Rp.Denot = record {
       start = start;
       count = n;
       held = held;
       all = sym (length-replicate n none);
-      small = asked;
     } in
-    let lease : (Lease.the_row Z g).Denot = record {
+    let lease : Rl.Denot = record {
       marker = record {};
       alloc = handle;
       start = start;
       count = n;
     } in
     let pair : Val = pair_val (places_val start n) lease_val in
-    use1 𝓛 (‵ (row_owned b o held)) (room_out 𝓛 b n o) $
+    as_written ! (ty_array (elτ E) n) b o $
+    use1 𝓛 (‵ (row_owned (R E) b o held)) (row_of_room E 𝓛 b n o) $
+    flt_i ! (length held * s) (2 ^ 63)
+    (subst (λ (k : ℕ). k * s < 2 ^ 63) (sym (length-replicate n none)) small) $ fjoin ! $
     use0 𝓛 (‵ (places_fields start n (places_val start n ∷ []))) (places_made 𝓛 start n are.1.0.1) $
     fjoin ! $ move ! (1 ∷ []) $
     use0 𝓛 (‵ (lease_fields (lease_val ∷ []))) (lease_made 𝓛) $ fjoin ! $ move ! (1 ∷ 0 ∷ []) $
     use2 𝓛 (‵ (Both.own_val (places, lease) (pair ∷ [])))
-    (pair_of 𝓛 Places.the_row (Lease.the_row Z g) places lease (places_val start n) lease_val) $
+    (pair_of 𝓛 Rp Rl places lease (places_val start n) lease_val) $
     use1 𝓛 (‵ (Out.own_val (Some (places, lease)) (live 1 (vcons pair vnil) ∷ [])))
     (Some-of 𝓛 Both (places, lease) pair) $
     use0 𝓛 (raw (four 𝓛 (held ≡ held) ((n ≡ n) × (n ≡ n)) (handle ≡ handle) (start ≡ start)))
     (all_four 𝓛 refl (refl, refl) refl refl) $
     nothing ! $ nothing ! $ fjoin ! $ nothing ! $ fjoin ! $ move ! (3 ∷ 0 ∷ 2 ∷ 1 ∷ []) $
-    by ! (leaves 𝓛 E stayed c y (live 1 (vcons pair vnil)) (Some (places, lease))
+    by ! (leaves 𝓛 T stayed c y (live 1 (vcons pair vnil)) (Some (places, lease))
     (tt, (tt, tt)) (tt, (tt, tt))))
     (λ e. join ! $ lands_as ! e refl (tt, (record { fits = lit< tt }, (tt, tt))) $
     first ! $ switches_on ! (get_tag ! (vrt ! refl (fld ! refl (stop !))) (whole !)) $
@@ -161,4 +167,4 @@ take_spec 𝓤 𝓛 𝓜 𝓡 wired A L g d dd met md =
     use0 𝓛 (‵ (Out.own_val None (live 0 vnil ∷ []))) (none_of 𝓛 Both) $
     use0 𝓛 (raw (four 𝓛 (Unit {0}) (Unit {0}) (Unit {0}) (Unit {0}))) (all_four 𝓛 tt tt tt tt) $
     nothing ! $ nothing ! $ fjoin ! $ nothing ! $ fjoin ! $ move ! (3 ∷ 0 ∷ 2 ∷ 1 ∷ []) $
-    by ! (leaves 𝓛 E stayed c y (live 0 vnil) None (tt, (tt, tt)) (tt, (tt, tt)))))))))
+    by ! (leaves 𝓛 T stayed c y (live 0 vnil) None (tt, (tt, tt)) (tt, (tt, tt)))))))))

@@ -1,0 +1,5 @@
+pub mod Filled
+pub mod Lists
+pub mod Nodes
+pub mod Pooled
+pub mod Walk
