@@ -1,0 +1,6 @@
+pub mod PoolSteps
+pub mod Needs
+pub mod AttemptLaws
+pub mod ObligationLaws
+pub mod SettleLaws
+pub mod DisableLaws

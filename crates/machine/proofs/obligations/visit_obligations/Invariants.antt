@@ -1,0 +1,11 @@
+use Rattle.bytecode.specs.Programs.{data_of}
+use Rattle.attempt_pool.specs.Walk.{left_at}
+use Rattle.machine.proofs.ObligationLaws.{Visiting}
+use Rattle.machine.proofs.obligations.visit_obligations.Given as goal
+
+abbrev pub invariant-loop-at : goal.invariant-loop-at
+invariant-loop-at l =
+    Visiting (data_of l.fn.program) l.fn.atoms l.fn.now l.pool l.at l.left l.fates l.fn.pool l.fn.left
+
+abbrev pub decreases-loop-at : goal.decreases-loop-at
+decreases-loop-at l = left_at l.at l.pool.live

@@ -1,0 +1,24 @@
+//! The monitor machine: it runs a verified program over rows, clock by clock.
+//!
+//! A clock pushes its row on the history, runs the sample code, opens an attempt, visits what is
+//! live, and settles the attempts. It tests no operand, no jump, no reach into the history, no room
+//! of a pool and no budget, since a program that the verifier accepted never fails such a test; and
+//! it takes no memory, since `Machine::new` took all.
+//!
+//! ```text
+//! let mut machine = Machine::new(alloc, verify(alloc, program)?)?;
+//! let mut decided = ArrayVec::new();
+//! machine.clock(&row, &mut decided);
+//! let ticks = machine.spent();
+//! machine.open_starts(&mut decided);
+//! ```
+//!
+//! A contract sees the program, the state of the checked machine, and the ticks of the last clock:
+//! `specs/Running.antt`. The definitions of a clock stand in `checked_machine`: `clock` there says
+//! what a clock comes to, with every test that it could fail.
+//!
+//! Not promised: that memory suffices for a machine, or that a foreign program means anything.
+#![tactic(auto)]
+
+mod attempts;
+mod obligations;
