@@ -1,0 +1,4 @@
+pub mod Operands
+pub mod Steps
+pub mod Memory
+pub mod Runs

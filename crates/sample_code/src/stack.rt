@@ -1,0 +1,77 @@
+//! Operands of sample code.
+
+ghost use Rattle.std.specs.Prelude.{◌≡◌, ◌<◌, [], ◌∷◌, length};
+
+use signals::Bits;
+use std::marker::Model;
+
+/// A stack of at most 1,024 operands: to its users the list of them, the top first.
+#[derive(Drop)]
+pub struct Stack {
+    places: [Bits; 1024],
+    depth: usize,
+}
+
+impl Model for Stack {
+    ghost use Rattle.std.specs.Prelude.{◌≤◌, List, reverse, take};
+    ghost use Rattle.signals.specs.declared.bits.Bits.{Bits};
+
+    ghost Value = { List Bits };
+
+    ghost view = { λ s. reverse (take s.depth s.places) };
+
+    ghost invariant = { λ s. s.depth ≤ 1024 };
+}
+
+impl Stack {
+    /// No operand.
+    pub fn new() -> Self
+        ensures { result ≡ [] }
+    {
+        Stack {
+            places: [Bits { width: 1, value: 0 }; 1024],
+            depth: 0,
+        }
+    }
+
+    /// Takes all operands off.
+    #[inline]
+    pub(crate) fn clear(&mut self)
+        ensures { self.new ≡ [] }
+    {
+        self.depth = 0;
+    }
+
+    /// Puts an operand on top.
+    #[inline]
+    pub(crate) fn push(&mut self, operand: Bits)
+        requires { length self.old < 1024 }
+        ensures { self.new ≡ operand ∷ self.old }
+    {
+        self.places[self.depth] = operand;
+        self.depth += 1;
+    }
+
+    /// Takes the top off.
+    #[inline]
+    pub(crate) fn pop(&mut self) -> Bits
+        requires { 0 < length self.old }
+        ensures taken { self.old ≡ result ∷ self.new }
+        ensures room { length self.new < 1024 }
+    {
+        self.depth -= 1;
+        self.places[self.depth]
+    }
+
+    /// Takes two off, of which the right one is on top.
+    #[inline]
+    pub(crate) fn pop_two(&mut self) -> (Bits, Bits)
+        requires { 1 < length self.old }
+        ensures taken { self.old ≡ result.1 ∷ result.0 ∷ self.new }
+        ensures room { length self.new < 1024 }
+    {
+        let right = self.pop();
+        let left = self.pop();
+        (left, right)
+    }
+}
