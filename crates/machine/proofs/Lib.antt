@@ -4,3 +4,4 @@ pub mod AttemptLaws
 pub mod ObligationLaws
 pub mod SettleLaws
 pub mod DisableLaws
+pub mod ClockLaws

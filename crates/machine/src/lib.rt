@@ -21,4 +21,6 @@
 #![tactic(auto)]
 
 mod attempts;
+mod bases;
+mod live;
 mod obligations;

@@ -1,0 +1,115 @@
+//! What is live between clocks.
+
+ghost use Rattle.std.specs.Prelude.{◌≡◌, ◌+◌, ◌^◌, ◌<◌, ◌≤◌, ◌++◌, ◌∷◌, [], Some, length};
+ghost use Rattle.bytecode.specs.Programs.{data_of};
+ghost use Rattle.verifier.specs.Programs.{IsAccepted};
+ghost use Rattle.checked_machine.specs.Clocks.{disabling};
+ghost use Rattle.checked_machine.specs.Bounds.{IsReached};
+ghost use Rattle.machine.specs.Code.{AreBasesOf};
+ghost use Rattle.machine.specs.Live.{attempts_in, obligations_in, standing_of, new_attempt, with_new};
+ghost use Rattle.machine.specs.Live.{live_budget, ArePoolsOf, HasAdvanced};
+
+use crate::bases::Bases;
+use crate::attempts::{disable_attempts, settle_attempts, visit_attempts};
+use crate::obligations::{drop_obligations, visit_obligations};
+use arrayvec::ArrayVec;
+use attempt_pool::Pool;
+use bytecode::Program;
+use signals::Decided;
+use visits::{AttemptRecord, ObligationRecord};
+
+/// The live attempts and obligations, and the number of clocks that were run.
+#[derive(Drop)]
+pub(crate) struct Live {
+    pub(crate) now: u64,
+    pub(crate) attempts: Pool<AttemptRecord>,
+    pub(crate) obligations: Pool<ObligationRecord>,
+}
+
+/// Whether the atoms disable the clock.
+fn is_disabled(program: &Program, atoms: &[bool]) -> bool
+    requires accepted { IsAccepted (data_of program.now) }
+    requires atoms { length atoms.now ≡ (data_of program.now).header.atoms }
+    ensures { disabling (data_of program.now).header.disable atoms.now ≡ Some result }
+{
+    match program.disable {
+        Some(atom) => atoms[atom as usize],
+        None => false,
+    }
+}
+
+/// Opens the attempt of the clock `now`.
+fn open_attempt(program: &Program, now: u64, pool: &mut Pool<AttemptRecord>)
+    requires { length pool.old.live < pool.old.cap }
+    ensures cap { pool.new.cap ≡ pool.old.cap }
+    ensures opened { attempts_in pool.new.live
+        ≡ attempts_in pool.old.live ++ new_attempt (data_of program.now) now ∷ [] }
+{
+    let _slot = pool.open(AttemptRecord {
+        start: now,
+        positions: program.antecedent.start,
+        awaited: 0,
+    });
+}
+
+/// Opens the obligation of the clock `now` where an attempt accepted.
+fn open_obligation(
+    accepted: bool,
+    program: &Program,
+    now: u64,
+    pool: &mut Pool<ObligationRecord>,
+)
+    requires { length pool.old.live < pool.old.cap }
+    ensures cap { pool.new.cap ≡ pool.old.cap }
+    ensures opened { obligations_in pool.new.live
+        ≡ with_new (data_of program.now) now accepted (obligations_in pool.old.live) }
+{
+    if accepted {
+        let _slot = pool.open(ObligationRecord {
+            tick: now,
+            positions: program.consequent.start,
+        });
+    }
+}
+
+impl Live {
+    /// A clock behind its sample code, which gave these atoms: it adds what it decides to `out`,
+    /// and takes its ticks off `left`.
+    pub(crate) fn clock(
+        &mut self,
+        program: &Program,
+        bases: &Bases,
+        atoms: &[bool],
+        left: &mut u64,
+        out: &mut ArrayVec<Decided, 1024>,
+    )
+        requires accepted { IsAccepted (data_of program.now) }
+        requires bases { AreBasesOf (data_of program.now) bases.now }
+        requires atoms { length atoms.now ≡ (data_of program.now).header.atoms }
+        requires more { self.old.now + 1 < 2 ^ 64 }
+        requires pools { ArePoolsOf (data_of program.now) self.old.attempts.cap self.old.obligations.cap }
+        requires reached { IsReached (data_of program.now)
+            (standing_of self.old.now self.old.attempts self.old.obligations) }
+        requires budget { live_budget (data_of program.now) ≤ left.old }
+        requires room { length out.old.items + (data_of program.now).header.limits.attempts ≤ 1024 }
+        ensures pools { ArePoolsOf (data_of program.now) self.new.attempts.cap self.new.obligations.cap }
+        ensures advanced { HasAdvanced (data_of program.now)
+            (standing_of self.old.now self.old.attempts self.old.obligations) atoms.now left.old out.old.items
+            (standing_of self.new.now self.new.attempts self.new.obligations) left.new out.new.items }
+    {
+        open_attempt(program, self.now, &mut self.attempts);
+        if is_disabled(program, atoms) {
+            disable_attempts(self.now, &mut self.attempts, left, out);
+            drop_obligations(&mut self.obligations);
+            self.now += 1;
+            return;
+        }
+        let before = bases.antecedent.as_slice();
+        let accepted = visit_attempts(program, before, atoms, self.now, &mut self.attempts, left);
+        open_obligation(accepted, program, self.now, &mut self.obligations);
+        let after = bases.consequent.as_slice();
+        let fates = visit_obligations(program, after, atoms, self.now, &mut self.obligations, left);
+        settle_attempts(fates, self.now, &mut self.attempts, left, out);
+        self.now += 1;
+    }
+}
