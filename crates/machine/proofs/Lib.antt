@@ -1,3 +1,4 @@
+pub mod VecLaws
 pub mod PoolSteps
 pub mod Needs
 pub mod AttemptLaws
@@ -5,3 +6,6 @@ pub mod ObligationLaws
 pub mod SettleLaws
 pub mod DisableLaws
 pub mod ClockLaws
+pub mod LessLaws
+pub mod RowLaws
+pub mod MemoryLaws

@@ -5,7 +5,7 @@ use Rattle.std.proofs.lemmas.List.{map-append}
 use Rattle.std.specs.Prelude.{nat_eq}
 use Rattle.std.specs.Map.{lookup, remove_entry}
 use Rattle.signals.specs.declared.verdict.Verdict.{Verdict}
-use Rattle.signals.specs.declared.verdict.Verdict.TheVariants.{Disabled}
+use Rattle.signals.specs.declared.verdict.Verdict.TheVariants.{Open}
 use Rattle.signals.specs.declared.verdict.Decided.{Decided}
 use Rattle.checked_machine.specs.Outcomes.{Ran, done, trapped, and_then}
 use Rattle.checked_machine.specs.Clocks.{Attempt, Fate, Settlement, settle, settle_all, disable_all, stays, ends}
@@ -15,7 +15,8 @@ use Rattle.visits.specs.declared.attempt.AttemptRecord.{AttemptRecord}
 use Rattle.visits.specs.declared.fates.Fates.{Fates}
 use Rattle.visits.specs.Marks.{fates_of, AreRecent, SettlesAs}
 use Rattle.visits.specs.Records.{attempt_of, settled}
-use Rattle.machine.specs.Live.{attempts_in, HaveBegun, AreSettled, AreDisabled}
+use Rattle.machine.specs.Live.{attempts_in, HaveBegun, AreSettled}
+use Rattle.machine.specs.Running.{open_ones}
 use Rattle.machine.proofs.PoolSteps as steps
 
 -- those that stay and those that were decided, in front of the settlement of the others
@@ -144,4 +145,45 @@ module _ (now : ℕ) (fates : Fates) (pool : Pooled AttemptRecord) (at : Option 
             on (Some v) settles fs recent sets
             ∙ joined-ends (attempts_in i.before) i.decided (attempt_of x) v (settle_all now fs (attempts_in tail) (left - 1));
         cap = ap (λ (q : Pooled AttemptRecord). q.cap) e ∙ i.cap;
+      }, moved.1)
+
+-- a walk that tells each attempt as open
+pub record Telling (pool : Pooled AttemptRecord) (at : Option ℕ) (out told : List Decided) : Type 0 where
+  pub before : List (ℕ × AttemptRecord)
+  pub rest : List (ℕ × AttemptRecord)
+  pub stands : IsAt pool.live at before rest
+  pub tells : out ≡ told ++ open_ones (attempts_in before)
+  pub room : length out + length rest ≤ 1024
+
+pub telling-first : (pool : Pooled AttemptRecord) (at : Option ℕ) (out : List Decided) → IsAt pool.live at [] pool.live → length out + length pool.live ≤ 1024 → Telling pool at out out
+telling-first pool at out stands room = record { before = []; rest = pool.live; stands = stands; tells = sym (append-nil out); room = room }
+
+pub telling-last : (pool : Pooled AttemptRecord) (at : Option ℕ) (out told : List Decided) → Telling pool at out told → at ≡ None → out ≡ told ++ open_ones (attempts_in pool.live)
+telling-last pool at out told i e =
+    let end = steps.over pool at i.before i.rest i.stands e in
+    i.tells ∙ ap (λ (l : List (ℕ × AttemptRecord)). told ++ open_ones (attempts_in l)) (sym end.1)
+
+module _ (pool : Pooled AttemptRecord) (at : Option ℕ) (out told : List Decided) (i : Telling pool at out told) (s : ℕ) (is : at ≡ Some s) (x : AttemptRecord) (got : lookup (nat_eq s) pool.live ≡ Some x) where
+  longer : length i.rest ≡ suc (length (steps.tail pool at s i.before i.rest i.stands is))
+  longer = ap length (steps.split pool at s i.before i.rest i.stands is x got)
+
+  pub has_place : length out < 1024
+  has_place = omega (arith, longer, i.room)
+
+  abbrev one : Decided
+  one = record { start = x.start; verdict = Open }
+
+  pub tells-next : (next : Option ℕ) → next ≡ slot_after s pool.live → (more : List Decided) → more ≡ out ++ record { start = x.start; verdict = Open } ∷ [] → Telling pool next more told × (left_at next pool.live < left_at at pool.live)
+  tells-next next is-next more is-more =
+      let moved = steps.kept pool at s i.before i.rest i.stands is x got next is-next in
+      let grown : length more ≡ length out + 1 = ap length is-more ∙ length-append out (one ∷ []) in
+      let all : open_ones (attempts_in (i.before ++ (s, x) ∷ [])) ≡ open_ones (attempts_in i.before) ++ one ∷ [] =
+          ap (λ (l : List Attempt). open_ones l) (map-append (λ e. attempt_of e.1) i.before ((s, x) ∷ []))
+          ∙ map-append (λ (a : Attempt). record { start = a.start; verdict = Open }) (attempts_in i.before) (attempt_of x ∷ []) in
+      (record {
+        before = i.before ++ (s, x) ∷ [];
+        rest = steps.tail pool at s i.before i.rest i.stands is;
+        stands = moved.0;
+        tells = is-more ∙ ap (λ (l : List Decided). l ++ one ∷ []) i.tells ∙ append_assoc told (open_ones (attempts_in i.before)) (one ∷ []) ∙ ap (λ (l : List Decided). told ++ l) (sym all);
+        room = omega (arith, longer, i.room, grown);
       }, moved.1)

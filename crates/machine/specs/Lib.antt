@@ -1,2 +1,4 @@
 pub mod Live
 pub mod Code
+pub mod Memory
+pub mod Running

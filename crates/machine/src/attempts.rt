@@ -1,6 +1,6 @@
 //! The live attempts at a clock.
 
-ghost use Rattle.std.specs.Prelude.{◌≡◌, ◌+◌, ◌*◌, ◌≤◌, [], length};
+ghost use Rattle.std.specs.Prelude.{◌≡◌, ◌+◌, ◌*◌, ◌≤◌, ◌++◌, [], length};
 ghost use Rattle.bytecode.specs.Programs.{data_of};
 ghost use Rattle.verifier.specs.Programs.{IsAccepted};
 ghost use Rattle.verifier.specs.Limits.{path_sum};
@@ -11,6 +11,7 @@ ghost use Rattle.checked_machine.proofs.Parts.{began, IsRunning};
 ghost use Rattle.checked_machine.specs.Bounds.{Rises};
 ghost use Rattle.visits.specs.Bases.{AreBases};
 ghost use Rattle.machine.specs.Live.{attempts_in, HaveBegun, AreSettled, AreDisabled};
+ghost use Rattle.machine.specs.Running.{open_ones};
 
 use arrayvec::ArrayVec;
 use attempt_pool::Pool;
@@ -95,5 +96,19 @@ pub(crate) fn disable_attempts(
         let verdict = Verdict::Disabled(now);
         out.push(Decided { start: attempt.start, verdict });
         pool.retire(slot);
+    }
+}
+
+/// Tells each attempt as open, in order of its start.
+pub(crate) fn tell_open(pool: &Pool<AttemptRecord>, out: &mut ArrayVec<Decided, 1024>)
+    requires { length out.old.items + length pool.now.live ≤ 1024 }
+    ensures { out.new.items ≡ out.old.items ++ open_ones (attempts_in pool.now.live) }
+{
+    let mut at = pool.first();
+    while let Some(slot) = at {
+        at = pool.next(slot);
+        let start = pool.get(slot).start;
+        let verdict = Verdict::Open;
+        out.push(Decided { start, verdict });
     }
 }

@@ -23,4 +23,9 @@
 mod attempts;
 mod bases;
 mod live;
+mod machine;
+mod memory;
 mod obligations;
+mod row;
+
+pub use machine::Machine;

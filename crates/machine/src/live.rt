@@ -93,6 +93,7 @@ impl Live {
         requires budget { live_budget (data_of program.now) ≤ left.old }
         requires room { length out.old.items + (data_of program.now).header.limits.attempts ≤ 1024 }
         ensures pools { ArePoolsOf (data_of program.now) self.new.attempts.cap self.new.obligations.cap }
+        ensures fewer { left.new ≤ left.old }
         ensures advanced { HasAdvanced (data_of program.now)
             (standing_of self.old.now self.old.attempts self.old.obligations) atoms.now left.old out.old.items
             (standing_of self.new.now self.new.attempts self.new.obligations) left.new out.new.items }

@@ -12,6 +12,7 @@ use Rattle.attempt_pool.specs.Pooled.{Pooled}
 use Rattle.visits.specs.declared.attempt.AttemptRecord.{AttemptRecord}
 use Rattle.visits.specs.declared.obligation.ObligationRecord.{ObligationRecord}
 use Rattle.visits.specs.Records.{attempt_of, obligation_of}
+use Rattle.machine.proofs.LessLaws.{visit_attempts-less, visit_obligations-less, settle_all-less, disable_all-less}
 use Rattle.machine.proofs.ClockLaws as laws
 use Rattle.machine.proofs.live.Live.clock.Goals as goal
 
@@ -131,3 +132,20 @@ returns-clause-advanced c =
           (record { live = attempts_in c.settle_attempts.new.pool.live; decided = t.decided }) c.settle_attempts.new.left (t.came v.fs v.recent v.sets)
           ∙ ap (λ (l : List Obligation). done (record { state = record { now = c.args.self.now.now + 1; attempts = attempts_in c.settle_attempts.new.pool.live; obligations = l }; decided = t.decided }) c.settle_attempts.new.left) (sym v.stayed);
     }
+
+pub returns-then-is_disabled-clause-fewer : goal.returns-then-is_disabled-clause-fewer
+returns-then-is_disabled-clause-fewer c =
+    let d = c.disable_attempts.ensures.disabled in
+    disable_all-less c.args.self.now.now (attempts_in c.open_attempt.new.pool.live) c.args.left.now d.decided c.disable_attempts.new.left d.came
+
+pub returns-clause-fewer : goal.returns-clause-fewer
+returns-clause-fewer c =
+    let p = (data_of c.args.program.now) in
+    let v = c.visit_obligations-fates.ensures.visits in
+    let t = c.settle_attempts.ensures.settled in
+    omega (
+      arith,
+      visit_attempts-less p.antecedent c.args.atoms.now c.args.self.now.now (attempts_in c.open_attempt.new.pool.live) c.args.left.now _ c.visit_attempts-accepted.new.left c.visit_attempts-accepted.ensures.visits,
+      visit_obligations-less p.consequent c.args.atoms.now (obligations_in c.open_obligation.new.pool.live) c.visit_attempts-accepted.new.left v.fs c.visit_obligations-fates.new.left v.came,
+      settle_all-less c.args.self.now.now v.fs (attempts_in c.visit_attempts-accepted.new.pool.live) c.visit_obligations-fates.new.left _ c.settle_attempts.new.left (t.came v.fs v.recent v.sets),
+    )

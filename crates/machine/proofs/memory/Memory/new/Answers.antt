@@ -1,0 +1,46 @@
+use Rattle.std.proofs.Common.{◌≡◌, ◌+◌, ◌<◌, ◌≤◌, ℕ, zero, suc, List, [], ◌∷◌, length, replicate, refl, sym, ap, ◌∙◌, subst, arith, pow_pos}
+use Rattle.std.proofs.Math.ListN.{length-replicate}
+use Rattle.std.specs.Prelude.{slice_index, ◌^◌}
+use Rattle.bytecode.specs.Programs.{data_of}
+use Rattle.bytecode.specs.Instructions.{frame_of}
+use Rattle.history_ring.specs.History.{cleared}
+use Rattle.attempt_pool.specs.Pooled.{Pooled}
+use Rattle.visits.specs.declared.attempt.AttemptRecord.{AttemptRecord}
+use Rattle.visits.specs.declared.obligation.ObligationRecord.{ObligationRecord}
+use Rattle.sample_code.specs.Memory.{AreRows, AreValues}
+use Rattle.sample_code.proofs.RowLaws.{AreRows-cleared}
+use Rattle.checked_machine.specs.Bounds.{IsReached}
+use Rattle.checked_machine.specs.Clocks.{none_standing}
+use Rattle.machine.specs.Live.{attempts_in, obligations_in, standing_of}
+use Rattle.machine.proofs.VecLaws.{vec-long}
+use Rattle.machine.proofs.memory.Memory.new.Goals as goal
+
+slice_index-zeros : (n k : ℕ) → slice_index (replicate n 0) k ≡ 0
+slice_index-zeros zero k = refl
+slice_index-zeros (suc n) zero = refl
+slice_index-zeros (suc n) (suc k) = slice_index-zeros n k
+
+zeros-fit : (ws vs : List ℕ) → vs ≡ replicate (length ws) 0 → AreValues ws vs
+zeros-fit ws vs e = record {
+  long = ap length e ∙ length-replicate (length ws) 0;
+  fits = λ k. omega (arith, ap (λ l. slice_index l k) e, slice_index-zeros (length ws) k, pow_pos (slice_index ws k));
+}
+
+pub returns-clause-memory : goal.returns-clause-memory
+returns-clause-memory c =
+    let p = data_of c.args.program.now in
+    let slots = ap (λ f. f.slots) c.in_ok-frame.ensures in
+    let long : c.len-slots.result ≡ length (frame_of p).slots = c.len-slots.ensures ∙ vec-long c.in_ok-frame.frame.slots ∙ ap length slots in
+    let first = c.in_ok-live.ensures in
+    let attempts = ap (λ (q : Pooled AttemptRecord). attempts_in q.live) first.attempts in
+    let obligations = ap (λ (q : Pooled ObligationRecord). obligations_in q.live) first.obligations in
+    record {
+      bases = c.in_ok-bases.ensures;
+      history = subst (AreRows p c.in_ok-frame.frame.slots.items) (sym (c.in_ok-history.ensures ∙ ap (cleared p.header.limits.history) long)) (AreRows-cleared p c.in_ok-frame.frame.slots.items slots);
+      row = sym (vec-long c.in_ok-row.row) ∙ c.in_ok-row.ensures.len ∙ long;
+      atoms = sym (vec-long c.in_ok-atoms.atoms) ∙ c.in_ok-atoms.ensures.len;
+      counters = zeros-fit p.counters c.in_ok-counters.counters.items (c.in_ok-counters.ensures.items_if_clones_equal (λ y e. e) ∙ ap (λ n. replicate n 0) (c.len.ensures ∙ vec-long c.args.program.now.counters));
+      pools = record { attempts = ap (λ (q : Pooled AttemptRecord). q.cap) first.attempts; obligations = ap (λ (q : Pooled ObligationRecord). q.cap) first.obligations };
+      few = omega (arith, ap (λ (q : Pooled AttemptRecord). length q.live) first.attempts);
+      reached = subst (IsReached p) (λ j. record { now = sym first.now j; attempts = sym attempts j; obligations = sym obligations j }) (record { attempts = omega arith; obligations = omega arith });
+    }

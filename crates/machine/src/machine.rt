@@ -1,0 +1,85 @@
+//! The machine.
+
+use crate::attempts::tell_open;
+use crate::memory::Memory;
+use arrayvec::ArrayVec;
+use signals::Decided;
+use std::alloc::Global;
+use std::marker::Model;
+use verifier::Verified;
+
+/// A verified program at work, with all the memory that it needs.
+#[derive(Drop)]
+pub struct Machine {
+    verified: Verified,
+    memory: Memory,
+    spent: u64,
+}
+
+impl Model for Machine {
+    ghost use Rattle.std.specs.Prelude.{◌≤◌};
+    ghost use Rattle.machine.specs.Memory.{IsMemory, state_of};
+    ghost use Rattle.machine.specs.Running.{Running};
+
+    ghost Value = { Running };
+
+    ghost view = { λ m. record { program = m.verified; state = state_of m.memory; spent = m.spent } };
+
+    ghost invariant = { λ m. IsMemory m.verified m.memory × (m.spent ≤ m.verified.header.limits.budget) };
+}
+
+impl Machine {
+    ghost use Rattle.std.specs.Prelude.{◌≡◌, ◌+◌, ◌^◌, ◌<◌, ◌≤◌, ◌++◌, length, IfOk, IfErr};
+    ghost use Rattle.machine.specs.Running.{opened_on, open_ones, IsClock, IsRowOf};
+
+    /// A machine before its first clock, or the program again where memory is refused. No other
+    /// call takes memory.
+    pub fn new(alloc: Global, verified: Verified) -> Result<Machine, Verified>
+        ensures machine { IfOk result (λ machine. machine ≡ opened_on verified) }
+        ensures refused { IfErr result (λ same. same ≡ verified) }
+    {
+        match Memory::new(alloc, verified.program()) {
+            Ok(memory) => Ok(Machine {
+                verified,
+                memory,
+                spent: 0,
+            }),
+            Err(_) => Err(verified),
+        }
+    }
+
+    /// A clock over one value for each signal. It adds the attempts that it decides to `out`, which
+    /// has room for as many as the program declares, and takes no memory.
+    pub fn clock(&mut self, row: &[u128], out: &mut ArrayVec<Decided, 1024>)
+        requires row { IsRowOf self.old.program row.now }
+        requires room { length out.old.items + self.old.program.header.limits.attempts ≤ 1024 }
+        requires more { self.old.state.standing.now + 1 < 2 ^ 64 }
+        ensures clock { IsClock self.old row.now out.old.items self.new out.new.items }
+        ensures budget { self.new.spent ≤ self.new.program.header.limits.budget }
+    {
+        self.spent = self.memory.clock(self.verified.program(), row, out);
+    }
+
+    /// How many clocks were run.
+    pub fn now(&self) -> u64
+        ensures { result ≡ self.now.state.standing.now }
+    {
+        self.memory.live.now
+    }
+
+    /// The ticks of the last clock, 0 before the first.
+    pub fn spent(&self) -> u64
+        ensures ticks { result ≡ self.now.spent }
+        ensures budget { result ≤ self.now.program.header.limits.budget }
+    {
+        self.spent
+    }
+
+    /// Adds each live attempt to `out` as open, in order of its start.
+    pub fn open_starts(&self, out: &mut ArrayVec<Decided, 1024>)
+        requires { length out.old.items + self.now.program.header.limits.attempts ≤ 1024 }
+        ensures { out.new.items ≡ out.old.items ++ open_ones self.now.state.standing.attempts }
+    {
+        tell_open(&self.memory.live.attempts, out);
+    }
+}

@@ -1,0 +1,127 @@
+//! The memory of a machine.
+
+ghost use Rattle.std.specs.Prelude.{◌≡◌, ◌+◌, ◌^◌, ◌<◌, ◌≤◌, length, IfOk};
+ghost use Rattle.bytecode.specs.Programs.{data_of};
+ghost use Rattle.verifier.specs.Programs.{IsAccepted};
+ghost use Rattle.checked_machine.specs.Machine.{opening};
+ghost use Rattle.machine.specs.Code.{AreBasesOf};
+ghost use Rattle.machine.specs.Memory.{IsLiveAtFirst, IsMemory, state_of};
+ghost use Rattle.machine.specs.Running.{IsClock, IsRowOf};
+
+use crate::bases::Bases;
+use crate::live::Live;
+use crate::row::push_row;
+use arrayvec::ArrayVec;
+use attempt_pool::Pool;
+use bytecode::Program;
+use history_ring::Ring;
+use inference::Frame;
+use sample_code::{Stack, run};
+use signals::Decided;
+use std::alloc::{AllocError, Global};
+use visits::bases_of;
+
+/// All that a machine needs besides its program; no clock takes more.
+#[derive(Drop)]
+pub(crate) struct Memory {
+    pub(crate) bases: Bases,
+    pub(crate) frame: Frame,
+    pub(crate) history: Ring,
+    pub(crate) row: Vec<u128>,
+    pub(crate) stack: Stack,
+    pub(crate) atoms: Vec<bool>,
+    pub(crate) counters: Vec<u128>,
+    pub(crate) live: Live,
+}
+
+/// No clock was run, and nothing is live.
+fn live_at_first(alloc: Global, program: &Program) -> Result<Live, AllocError>
+    requires { IsAccepted (data_of program.now) }
+    ensures { IfOk result (λ live. IsLiveAtFirst (data_of program.now) live) }
+{
+    let attempts = Pool::new(alloc, program.limits.attempts as usize)?;
+    let obligations = Pool::new(alloc, program.limits.obligations as usize)?;
+    Ok(Live {
+        now: 0,
+        attempts,
+        obligations,
+    })
+}
+
+/// Where the blocks of a program begin.
+fn bases_in(alloc: Global, program: &Program) -> Result<Bases, AllocError>
+    requires { IsAccepted (data_of program.now) }
+    ensures { IfOk result (λ bases. AreBasesOf (data_of program.now) bases) }
+{
+    let antecedent = bases_of(alloc, &program.antecedent)?;
+    let consequent = bases_of(alloc, &program.consequent)?;
+    Ok(Bases {
+        antecedent,
+        consequent,
+    })
+}
+
+impl Memory {
+    /// The memory for a program, before its first clock.
+    pub(crate) fn new(alloc: Global, program: &Program) -> Result<Memory, AllocError>
+        requires { IsAccepted (data_of program.now) }
+        ensures memory { IfOk result (λ memory. IsMemory (data_of program.now) memory) }
+        ensures opening { IfOk result (λ memory. state_of memory ≡ opening (data_of program.now)) }
+    {
+        let bases = bases_in(alloc, program)?;
+        let frame = Frame::of(alloc, program)?;
+        let slots = frame.slots.len();
+        let history = Ring::new(alloc, program.limits.history as usize, slots)?;
+        let row = Vec::from_elem(alloc, 0u128, slots)?;
+        let atoms = Vec::from_elem(alloc, false, program.atoms as usize)?;
+        let counters = Vec::from_elem(alloc, 0u128, program.counters.len())?;
+        let live = live_at_first(alloc, program)?;
+        Ok(Memory {
+            bases,
+            frame,
+            history,
+            row,
+            stack: Stack::new(),
+            atoms,
+            counters,
+            live,
+        })
+    }
+
+    /// A clock over the values of the signals: it adds what it decides to `out`, and answers the
+    /// ticks that it took.
+    pub(crate) fn clock(
+        &mut self,
+        program: &Program,
+        signals: &[u128],
+        out: &mut ArrayVec<Decided, 1024>,
+    ) -> u64
+        requires accepted { IsAccepted (data_of program.now) }
+        requires memory { IsMemory (data_of program.now) self.old }
+        requires row { IsRowOf (data_of program.now) signals.now }
+        requires room { length out.old.items + (data_of program.now).header.limits.attempts ≤ 1024 }
+        requires more { self.old.live.now + 1 < 2 ^ 64 }
+        ensures memory { IsMemory (data_of program.now) self.new }
+        ensures clock { IsClock
+            (record { program = data_of program.now; state = state_of self.old; spent = 0 })
+            signals.now out.old.items
+            (record { program = data_of program.now; state = state_of self.new; spent = result })
+            out.new.items }
+    {
+        let budget = u64::from(program.limits.budget);
+        let counters = self.counters.as_slice();
+        push_row(&mut self.history, self.row.as_mut_slice(), signals, counters);
+        let ticks = run(
+            program,
+            self.frame.slots.as_slice(),
+            &self.history,
+            &mut self.stack,
+            self.atoms.as_mut_slice(),
+            self.counters.as_mut_slice(),
+        );
+        let mut left = budget - ticks;
+        let atoms = self.atoms.as_slice();
+        self.live.clock(program, &self.bases, atoms, &mut left, out);
+        budget - left
+    }
+}
