@@ -4,7 +4,7 @@ use Rattle.std.proofs.Common.{◌≡◌, ◌≢◌, ℕ, ◌+◌, ◌-◌, ◌<�
 use Rattle.std.proofs.Common.{None, refl, sym, ap, ◌∙◌, subst, arith, inl, inr, append_assoc}
 use Rattle.std.proofs.Common.{append-nil}
 use Rattle.std.proofs.lemmas.Bool.Decides.{eqb_tells}
-use Rattle.std.specs.Prelude.{eqb, nat_eq, cond, IsSome}
+use Rattle.std.specs.Prelude.{nat_eq, cond, IsSome}
 use Rattle.std.specs.List.{IsDistinct}
 use Rattle.std.specs.Map.{lookup, set_value, remove_entry, keys_of}
 use Rattle.attempt_pool.specs.Pooled.{Pooled, pooled, first_slot, slot_after}
@@ -53,10 +53,10 @@ pub over : (pool : Pooled ℕ) (at : Option ℕ) (old : Pooled ℕ) → Counting
     → pool ≡ pooled old.cap (counted_down old.live)
 over pool at old h e =
     let end = walk.ends pool.live h.done h.rest
-        (subst (λ (a : Option ℕ). IsAt pool.live a h.done h.rest) e h.stands) in
+    (subst (λ (a : Option ℕ). IsAt pool.live a h.done h.rest) e h.stands) in
     (λ i. pooled (h.cap i)
-        ((end.1 ∙ sym (ap (λ l. h.done ++ l) (ap counted_down end.0 ∙ empty-counted)
-        ∙ append-nil h.done) ∙ h.makes) i))
+    ((end.1 ∙ sym (ap (λ l. h.done ++ l) (ap counted_down end.0 ∙ empty-counted)
+    ∙ append-nil h.done) ∙ h.makes) i))
 
 module _ (pool : Pooled ℕ) (old : Pooled ℕ) (at : Option ℕ) (s : ℕ) (h : Counting pool at old)
     (is : at ≡ Some s) where
@@ -91,18 +91,25 @@ module _ (pool : Pooled ℕ) (old : Pooled ℕ) (at : Option ℕ) (s : ℕ) (h :
     moved done l e stands' makes =
         let lists = ap (λ (p : Pooled ℕ). p.live) e in
         let stands2 : IsAt now.live next done on.tail =
-            subst (λ (a : Option ℕ). IsAt now.live a done on.tail) (sym after)
-            (subst (λ k. IsAt k (slot_after s pool.live) done on.tail) (sym lists) stands') in
-        (record { done = done; rest = on.tail; stands = stands2; makes = makes; cap =
-            ap (λ (p : Pooled ℕ). p.cap) e ∙ h.cap },
-        let less = walk.left_is now.live next done on.tail stands2 in omega (arith, left_before))
+        subst (λ (a : Option ℕ). IsAt now.live a done on.tail) (sym after)
+        (subst (λ k. IsAt k (slot_after s pool.live) done on.tail) (sym lists) stands') in (
+          record {
+            done = done;
+            rest = on.tail;
+            stands = stands2;
+            makes = makes;
+            cap =
+                ap (λ (p : Pooled ℕ). p.cap) e ∙ h.cap;
+          },
+          let less = walk.left_is now.live next done on.tail stands2 in omega (arith, left_before),
+        )
 
     pub retired : n ≡ 0 → now ≡ pooled pool.cap (remove_entry (nat_eq s) pool.live)
         → Counting now next old × (left_at next now.live < left_at at pool.live)
     retired zero e = moved h.done (remove_entry (nat_eq s) pool.live) e
         (walk.retired pool.live s on.item h.done on.tail (Some s) stands)
         (ap (λ l. h.done ++ l) (sym (counted-zero s on.item on.tail (item_is n got ∙ zero)))
-            ∙ total)
+        ∙ total)
 
     pub set : n ≢ 0 → now ≡ pooled pool.cap (set_value (nat_eq s) pool.live (n - 1))
         → Counting now next old × (left_at next now.live < left_at at pool.live)
@@ -111,4 +118,4 @@ module _ (pool : Pooled ℕ) (old : Pooled ℕ) (at : Option ℕ) (s : ℕ) (h :
         (append_assoc h.done ((s, n - 1) ∷ []) (counted_down on.tail)
         ∙ ap (λ (k : ℕ). h.done ++ (s, k - 1) ∷ counted_down on.tail) (sym (item_is n got))
         ∙ ap (λ l. h.done ++ l)
-            (sym (counted-more s on.item on.tail (λ w. more (sym (item_is n got) ∙ w)))) ∙ total)
+        (sym (counted-more s on.item on.tail (λ w. more (sym (item_is n got) ∙ w)))) ∙ total)

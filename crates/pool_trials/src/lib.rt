@@ -4,9 +4,8 @@
 //! The definition: what `count_down` makes of the records in `specs/Counted.antt`.
 #![tactic(auto)]
 
-mod walks;
-
 #[cfg(test)]
 mod tests;
+mod walks;
 
 pub use walks::{count_down, fill, holds, nth};

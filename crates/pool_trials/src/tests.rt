@@ -152,9 +152,11 @@ fn fills(alloc: Global, cap: usize) -> Result<bool, AllocError>
     requires least { 0 < cap }
     requires most { cap ≤ 1024 }
 {
-    Ok(fills_twice(alloc, cap, End::First)?
-        && fills_twice(alloc, cap, End::Middle)?
-        && fills_twice(alloc, cap, End::Last)?)
+    Ok(
+        fills_twice(alloc, cap, End::First)?
+            && fills_twice(alloc, cap, End::Middle)?
+            && fills_twice(alloc, cap, End::Last)?,
+    )
 }
 
 #[test]
