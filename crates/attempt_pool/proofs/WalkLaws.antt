@@ -1,11 +1,12 @@
 -- The steps of a walk over the live records of a pool, for its callers.
---     begins      at `first`
---     head        at a slot: its record, and what is left behind it
--- found, got, after what `get`, `set`, `retire` and `next` ask, what `get` gives, and what `next`
--- gives
---     kept, reset, retired      the walk one slot on, where the record was left, set, or retired
---     ends        at none
---     left, falls      the measure
+--     begins            at `first`
+--     head              at a slot: its record, and what is left behind it
+--     found, got        what `get`, `set`, `retire` and `next` ask, and what `get` gives
+--     after             what `next` gives
+--     kept              the walk one slot on, where the record was left
+--     reset, retired    the same where it was set, or retired
+--     ends              at none
+--     left, left_is     the measure, at a slot and where the walk stands
 use Rattle.std.proofs.Common.{◌≡◌, ℕ, suc, List, [], ◌∷◌, ◌++◌, length, Option, Some, None, refl}
 use Rattle.std.proofs.Common.{sym, ap, ◌∙◌, subst, inl, inr, append_assoc, append-nil}
 use Rattle.std.proofs.lemmas.Bool.Decides.{eqb_tells}
