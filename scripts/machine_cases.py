@@ -144,6 +144,9 @@ def block_cases():
     yield named("failed_attempt_leaves_obligations", over_bits(2, ends, later),
                 columns("1000", "1000"), "0 Fails 1, 1 Vacuous 1, 2 Vacuous 2, 3 Vacuous 3",
                 [15, 19, 12, 9])
+    soon = placed(1, step(0, ("Enter", 1)), [ACCEPT, STOP])
+    yield named("kept_and_broken_at_one_clock", over_bits(2, ends, soon), columns("100", "100"),
+                "0 Fails 1, 1 Vacuous 1, 2 Vacuous 2", [15, 19, 9])
     roomy = changed(pooled(), **{it: MOST[it] for it in
                                  ("history", "stack", "attempts", "obligations", "budget")})
     yield named("limits_at_the_most", roomy, columns("110", "010"),

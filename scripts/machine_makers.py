@@ -1,5 +1,5 @@
 """Makes programs for the machine, with sections that are written by hand or at random, and rows."""
-from machine_model import most
+from machine_model import REDUCES, most
 from verifier_makers import Maker, random_program, random_section, settle
 from verifier_model import MOST, Program, Section
 
@@ -75,16 +75,47 @@ def lively_section(rng, atoms):
     return placed(rng.choice((1, 1, 1, 1, rng.randrange(1 << positions))), *blocks)
 
 
+class LivelyMaker(Maker):
+    """Sample code whose operands are mostly signals and counters, cut or extended to a width."""
+
+    def leaf(self, width):
+        widths = self.program.widths()
+        if self.rng.randrange(6) == 0:
+            return super().leaf(width)
+        slot = self.rng.randrange(1, len(widths))
+        self.emit(*self.rng.choice((("Load", slot), ("Past", slot, self.rng.randrange(1, 4)))))
+        if widths[slot] > width:
+            low = self.rng.randrange(widths[slot] - width + 1)
+            return self.emit("Slice", low + width - 1, low)
+        return self.emit("Zext", width) if widths[slot] < width else None
+
+
+def lively_code(rng, program):
+    """Sample code that stores each counter and sets each atom, to a signal or by all bits of a
+    value that the code makes of signals and counters."""
+    maker = LivelyMaker(rng, program, [])
+    for counter, width in enumerate(program.counters):
+        maker.value(width, rng.choice((1, 1, 2)))
+        maker.emit("Store", counter)
+    for atom in range(program.atoms):
+        if rng.randrange(2):
+            maker.emit("Load", atom + 1)
+        else:
+            maker.value(rng.choice(program.widths()[1:]), rng.choice((1, 1, 2)))
+            maker.emit(rng.choice(("RedXor", *REDUCES)))
+        maker.emit("SetAtom", atom)
+    return maker.whole(rng.randrange(3), 1)
+
+
 def lively_program(rng):
-    """A program whose atoms are mostly signals of one bit."""
+    """A program whose atoms tell much of what its code does."""
     atoms = rng.randrange(1, 5)
-    widths = [1] * atoms + rng.choices((1, 2, 8, 64, 65, 127, 128), k=rng.randrange(3))
+    widths = [1] * atoms + rng.choices((1, 2, 8, 64, 65, 127, 128), k=rng.randrange(4))
     signals = [(width, b"s%d" % it) for it, width in enumerate(widths)]
     counters = rng.choices((1, 2, 8, 16, 64, 128), k=rng.randrange(3))
     disable = rng.randrange(atoms) if rng.randrange(4) == 0 else 255
     program = Program(atoms=atoms, signals=signals, counters=counters, disable=disable)
-    front = [it for at in range(atoms) for it in (("Load", at + 1), ("SetAtom", at))]
-    program.sample = Maker(rng, program, front).whole(rng.randrange(4), rng.choice((1, 1, 2)))
+    program.sample = lively_code(rng, program)
     program.antecedent = lively_section(rng, atoms)
     program.consequent = lively_section(rng, atoms)
     return settle(program)

@@ -64,11 +64,11 @@ def answers_of(oracle, asked):
 
 
 def difference(asked, answer, wanted):
-    """The first line that differs, with all that was asked."""
+    """The first line that differs, with what was asked up to it."""
     for at, line in enumerate(wanted):
         said = answer[at] if at < len(answer) else "nothing"
         if said != line:
-            return "\n".join([*asked, f"--- oracle_machine at clock {at - 1}", said,
+            return "\n".join([*asked[:at + 2], f"--- oracle_machine at clock {at - 1}", said,
                               "--- by the model", line])
     return "\n".join([*asked, "--- oracle_machine says more", *answer[len(wanted):]])
 
