@@ -3,12 +3,14 @@ DUMP ?= crates/oracle_dumps/data/fifo_arb_bug1.vcd
 CLOCK ?= tb.clk
 CASES ?= 1000
 MUTANTS ?= 100000
+PROGRAMS ?= 10000
 SEED ?= 1
 EXAMPLES := $(wildcard crates/demo/data/*/dump.vcd crates/demo/data/*/assertion.sva)
 UNPROVED := Builds svamon without proof, with run-time checks: what you see is unproved and slow. make install proves and installs it.
 
 BYTECODE := crates/oracle_bytecode/out/oracle_bytecode
 VERIFIER := crates/oracle_verifier/out/oracle_verifier
+MACHINE := crates/oracle_machine/out/oracle_machine
 REFUSING := scripts/fail_alloc 3 crates/svamon/out/svamon
 FILES = --vcd examples/$(1)/dump.vcd --sva examples/$(1)/assertion.sva
 
@@ -19,9 +21,9 @@ help:
 	@echo 'make test             the gate: proves all from nothing, and runs tests, programs, and the edits of what changed'
 	@echo 'make test-all         the gate with all edits'
 	@echo 'make edits NAME=      tries the must-fail edits of a crate, and writes its stamp'
-	@echo 'make bench            times reading against the plain C baseline, on dumps of 50 and 200 MB made from DUMP (clock CLOCK), and on odd shapes; reading and checking texts; bytecode; verifying; and judging'
+	@echo 'make bench            times reading against the plain C baseline, on dumps of 50 and 200 MB made from DUMP (clock CLOCK), and on odd shapes; reading and checking texts; bytecode; verifying; judging; and the machine against a plain C one'
 	@echo 'make allocations      refuses each allocation of svamon in turn, and of the reader and writer of bytecode, and of the verifier; and looks at what counts in bytecode take'
-	@echo 'make random           compares svamon with an independent judge on CASES random dumps and texts (SEED), the reader of bytecode with another on MUTANTS random mutants of each of two programs, and the verifier with another on CASES random programs and their mutants'
+	@echo 'make random           compares svamon with an independent judge on CASES random dumps and texts (SEED), the reader of bytecode with another on MUTANTS random mutants of each of two programs, the verifier with another on CASES random programs and their mutants, and the machine with another on PROGRAMS random programs of 100 clocks'
 
 demo:
 	@echo '$(UNPROVED)'
@@ -49,10 +51,10 @@ svamon:
 	cd crates/svamon && rm -f out/svamon && { rt run -- help; test -x out/svamon; }
 
 # Their runs by rt have no cases, and fail.
-oracle_bytecode oracle_verifier:
+oracle_bytecode oracle_verifier oracle_machine:
 	cd crates/$@ && rm -f out/$@ && { rt run > /dev/null 2>&1; test -x out/$@; }
 
-bench: svamon oracle_bytecode oracle_verifier
+bench: svamon oracle_bytecode oracle_verifier oracle_machine
 	cd crates/bench_dumps && rt run > /dev/null
 	bench/run $(DUMP) $(CLOCK)
 	bench/shapes
@@ -63,6 +65,7 @@ bench: svamon oracle_bytecode oracle_verifier
 	bench/bytecode
 	bench/verifier
 	bench/judge
+	bench/machine
 
 allocations: svamon oracle_bytecode oracle_verifier
 	scripts/bytecode_memory.py $(BYTECODE)
@@ -71,9 +74,10 @@ allocations: svamon oracle_bytecode oracle_verifier
 	$(REFUSING) check $(call FILES,one_then_down)
 	$(REFUSING) judge $(call FILES,whole_profile)
 
-random: svamon oracle_bytecode oracle_verifier
+random: svamon oracle_bytecode oracle_verifier oracle_machine
 	scripts/random_bytecode.py $(BYTECODE) $(MUTANTS) $(SEED)
 	scripts/random_verifier.py $(VERIFIER) $(CASES) $(SEED)
+	scripts/random_machine.py $(MACHINE) $(PROGRAMS) 100 $(SEED)
 	cd crates/svamon/out && ../../../scripts/random_judge.py ./svamon $(CASES) $(SEED)
 
-.PHONY: help demo try test test-all edits install svamon oracle_bytecode oracle_verifier bench allocations random
+.PHONY: help demo try test test-all edits install svamon oracle_bytecode oracle_verifier oracle_machine bench allocations random

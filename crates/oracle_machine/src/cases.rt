@@ -1,0 +1,106 @@
+//! Cases and their answers.
+
+ghost use Rattle.std.specs.Prelude.{◌<◌};
+
+use crate::run::Run;
+use anyhow::{Context, Result, bail};
+use signals::{Decided, Verdict};
+use std::alloc::Global;
+use std::io::Print;
+
+/// The value of a hexadecimal digit, 0 for other bytes.
+fn digit(byte: u8) -> u8
+    ensures { result < 16 }
+{
+    match byte {
+        b'0'..=b'9' => byte - b'0',
+        b'a'..=b'f' => byte - b'a' + 10,
+        _ => 0,
+    }
+}
+
+/// The bytes that hexadecimal digits spell, line behind line, each of an even number of digits.
+pub fn bytes_of(alloc: Global, digits: &str) -> Result<Vec<u8>> {
+    let mut bytes = Vec::new(alloc);
+    for line in digits.lines() {
+        for pair in line.as_bytes().chunks_exact(2) {
+            bytes.push(digit(pair[0]) * 16 + digit(pair[1]))?;
+        }
+    }
+    Ok(bytes)
+}
+
+/// The values of a line `row V V ..`.
+fn row_of(alloc: Global, line: &str) -> Result<Vec<u128>> {
+    let mut row = Vec::new(alloc);
+    let values = line.strip_prefix("row").context("no row")?;
+    for value in values.split_whitespace() {
+        row.push(value.parse::<u128>()?)?;
+    }
+    Ok(row)
+}
+
+/// Prints a verdict and its clock.
+fn show_decided<R: Print + AllocGlobal>(rt: &R, decided: &Decided) -> Result<()> {
+    let start = decided.start;
+    match decided.verdict {
+        Verdict::Holds(clock) => print!(rt; " ({start} Holds {clock})")?,
+        Verdict::Vacuous(clock) => print!(rt; " ({start} Vacuous {clock})")?,
+        Verdict::Fails(clock) => print!(rt; " ({start} Fails {clock})")?,
+        Verdict::Disabled(clock) => print!(rt; " ({start} Disabled {clock})")?,
+        Verdict::Open => bail!("decided, and open"),
+    }
+    Ok(())
+}
+
+/// Runs a clock, and prints what it came to.
+fn show_clock<R: Print + AllocGlobal>(rt: &R, run: &mut Run, line: &str) -> Result<()> {
+    let row = row_of(rt.alloc(), line)?;
+    run.clock(row.as_slice())?;
+    let spent = run.spent();
+    print!(rt; "ticks {spent}")?;
+    for decided in run.decided() {
+        show_decided(rt, decided)?;
+    }
+    println!(rt; "")?;
+    Ok(())
+}
+
+/// Prints the starts of the attempts that are live.
+fn show_open<R: Print + AllocGlobal>(rt: &R, run: &mut Run) -> Result<()> {
+    print!(rt; "open")?;
+    for decided in run.open_starts() {
+        let start = decided.start;
+        if decided.verdict != Verdict::Open {
+            bail!("live, and decided");
+        }
+        print!(rt; " {start}")?;
+    }
+    println!(rt; "")?;
+    Ok(())
+}
+
+/// Prints what a case came to.
+fn show_case<R: Print + AllocGlobal>(rt: &R, text: &str) -> Result<()> {
+    let mut lines = text.lines();
+    let name = lines.next().context("no name")?;
+    let program = lines.next().context("no program")?;
+    let digits = program.strip_prefix("program ").context("no program")?;
+    let bytes = bytes_of(rt.alloc(), digits)?;
+    let mut run = Run::new(rt.alloc(), bytes.as_slice())?;
+    println!(rt; "case {name}")?;
+    for line in lines {
+        show_clock(rt, &mut run, line)?;
+    }
+    show_open(rt, &mut run)
+}
+
+/// Prints what each case came to.
+pub fn show_cases<R: Print + AllocGlobal>(rt: &R, text: &str) -> Result<()> {
+    for case in text.split("case ") {
+        if !case.is_empty() {
+            show_case(rt, case)?;
+        }
+    }
+    Ok(())
+}

@@ -1,0 +1,32 @@
+//! Runs programs over rows, and prints what each clock came to.
+//!
+//! Standard input has cases: a line `case NAME`, a line `program HEX` of a file of bytecode, and for
+//! each clock a line `row V V ..` of the signals' values. Of each case it prints `case NAME`, for
+//! each clock a line `ticks T (START VERDICT CLOCK) ..`, and a line `open START ..` of the attempts
+//! that are live behind the last clock. A script (`scripts/machine_cases.py`) made the cases, with
+//! the answers of a machine of its own.
+//!
+//! With a file of hexadecimal digits and a number of clocks as its words it runs the program of
+//! that file over so many clocks of a made-up trace, and prints how long they took.
+#![tactic(auto)]
+
+mod cases;
+mod run;
+mod timing;
+
+use anyhow::{Context, Result};
+use std::io::Read;
+use std::{env, fs};
+
+fn main(rt: HostRuntime) -> Result<()> {
+    let mut args = env::args(&rt)?;
+    let _name = args.next();
+    let Some(path) = args.next() else {
+        let mut text = String::new(rt.alloc());
+        rt.stdin().read_to_string(&mut text)?;
+        return cases::show_cases(&rt, text.as_str());
+    };
+    let clocks = args.next().context("no number of clocks")?;
+    let digits = fs::read_to_string(&rt, path.as_str())?;
+    timing::time_clocks(&rt, digits.as_str(), clocks.as_str().parse::<u64>()?)
+}

@@ -1,0 +1,100 @@
+//! Programs that run.
+
+use anyhow::{Result, bail};
+use arrayvec::ArrayVec;
+use bytecode::{CodeFault, Program, decode};
+use machine::Machine;
+use signals::Decided;
+use std::alloc::Global;
+use verifier::{Refusal, verify};
+
+/// A machine, the widths of its signals, and what its last clock decided.
+#[derive(Drop)]
+pub struct Run {
+    machine: Machine,
+    widths: Vec<u8>,
+    out: ArrayVec<Decided, 1024>,
+}
+
+impl Run {
+    /// Makes a machine of a program that is to be accepted.
+    pub fn new(alloc: Global, bytes: &[u8]) -> Result<Run> {
+        let program = match decode(alloc, bytes) {
+            Ok(program) => program,
+            Err(CodeFault::Memory) => bail!("out of memory"),
+            Err(fault) => bail!("{fault}"),
+        };
+        let widths = widths_of(alloc, &program)?;
+        let verified = match verify(alloc, program) {
+            Ok(verified) => verified,
+            Err(Refusal::Memory) => bail!("out of memory"),
+            Err(refusal) => bail!("{refusal}"),
+        };
+        match Machine::new(alloc, verified) {
+            Ok(machine) => Ok(Run {
+                machine,
+                widths,
+                out: ArrayVec::new(),
+            }),
+            Err(_verified) => bail!("out of memory"),
+        }
+    }
+
+    /// The widths of the signals.
+    pub fn widths(&self) -> &[u8] {
+        self.widths.as_slice()
+    }
+
+    /// Runs a clock.
+    pub fn clock(&mut self, row: &[u128]) -> Result<()> {
+        if !is_row(self.widths.as_slice(), row) {
+            bail!("no row of these signals");
+        }
+        if self.machine.now() == u64::MAX {
+            bail!("too many clocks");
+        }
+        self.out.clear();
+        self.machine.clock(row, &mut self.out);
+        Ok(())
+    }
+
+    /// What the last clock decided.
+    pub fn decided(&self) -> &[Decided] {
+        self.out.as_slice()
+    }
+
+    /// The ticks of the last clock.
+    pub fn spent(&self) -> u64 {
+        self.machine.spent()
+    }
+
+    /// The attempts that are live, each with `Open`.
+    pub fn open_starts(&mut self) -> &[Decided] {
+        self.out.clear();
+        self.machine.open_starts(&mut self.out);
+        self.out.as_slice()
+    }
+}
+
+/// The widths of a program's signals.
+fn widths_of(alloc: Global, program: &Program) -> Result<Vec<u8>> {
+    let mut widths = Vec::new(alloc);
+    for signal in program.signals.as_slice() {
+        widths.push(signal.width)?;
+    }
+    Ok(widths)
+}
+
+/// Whether there is one value for each width, and each fits.
+fn is_row(widths: &[u8], row: &[u128]) -> bool {
+    widths.len() == row.len()
+        && widths
+            .iter()
+            .zip(row.iter())
+            .all(|(width, value)| is_within(*width, *value))
+}
+
+/// Whether a value is below 2 to a width.
+fn is_within(width: u8, value: u128) -> bool {
+    width >= 128 || value >> width == 0
+}
