@@ -27,7 +27,7 @@ run-ticks-requires-clause-rows c =
     let pushed-is : c.push_row.new.history ≡ pushed c.args.self.now.history (1 ∷ (c.args.signals.now ++ c.args.self.now.counters.items)) = c.push_row.ensures ∙ ap (λ l. pushed c.args.self.now.history (1 ∷ (c.args.signals.now ++ l))) counters in
     let here = whole-row p c.args.signals.now c.args.self.now.counters.items c.requires.row c.requires.memory.counters in
     let widths = c.args.self.now.frame.slots.items in
-    let rows = subst (AreRows p widths) (sym pushed-is) (AreRows-pushed p widths c.args.self.now.history (1 ∷ (c.args.signals.now ++ c.args.self.now.counters.items)) here c.requires.memory.history) in
+    let rows = subst (AreRows p widths) (sym pushed-is) (AreRows-pushed p widths c.args.self.now.history (1 ∷ (c.args.signals.now ++ c.args.self.now.counters.items)) (subst (λ ws. AreValues ws (1 ∷ (c.args.signals.now ++ c.args.self.now.counters.items))) (sym c.requires.memory.history.slots) here) c.requires.memory.history) in
     subst (λ ws. AreRows p ws c.push_row.new.history) (sym c.as_slice.ensures.value) rows
 
 pub overflow_sub-left : goal.overflow_sub-left
@@ -44,7 +44,7 @@ returns-clause-memory c =
     let pushed-is : c.push_row.new.history ≡ pushed c.args.self.now.history (1 ∷ (c.args.signals.now ++ c.args.self.now.counters.items)) = c.push_row.ensures ∙ ap (λ l. pushed c.args.self.now.history (1 ∷ (c.args.signals.now ++ l))) counters in
     let here = whole-row p c.args.signals.now c.args.self.now.counters.items c.requires.row c.requires.memory.counters in
     let widths = c.args.self.now.frame.slots.items in
-    let rows = subst (AreRows p widths) (sym pushed-is) (AreRows-pushed p widths c.args.self.now.history (1 ∷ (c.args.signals.now ++ c.args.self.now.counters.items)) here c.requires.memory.history) in
+    let rows = subst (AreRows p widths) (sym pushed-is) (AreRows-pushed p widths c.args.self.now.history (1 ∷ (c.args.signals.now ++ c.args.self.now.counters.items)) (subst (λ ws. AreValues ws (1 ∷ (c.args.signals.now ++ c.args.self.now.counters.items))) (sym c.requires.memory.history.slots) here) c.requires.memory.history) in
     let is-rows : c.push_row.new.history.rows ≡ with_row p c.args.signals.now s = ap (λ h. h.rows) pushed-is ∙ ap (λ d. (1 ∷ (c.args.signals.now ++ c.args.self.now.counters.items)) ∷ take d c.args.self.now.history.rows) c.requires.memory.history.depth in
     let budget : c.from-budget.result ≡ p.header.limits.budget = c.from-budget.ensures in
     let ran = subst (λ old. HasRun p c.push_row.new.history.rows old c.run-ticks.result c.run-ticks.new.atoms c.run-ticks.new.counters) c.as_mut_slice-3.ensures.value c.run-ticks.ensures.ran in
@@ -74,7 +74,7 @@ returns-clause-clock c =
     let pushed-is : c.push_row.new.history ≡ pushed c.args.self.now.history (1 ∷ (c.args.signals.now ++ c.args.self.now.counters.items)) = c.push_row.ensures ∙ ap (λ l. pushed c.args.self.now.history (1 ∷ (c.args.signals.now ++ l))) counters in
     let here = whole-row p c.args.signals.now c.args.self.now.counters.items c.requires.row c.requires.memory.counters in
     let widths = c.args.self.now.frame.slots.items in
-    let rows = subst (AreRows p widths) (sym pushed-is) (AreRows-pushed p widths c.args.self.now.history (1 ∷ (c.args.signals.now ++ c.args.self.now.counters.items)) here c.requires.memory.history) in
+    let rows = subst (AreRows p widths) (sym pushed-is) (AreRows-pushed p widths c.args.self.now.history (1 ∷ (c.args.signals.now ++ c.args.self.now.counters.items)) (subst (λ ws. AreValues ws (1 ∷ (c.args.signals.now ++ c.args.self.now.counters.items))) (sym c.requires.memory.history.slots) here) c.requires.memory.history) in
     let is-rows : c.push_row.new.history.rows ≡ with_row p c.args.signals.now s = ap (λ h. h.rows) pushed-is ∙ ap (λ d. (1 ∷ (c.args.signals.now ++ c.args.self.now.counters.items)) ∷ take d c.args.self.now.history.rows) c.requires.memory.history.depth in
     let budget : c.from-budget.result ≡ p.header.limits.budget = c.from-budget.ensures in
     let ran = subst (λ old. HasRun p c.push_row.new.history.rows old c.run-ticks.result c.run-ticks.new.atoms c.run-ticks.new.counters) c.as_mut_slice-3.ensures.value c.run-ticks.ensures.ran in
