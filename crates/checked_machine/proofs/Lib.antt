@@ -10,3 +10,4 @@ pub mod Samples
 pub mod Accepted
 pub mod Machine
 pub mod Worked
+pub mod Awaited

@@ -6,3 +6,4 @@ pub mod Machine
 pub mod Bounds
 pub mod Laws
 pub mod Worked
+pub mod Awaited

@@ -1,6 +1,7 @@
 //! Laws of the checked machine, each a call that does nothing.
 
 ghost use Rattle.checked_machine.specs.Laws.{NeverTraps, FewAreLive};
+ghost use Rattle.checked_machine.specs.Awaited.{KeepsAwaitedTicks};
 ghost use Rattle.checked_machine.specs.Worked.{TwoPositionsRun};
 
 /// A verified program meets no trap over any rows, and what stands between its clocks is bounded.
@@ -12,4 +13,10 @@ pub fn never_traps()
 /// A run of three clocks, worked out by hand.
 pub fn worked_run()
     ensures { TwoPositionsRun }
+{}
+
+/// The set of all ticks at which an attempt accepted says the same as the list of those whose
+/// obligation is still open.
+pub fn awaited_ticks_law()
+    ensures { KeepsAwaitedTicks }
 {}

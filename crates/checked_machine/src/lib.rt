@@ -15,11 +15,12 @@
 //! `specs/Outcomes.antt` (traps), `specs/Bounds.antt` (what stands between clocks),
 //! `specs/Laws.antt`, `specs/Worked.antt` (a run by hand).
 //! An attempt keeps a mask of all ticks at which it accepted, which is never cleared: it awaits the
-//! obligation of such a tick while that is live.
+//! obligation of such a tick while that is live. A list of the awaited ticks that are open says the
+//! same: `specs/Awaited.antt`.
 //!
 //! Not promised: anything of a machine in code, which is a crate of its own above this one.
 #![tactic(auto)]
 
 mod laws;
 
-pub use laws::{never_traps, worked_run};
+pub use laws::{awaited_ticks_law, never_traps, worked_run};
