@@ -4,11 +4,9 @@ ghost use Rattle.std.specs.Prelude.{◌≡◌, ◌+◌, ◌<◌, ◌≤◌, ◌=
 ghost use Rattle.std.specs.Prelude.{slice_index};
 ghost use Rattle.checked_machine.specs.Samples.{top};
 ghost use Rattle.checked_machine.specs.Machine.{sample_of};
-ghost use Rattle.bytecode.specs.declared.flow.Flow.TheVariants.{GoesOn};
-ghost use Rattle.bytecode.specs.Instructions.{sample_flow};
 ghost use Rattle.sample_code.specs.Operands.{operands, HasOne, HasTwo, HasThree};
 ghost use Rattle.sample_code.specs.Steps.{IsValue, IsHeld, IsReady, Leaves, LeavesAny};
-ghost use Rattle.sample_code.specs.Steps.{atoms_after, counters_after};
+ghost use Rattle.sample_code.specs.Steps.{next_after, atoms_after, counters_after};
 
 use crate::operators::{compared, joined, reduced, shifted};
 use crate::stack::Stack;
@@ -68,7 +66,11 @@ fn join(stack: &mut Stack, operator: JoinOperator)
     ensures { LeavesAny (SampleInstr.Join operator) stack.old stack.new }
 {
     let (left, right) = stack.pop_two();
-    stack.push(joined(operator, left, right));
+    let value = joined(operator, left, right);
+    stack.push(Bits {
+        width: left.width,
+        value,
+    });
 }
 
 /// Takes two values of one width, and leaves a bit.
@@ -78,7 +80,8 @@ fn compare(stack: &mut Stack, operator: CompareOperator)
     ensures { LeavesAny (SampleInstr.Compare operator) stack.old stack.new }
 {
     let (left, right) = stack.pop_two();
-    stack.push(compared(operator, left, right));
+    let value = compared(operator, left, right);
+    stack.push(Bits { width: 1, value });
 }
 
 /// Takes a value and a count, and leaves a value of the first's width.
@@ -88,7 +91,11 @@ fn shift(stack: &mut Stack, operator: ShiftOperator)
     ensures { LeavesAny (SampleInstr.Shift operator) stack.old stack.new }
 {
     let (moved, count) = stack.pop_two();
-    stack.push(shifted(operator, moved, count));
+    let value = shifted(operator, moved, count);
+    stack.push(Bits {
+        width: moved.width,
+        value,
+    });
 }
 
 /// Turns each bit of the top.
@@ -108,7 +115,8 @@ fn reduce(stack: &mut Stack, operator: ReduceOperator)
     ensures { LeavesAny (SampleInstr.Reduce operator) stack.old stack.new }
 {
     let operand = stack.pop();
-    stack.push(reduced(operator, operand));
+    let value = reduced(operator, operand);
+    stack.push(Bits { width: 1, value });
 }
 
 /// Puts the left value above the right one.
@@ -149,8 +157,15 @@ fn choose(stack: &mut Stack)
 {
     let (left, right) = stack.pop_two();
     let bit = stack.pop();
-    let chosen = if bit.value == 1 { left } else { right };
-    stack.push(chosen);
+    let value = if bit.value == 1 {
+        left.value
+    } else {
+        right.value
+    };
+    stack.push(Bits {
+        width: left.width,
+        value,
+    });
 }
 
 /// Takes a bit, which becomes an atom.
@@ -177,19 +192,34 @@ fn store(stack: &mut Stack, counters: &mut [u128], counter: u8)
     counters[usize::from(counter)] = operand.value;
 }
 
-/// Obeys an instruction that goes on to the next.
+/// Takes a bit, and goes to the target where it is 0.
+#[inline]
+fn jump_if_zero(stack: &mut Stack, next: &mut Option<usize>, target: u16)
+    requires { 0 < length stack.old }
+    ensures operands { LeavesAny (SampleInstr.JumpIfZero target) stack.old stack.new }
+    ensures next { next.new ≡ next_after (SampleInstr.JumpIfZero target) stack.old next.old }
+{
+    let bit = stack.pop();
+    if bit.value == 0 {
+        *next = Some(usize::from(target));
+    }
+}
+
+/// Obeys an instruction. `next` is the number of the one behind it, and becomes that of the one to
+/// which it leads, or none where the code ends.
 #[inline]
 pub(crate) fn obey(
     instr: &SampleInstr,
+    next: &mut Option<usize>,
     widths: &[u8],
     ring: &Ring,
     stack: &mut Stack,
     atoms: &mut [bool],
     counters: &mut [u128],
 )
-    requires goes_on { sample_flow instr.now ≡ GoesOn }
-    requires ready { IsReady instr.now widths.now ring.now stack.old
+    requires { IsReady instr.now widths.now ring.now stack.old
         (length atoms.old) (length counters.old) }
+    ensures next { next.new ≡ next_after instr.now stack.old next.old }
     ensures operands { Leaves widths.now (sample_of ring.now.rows) instr.now stack.old stack.new }
     ensures atoms { atoms.new ≡ atoms_after instr.now stack.old atoms.old }
     ensures counters { counters.new ≡ counters_after instr.now stack.old counters.old }
@@ -207,8 +237,10 @@ pub(crate) fn obey(
         SampleInstr::Zext(width) => extend(stack, *width),
         SampleInstr::Slice(high, low) => cut(stack, *high, *low),
         SampleInstr::Mux => choose(stack),
+        SampleInstr::Jump(target) => *next = Some(usize::from(*target)),
+        SampleInstr::JumpIfZero(target) => jump_if_zero(stack, next, *target),
         SampleInstr::SetAtom(atom) => set_atom(stack, atoms, *atom),
         SampleInstr::Store(counter) => store(stack, counters, *counter),
-        _ => unreachable!(),
+        SampleInstr::Halt => *next = None,
     }
 }

@@ -48,8 +48,9 @@ impl Stack {
         requires { length self.old < 1024 }
         ensures { self.new ≡ operand ∷ self.old }
     {
-        self.places[self.depth] = operand;
-        self.depth += 1;
+        let depth = self.depth;
+        self.places[depth] = operand;
+        self.depth = depth + 1;
     }
 
     /// Takes the top off.
@@ -59,8 +60,9 @@ impl Stack {
         ensures taken { self.old ≡ result ∷ self.new }
         ensures room { length self.new < 1024 }
     {
-        self.depth -= 1;
-        self.places[self.depth]
+        let depth = self.depth - 1;
+        self.depth = depth;
+        self.places[depth]
     }
 
     /// Takes two off, of which the right one is on top.

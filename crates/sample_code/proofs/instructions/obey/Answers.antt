@@ -37,3 +37,6 @@ returns-in-SetAtom-clause-operands c = λ f same. rw c.in-SetAtom.is (c.set_atom
 
 pub returns-in-Store-clause-operands : goal.returns-in-Store-clause-operands
 returns-in-Store-clause-operands c = λ f same. rw c.in-Store.is (c.store.ensures.operands f (sample_of c.args.ring.now.rows))
+
+pub returns-in-JumpIfZero-clause-operands : goal.returns-in-JumpIfZero-clause-operands
+returns-in-JumpIfZero-clause-operands c = λ f same. rw c.in-JumpIfZero.is (c.jump_if_zero.ensures.operands f (sample_of c.args.ring.now.rows))

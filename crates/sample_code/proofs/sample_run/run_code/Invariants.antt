@@ -1,12 +1,12 @@
 use Rattle.std.proofs.Common.{◌-◌}
 use Rattle.bytecode.specs.Programs.{data_of}
 use Rattle.sample_code.specs.Runs.{longest_run}
-use Rattle.sample_code.proofs.RunLaws.{Stands}
+use Rattle.sample_code.proofs.RunLaws.{IsAt}
 use Rattle.sample_code.proofs.sample_run.run_code.Given as goal
 
-abbrev pub invariant-loop-target : goal.invariant-loop-target
-invariant-loop-target l =
-    Stands (data_of l.program) l.ring.rows l.fn.counters l.pc l.ticks l.stack l.atoms l.counters
+abbrev pub invariant-loop-next : goal.invariant-loop-next
+invariant-loop-next l =
+    IsAt (data_of l.program) l.ring.rows l.fn.counters l.next l.ticks l.stack l.atoms l.counters
 
-abbrev pub decreases-loop-target : goal.decreases-loop-target
-decreases-loop-target l = longest_run (data_of l.program) - l.ticks
+abbrev pub decreases-loop-next : goal.decreases-loop-next
+decreases-loop-next l = longest_run (data_of l.program) - l.ticks
