@@ -1,12 +1,12 @@
 -- The visits of attempts, one more in front of those that are left.
-use Rattle.std.proofs.Common.{◌≡◌, ℕ, zero, suc, ◌+◌, ◌-◌, ◌*◌, ◌<◌, ◌≤◌, Bool, true, false, ◌||◌, List, []}
-use Rattle.std.proofs.Common.{◌∷◌, ◌++◌, length, map, Option, Some, None, refl, sym, ap, ◌∙◌, subst, arith}
-use Rattle.std.proofs.Common.{append_assoc, append-nil, length-append}
+use Rattle.std.proofs.Common.{◌≡◌, ℕ, suc, ◌+◌, ◌-◌, ◌*◌, ◌<◌, ◌≤◌, Bool, true, false, ◌||◌, List, []}
+use Rattle.std.proofs.Common.{◌∷◌, ◌++◌, length, Option, Some, None, refl, sym, ap, ◌∙◌, subst, arith}
+use Rattle.std.proofs.Common.{append_assoc, append-nil}
 use Rattle.std.proofs.lemmas.List.{map-append}
 use Rattle.std.specs.Prelude.{nat_eq}
 use Rattle.std.specs.Map.{lookup, set_value}
-use Rattle.bytecode.specs.Values.{SectionData, ProgramData}
-use Rattle.verifier.specs.Limits.{path_sum, start_life}
+use Rattle.bytecode.specs.Values.{ProgramData}
+use Rattle.verifier.specs.Limits.{path_sum}
 use Rattle.checked_machine.specs.Outcomes.{Ran, done, trapped, and_then}
 use Rattle.checked_machine.specs.Blocks.{Visit, visit}
 use Rattle.checked_machine.specs.Clocks.{Attempt, Visits, visited, visit_attempts}
@@ -114,22 +114,24 @@ module _ (p : ProgramData) (atoms : List Bool) (now : ℕ) (pool : Pooled Attemp
     next at' is-next after y same e b is-b =
         let moved = steps.reset pool at s i.before i.rest i.stands is x got at' is-next after y e in
         let one : left ≡ suc (left - 1) = omega (arith, affords) in
-        let others = visit_attempts p.antecedent atoms now (attempts_in tail) less in
-        (record {
-          before = i.before ++ (s, y) ∷ [];
-          rest = tail;
-          stands = moved.0;
-          low = x.start + 1;
-          rises = rises-here.2;
-          fits = omega (arith, affords, seen.1);
-          whole =
-              i.whole
-              ∙ ap (λ (l : List (ℕ × AttemptRecord)). and_then (visit_attempts p.antecedent atoms now (attempts_in l) left) (joined (attempts_in i.before) accepted)) split
-              ∙ ap (λ (n : ℕ). and_then (visit_attempts p.antecedent atoms now (attempt_of x ∷ attempts_in tail) n) (joined (attempts_in i.before) accepted)) one
-              ∙ ap (λ (r : Ran Visit). and_then (and_then r (λ v left. and_then (visit_attempts p.antecedent atoms now (attempts_in tail) left) (λ vs left. done (record { attempts = visited now (attempt_of x) v ∷ vs.attempts; accepted = v.accepted || vs.accepted }) left))) (joined (attempts_in i.before) accepted)) visits
-              ∙ joined-more (attempts_in i.before) accepted (visited now (attempt_of x) v) v.accepted others
-              ∙ ap (λ (a : Attempt). and_then others (joined (attempts_in i.before ++ a ∷ []) (accepted || v.accepted))) (sym same)
-              ∙ ap (λ (l : List Attempt). and_then others (joined l (accepted || v.accepted))) (sym (map-append (λ e. attempt_of e.1) i.before ((s, y) ∷ [])))
-              ∙ ap (λ (c : Bool). and_then others (joined (attempts_in (i.before ++ (s, y) ∷ [])) c)) (sym is-b);
-          cap = ap (λ (q : Pooled AttemptRecord). q.cap) e ∙ i.cap;
-        }, moved.1)
+        let others = visit_attempts p.antecedent atoms now (attempts_in tail) less in (
+          record {
+            before = i.before ++ (s, y) ∷ [];
+            rest = tail;
+            stands = moved.0;
+            low = x.start + 1;
+            rises = rises-here.2;
+            fits = omega (arith, affords, seen.1);
+            whole =
+                i.whole
+                ∙ ap (λ (l : List (ℕ × AttemptRecord)). and_then (visit_attempts p.antecedent atoms now (attempts_in l) left) (joined (attempts_in i.before) accepted)) split
+                ∙ ap (λ (n : ℕ). and_then (visit_attempts p.antecedent atoms now (attempt_of x ∷ attempts_in tail) n) (joined (attempts_in i.before) accepted)) one
+                ∙ ap (λ (r : Ran Visit). and_then (and_then r (λ v left. and_then (visit_attempts p.antecedent atoms now (attempts_in tail) left) (λ vs left. done (record { attempts = visited now (attempt_of x) v ∷ vs.attempts; accepted = v.accepted || vs.accepted }) left))) (joined (attempts_in i.before) accepted)) visits
+                ∙ joined-more (attempts_in i.before) accepted (visited now (attempt_of x) v) v.accepted others
+                ∙ ap (λ (a : Attempt). and_then others (joined (attempts_in i.before ++ a ∷ []) (accepted || v.accepted))) (sym same)
+                ∙ ap (λ (l : List Attempt). and_then others (joined l (accepted || v.accepted))) (sym (map-append (λ e. attempt_of e.1) i.before ((s, y) ∷ [])))
+                ∙ ap (λ (c : Bool). and_then others (joined (attempts_in (i.before ++ (s, y) ∷ [])) c)) (sym is-b);
+            cap = ap (λ (q : Pooled AttemptRecord). q.cap) e ∙ i.cap;
+          },
+          moved.1,
+        )

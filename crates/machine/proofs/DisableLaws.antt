@@ -1,6 +1,6 @@
 -- Pools that are emptied from the front.
-use Rattle.std.proofs.Common.{◌≡◌, ℕ, zero, suc, ◌+◌, ◌-◌, ◌<◌, ◌≤◌, List, [], ◌∷◌, ◌++◌, length, map, Option}
-use Rattle.std.proofs.Common.{Some, None, refl, sym, ap, ◌∙◌, subst, arith, append_assoc, append-nil, length-append}
+use Rattle.std.proofs.Common.{◌≡◌, ℕ, suc, ◌+◌, ◌-◌, ◌<◌, ◌≤◌, List, [], ◌∷◌, ◌++◌, length, Option}
+use Rattle.std.proofs.Common.{Some, None, refl, sym, ap, ◌∙◌, arith, append_assoc, append-nil, length-append}
 use Rattle.std.specs.Prelude.{nat_eq, IsSome}
 use Rattle.std.specs.List.{IsDistinct}
 use Rattle.std.specs.Map.{lookup, remove_entry, keys_of}
@@ -9,7 +9,7 @@ use Rattle.signals.specs.declared.verdict.Decided.{Decided}
 use Rattle.checked_machine.specs.Outcomes.{Ran, done, trapped, and_then}
 use Rattle.checked_machine.specs.Clocks.{disable_all}
 use Rattle.attempt_pool.specs.Pooled.{Pooled, pooled, first_slot, slot_after}
-use Rattle.attempt_pool.specs.Walk.{IsAt, left_at}
+use Rattle.attempt_pool.specs.Walk.{IsAt}
 use Rattle.visits.specs.declared.attempt.AttemptRecord.{AttemptRecord}
 use Rattle.visits.specs.Records.{attempt_of}
 use Rattle.machine.specs.Live.{attempts_in, AreDisabled}

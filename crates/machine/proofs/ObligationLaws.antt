@@ -1,13 +1,13 @@
 -- The visits of obligations, one more in front of those that are left.
-use Rattle.std.proofs.Common.{◌≡◌, inl, inr, ℕ, zero, suc, ◌+◌, ◌-◌, ◌*◌, ◌<◌, ◌≤◌, Bool, true, false}
-use Rattle.std.proofs.Common.{if◌then◌else◌, List, [], ◌∷◌, ◌++◌, length, map, Option, Some, None, refl, sym}
+use Rattle.std.proofs.Common.{◌≡◌, ℕ, suc, ◌+◌, ◌-◌, ◌*◌, ◌<◌, ◌≤◌, Bool, true, false}
+use Rattle.std.proofs.Common.{if◌then◌else◌, List, [], ◌∷◌, ◌++◌, length, Option, Some, None, refl, sym}
 use Rattle.std.proofs.Common.{ap, ◌∙◌, subst, arith, append_assoc, append-nil, bit_or}
 use Rattle.std.proofs.lemmas.List.{map-append}
 use Rattle.std.proofs.lemmas.Nat.Bits.{bit_at_or, same_from_bits}
 use lib.Bits.{or_zero_l, or_zero_r}
 use Rattle.std.specs.Prelude.{nat_eq}
 use Rattle.std.specs.Map.{lookup, set_value, remove_entry}
-use Rattle.bytecode.specs.Values.{SectionData, ProgramData}
+use Rattle.bytecode.specs.Values.{ProgramData}
 use Rattle.verifier.specs.Limits.{path_sum}
 use Rattle.checked_machine.specs.Outcomes.{Ran, done, trapped, and_then}
 use Rattle.checked_machine.specs.Blocks.{Visit, visit}
@@ -186,7 +186,9 @@ module _ (p : ProgramData) (atoms : List Bool) (now : ℕ) (pool : Pooled Obliga
     pub reset : is_ended fate ≡ false → (next : Option ℕ) → next ≡ slot_after s pool.live → (after : Pooled ObligationRecord) (y : ObligationRecord) → obligation_of y ≡ left_open fate → after ≡ pooled pool.cap (set_value (nat_eq s) pool.live y) → (noted : Fates) → noted.open_ticks ≡ bit_or fates.open_ticks (mark_if is_open now fate) → noted.broken_ticks ≡ bit_or fates.broken_ticks (mark_if is_broken now fate) → Visiting p atoms now after next less noted old first × (left_at next after.live < left_at at pool.live)
     reset going next is-next after y same e noted opening breaking =
         let moved = steps.reset pool at s i.before i.rest i.stands is x got next is-next after y e in
-        let one : stays fate ≡ left_open fate ∷ [] = ap (λ (b : Bool). if b then [] else left_open fate ∷ []) going in
-        (moved-on after next (i.before ++ (s, y) ∷ []) moved.0
-        (map-append (λ e. obligation_of e.1) i.before ((s, y) ∷ []) ∙ ap (λ (o : Obligation). obligations_in i.before ++ o ∷ []) same ∙ ap (λ (l : List Obligation). obligations_in i.before ++ l) (sym one))
-        (ap (λ (q : Pooled ObligationRecord). q.cap) e) noted opening breaking, moved.1)
+        let one : stays fate ≡ left_open fate ∷ [] = ap (λ (b : Bool). if b then [] else left_open fate ∷ []) going in (
+          moved-on after next (i.before ++ (s, y) ∷ []) moved.0
+              (map-append (λ e. obligation_of e.1) i.before ((s, y) ∷ []) ∙ ap (λ (o : Obligation). obligations_in i.before ++ o ∷ []) same ∙ ap (λ (l : List Obligation). obligations_in i.before ++ l) (sym one))
+              (ap (λ (q : Pooled ObligationRecord). q.cap) e) noted opening breaking,
+          moved.1,
+        )

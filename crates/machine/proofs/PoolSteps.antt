@@ -1,5 +1,5 @@
 -- A walk over the live records of a pool, one slot on.
-use Rattle.std.proofs.Common.{◌≡◌, ℕ, ◌+◌, ◌<◌, List, [], ◌∷◌, ◌++◌, length, Option, Some, None, refl}
+use Rattle.std.proofs.Common.{◌≡◌, ℕ, ◌+◌, ◌<◌, List, [], ◌∷◌, ◌++◌, length, Option, Some, None}
 use Rattle.std.proofs.Common.{sym, ap, ◌∙◌, subst, arith}
 use Rattle.std.specs.Prelude.{nat_eq, IsSome}
 use Rattle.std.specs.List.{IsDistinct}
@@ -65,8 +65,7 @@ module _ {T : Type 0} where
         unfolding tail
         kept =
             let stood = walk.kept pool.live s on.item done on.tail (Some s) stands in
-            let there : IsAt pool.live next (done ++ (s, on.item) ∷ []) on.tail = subst (λ (a : Option ℕ). IsAt pool.live a (done ++ (s, on.item) ∷ []) on.tail) (sym after) stood in
-            (
+            let there : IsAt pool.live next (done ++ (s, on.item) ∷ []) on.tail = subst (λ (a : Option ℕ). IsAt pool.live a (done ++ (s, on.item) ∷ []) on.tail) (sym after) stood in (
               subst (λ (y : T). IsAt pool.live next (done ++ (s, y) ∷ []) on.tail) item_is there,
               let less = walk.left_is pool.live next (done ++ (s, on.item) ∷ []) on.tail there in omega (arith, left_before),
             )

@@ -1,5 +1,5 @@
 -- How attempts are settled, one more in front of those that are left.
-use Rattle.std.proofs.Common.{◌≡◌, ℕ, zero, suc, ◌+◌, ◌-◌, ◌<◌, ◌≤◌, List, [], ◌∷◌, ◌++◌, length, map, Option}
+use Rattle.std.proofs.Common.{◌≡◌, ℕ, suc, ◌+◌, ◌-◌, ◌<◌, ◌≤◌, List, [], ◌∷◌, ◌++◌, length, Option}
 use Rattle.std.proofs.Common.{Some, None, refl, sym, ap, ◌∙◌, subst, arith, append_assoc, append-nil, length-append}
 use Rattle.std.proofs.lemmas.List.{map-append}
 use Rattle.std.specs.Prelude.{nat_eq}
@@ -8,8 +8,8 @@ use Rattle.signals.specs.declared.verdict.Verdict.{Verdict}
 use Rattle.signals.specs.declared.verdict.Verdict.TheVariants.{Open}
 use Rattle.signals.specs.declared.verdict.Decided.{Decided}
 use Rattle.checked_machine.specs.Outcomes.{Ran, done, trapped, and_then}
-use Rattle.checked_machine.specs.Clocks.{Attempt, Fate, Settlement, settle, settle_all, disable_all, stays, ends}
-use Rattle.attempt_pool.specs.Pooled.{Pooled, pooled, first_slot, slot_after}
+use Rattle.checked_machine.specs.Clocks.{Attempt, Fate, Settlement, settle, settle_all, stays, ends}
+use Rattle.attempt_pool.specs.Pooled.{Pooled, pooled, slot_after}
 use Rattle.attempt_pool.specs.Walk.{IsAt, left_at}
 use Rattle.visits.specs.declared.attempt.AttemptRecord.{AttemptRecord}
 use Rattle.visits.specs.declared.fates.Fates.{Fates}
@@ -111,41 +111,45 @@ module _ (now : ℕ) (fates : Fates) (pool : Pooled AttemptRecord) (at : Option 
 
   pub kept : SettlesAs now fates (attempt_of x) None → (next : Option ℕ) → next ≡ slot_after s pool.live → Settling now fates pool next (left - 1) out old first told × (left_at next pool.live < left_at at pool.live)
   kept settles next is-next =
-      let moved = steps.kept pool at s i.before i.rest i.stands is x got next is-next in
-      (record {
-        before = i.before ++ (s, x) ∷ [];
-        rest = tail;
-        stands = moved.0;
-        begun = begun-here.1;
-        fits = omega (arith, long, i.fits);
-        decided = i.decided;
-        tells = i.tells;
-        room = omega (arith, long, i.room);
-        whole = λ fs recent sets.
-            on None settles fs recent sets
-            ∙ joined-stays (attempts_in i.before) i.decided (attempt_of x) (settle_all now fs (attempts_in tail) (left - 1))
-            ∙ ap (λ (l : List Attempt). and_then (settle_all now fs (attempts_in tail) (left - 1)) (joined l i.decided)) (sym (map-append (λ e. attempt_of e.1) i.before ((s, x) ∷ [])));
-        cap = i.cap;
-      }, moved.1)
+      let moved = steps.kept pool at s i.before i.rest i.stands is x got next is-next in (
+        record {
+          before = i.before ++ (s, x) ∷ [];
+          rest = tail;
+          stands = moved.0;
+          begun = begun-here.1;
+          fits = omega (arith, long, i.fits);
+          decided = i.decided;
+          tells = i.tells;
+          room = omega (arith, long, i.room);
+          whole = λ fs recent sets.
+              on None settles fs recent sets
+              ∙ joined-stays (attempts_in i.before) i.decided (attempt_of x) (settle_all now fs (attempts_in tail) (left - 1))
+              ∙ ap (λ (l : List Attempt). and_then (settle_all now fs (attempts_in tail) (left - 1)) (joined l i.decided)) (sym (map-append (λ e. attempt_of e.1) i.before ((s, x) ∷ [])));
+          cap = i.cap;
+        },
+        moved.1,
+      )
 
   pub retired : (v : Verdict) → SettlesAs now fates (attempt_of x) (Some v) → (next : Option ℕ) → next ≡ slot_after s pool.live → (after : Pooled AttemptRecord) → after ≡ pooled pool.cap (remove_entry (nat_eq s) pool.live) → (more : List Decided) → more ≡ out ++ record { start = x.start; verdict = v } ∷ [] → Settling now fates after next (left - 1) more old first told × (left_at next after.live < left_at at pool.live)
   retired v settles next is-next after e more is-more =
       let moved = steps.retired pool at s i.before i.rest i.stands is x got next is-next after e in
-      let longer : length more ≡ length out + 1 = ap length is-more ∙ length-append out (record { start = x.start; verdict = v } ∷ []) in
-      (record {
-        before = i.before;
-        rest = tail;
-        stands = moved.0;
-        begun = begun-here.1;
-        fits = omega (arith, long, i.fits);
-        decided = i.decided ++ record { start = x.start; verdict = v } ∷ [];
-        tells = is-more ∙ ap (λ (l : List Decided). l ++ record { start = x.start; verdict = v } ∷ []) i.tells ∙ append_assoc told i.decided (record { start = x.start; verdict = v } ∷ []);
-        room = omega (arith, long, i.room, longer);
-        whole = λ fs recent sets.
-            on (Some v) settles fs recent sets
-            ∙ joined-ends (attempts_in i.before) i.decided (attempt_of x) v (settle_all now fs (attempts_in tail) (left - 1));
-        cap = ap (λ (q : Pooled AttemptRecord). q.cap) e ∙ i.cap;
-      }, moved.1)
+      let longer : length more ≡ length out + 1 = ap length is-more ∙ length-append out (record { start = x.start; verdict = v } ∷ []) in (
+        record {
+          before = i.before;
+          rest = tail;
+          stands = moved.0;
+          begun = begun-here.1;
+          fits = omega (arith, long, i.fits);
+          decided = i.decided ++ record { start = x.start; verdict = v } ∷ [];
+          tells = is-more ∙ ap (λ (l : List Decided). l ++ record { start = x.start; verdict = v } ∷ []) i.tells ∙ append_assoc told i.decided (record { start = x.start; verdict = v } ∷ []);
+          room = omega (arith, long, i.room, longer);
+          whole = λ fs recent sets.
+              on (Some v) settles fs recent sets
+              ∙ joined-ends (attempts_in i.before) i.decided (attempt_of x) v (settle_all now fs (attempts_in tail) (left - 1));
+          cap = ap (λ (q : Pooled AttemptRecord). q.cap) e ∙ i.cap;
+        },
+        moved.1,
+      )
 
 -- a walk that tells each attempt as open
 pub record Telling (pool : Pooled AttemptRecord) (at : Option ℕ) (out told : List Decided) : Type 0 where
@@ -178,12 +182,14 @@ module _ (pool : Pooled AttemptRecord) (at : Option ℕ) (out told : List Decide
       let moved = steps.kept pool at s i.before i.rest i.stands is x got next is-next in
       let grown : length more ≡ length out + 1 = ap length is-more ∙ length-append out (one ∷ []) in
       let all : open_ones (attempts_in (i.before ++ (s, x) ∷ [])) ≡ open_ones (attempts_in i.before) ++ one ∷ [] =
-          ap (λ (l : List Attempt). open_ones l) (map-append (λ e. attempt_of e.1) i.before ((s, x) ∷ []))
-          ∙ map-append (λ (a : Attempt). record { start = a.start; verdict = Open }) (attempts_in i.before) (attempt_of x ∷ []) in
-      (record {
-        before = i.before ++ (s, x) ∷ [];
-        rest = steps.tail pool at s i.before i.rest i.stands is;
-        stands = moved.0;
-        tells = is-more ∙ ap (λ (l : List Decided). l ++ one ∷ []) i.tells ∙ append_assoc told (open_ones (attempts_in i.before)) (one ∷ []) ∙ ap (λ (l : List Decided). told ++ l) (sym all);
-        room = omega (arith, longer, i.room, grown);
-      }, moved.1)
+      ap (λ (l : List Attempt). open_ones l) (map-append (λ e. attempt_of e.1) i.before ((s, x) ∷ []))
+      ∙ map-append (λ (a : Attempt). record { start = a.start; verdict = Open }) (attempts_in i.before) (attempt_of x ∷ []) in (
+        record {
+          before = i.before ++ (s, x) ∷ [];
+          rest = steps.tail pool at s i.before i.rest i.stands is;
+          stands = moved.0;
+          tells = is-more ∙ ap (λ (l : List Decided). l ++ one ∷ []) i.tells ∙ append_assoc told (open_ones (attempts_in i.before)) (one ∷ []) ∙ ap (λ (l : List Decided). told ++ l) (sym all);
+          room = omega (arith, longer, i.room, grown);
+        },
+        moved.1,
+      )

@@ -1,4 +1,4 @@
 pub mod Live
 pub mod Code
-pub mod Memory
 pub mod Running
+pub mod Memory

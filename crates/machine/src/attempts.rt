@@ -3,14 +3,12 @@
 ghost use Rattle.std.specs.Prelude.{◌≡◌, ◌+◌, ◌*◌, ◌≤◌, ◌++◌, [], length};
 ghost use Rattle.bytecode.specs.Programs.{data_of};
 ghost use Rattle.verifier.specs.Programs.{IsAccepted};
-ghost use Rattle.verifier.specs.Limits.{path_sum};
 ghost use Rattle.attempt_pool.specs.Pooled.{pooled};
 ghost use Rattle.checked_machine.specs.Outcomes.{done};
 ghost use Rattle.checked_machine.specs.Clocks.{visit_attempts};
-ghost use Rattle.checked_machine.proofs.Parts.{began, IsRunning};
-ghost use Rattle.checked_machine.specs.Bounds.{Rises};
 ghost use Rattle.visits.specs.Bases.{AreBases};
-ghost use Rattle.machine.specs.Live.{attempts_in, HaveBegun, AreSettled, AreDisabled};
+ghost use Rattle.machine.specs.Live.{attempts_in, visit_cost, AreRunning, HaveBegun, AreSettled};
+ghost use Rattle.machine.specs.Live.{AreDisabled};
 ghost use Rattle.machine.specs.Running.{open_ones};
 
 use arrayvec::ArrayVec;
@@ -31,13 +29,12 @@ pub(crate) fn visit_attempts(
     requires accepted { IsAccepted (data_of program.now) }
     requires bases { AreBases (data_of program.now).antecedent.blocks bases.now }
     requires atoms { length atoms.now ≡ (data_of program.now).header.atoms }
-    requires running { Rises began (IsRunning (data_of program.now) now) 0 (now + 1) (attempts_in pool.old.live) }
-    requires fits { length pool.old.live * (1 + path_sum 0 (data_of program.now).antecedent.blocks) ≤ left.old }
+    requires running { AreRunning (data_of program.now) now (attempts_in pool.old.live) }
+    requires fits { length pool.old.live * visit_cost (data_of program.now).antecedent ≤ left.old }
     ensures cap { pool.new.cap ≡ pool.old.cap }
-    ensures visits {
-        visit_attempts (data_of program.now).antecedent atoms.now now (attempts_in pool.old.live) left.old
-        ≡ done (record { attempts = attempts_in pool.new.live; accepted = result }) left.new
-    }
+    ensures visits { visit_attempts (data_of program.now).antecedent atoms.now now
+        (attempts_in pool.old.live) left.old
+        ≡ done (record { attempts = attempts_in pool.new.live; accepted = result }) left.new }
 {
     let mut accepted = false;
     let mut at = pool.first();
@@ -64,7 +61,8 @@ pub(crate) fn settle_attempts(
     requires fits { length pool.old.live ≤ left.old }
     requires room { length out.old.items + length pool.old.live ≤ 1024 }
     ensures cap { pool.new.cap ≡ pool.old.cap }
-    ensures settled { AreSettled now fates (attempts_in pool.old.live) left.old out.old.items (attempts_in pool.new.live) left.new out.new.items }
+    ensures settled { AreSettled now fates (attempts_in pool.old.live) left.old out.old.items
+        (attempts_in pool.new.live) left.new out.new.items }
 {
     let mut at = pool.first();
     while let Some(slot) = at {
@@ -72,7 +70,10 @@ pub(crate) fn settle_attempts(
         let attempt = pool.get(slot);
         *left -= 1;
         if let Some(verdict) = attempt.verdict(fates, now) {
-            out.push(Decided { start: attempt.start, verdict });
+            out.push(Decided {
+                start: attempt.start,
+                verdict,
+            });
             pool.retire(slot);
         }
     }
@@ -88,13 +89,17 @@ pub(crate) fn disable_attempts(
     requires fits { length pool.old.live ≤ left.old }
     requires room { length out.old.items + length pool.old.live ≤ 1024 }
     ensures none { pool.new ≡ pooled pool.old.cap [] }
-    ensures disabled { AreDisabled now (attempts_in pool.old.live) left.old out.old.items left.new out.new.items }
+    ensures disabled { AreDisabled now (attempts_in pool.old.live) left.old out.old.items
+        left.new out.new.items }
 {
     while let Some(slot) = pool.first() {
         let attempt = pool.get(slot);
         *left -= 1;
         let verdict = Verdict::Disabled(now);
-        out.push(Decided { start: attempt.start, verdict });
+        out.push(Decided {
+            start: attempt.start,
+            verdict,
+        });
         pool.retire(slot);
     }
 }

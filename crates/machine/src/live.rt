@@ -6,11 +6,12 @@ ghost use Rattle.verifier.specs.Programs.{IsAccepted};
 ghost use Rattle.checked_machine.specs.Clocks.{disabling};
 ghost use Rattle.checked_machine.specs.Bounds.{IsReached};
 ghost use Rattle.machine.specs.Code.{AreBasesOf};
-ghost use Rattle.machine.specs.Live.{attempts_in, obligations_in, standing_of, new_attempt, with_new};
+ghost use Rattle.machine.specs.Live.{attempts_in, obligations_in, standing_of, new_attempt};
+ghost use Rattle.machine.specs.Live.{with_new};
 ghost use Rattle.machine.specs.Live.{live_budget, ArePoolsOf, HasAdvanced};
 
-use crate::bases::Bases;
 use crate::attempts::{disable_attempts, settle_attempts, visit_attempts};
+use crate::bases::Bases;
 use crate::obligations::{drop_obligations, visit_obligations};
 use arrayvec::ArrayVec;
 use attempt_pool::Pool;
@@ -53,12 +54,7 @@ fn open_attempt(program: &Program, now: u64, pool: &mut Pool<AttemptRecord>)
 }
 
 /// Opens the obligation of the clock `now` where an attempt accepted.
-fn open_obligation(
-    accepted: bool,
-    program: &Program,
-    now: u64,
-    pool: &mut Pool<ObligationRecord>,
-)
+fn open_obligation(accepted: bool, program: &Program, now: u64, pool: &mut Pool<ObligationRecord>)
     requires { length pool.old.live < pool.old.cap }
     ensures cap { pool.new.cap ≡ pool.old.cap }
     ensures opened { obligations_in pool.new.live
@@ -87,16 +83,20 @@ impl Live {
         requires bases { AreBasesOf (data_of program.now) bases.now }
         requires atoms { length atoms.now ≡ (data_of program.now).header.atoms }
         requires more { self.old.now + 1 < 2 ^ 64 }
-        requires pools { ArePoolsOf (data_of program.now) self.old.attempts.cap self.old.obligations.cap }
+        requires pools { ArePoolsOf (data_of program.now)
+            self.old.attempts.cap self.old.obligations.cap }
         requires reached { IsReached (data_of program.now)
             (standing_of self.old.now self.old.attempts self.old.obligations) }
         requires budget { live_budget (data_of program.now) ≤ left.old }
         requires room { length out.old.items + (data_of program.now).header.limits.attempts ≤ 1024 }
-        ensures pools { ArePoolsOf (data_of program.now) self.new.attempts.cap self.new.obligations.cap }
+        ensures pools { ArePoolsOf (data_of program.now)
+            self.new.attempts.cap self.new.obligations.cap }
         ensures fewer { left.new ≤ left.old }
         ensures advanced { HasAdvanced (data_of program.now)
-            (standing_of self.old.now self.old.attempts self.old.obligations) atoms.now left.old out.old.items
-            (standing_of self.new.now self.new.attempts self.new.obligations) left.new out.new.items }
+            (standing_of self.old.now self.old.attempts self.old.obligations) atoms.now
+            left.old out.old.items
+            (standing_of self.new.now self.new.attempts self.new.obligations)
+            left.new out.new.items }
     {
         open_attempt(program, self.now, &mut self.attempts);
         if is_disabled(program, atoms) {

@@ -17,15 +17,14 @@ pub struct Machine {
 }
 
 impl Model for Machine {
-    ghost use Rattle.std.specs.Prelude.{◌≤◌};
-    ghost use Rattle.machine.specs.Memory.{IsMemory, state_of};
+    ghost use Rattle.machine.specs.Memory.{running_of, IsMachine};
     ghost use Rattle.machine.specs.Running.{Running};
 
     ghost Value = { Running };
 
-    ghost view = { λ m. record { program = m.verified; state = state_of m.memory; spent = m.spent } };
+    ghost view = { λ m. running_of m.verified m.memory m.spent };
 
-    ghost invariant = { λ m. IsMemory m.verified m.memory × (m.spent ≤ m.verified.header.limits.budget) };
+    ghost invariant = { λ m. IsMachine m.verified m.memory m.spent };
 }
 
 impl Machine {

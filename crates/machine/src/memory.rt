@@ -110,7 +110,8 @@ impl Memory {
     {
         let budget = u64::from(program.limits.budget);
         let counters = self.counters.as_slice();
-        push_row(&mut self.history, self.row.as_mut_slice(), signals, counters);
+        let row = self.row.as_mut_slice();
+        push_row(&mut self.history, row, signals, counters);
         let ticks = run(
             program,
             self.frame.slots.as_slice(),

@@ -3,12 +3,10 @@
 ghost use Rattle.std.specs.Prelude.{◌≡◌, ◌+◌, ◌*◌, ◌≤◌, [], length};
 ghost use Rattle.bytecode.specs.Programs.{data_of};
 ghost use Rattle.verifier.specs.Programs.{IsAccepted};
-ghost use Rattle.verifier.specs.Limits.{path_sum};
 ghost use Rattle.attempt_pool.specs.Pooled.{pooled};
-ghost use Rattle.checked_machine.proofs.Parts.{since, IsOwed};
-ghost use Rattle.checked_machine.specs.Bounds.{Rises};
 ghost use Rattle.visits.specs.Bases.{AreBases};
-ghost use Rattle.machine.specs.Live.{obligations_in, OpenedLately, AreVisited};
+ghost use Rattle.machine.specs.Live.{obligations_in, visit_cost, AreOwed, OpenedLately};
+ghost use Rattle.machine.specs.Live.{AreVisited};
 
 use attempt_pool::Pool;
 use bytecode::Program;
@@ -27,11 +25,12 @@ pub(crate) fn visit_obligations(
     requires accepted { IsAccepted (data_of program.now) }
     requires bases { AreBases (data_of program.now).consequent.blocks bases.now }
     requires atoms { length atoms.now ≡ (data_of program.now).header.atoms }
-    requires owed { Rises since (IsOwed (data_of program.now) now) 0 (now + 1) (obligations_in pool.old.live) }
+    requires owed { AreOwed (data_of program.now) now (obligations_in pool.old.live) }
     requires recent { OpenedLately now (obligations_in pool.old.live) }
-    requires fits { length pool.old.live * (1 + path_sum 0 (data_of program.now).consequent.blocks) ≤ left.old }
+    requires fits { length pool.old.live * visit_cost (data_of program.now).consequent ≤ left.old }
     ensures cap { pool.new.cap ≡ pool.old.cap }
-    ensures visits { AreVisited (data_of program.now).consequent atoms.now now (obligations_in pool.old.live) left.old (obligations_in pool.new.live) left.new result }
+    ensures visits { AreVisited (data_of program.now).consequent atoms.now now
+        (obligations_in pool.old.live) left.old (obligations_in pool.new.live) left.new result }
 {
     let mut fates = Fates::none();
     let mut at = pool.first();
@@ -39,7 +38,13 @@ pub(crate) fn visit_obligations(
         at = pool.next(slot);
         let obligation = pool.get(slot);
         *left -= 1;
-        let made = visit_positions(&program.consequent, bases, atoms, obligation.positions, left);
+        let made = visit_positions(
+            &program.consequent,
+            bases,
+            atoms,
+            obligation.positions,
+            left,
+        );
         fates.note(obligation, made, now);
         if obligation.is_ended(made) {
             pool.retire(slot);

@@ -7,6 +7,7 @@ use anyhow::{Context, Result, bail};
 use signals::{Decided, Verdict};
 use std::alloc::Global;
 use std::io::Print;
+use std::str::Lines;
 
 /// The value of a hexadecimal digit, 0 for other bytes.
 fn digit(byte: u8) -> u8
@@ -80,6 +81,20 @@ fn show_open<R: Print + AllocGlobal>(rt: &R, run: &mut Run) -> Result<()> {
     Ok(())
 }
 
+/// Runs a clock for each line, and prints what they came to.
+fn show_run<R: Print + AllocGlobal>(
+    rt: &R,
+    name: &str,
+    run: &mut Run,
+    rows: &mut Lines<'_>,
+) -> Result<()> {
+    println!(rt; "case {name}")?;
+    for line in rows {
+        show_clock(rt, run, line)?;
+    }
+    show_open(rt, run)
+}
+
 /// Prints what a case came to.
 fn show_case<R: Print + AllocGlobal>(rt: &R, text: &str) -> Result<()> {
     let mut lines = text.lines();
@@ -88,11 +103,7 @@ fn show_case<R: Print + AllocGlobal>(rt: &R, text: &str) -> Result<()> {
     let digits = program.strip_prefix("program ").context("no program")?;
     let bytes = bytes_of(rt.alloc(), digits)?;
     let mut run = Run::new(rt.alloc(), bytes.as_slice())?;
-    println!(rt; "case {name}")?;
-    for line in lines {
-        show_clock(rt, &mut run, line)?;
-    }
-    show_open(rt, &mut run)
+    show_run(rt, name, &mut run, &mut lines)
 }
 
 /// Prints what each case came to.

@@ -1,12 +1,15 @@
 //! Programs that run.
 
+ghost use Rattle.std.specs.Prelude.{◌≡◌, ◌<◌, ◌≤◌, ◌^◌, map, true, IfOk};
+ghost use Rattle.sample_code.specs.Memory.{AreValues};
+
 use anyhow::{Result, bail};
 use arrayvec::ArrayVec;
 use bytecode::{CodeFault, Program, decode};
 use machine::Machine;
 use signals::Decided;
 use std::alloc::Global;
-use verifier::{Refusal, verify};
+use verifier::{Refusal, Verified, verify};
 
 /// A machine, the widths of its signals, and what its last clock decided.
 #[derive(Drop)]
@@ -14,22 +17,29 @@ pub struct Run {
     machine: Machine,
     widths: Vec<u8>,
     out: ArrayVec<Decided, 1024>,
+    ghost tied: { widths.items ≡ map (λ s. s.width) machine.program.signals },
+    ghost few: { machine.program.header.limits.attempts ≤ 1024 },
+}
+
+/// The program that a file spells, verified.
+fn verified_of(alloc: Global, bytes: &[u8]) -> Result<Verified> {
+    let program = match decode(alloc, bytes) {
+        Ok(program) => program,
+        Err(CodeFault::Memory) => bail!("out of memory"),
+        Err(fault) => bail!("{fault}"),
+    };
+    match verify(alloc, program) {
+        Ok(verified) => Ok(verified),
+        Err(Refusal::Memory) => bail!("out of memory"),
+        Err(refusal) => bail!("{refusal}"),
+    }
 }
 
 impl Run {
     /// Makes a machine of a program that is to be accepted.
     pub fn new(alloc: Global, bytes: &[u8]) -> Result<Run> {
-        let program = match decode(alloc, bytes) {
-            Ok(program) => program,
-            Err(CodeFault::Memory) => bail!("out of memory"),
-            Err(fault) => bail!("{fault}"),
-        };
-        let widths = widths_of(alloc, &program)?;
-        let verified = match verify(alloc, program) {
-            Ok(verified) => verified,
-            Err(Refusal::Memory) => bail!("out of memory"),
-            Err(refusal) => bail!("{refusal}"),
-        };
+        let verified = verified_of(alloc, bytes)?;
+        let widths = widths_of(alloc, verified.program())?;
         match Machine::new(alloc, verified) {
             Ok(machine) => Ok(Run {
                 machine,
@@ -77,7 +87,9 @@ impl Run {
 }
 
 /// The widths of a program's signals.
-fn widths_of(alloc: Global, program: &Program) -> Result<Vec<u8>> {
+fn widths_of(alloc: Global, program: &Program) -> Result<Vec<u8>>
+    ensures { IfOk result (λ widths. widths.items ≡ map (λ s. s.width) program.now.signals.items) }
+{
     let mut widths = Vec::new(alloc);
     for signal in program.signals.as_slice() {
         widths.push(signal.width)?;
@@ -86,15 +98,23 @@ fn widths_of(alloc: Global, program: &Program) -> Result<Vec<u8>> {
 }
 
 /// Whether there is one value for each width, and each fits.
-fn is_row(widths: &[u8], row: &[u128]) -> bool {
-    widths.len() == row.len()
-        && widths
-            .iter()
-            .zip(row.iter())
-            .all(|(width, value)| is_within(*width, *value))
+fn is_row(widths: &[u8], row: &[u128]) -> bool
+    ensures { result ≡ true → AreValues widths.now row.now }
+{
+    if widths.len() != row.len() {
+        return false;
+    }
+    for index in 0..row.len() {
+        if !is_within(widths[index], row[index]) {
+            return false;
+        }
+    }
+    true
 }
 
 /// Whether a value is below 2 to a width.
-fn is_within(width: u8, value: u128) -> bool {
+fn is_within(width: u8, value: u128) -> bool
+    ensures { result ≡ true → value < 2 ^ width }
+{
     width >= 128 || value >> width == 0
 }

@@ -87,15 +87,26 @@ fn sums_of(run: &mut Run, trace: &[Vec<u128>], clocks: u64) -> Result<Sums> {
     Ok(sums)
 }
 
-/// Prints how many microseconds so many clocks of a program took, and what they came to.
-pub fn time_clocks(rt: &HostRuntime, digits: &str, clocks: u64) -> Result<()> {
-    let bytes = bytes_of(rt.alloc(), digits)?;
-    let mut run = Run::new(rt.alloc(), bytes.as_slice())?;
-    let trace = trace_of(rt.alloc(), run.widths())?;
+/// Runs so many clocks over the trace, and prints how many microseconds they took and what they came
+/// to.
+fn time_over(rt: &HostRuntime, run: &mut Run, trace: &[Vec<u128>], clocks: u64) -> Result<()> {
     let start = Instant::now(rt)?;
-    let sums = sums_of(&mut run, trace.as_slice(), clocks)?;
+    let sums = sums_of(run, trace, clocks)?;
     let took = start.elapsed(rt)?.as_micros();
     let (verdicts, ticks) = (sums.verdicts, sums.ticks);
     println!(rt; "attempts {clocks} us {took} verdicts {verdicts} ticks {ticks}")?;
     Ok(())
+}
+
+/// The same over the made-up trace.
+fn time_run(rt: &HostRuntime, run: &mut Run, clocks: u64) -> Result<()> {
+    let trace = trace_of(rt.alloc(), run.widths())?;
+    time_over(rt, run, trace.as_slice(), clocks)
+}
+
+/// Times so many clocks of the program that the digits spell.
+pub fn time_clocks(rt: &HostRuntime, digits: &str, clocks: u64) -> Result<()> {
+    let bytes = bytes_of(rt.alloc(), digits)?;
+    let mut run = Run::new(rt.alloc(), bytes.as_slice())?;
+    time_run(rt, &mut run, clocks)
 }

@@ -1,13 +1,13 @@
 -- A life is at most the number of positions.
-use Rattle.std.proofs.Common.{◌≡◌, inl, inr, ℕ, zero, suc, ◌+◌, ◌-◌, ◌≤◌, true, false, List, [], ◌∷◌, length}
-use Rattle.std.proofs.Common.{max, arith}
+use Rattle.std.proofs.Common.{inl, inr, ℕ, zero, suc, ◌+◌, ◌-◌, ◌≤◌, List, [], ◌∷◌, length}
+use Rattle.std.proofs.Common.{arith}
 use Rattle.std.specs.Prelude.{slice_index, ◌==◌}
 use Rattle.std.specs.Int.{bit_at}
 use Rattle.std.proofs.lemmas.Bool.{cases_Bool}
 use Rattle.bytecode.specs.declared.block_instr.BlockInstr.{BlockInstr}
 use Rattle.bytecode.specs.declared.block_instr.BlockInstr.TheVariants.{Unless, Enter, Accept, Stop}
 use Rattle.bytecode.specs.Values.{SectionData}
-use Rattle.verifier.specs.Limits.{entered_life, longest_entered, lives_from, most_in, start_life}
+use Rattle.verifier.specs.Limits.{longest_entered, lives_from, most_in, start_life}
 
 entered-most : (next m : ℕ) (later : List ℕ) → ((k : ℕ) → slice_index later k ≤ m) → (b : List BlockInstr) → longest_entered next later b ≤ m
 entered-most next m later few [] = omega arith

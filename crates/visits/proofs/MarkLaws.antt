@@ -1,6 +1,6 @@
 -- What an attempt awaits, told by sets of ticks.
-use Rattle.std.proofs.Common.{◌≡◌, ◌≢◌, ◌⊎◌, inl, inr, ℕ, ◌+◌, ◌-◌, ◌*◌, ◌^◌, ◌<◌, ◌≤◌, Bool, true}
-use Rattle.std.proofs.Common.{Some, None, subst, false, not, ◌&&◌, ◌||◌, if◌then◌else◌, List, [], ◌∷◌, refl, sym, ap, ◌∙◌}
+use Rattle.std.proofs.Common.{◌≡◌, ◌≢◌, ◌⊎◌, inl, inr, ℕ, ◌+◌, ◌-◌, ◌*◌, ◌^◌, ◌≤◌, Bool, true}
+use Rattle.std.proofs.Common.{Some, None, false, not, ◌&&◌, ◌||◌, if◌then◌else◌, List, [], ◌∷◌, refl, sym, ap, ◌∙◌}
 use Rattle.std.proofs.Common.{arith, bit_and, bit_or}
 use Rattle.std.specs.Prelude.{◌==◌}
 use Rattle.std.specs.Int.{bit_at}
@@ -34,9 +34,9 @@ and-or s a b = same_from_bits (bit_and s (bit_or a b)) (bit_or (bit_and s a) (bi
 or-zero : (a b : ℕ) → (bit_or a b == 0) ≡ ((a == 0) && (b == 0))
 or-zero a b = elim (cases_eq a 0) [
   | inl ea ↦ elim (cases_eq b 0) [
-      | inl eb ↦ rw (eq-eqb a 0 ea, eq-eqb b 0 eb) (eq-eqb (bit_or a b) 0 (ap (λ n. bit_or n b) ea ∙ or_zero_l b ∙ eb))
-      | inr nb ↦ rw (eq-eqb a 0 ea, ne_eqb b 0 nb) (ne_eqb (bit_or a b) 0 (λ e. nb (sym (ap (λ n. bit_or n b) ea ∙ or_zero_l b) ∙ e)))
-    ]
+    | inl eb ↦ rw (eq-eqb a 0 ea, eq-eqb b 0 eb) (eq-eqb (bit_or a b) 0 (ap (λ n. bit_or n b) ea ∙ or_zero_l b ∙ eb))
+    | inr nb ↦ rw (eq-eqb a 0 ea, ne_eqb b 0 nb) (ne_eqb (bit_or a b) 0 (λ e. nb (sym (ap (λ n. bit_or n b) ea ∙ or_zero_l b) ∙ e)))
+  ]
   | inr na ↦ rw (ne_eqb a 0 na) (ne_eqb (bit_or a b) 0 (λ e. na (omega (arith, or_add_and a b, and_le_r a b, e))))
 ]
 

@@ -26,7 +26,8 @@ is_open f = not (is_ended f)
 
 -- the fates of a clock, as the sets of the open and of the broken ticks
 abbrev pub fates_of : ℕ → List Fate → Fates
-fates_of now fs = record { open_ticks = marked is_open now fs; broken_ticks = marked is_broken now fs }
+fates_of now fs =
+    record { open_ticks = marked is_open now fs; broken_ticks = marked is_broken now fs }
 
 -- each is one of the last 128 ticks
 abbrev pub AreRecent : ℕ → List Fate → Type 0

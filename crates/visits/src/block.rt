@@ -19,7 +19,11 @@ fn obey(instr: BlockInstr, pc: usize, atoms: &[bool], visit: &mut Visit) -> Opti
 {
     match instr {
         BlockInstr::Unless(atom, target) => {
-            Some(if atoms[atom as usize] { pc + 1 } else { target as usize })
+            Some(if atoms[atom as usize] {
+                pc + 1
+            } else {
+                target as usize
+            })
         }
         BlockInstr::Enter(position) => {
             visit.entered |= 1 << position;
@@ -45,7 +49,8 @@ pub(crate) fn run_block(
     requires few { length blocks.now ≤ 127 }
     requires there { p < length blocks.now }
     requires size { base + length (get_or (blocks_of blocks.now) p []) ≤ 4096 }
-    requires finishes { Finishes (block_run (blocks_of blocks.now) p base atoms.now left.old base (made_by visit.old)) }
+    requires finishes { Finishes
+        (block_run (blocks_of blocks.now) p base atoms.now left.old base (made_by visit.old)) }
     ensures { block_run (blocks_of blocks.now) p base atoms.now left.old base (made_by visit.old)
         ≡ done (made_by visit.new) left.new }
 {

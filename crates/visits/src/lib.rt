@@ -2,8 +2,8 @@
 //!
 //! A visit runs the blocks of a set of positions, in rising order, each to its Stop. What it makes
 //! is a set of positions of the next clock, and whether it accepted. The visits of the obligations
-//! are noted in two sets of ticks, those that are open and those that are broken; by them an attempt
-//! is settled, without a walk of the obligations.
+//! are noted in two sets of ticks, those that are open and those that are broken; by them an
+//! attempt is settled, without a walk of the obligations.
 //!
 //! ```text
 //! let bases = bases_of(alloc, &program.antecedent)?;

@@ -34,7 +34,8 @@ pub fn visit_positions(
     requires bases { AreBases (section_data section.now).blocks bases.now }
     requires inside { EachIn (λ q. q < length section.now.blocks.items) set }
     requires finishes { Finishes (visit (section_data section.now) atoms.now set left.old) }
-    ensures { visit (section_data section.now) atoms.now set left.old ≡ done (made_by result) left.new }
+    ensures { visit (section_data section.now) atoms.now set left.old
+        ≡ done (made_by result) left.new }
 {
     let mut visit = Visit {
         entered: 0,
@@ -44,7 +45,14 @@ pub fn visit_positions(
     while rest != 0 {
         let p = rest.trailing_zeros() as usize;
         rest ^= 1 << p;
-        run_block(section.blocks.as_slice(), p, bases[p], atoms, &mut visit, left);
+        run_block(
+            section.blocks.as_slice(),
+            p,
+            bases[p],
+            atoms,
+            &mut visit,
+            left,
+        );
     }
     visit
 }

@@ -1,4 +1,4 @@
-use Rattle.std.proofs.Common.{◌≡◌, ◌-◌, refl, sym, ◌∙◌, arith}
+use Rattle.std.proofs.Common.{sym, ◌∙◌, arith}
 use Rattle.machine.proofs.DisableLaws as laws
 use Rattle.machine.proofs.attempts.disable_attempts.Goals as goal
 

@@ -1,4 +1,4 @@
-use Rattle.std.proofs.Common.{◌≡◌, ◌-◌, refl, arith}
+use Rattle.std.proofs.Common.{arith}
 use Rattle.machine.proofs.PoolSteps as steps
 use Rattle.machine.proofs.SettleLaws as laws
 use Rattle.machine.proofs.attempts.settle_attempts.Goals as goal

@@ -1,4 +1,4 @@
-use Rattle.std.proofs.Common.{◌≡◌, ◌-◌, arith}
+use Rattle.std.proofs.Common.{arith}
 use Rattle.machine.proofs.PoolSteps as steps
 use Rattle.machine.proofs.SettleLaws as laws
 use Rattle.machine.proofs.attempts.tell_open.Goals as goal

@@ -1,8 +1,6 @@
-use Rattle.std.proofs.Common.{◌≡◌, ◌-◌, ◌||◌, refl, arith}
+use Rattle.std.proofs.Common.{◌-◌, ◌||◌, refl, arith}
 use Rattle.bytecode.specs.Programs.{data_of}
-use Rattle.bytecode.specs.Views.{section_data}
-use Rattle.checked_machine.specs.Bounds.{life}
-use Rattle.visits.specs.Records.{attempt_of, made_by}
+use Rattle.visits.specs.Records.{made_by}
 use Rattle.machine.proofs.PoolSteps as steps
 use Rattle.machine.proofs.AttemptLaws as laws
 use Rattle.machine.proofs.Needs as needs

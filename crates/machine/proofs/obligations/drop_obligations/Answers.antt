@@ -1,4 +1,4 @@
-use Rattle.std.proofs.Common.{◌≡◌, sym, ap, ◌∙◌}
+use Rattle.std.proofs.Common.{sym, ap, ◌∙◌}
 use Rattle.machine.proofs.DisableLaws as laws
 use Rattle.machine.proofs.obligations.drop_obligations.Goals as goal
 

@@ -1,6 +1,5 @@
-use Rattle.std.proofs.Common.{◌≡◌, ◌-◌, refl, sym, ◌∙◌, arith}
+use Rattle.std.proofs.Common.{◌-◌, sym, ◌∙◌, arith}
 use Rattle.bytecode.specs.Programs.{data_of}
-use Rattle.bytecode.specs.Views.{section_data}
 use Rattle.visits.specs.Records.{made_by}
 use Rattle.machine.proofs.PoolSteps as steps
 use Rattle.machine.proofs.ObligationLaws as laws

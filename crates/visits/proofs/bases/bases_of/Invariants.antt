@@ -1,4 +1,4 @@
-use Rattle.std.proofs.Common.{◌≡◌, ℕ, ◌≤◌, ◌<◌, length, get_or}
+use Rattle.std.proofs.Common.{◌≡◌, ℕ, ◌<◌, length, get_or}
 use Rattle.bytecode.specs.Views.{section_data}
 use Rattle.visits.specs.Bases.{base_at}
 use Rattle.visits.proofs.bases.bases_of.Given as goal

@@ -1,9 +1,7 @@
-use Rattle.std.proofs.Common.{◌≡◌, ℕ, ◌-◌, refl}
+use Rattle.std.proofs.Common.{◌-◌, refl}
 use Rattle.inference.specs.Views.{blocks_of}
-use Rattle.bytecode.specs.declared.block_instr.BlockInstr.{BlockInstr}
 use Rattle.visits.specs.Records.{made_by}
-use Rattle.visits.specs.Steps.{IsNamed}
-use Rattle.visits.proofs.RunLaws.{instr, block-is, block-next, block-end, low, high, some_left, named, named-more}
+use Rattle.visits.proofs.RunLaws.{block-is, block-next, block-end, some_left}
 use Rattle.visits.proofs.block.run_block.Goals as goal
 
 pub overflow_sub-left : goal.overflow_sub-left

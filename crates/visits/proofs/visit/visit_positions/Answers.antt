@@ -1,9 +1,8 @@
-use Rattle.std.proofs.Common.{◌≡◌, ℕ, ◌+◌, ◌-◌, ◌^◌, ◌<◌, ◌≤◌, List, length, get_or, map, [], refl, sym, ap, ◌∙◌, subst, arith}
+use Rattle.std.proofs.Common.{◌≡◌, ℕ, ◌+◌, ◌<◌, ◌≤◌, List, length, get_or, map, [], refl, sym, ap, subst, arith}
 use Rattle.std.proofs.Math.ListN.{length-map}
 use Rattle.bytecode.specs.declared.block_instr.BlockInstr.{BlockInstr}
 use Rattle.bytecode.specs.Views.{section_data}
 use Rattle.inference.specs.Views.{blocks_of}
-use Rattle.inference.specs.Sections.{size_of}
 use Rattle.checked_machine.specs.Bounds.{EachIn}
 use Rattle.visits.specs.Bases.{base_at}
 use Rattle.visits.specs.Finishes.{Finishes}
@@ -67,6 +66,6 @@ loop-rest-preserved c =
     (subst (λ bs. block_run bs p (get_or c.args.bases.now p 0) c.args.atoms.now c.loop-rest.left (get_or c.args.bases.now p 0) (made_by c.loop-rest.visit) ≡ done (made_by c.run_block.new.visit) c.run_block.new.left) same c.run_block.ensures)
 
 pub returns : goal.returns
-returns c = 
+returns c =
     let s = section_data c.args.section.now in
     laws.goes-end s c.args.atoms.now c.args.set c.args.left.now c.loop-rest.rest (made_by c.loop-rest.visit) c.loop-rest.left (inside-of (λ b. b.items) c.args.section.now.blocks.items c.args.set c.requires.inside) c.loop-rest.invariant c.loop-rest-test.false

@@ -1,6 +1,4 @@
-use Rattle.std.proofs.Common.{◌≡◌, ℕ}
 use Rattle.bytecode.specs.Views.{section_data}
-use Rattle.checked_machine.specs.Blocks.{visit}
 use Rattle.visits.specs.Records.{made_by}
 use Rattle.visits.proofs.SetLaws.{Goes}
 use Rattle.visits.proofs.visit.visit_positions.Given as goal

@@ -1,6 +1,6 @@
-use Rattle.std.proofs.Common.{◌≡◌, ◌+◌, ◌<◌, ◌≤◌, ℕ, zero, suc, List, [], ◌∷◌, length, replicate, refl, sym, ap, ◌∙◌, subst, arith, pow_pos}
+use Rattle.std.proofs.Common.{◌≡◌, ℕ, zero, suc, List, length, replicate, refl, sym, ap, ◌∙◌, subst, arith, pow_pos}
 use Rattle.std.proofs.Math.ListN.{length-replicate}
-use Rattle.std.specs.Prelude.{slice_index, ◌^◌}
+use Rattle.std.specs.Prelude.{slice_index}
 use Rattle.bytecode.specs.Programs.{data_of}
 use Rattle.bytecode.specs.Instructions.{frame_of}
 use Rattle.history_ring.specs.History.{cleared}
@@ -10,8 +10,7 @@ use Rattle.visits.specs.declared.obligation.ObligationRecord.{ObligationRecord}
 use Rattle.sample_code.specs.Memory.{AreRows, AreValues}
 use Rattle.sample_code.proofs.RowLaws.{AreRows-cleared}
 use Rattle.checked_machine.specs.Bounds.{IsReached}
-use Rattle.checked_machine.specs.Clocks.{none_standing}
-use Rattle.machine.specs.Live.{attempts_in, obligations_in, standing_of}
+use Rattle.machine.specs.Live.{attempts_in, obligations_in}
 use Rattle.machine.proofs.VecLaws.{vec-long}
 use Rattle.machine.proofs.memory.Memory.new.Goals as goal
 

@@ -1,4 +1,4 @@
-use Rattle.std.proofs.Common.{◌≡◌, ◌-◌, ◌^◌, ◌<◌, arith, ap, subst}
+use Rattle.std.proofs.Common.{arith}
 use Rattle.visits.proofs.BitLaws.{told-young, told-old, told-none}
 use Rattle.visits.proofs.attempt.AttemptRecord.recent.Goals as goal
 

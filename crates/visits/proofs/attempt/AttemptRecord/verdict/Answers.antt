@@ -1,4 +1,4 @@
-use Rattle.std.proofs.Common.{◌≡◌, inl, inr}
+use Rattle.std.proofs.Common.{inl, inr}
 use Rattle.visits.specs.Records.{attempt_of}
 use Rattle.visits.proofs.MarkLaws.{fails-as, waits-as, vacuous-as, holds-as}
 use Rattle.visits.proofs.attempt.AttemptRecord.verdict.Goals as goal

@@ -1,8 +1,8 @@
-use Rattle.std.proofs.Common.{◌≡◌, ◌≢◌, ℕ, ◌-◌, ◌^◌, Bool, true, false, if◌then◌else◌, not, ◌&&◌, ◌||◌, refl, sym, ap, ◌∙◌, bit_or}
+use Rattle.std.proofs.Common.{◌≡◌, ◌≢◌, ℕ, Bool, true, false, if◌then◌else◌, not, ◌&&◌, ◌||◌, refl, sym, ap, ◌∙◌, bit_or}
 use Rattle.std.specs.Prelude.{◌==◌}
 use Rattle.std.proofs.lemmas.Bool.{eq-eqb, ne_eqb}
 use lib.Bits.{or_zero_r}
-use Rattle.checked_machine.specs.Clocks.{Fate, is_broken, is_ended}
+use Rattle.checked_machine.specs.Clocks.{Fate, is_broken}
 use Rattle.visits.specs.Marks.{is_open, mark_of, mark_if}
 use Rattle.visits.specs.Records.{fate_of}
 use Rattle.visits.proofs.fates.Fates.note.Goals as goal
