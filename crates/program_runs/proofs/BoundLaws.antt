@@ -1,5 +1,5 @@
 -- The signals of a program in a dump, and why there is no run.
-use Rattle.std.proofs.Common.{◌≡◌, inl, inr, ℕ, Bool, eqb, List, [], ◌∷◌, Option, Some, None, map, cond, refl, sym, ap, ◌∙◌, subst}
+use Rattle.std.proofs.Common.{◌≡◌, inl, inr, ℕ, Bool, eqb, List, [], ◌∷◌, Option, Some, None, map, cond, refl, sym, ap, ◌∙◌}
 use Rattle.std.proofs.lemmas.Bool.{eq-eqb}
 use Rattle.std.proofs.lemmas.Bool.Decides.{eqb_tells}
 use Rattle.std.specs.Prelude.{Result, Ok, Err, IfOk}
@@ -9,8 +9,8 @@ use Rattle.cycle_window.specs.Held.{places_in}
 use Rattle.vcd_reader.specs.Variables.{Declared, variable_named, size_of}
 use Rattle.cycle_window.specs.declared.fault.WindowFault.{WindowFault}
 use Rattle.cycle_window.specs.declared.fault.WindowFault.TheVariants as faults
-use Rattle.cycle_window.specs.Bound.{Wanted, Misfit, Missing, OtherWidth, Refused, misfit, or_refused, first_refused, places_of, IsClock, IsClockFault, IsSignalFault}
-use Rattle.program_runs.specs.Reported.{AreBound, HasClock, HasSignals, WhyNoRun, wanted_slot}
+use Rattle.cycle_window.specs.Bound.{Wanted, OtherWidth, Refused, misfit, or_refused, first_refused, places_of, IsClock, IsClockFault, IsSignalFault}
+use Rattle.program_runs.specs.Reported.{AreBound, HasClock, WhyNoRun, wanted_slot}
 use Rattle.program_runs.specs.Working.{IsWindowFault}
 
 -- the variables that the paths of signals name

@@ -1,28 +1,27 @@
 -- A run, clock by clock and window by window.
-use Rattle.std.proofs.Common.{◌≡◌, ℕ, suc, ◌+◌, ◌^◌, ◌<◌, ◌≤◌, List, [], ◌∷◌, ◌++◌, length, take, map, sym, ap, ◌∙◌, subst, add-one, arith}
+use Rattle.std.proofs.Common.{◌≡◌, ℕ, ◌+◌, ◌^◌, ◌<◌, ◌≤◌, List, [], ◌∷◌, ◌++◌, length, take, map, sym, ap, ◌∙◌, subst, add-one, arith}
 use Rattle.std.specs.Prelude.{slice_index}
 use Rattle.std.proofs.Math.Logic.{∥∥₁_map}
 use Rattle.std.proofs.Math.Seq.{take-suc}
-use Rattle.std.proofs.lemmas.List.{map-append, take_all, length-map}
+use Rattle.std.proofs.lemmas.List.{map-append, length-map}
 use Rattle.signals.specs.declared.verdict.Decided.{Decided}
 use Rattle.bytecode.specs.Values.{SlotData, ProgramData}
 use Rattle.vcd_reader.specs.declared.dump.Dump.{Dump}
 use Rattle.vcd_reader.specs.Variables.{Declared, size_of}
 use Rattle.vcd_reader.specs.Dump.{Contents}
-use Rattle.vcd_reader.specs.Held.{HoldsContents, variables_of}
 use Rattle.vcd_reader.proofs.HeldLaws.{says-something}
 use Rattle.cycle_window.specs.declared.clocks.Clocks.{Clocks}
 use Rattle.cycle_window.specs.declared.columns.Columns.{Columns}
 use Rattle.cycle_window.specs.declared.window.Window.{Window}
 use Rattle.cycle_window.specs.Ticks.{ticks_of, row_of}
-use Rattle.cycle_window.specs.Held.{ticks_in, code_in, columns_in, places_in, clock_in, first_in, end_in, AreColumnsOf, IsOver, IsWindowOf}
-use Rattle.checked_machine.specs.Machine.{State, Outcome, opening, clock}
+use Rattle.cycle_window.specs.Held.{columns_in, places_in, clock_in, end_in, AreColumnsOf, IsOver}
+use Rattle.checked_machine.specs.Machine.{State, Outcome, opening}
 use Rattle.machine.specs.Running.{Running, IsClock}
 use Rattle.program_runs.specs.declared.run.Run.{Run}
-use Rattle.program_runs.specs.Batches.{run_from, Decides}
+use Rattle.program_runs.specs.Batches.{Decides}
 use Rattle.program_runs.specs.Lines.{attempts_of}
 use Rattle.program_runs.specs.Working.{TookIn}
-use Rattle.program_runs.specs.Runs.{IsSound, HasRun, IsOneMore, IsThroughWindow, IsFitting, IsWindowFor, rows_to}
+use Rattle.program_runs.specs.Runs.{IsSound, IsOneMore, IsFitting, IsWindowFor, rows_to}
 use Rattle.program_runs.proofs.BatchLaws.{run-more}
 use Rattle.program_runs.proofs.CountLaws.{CountsAll, clock-counts}
 

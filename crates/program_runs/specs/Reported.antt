@@ -1,17 +1,19 @@
 -- The report of a program over a dump, by the definitions alone, and why there is none.
-use Rattle.std.specs.Prelude.{◌≡◌, ℕ, List, [], ◌∷◌, length, map, Option, Some, None, string_bytes}
+use Rattle.std.specs.Prelude.{◌≡◌, ℕ, List, [], ◌∷◌, length, map, Some, None, string_bytes}
 use Rattle.bytecode.specs.Values.{SlotData, ProgramData}
 use Rattle.vcd_reader.specs.Variables.{Declared, variable_named, size_of, code_number}
 use Rattle.vcd_reader.specs.Dump.{Contents}
 use Rattle.cycle_window.specs.declared.fault.WindowFault.{WindowFault}
 use Rattle.cycle_window.specs.declared.fault.WindowFault.TheVariants as faults
-use Rattle.cycle_window.specs.Bound.{Wanted, Missing, OtherWidth, At, misfit, first_refused, IsBadSize}
+use Rattle.cycle_window.specs.Bound.{Wanted, Missing, OtherWidth, At, misfit, first_refused}
+use Rattle.cycle_window.specs.Bound.{IsBadSize}
 use Rattle.cycle_window.specs.Ticks.{ticks_of, row_of}
 use Rattle.verdicts.specs.Lines.{LineData, ReportData, report_of}
 use Rattle.program_runs.specs.Lines.{IsLineOver}
 
 -- Variables that the paths of signals name, each of its signal's width.
-pub record AreBound (vs : List Declared) (signals : List SlotData) (variables : List ℕ) : Type 0 where
+pub record AreBound (vs : List Declared) (signals : List SlotData) (variables : List ℕ) :
+    Type 0 where
   pub named : map (λ s. variable_named vs s.path) signals ≡ map (λ v. Some v) variables
   pub wide : map (λ v. size_of vs v) variables ≡ map (λ s. s.width) signals
 

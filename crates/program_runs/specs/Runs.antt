@@ -47,7 +47,8 @@ rows_to c cs n = map (row_of c (places_in cs)) (take n (ticks_of c (clock_in cs)
 abbrev pub IsFitting : Window → ProgramData → Type 0
 IsFitting w p =
     ∥ ((c : Contents) × IsOver w c
-    × (map (λ v. size_of c.variables v) (places_in (columns_in w)) ≡ map (λ s. s.width) p.signals)) ∥₁
+    × (map (λ v. size_of c.variables v) (places_in (columns_in w))
+    ≡ map (λ s. s.width) p.signals)) ∥₁
 
 -- behind the clocks of a window
 pub record IsThroughWindow (old : Run) (w : Window) (new : Run) : Type 0 where

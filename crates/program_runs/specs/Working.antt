@@ -1,5 +1,5 @@
 -- What the code keeps on the way.
-use Rattle.std.specs.Prelude.{◌≡◌, ℕ, ◌≤◌, List, map, filter_map}
+use Rattle.std.specs.Prelude.{◌≡◌, ℕ, List, map, filter_map}
 use Rattle.signals.specs.declared.verdict.Decided.{Decided}
 use Rattle.verdicts.specs.Tallies.{tally_of}
 use Rattle.bytecode.specs.Values.{ProgramData}

@@ -1,6 +1,7 @@
 //! The line of a program in the making.
 
-ghost use Rattle.std.specs.Prelude.{◌≡◌, ◌+◌, ◌^◌, ◌<◌, ◌∷◌, ◌++◌, [], List, OnOk, length, filter_map};
+ghost use Rattle.std.specs.Prelude.{◌≡◌, ◌+◌, ◌^◌, ◌<◌, ◌∷◌, ◌++◌, [], List, OnOk, length};
+ghost use Rattle.std.specs.Prelude.{filter_map};
 ghost use Rattle.signals.specs.declared.verdict.Verdict.{Verdict};
 ghost use Rattle.signals.specs.declared.verdict.Decided.{Decided};
 ghost use Rattle.verdicts.specs.Tallies.{tally_of};
@@ -82,7 +83,8 @@ impl LineSoFar {
     /// Takes in one attempt.
     fn note(&mut self, one: Decided) -> Result<(), AllocError>
         requires { attempts_of self.old.counts + 1 < 2 ^ 64 }
-        ensures count { OnOk result (attempts_of self.new.counts ≡ attempts_of self.old.counts + 1) }
+        ensures count { OnOk result
+            (attempts_of self.new.counts ≡ attempts_of self.old.counts + 1) }
         ensures took { (before : List Decided) → TookIn self.old before
             → OnOk result (TookIn self.new (before ++ one ∷ [])) }
     {

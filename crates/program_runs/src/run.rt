@@ -1,8 +1,8 @@
 //! A machine over the rows of windows.
 
-ghost use Rattle.std.specs.Prelude.{◌≡◌, ℕ, ◌+◌, ◌^◌, ◌<◌, ◌≤◌, [], List, OnOk, IfOk, string_bytes, length};
-ghost use Rattle.cycle_window.specs.Held.{ticks_in, first_in, end_in};
-ghost use Rattle.verifier.specs.Programs.{IsAccepted};
+ghost use Rattle.std.specs.Prelude.{◌≡◌, ℕ, ◌+◌, ◌^◌, ◌<◌, ◌≤◌, [], List, OnOk, IfOk};
+ghost use Rattle.std.specs.Prelude.{string_bytes};
+ghost use Rattle.cycle_window.specs.Held.{first_in, end_in};
 ghost use Rattle.machine.specs.Running.{opened_on, IsRowOf};
 ghost use Rattle.verdicts.specs.Lines.{line};
 ghost use Rattle.program_runs.specs.Lines.{attempts_of, IsLineOver};
@@ -27,7 +27,8 @@ pub(crate) struct Run {
 }
 
 impl Run {
-    ghost use Rattle.program_runs.specs.Runs.{IsSound, HasRun, IsOneMore, IsThroughWindow, IsThrough, IsFitting, IsWindowFor};
+    ghost use Rattle.program_runs.specs.Runs.{IsSound, HasRun, IsOneMore, IsThroughWindow};
+    ghost use Rattle.program_runs.specs.Runs.{IsThrough, IsFitting, IsWindowFor};
 
     /// Before the first clock.
     pub(crate) fn new(alloc: Global, verified: Verified) -> Result<Run, AllocError>

@@ -7,7 +7,8 @@ ghost use Rattle.vcd_reader.specs.Dump.{Contents};
 ghost use Rattle.vcd_reader.specs.Held.{HoldsContents, variables_of};
 ghost use Rattle.cycle_window.specs.Bound.{IsSignalFault};
 ghost use Rattle.cycle_window.specs.Signals.{wanted_of};
-ghost use Rattle.cycle_window.specs.Held.{code_in, places_in, clock_in, end_in, AreClocksOf, AreColumnsOf};
+ghost use Rattle.cycle_window.specs.Held.{code_in, places_in, clock_in, end_in};
+ghost use Rattle.cycle_window.specs.Held.{AreClocksOf, AreColumnsOf};
 ghost use Rattle.program_runs.specs.Reported.{AreBound, HasSignals, wanted_slot};
 ghost use Rattle.program_runs.specs.Runs.{IsWindowFor};
 ghost use Rattle.program_runs.specs.Working.{IsWindowFault};
@@ -66,7 +67,8 @@ pub(crate) fn window_of(
     ensures begin { IfOk result (λ w. end_in w ≡ 0) }
     ensures most { IfOk result (λ _. size ≤ 65536) }
     ensures some { IfOk result (λ _. 1 ≤ size) }
-    ensures refused { IfErr result (IsWindowFault (variables_of dump.now) (data_of program.now) size) }
+    ensures refused { IfErr result
+        (IsWindowFault (variables_of dump.now) (data_of program.now) size) }
 {
     let columns = match columns_of(alloc, dump, clocks, program) {
         Err(fault) => return Err(fault),

@@ -1,11 +1,10 @@
 use Rattle.std.proofs.Common.{ℕ, List, [], ◌∷◌, ◌++◌, map, length, ap, ◌∙◌, subst}
 use Rattle.bytecode.specs.Values.{ProgramData}
-use Rattle.bytecode.specs.Programs as programs
 use Rattle.vcd_reader.specs.Held.{variables_of}
 use Rattle.cycle_window.specs.Bound.{IsClock}
 use Rattle.cycle_window.specs.Held.{ticks_in, code_in}
 use Rattle.verdicts.specs.declared.line.Line.{Line}
-use Rattle.verdicts.specs.Lines.{LineData, line, report_of}
+use Rattle.verdicts.specs.Lines.{line, report_of}
 use Rattle.verdicts.specs.Shown.{data_of}
 use Rattle.program_runs.specs.Runs.{IsWindowFor}
 use Rattle.program_runs.proofs.ReportLaws as laws

@@ -1,4 +1,4 @@
-use Rattle.std.proofs.Common.{ℕ, ◌+◌, ◌^◌, ◌<◌, ◌++◌, List, length, sym, refl, ap, ◌∙◌, subst}
+use Rattle.std.proofs.Common.{◌+◌, ◌^◌, ◌<◌, ◌++◌, List, length, sym, refl, ap, ◌∙◌, subst}
 use Rattle.signals.specs.declared.verdict.Decided.{Decided}
 use Rattle.program_runs.specs.Lines.{attempts_of}
 use Rattle.program_runs.specs.Working.{TookIn}

@@ -1,10 +1,9 @@
-use Rattle.std.proofs.Common.{◌≡◌, ℕ, ◌<◌, ◌^◌, List, length, map, get_or, sym, ap, ◌∙◌, subst, arith}
+use Rattle.std.proofs.Common.{map, sym, ◌∙◌, subst, arith}
 use Rattle.std.proofs.Math.Logic.{∥∥₁_elim}
 use Rattle.std.specs.Prelude.{slice_index}
 use Rattle.bytecode.specs.Values.{SlotData, ProgramData}
-use Rattle.vcd_reader.specs.Variables.{size_of}
 use Rattle.cycle_window.specs.Ticks.{ticks_of}
-use Rattle.cycle_window.specs.Held.{columns_in, places_in, clock_in, first_in, end_in}
+use Rattle.cycle_window.specs.Held.{columns_in, places_in, clock_in}
 use Rattle.machine.specs.Running.{IsRowOf}
 use Rattle.program_runs.specs.Runs.{HasRun}
 use Rattle.program_runs.proofs.RowLaws.{row-values, values-prop}
