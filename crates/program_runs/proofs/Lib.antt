@@ -1,0 +1,6 @@
+pub mod BatchLaws
+pub mod CountLaws
+pub mod RowLaws
+pub mod BoundLaws
+pub mod RunLaws
+pub mod ReportLaws

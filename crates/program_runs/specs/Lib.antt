@@ -1,0 +1,5 @@
+pub mod Batches
+pub mod Lines
+pub mod Reported
+pub mod Working
+pub mod Runs

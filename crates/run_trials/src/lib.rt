@@ -1,0 +1,7 @@
+//! Tests of `program_runs`: reports of files of bytecode over dumps, worked out by hand.
+#![tactic(auto)]
+
+#[cfg(test)]
+mod told;
+#[cfg(test)]
+mod tests;
