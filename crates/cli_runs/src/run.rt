@@ -1,0 +1,107 @@
+//! Runs of programs over dumps.
+
+ghost use Rattle.std.specs.Prelude.{◌≡◌, ◌↔◌, ◌≤◌, Err, IfOk, IfErr};
+ghost use Rattle.vcd_reader.specs.Dump.{Contents};
+ghost use Rattle.vcd_reader.specs.Held.{HoldsContents};
+ghost use Rattle.cycle_window.specs.declared.fault.WindowFault.TheVariants.{BadSize};
+ghost use Rattle.cycle_window.specs.Bound.{IsBadSize};
+ghost use Rattle.verdicts.specs.Shown.{data_of};
+ghost use Rattle.cli.specs.declared.fault.Fault.TheVariants.{Window};
+ghost use Rattle.cli.specs.Outcomes.{run_of, totals_of};
+ghost use Rattle.cli_runs.specs.Outcomes.{HasRunReport, WhyNoRunReport, IsRunAnswered};
+ghost use Rattle.cli_runs.specs.Outcomes.{WhyRunFails, WhyNotRun};
+
+use cli::{Fault, verified_of};
+use cycle_window::WindowFault;
+use program_runs::report_run;
+use signals::{Sink, Source};
+use std::alloc::Global;
+use vcd_reader::{Dump, read_dump};
+use verdicts::{Report, ReportFault, write_report};
+
+/// The report of the program that bytes spell, over a dump.
+fn report_of(
+    alloc: Global,
+    dump: &Dump,
+    code: &[u8],
+    size: usize,
+) -> Result<Report, Fault<'static>>
+    ensures ok { (c : Contents) → HoldsContents dump.now c
+        → IfOk result (λ r. HasRunReport c code.now (data_of r)) }
+    ensures err { (c : Contents) → HoldsContents dump.now c
+        → IfErr result (WhyNoRunReport c code.now size) }
+{
+    let verified = match verified_of(alloc, code) {
+        Ok(verified) => verified,
+        Err(fault) => return Err(fault),
+    };
+    Ok(report_run(alloc, dump, verified, size)?)
+}
+
+/// The totals of a report, in the order of its last line.
+fn totals(report: &Report) -> [u64; 5]
+    ensures { result ≡ totals_of report.now.total }
+{
+    let total = report.total;
+    [
+        total.holds,
+        total.vacuous,
+        total.fails,
+        total.disabled,
+        total.still_open,
+    ]
+}
+
+/// The same over the dump that a source gives, written.
+fn run_through<S: Source, W: Sink>(
+    alloc: Global,
+    source: &mut S,
+    code: &[u8],
+    size: usize,
+    out: &mut W,
+) -> Result<[u64; 5], Fault<'static>>
+    requires some { 1 ≤ size }
+    requires most { size ≤ 65536 }
+    ensures answered { IfOk result (IsRunAnswered (run_of code.now (S.remaining source.old) (S.remaining source.new) (S.failures source.old) (S.failures source.new) (W.contents out.old) (W.contents out.new) (W.failures out.old) (W.failures out.new))) }
+    ensures refused { IfErr result (WhyRunFails size (run_of code.now (S.remaining source.old) (S.remaining source.new) (S.failures source.old) (S.failures source.new) (W.contents out.old) (W.contents out.new) (W.failures out.old) (W.failures out.new))) }
+{
+    let dump = read_dump(alloc, source)?;
+    let report = match report_of(alloc, &dump, code, size) {
+        Ok(report) => report,
+        Err(fault) => return Err(fault),
+    };
+    match write_report(alloc, &report, out) {
+        Ok(()) => Ok(totals(&report)),
+        Err(ReportFault::Memory) => Err(Fault::Memory),
+        Err(ReportFault::Write) => Err(Fault::Report(ReportFault::Write)),
+    }
+}
+
+/// Runs the program that bytes spell over the dump that a source gives, on the clock that it names,
+/// through windows of so many clocks, and writes the report.
+///
+/// The answer is the report's totals: how many attempts held, were vacuous, failed, were disabled,
+/// and are open. `window` is from 1 to 65,536, and does not change what is written.
+///
+/// # Errors
+///
+/// C3 where `window` is out of its range, before anything is read; then what is wrong with the dump
+/// (V1 to V8), with the bytes (B1 to B6), with the program (F1 to F15), with its clock (C1, C2) and
+/// with its signals (C4, C5), all before anything is written; G1 where the sink failed, which then
+/// holds a beginning of the report behind what it held before; and want of memory.
+pub fn run_code<S: Source, W: Sink>(
+    alloc: Global,
+    source: &mut S,
+    code: &[u8],
+    window: u64,
+    out: &mut W,
+) -> Result<[u64; 5], Fault<'static>>
+    ensures answered { IfOk result (IsRunAnswered (run_of code.now (S.remaining source.old) (S.remaining source.new) (S.failures source.old) (S.failures source.new) (W.contents out.old) (W.contents out.new) (W.failures out.old) (W.failures out.new))) }
+    ensures refused { IfErr result (WhyNotRun window (run_of code.now (S.remaining source.old) (S.remaining source.new) (S.failures source.old) (S.failures source.new) (W.contents out.old) (W.contents out.new) (W.failures out.old) (W.failures out.new))) }
+    ensures bad_size { IsBadSize window ↔ (result ≡ Err (Window BadSize)) }
+{
+    if window < 1 || window > 65_536 {
+        return Err(Fault::Window(WindowFault::BadSize));
+    }
+    run_through(alloc, source, code, window as usize, out)
+}
