@@ -3,7 +3,8 @@
 -- rows (an option's id, and the values behind it or else its defaults).
 use Rattle.std.specs.Prelude.{◌≡◌, ℕ, ◌≤◌, List, [], ◌∷◌, Some, Ok, true, codes, string_bytes}
 use Rattle.std.specs.Str.Parse.{ParsesUnsigned}
-use Rattle.clap.specs.Words.{App, Row, Rule, Text, first_of, new_app, new_rule, one_of, subcommand_of, with_rule, with_subcommand}
+use Rattle.clap.specs.Words.{App, Row, Rule, Text, first_of, new_app, new_rule, one_of}
+use Rattle.clap.specs.Words.{subcommand_of, with_rule, with_subcommand}
 use Rattle.clap.specs.declared.builder.value_parser.ValueParser.TheVariants.{Unsigned}
 use Rattle.command_line.specs.declared.request.Request.{Request}
 use Rattle.command_line.specs.declared.request.Request.TheVariants.{Check, Verify, Run, Judge}
@@ -27,21 +28,21 @@ window_rule = record (option_rule (codes "window")) {
   parser = Some (Unsigned 1 65536);
 }
 
-abbrev pub judge_app : App
-judge_app = with_rule (with_rule (new_app (codes "judge")) (file_rule (codes "vcd"))) (file_rule (codes "sva"))
+-- a command with an option for the dump, and one for another file
+abbrev pub dump_app : Text → Text → App
+dump_app name other = with_rule (with_rule (new_app name) (file_rule (codes "vcd"))) (file_rule other)
 
 abbrev pub check_app : App
-check_app = with_rule
-    (with_rule (with_rule (new_app (codes "check")) (file_rule (codes "vcd"))) (file_rule (codes "sva")))
-    window_rule
+check_app = with_rule (dump_app (codes "check") (codes "sva")) window_rule
 
 abbrev pub verify_app : App
 verify_app = with_rule (new_app (codes "verify")) (word_rule (codes "code"))
 
 abbrev pub run_app : App
-run_app = with_rule
-    (with_rule (with_rule (new_app (codes "run")) (file_rule (codes "vcd"))) (file_rule (codes "code")))
-    window_rule
+run_app = with_rule (dump_app (codes "run") (codes "code")) window_rule
+
+abbrev pub judge_app : App
+judge_app = dump_app (codes "judge") (codes "sva")
 
 -- `svamon`, which wants a subcommand
 abbrev pub svamon_top : App
@@ -50,9 +51,9 @@ svamon_top = record (new_app (codes "svamon")) {
 }
 
 abbrev pub svamon_app : App
-svamon_app = with_subcommand
-    (with_subcommand (with_subcommand (with_subcommand svamon_top check_app.top) verify_app.top) run_app.top)
-    judge_app.top
+svamon_app =
+    let first_two = with_subcommand (with_subcommand svamon_top check_app.top) verify_app.top in
+    with_subcommand (with_subcommand first_two run_app.top) judge_app.top
 
 -- the path that the rows give for an option
 abbrev pub IsPath : Text → List Row → List ℕ → Type 0
