@@ -5,3 +5,4 @@ pub mod SampledLaws
 pub mod ReportLaws
 pub mod RunLaws
 pub mod TextLaws
+pub mod VerifyLaws

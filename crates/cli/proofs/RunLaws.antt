@@ -2,14 +2,12 @@
 use Rattle.std.proofs.Common.{◌≡◌}
 use Rattle.parser.specs.declared.fault.ParseFault.{ParseFault}
 use Rattle.parser.specs.declared.fault.ParseFault.TheVariants as parsing
-use Rattle.cycle_window.specs.declared.fault.WindowFault.{WindowFault}
-use Rattle.cycle_window.specs.declared.fault.WindowFault.TheVariants as windows
 use Rattle.vcd_reader.specs.declared.fault.VcdFault.{VcdFault}
 use Rattle.vcd_reader.specs.declared.fault.VcdFault.TheVariants as dumps
 use Rattle.vcd_reader.specs.Dump.{Contents, GaveDump, Stands}
 use Rattle.cli.specs.Faults.{vcd_fault}
 use Rattle.cli.specs.declared.fault.Fault.{Fault}
-use Rattle.cli.specs.declared.fault.Fault.TheVariants.{Vcd, Lex, Parse, Typing, Window, Report, NoAssertion, NotText, Words, File, Memory}
+use Rattle.cli.specs.declared.fault.Fault.TheVariants.{Vcd, Lex, Parse, Typing, Window, Report, Code, Refused, NoAssertion, NotText, Words, File, Memory}
 use Rattle.cli.specs.Outcomes.{Run, WhyNoReport, IsRefusedReport, IsUnwritten, WhyRunRefused}
 
 module _ (r : Run) (c : Contents) (gave : GaveDump r.given_old r.given_new c) (reads : r.reads_new ≡ r.reads_old) (unwritten : IsUnwritten r) where
@@ -31,6 +29,8 @@ module _ (r : Run) (c : Contents) (gave : GaveDump r.given_old r.given_new c) (r
   refused_run (Typing e) h = refused (Typing e) h
   refused_run (Window e) h = refused (Window e) h
   refused_run (Report e) h = absurd h
+  refused_run (Code e) h = absurd h
+  refused_run (Refused e) h = absurd h
   refused_run (NoAssertion n) h = absurd h
   refused_run (NotText n) h = absurd h
   refused_run (Words e) h = absurd h

@@ -30,7 +30,7 @@ use Rattle.cycle_window.specs.declared.fault.WindowFault.{WindowFault}
 use Rattle.cycle_window.specs.declared.fault.WindowFault.TheVariants as windows
 use Rattle.cycle_window.specs.Bound.{IsClockFault}
 use Rattle.cli.specs.declared.fault.Fault.{Fault}
-use Rattle.cli.specs.declared.fault.Fault.TheVariants.{Vcd, Lex, Parse, Typing, Window, Report, NoAssertion, NotText, Words, File, Memory}
+use Rattle.cli.specs.declared.fault.Fault.TheVariants.{Vcd, Lex, Parse, Typing, Window, Report, Code, Refused, NoAssertion, NotText, Words, File, Memory}
 use Rattle.cli.specs.Named.{width_named, scope_over, AreNamed}
 use Rattle.cli.specs.Faults.{lex_fault, parse_fault, type_fault, window_fault}
 use Rattle.cli.specs.Reported.{AreTokens, HasItems, IsTyped, SaysSuite}
@@ -131,6 +131,8 @@ without_items c text (Parse e) h = form_kept c text e h
 without_items c text (Typing e) h = elim h [ ]
 without_items c text (Window e) h = elim h [ ]
 without_items c text (Report e) h = elim h [ ]
+without_items c text (Code e) h = elim h [ ]
+without_items c text (Refused e) h = elim h [ ]
 without_items c text (NoAssertion n) h = elim h [ ]
 without_items c text (NotText n) h = elim h [ ]
 without_items c text (Words e) h = elim h [ ]

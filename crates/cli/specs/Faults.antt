@@ -1,4 +1,5 @@
--- The faults of the layers below as faults of a run: want of memory is one fault, wherever it came up.
+-- The faults of the layers below as faults of a run or of a verification: want of memory is one
+-- fault, wherever it came up.
 use Rattle.vcd_reader.specs.declared.fault.VcdFault.{VcdFault}
 use Rattle.vcd_reader.specs.declared.fault.VcdFault.TheVariants as dumps
 use Rattle.lexer.specs.declared.fault.LexFault.{LexFault}
@@ -9,8 +10,15 @@ use Rattle.types.specs.declared.fault.TypeFault.{TypeFault}
 use Rattle.types.specs.declared.fault.TypeFault.TheVariants as types
 use Rattle.cycle_window.specs.declared.fault.WindowFault.{WindowFault}
 use Rattle.cycle_window.specs.declared.fault.WindowFault.TheVariants as windows
+use Rattle.verdicts.specs.declared.write.ReportFault.{ReportFault}
+use Rattle.verdicts.specs.declared.write.ReportFault.TheVariants as reports
+use Rattle.bytecode.specs.declared.fault.CodeFault.{CodeFault}
+use Rattle.bytecode.specs.declared.fault.CodeFault.TheVariants as codes
+use Rattle.inference.specs.declared.refusal.Refusal.{Refusal}
+use Rattle.inference.specs.declared.refusal.Refusal.TheVariants as refusals
 use Rattle.cli.specs.declared.fault.Fault.{Fault}
-use Rattle.cli.specs.declared.fault.Fault.TheVariants.{Vcd, Lex, Parse, Typing, Window, Memory}
+use Rattle.cli.specs.declared.fault.Fault.TheVariants.{Vcd, Lex, Parse, Typing, Window, Report}
+use Rattle.cli.specs.declared.fault.Fault.TheVariants.{Code, Refused, Memory}
 
 abbrev pub vcd_fault : VcdFault → Fault
 vcd_fault dumps.Memory = Memory
@@ -31,3 +39,15 @@ type_fault e = Typing e
 abbrev pub window_fault : WindowFault → Fault
 window_fault windows.Memory = Memory
 window_fault e = Window e
+
+abbrev pub report_fault : ReportFault → Fault
+report_fault reports.Memory = Memory
+report_fault e = Report e
+
+abbrev pub code_fault : CodeFault → Fault
+code_fault codes.Memory = Memory
+code_fault e = Code e
+
+abbrev pub refusal_fault : Refusal → Fault
+refusal_fault refusals.Memory = Memory
+refusal_fault r = Refused r

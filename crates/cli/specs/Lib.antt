@@ -4,3 +4,4 @@ pub mod Reported
 pub mod Statuses
 pub mod Faults
 pub mod Outcomes
+pub mod Verifications

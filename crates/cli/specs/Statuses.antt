@@ -6,9 +6,12 @@ use Rattle.types.specs.declared.fault.TypeFault.TheVariants as types
 use Rattle.vcd_reader.specs.declared.fault.VcdFault.TheVariants as dumps
 use Rattle.cycle_window.specs.declared.fault.WindowFault.TheVariants as windows
 use Rattle.verdicts.specs.declared.write.ReportFault.TheVariants as reports
+use Rattle.bytecode.specs.declared.fault.CodeFault.TheVariants as codes
+use Rattle.inference.specs.declared.refusal.Refusal.TheVariants as refusals
 use Rattle.command_line.specs.declared.fault.WordsFault.TheVariants as words
 use Rattle.cli.specs.declared.fault.Fault.{Fault}
-use Rattle.cli.specs.declared.fault.Fault.TheVariants.{Vcd, Lex, Parse, Typing, Window, Report, Words, File, Memory}
+use Rattle.cli.specs.declared.fault.Fault.TheVariants.{Vcd, Lex, Parse, Typing, Window, Report}
+use Rattle.cli.specs.declared.fault.Fault.TheVariants.{Code, Refused, Words, File, Memory}
 
 -- 3 for memory, 4 for a file or a device, and 2 for all else
 abbrev pub fault_status_of : Fault → ℕ
@@ -20,6 +23,8 @@ fault_status_of (Typing types.Memory) = 3
 fault_status_of (Window windows.Memory) = 3
 fault_status_of (Report reports.Write) = 4
 fault_status_of (Report reports.Memory) = 3
+fault_status_of (Code codes.Memory) = 3
+fault_status_of (Refused refusals.Memory) = 3
 fault_status_of (Words words.OutOfMemory) = 3
 fault_status_of (File path) = 4
 fault_status_of Memory = 3

@@ -1,8 +1,10 @@
-//! Why there is no report, and what a shell sees of it.
+//! Why there is no report, or no line of limits, and what a shell sees of it.
 
 ghost use Rattle.std.specs.Prelude.{◌≡◌};
 ghost use Rattle.cli.specs.Statuses.{status_of, fault_status_of};
 
+use crate::code_lines::{code_line, refusal_line};
+use bytecode::CodeFault;
 use command_line::WordsFault;
 use cycle_window::WindowFault;
 use lexer::LexFault;
@@ -11,8 +13,9 @@ use std::alloc::{AllocError, Global};
 use types::TypeFault;
 use vcd_reader::VcdFault;
 use verdicts::ReportFault;
+use verifier::Refusal;
 
-/// Why there is no report.
+/// Why there is no report, or no line of limits.
 #[derive(Debug, Drop)]
 pub enum Fault<'a> {
     Vcd(VcdFault),
@@ -22,6 +25,10 @@ pub enum Fault<'a> {
     Typing(TypeFault),
     Window(WindowFault),
     Report(ReportFault),
+    /// The bytes are no program.
+    Code(CodeFault),
+    /// The program may not run.
+    Refused(Refusal),
     /// N1: the suite has no assertion of that name.
     NoAssertion(String),
     /// N2: the file is no UTF-8.
@@ -105,6 +112,45 @@ impl From<WindowFault> for Fault<'_> {
         match fault {
             WindowFault::Memory => Fault::Memory,
             other => Fault::Window(other),
+        }
+    }
+}
+
+impl From<ReportFault> for Fault<'_> {
+    ghost use Rattle.cli.specs.Faults.{report_fault};
+
+    ghost from_gives = { λ f e. e ≡ report_fault f };
+
+    fn from(fault: ReportFault) -> Self {
+        match fault {
+            ReportFault::Memory => Fault::Memory,
+            other => Fault::Report(other),
+        }
+    }
+}
+
+impl From<CodeFault> for Fault<'_> {
+    ghost use Rattle.cli.specs.Faults.{code_fault};
+
+    ghost from_gives = { λ f e. e ≡ code_fault f };
+
+    fn from(fault: CodeFault) -> Self {
+        match fault {
+            CodeFault::Memory => Fault::Memory,
+            other => Fault::Code(other),
+        }
+    }
+}
+
+impl From<Refusal> for Fault<'_> {
+    ghost use Rattle.cli.specs.Faults.{refusal_fault};
+
+    ghost from_gives = { λ r e. e ≡ refusal_fault r };
+
+    fn from(refusal: Refusal) -> Self {
+        match refusal {
+            Refusal::Memory => Fault::Memory,
+            other => Fault::Refused(other),
         }
     }
 }
@@ -206,6 +252,8 @@ pub fn fault_line(alloc: Global, fault: &Fault) -> Result<String, AllocError> {
         Fault::Window(fault) => window_line(alloc, fault),
         Fault::Report(ReportFault::Write) => String::from_str(alloc, "svamon: G1 Write"),
         Fault::Report(ReportFault::Memory) => String::from_str(alloc, "svamon: OutOfMemory"),
+        Fault::Code(fault) => code_line(alloc, *fault),
+        Fault::Refused(refusal) => refusal_line(alloc, *refusal),
         Fault::NoAssertion(name) => format!(in alloc; "svamon: N1 NoAssertion {name}"),
         Fault::NotText(path) => path_line(alloc, "svamon: N2 NotText ", path.as_str()),
         Fault::Words(WordsFault::Words(text)) => {
@@ -242,6 +290,8 @@ fn fault_status(fault: &Fault) -> u8
         Fault::Window(WindowFault::Memory) => 3,
         Fault::Report(ReportFault::Write) => 4,
         Fault::Report(ReportFault::Memory) => 3,
+        Fault::Code(CodeFault::Memory) => 3,
+        Fault::Refused(Refusal::Memory) => 3,
         Fault::Words(WordsFault::OutOfMemory) => 3,
         Fault::File(_) => 4,
         Fault::Memory => 3,

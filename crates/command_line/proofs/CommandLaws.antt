@@ -2,12 +2,23 @@
 use Rattle.std.proofs.Common.{◌≡◌, ◌∙◌, refl, sym, ap, ap₂, Bool, true, false, not, List, Option, Some, None, option_map}
 use Rattle.std.specs.Prelude.{unwrap_or}
 use Rattle.std.proofs.lemmas.Option.{none-some}
-use Rattle.clap.specs.Words.{App, HasMatchesOf, Row, Text, is_simple, subcommand_of, subcommand_name_of, subcommand_rows_of}
+use Rattle.clap.proofs.WalkLemmas.{both}
+use Rattle.clap.specs.Words.{AddsSubcommand, App, HasMatchesOf, Row, Text, app_of, is_simple, subcommand_of}
+use Rattle.clap.specs.Words.{subcommand_name_of, subcommand_rows_of, with_subcommand}
+use Rattle.clap.specs.declared.builder.command.Command.{Command}
 use Rattle.clap.specs.declared.parser.matches.ArgMatches.{ArgMatches}
-use Rattle.command_line.specs.Words.{svamon_app}
+use Rattle.command_line.specs.Words.{Names, svamon_app}
 
 pub not-is : (b : Bool) → not b ≡ true → b ≡ false
 not-is b h = elim b as (λ v. not v ≡ true → v ≡ false) [ true ↦ λ k. sym k | false ↦ λ k. sym (ap not k) ] h
+
+-- a command of one more subcommand, which has no settings of its own
+pub one_more : (old sub new : Command) (a s : App) → AddsSubcommand old sub new → app_of old ≡ a → app_of sub ≡ s
+    → s.top.is_plain ≡ true → app_of new ≡ with_subcommand a s.top
+one_more old sub new a s adds before is plain =
+    let sub_plain : (app_of sub).top.is_plain ≡ true = ap (λ (x : App). x.top.is_plain) is ∙ plain in
+    adds.shape (not-is _ (both _ _ (both _ _ (both _ _ sub_plain).1).1).0)
+    ∙ ap₂ with_subcommand before (ap (λ (x : App). x.top) is)
 
 map_map : {A B C : Type 0} (f : A → B) (g : B → C) (o : Option A) → option_map g (option_map f o) ≡ option_map (λ a. g (f a)) o
 map_map f g None = refl
@@ -19,9 +30,11 @@ pair_of None n rs e f = absurd (none-some _ e)
 pair_of (Some p) n rs e f =
     ap₂ (λ (a : Text) (b : List Row). Some (a, b)) (ap (λ (o : Option Text). unwrap_or o n) e) (ap (λ (o : Option (List Row)). unwrap_or o rs) f)
 
--- the words name the subcommand that a parse of svamon's command entered
-pub named : (a : App) (words : List Text) (m : ArgMatches) (n : Text) (rs : List Row) → HasMatchesOf a words m → a ≡ svamon_app
-    → subcommand_name_of m ≡ Some n → option_map (λ p. p.1) (subcommand_rows_of m) ≡ Some rs
-    → subcommand_of svamon_app words ≡ Some (n, rs)
-named a words m n rs has is name rows =
-    ap (λ (b : App). subcommand_of b words) (sym is) ∙ sym (has (ap is_simple is)).1 ∙ pair_of (subcommand_rows_of m) n rs (map_map _ _ _ ∙ name) rows
+-- the words name the subcommand that a parse of svamon's command entered, with the rows that it found
+pub asked : (a : App) (words : List Text) (m : ArgMatches) (n : Text) (rs : List Row) → HasMatchesOf a words m → a ≡ svamon_app
+    → subcommand_name_of m ≡ Some n → option_map (λ p. p.1) (subcommand_rows_of m) ≡ Some rs → Names words n rs
+asked a words m n rs has is name rows = record {
+  named =
+      ap (λ (b : App). subcommand_of b words) (sym is) ∙ sym (has (ap is_simple is)).1
+      ∙ pair_of (subcommand_rows_of m) n rs (map_map _ _ _ ∙ name) rows;
+}

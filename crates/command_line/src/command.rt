@@ -3,7 +3,8 @@
 ghost use Rattle.std.specs.Prelude.{◌≡◌, Some, IfOk, false};
 ghost use Rattle.clap.specs.Words.{app_of, rule_of};
 ghost use Rattle.clap.specs.declared.builder.value_parser.ValueParser.TheVariants.{Unsigned};
-ghost use Rattle.command_line.specs.Words.{file_rule, window_rule, check_app, judge_app, svamon_app};
+ghost use Rattle.command_line.specs.Words.{file_rule, word_rule, window_rule, check_app};
+ghost use Rattle.command_line.specs.Words.{verify_app, run_app, judge_app, svamon_app};
 
 use clap::{Arg, Command, value_parser};
 use std::alloc::{AllocError, Global};
@@ -15,6 +16,17 @@ fn file_option<'a>(alloc: Global, name: &'a str, help: &'a str) -> Arg<'a>
 {
     Arg::new(alloc, name)
         .long(name)
+        .value_name("FILE")
+        .required(true)
+        .help(help)
+}
+
+/// A file that is named by a word alone, which has to be there.
+fn file_word<'a>(alloc: Global, name: &'a str, help: &'a str) -> Arg<'a>
+    ensures rule { rule_of result ≡ word_rule name.entry.now }
+    ensures local { result.global ≡ false }
+{
+    Arg::new(alloc, name)
         .value_name("FILE")
         .required(true)
         .help(help)
@@ -49,6 +61,24 @@ fn check_command<'a>(alloc: Global) -> Result<Command<'a>, AllocError>
         .arg(window_option(alloc))
 }
 
+fn verify_command<'a>(alloc: Global) -> Result<Command<'a>, AllocError>
+    ensures { IfOk result (λ c. app_of c ≡ verify_app) }
+{
+    Command::new(alloc, "verify")
+        .about("Verifies a program and prints the limits that it declares")
+        .arg(file_word(alloc, "code", "The program, in bytecode"))
+}
+
+fn run_command<'a>(alloc: Global) -> Result<Command<'a>, AllocError>
+    ensures { IfOk result (λ c. app_of c ≡ run_app) }
+{
+    Command::new(alloc, "run")
+        .about("Runs a program over a dump and prints the report")
+        .arg(file_option(alloc, "vcd", "The dump, in VCD"))?
+        .arg(file_option(alloc, "code", "The program, in bytecode"))?
+        .arg(window_option(alloc))
+}
+
 fn judge_command<'a>(alloc: Global) -> Result<Command<'a>, AllocError>
     ensures { IfOk result (λ c. app_of c ≡ judge_app) }
 {
@@ -66,5 +96,7 @@ pub(crate) fn svamon_command<'a>(alloc: Global) -> Result<Command<'a>, AllocErro
         .about("Checks SystemVerilog assertions over recorded waveforms")
         .subcommand_required(true)
         .subcommand(check_command(alloc)?)?
+        .subcommand(verify_command(alloc)?)?
+        .subcommand(run_command(alloc)?)?
         .subcommand(judge_command(alloc)?)
 }

@@ -3,6 +3,8 @@
 //! ```text
 //! match read_words(alloc, &["svamon", "check", "--vcd", "top.vcd", "--sva", "rules.sva"]) {
 //!     Ok(Request::Check { vcd, sva, window }) => ..,   // the two paths, and 1,024
+//!     Ok(Request::Verify { code }) => ..,
+//!     Ok(Request::Run { vcd, code, window }) => ..,
 //!     Ok(Request::Judge { vcd, sva }) => ..,
 //!     Err(WordsFault::Words(error)) => ..,             // `{error}` is the text to show
 //!     Err(WordsFault::OutOfMemory) => ..,
@@ -11,7 +13,8 @@
 //!
 //! The words are read by `clap`, and what they give is `clap`'s own definition of that
 //! (`subcommand_of`, for a command written out in `specs/Words.antt`): the command that is named,
-//! and for each of its options the value behind it or else its default. The contract of
+//! and for each of its options the value behind it or else its default; the file of `verify` is a
+//! word alone. The contract of
 //! `read_words` says that a request is that command with those values, and that a window has from
 //! 1 to 65,536 clocks. Not promised: which words are refused, and with what text; tests show that.
 #![tactic(auto)]

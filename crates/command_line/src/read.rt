@@ -59,6 +59,14 @@ pub fn read_words(alloc: Global, words: &[&str]) -> Result<Request, WordsFault>
             sva: path_of(alloc, options, "sva")?,
             window: window_of(options)?,
         }),
+        Some(("verify", options)) => Ok(Request::Verify {
+            code: path_of(alloc, options, "code")?,
+        }),
+        Some(("run", options)) => Ok(Request::Run {
+            vcd: path_of(alloc, options, "vcd")?,
+            code: path_of(alloc, options, "code")?,
+            window: window_of(options)?,
+        }),
         Some(("judge", options)) => Ok(Request::Judge {
             vcd: path_of(alloc, options, "vcd")?,
             sva: path_of(alloc, options, "sva")?,

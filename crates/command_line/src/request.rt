@@ -10,7 +10,18 @@ pub enum Request {
         /// From 1 to 65,536.
         window: u64,
     },
-    /// Judges them by the slow judge.
+    /// Verifies a program and tells the limits that it declares.
+    Verify {
+        code: String,
+    },
+    /// Runs a program over a dump, through windows of so many clocks.
+    Run {
+        vcd: String,
+        code: String,
+        /// From 1 to 65,536.
+        window: u64,
+    },
+    /// Judges the assertions of a text over a dump by the slow judge.
     Judge {
         vcd: String,
         sva: String,

@@ -25,13 +25,17 @@ pub fn open<R: Files + AllocGlobal>(rt: &R, path: &str) -> Result<R::File, Fault
     }
 }
 
+/// All of a file.
+pub fn read_bytes<R: Files + AllocGlobal>(rt: &R, path: &str) -> Result<Vec<u8>, Fault<'static>> {
+    match fs::read(rt, path) {
+        Ok(bytes) => Ok(bytes),
+        Err(error) => Err(file_fault(rt.alloc(), path, error)),
+    }
+}
+
 /// All of a file, as text; N2 where it is no UTF-8.
 pub fn read_text<R: Files + AllocGlobal>(rt: &R, path: &str) -> Result<String, Fault<'static>> {
-    let bytes = match fs::read(rt, path) {
-        Ok(bytes) => bytes,
-        Err(error) => return Err(file_fault(rt.alloc(), path, error)),
-    };
-    match String::from_utf8(bytes) {
+    match String::from_utf8(read_bytes(rt, path)?) {
         Ok(text) => Ok(text),
         Err(_) => Err(Fault::NotText(String::from_str(rt.alloc(), path)?)),
     }

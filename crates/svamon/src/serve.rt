@@ -1,7 +1,8 @@
 //! The commands, from the words of the command line to the answer.
 
-use crate::files::{open, read_text};
-use cli::{Fault, Request, check_one, fault_line, judge_one, read_words, status};
+use crate::files::{open, read_bytes, read_text};
+use cli::{Fault, Request, check_one, fault_line, judge_one, read_words, status, verify_code};
+use cli_runs::run_code;
 use signals::Counted;
 use std::alloc::AllocError;
 use std::env::Env;
@@ -29,36 +30,91 @@ fn shown_status<R: Eprint + AllocGlobal>(rt: &R, outcome: &Result<[u64; 5], Faul
     status(outcome)
 }
 
-/// Judges a text over a dump, as the words ask for; the report goes to standard output.
+/// Judges a text over a dump, through windows of so many clocks, or by the slow judge where there
+/// is no window; the report goes to standard output.
 fn judge_text<'a, R: Files + Print + AllocGlobal>(
     rt: &R,
-    request: &Request,
     dump: R::File,
     text: &'a str,
+    window: Option<u64>,
 ) -> Result<[u64; 5], Fault<'a>> {
     let mut dump = Counted::new(dump);
     let mut out = Counted::new(io::writer(rt));
-    match request {
-        Request::Check { window, .. } => check_one(rt.alloc(), &mut dump, text, *window, &mut out),
-        Request::Judge { .. } => judge_one(rt.alloc(), &mut dump, text, &mut out),
+    match window {
+        Some(window) => check_one(rt.alloc(), &mut dump, text, window, &mut out),
+        None => judge_one(rt.alloc(), &mut dump, text, &mut out),
     }
 }
 
-/// Does what the words ask for: the dump is opened, then the text is read.
-fn serve<R: Files + Print + Eprint + AllocGlobal>(rt: &R, request: &Request) -> u8 {
-    let (vcd, sva) = match request {
-        Request::Check { vcd, sva, .. } => (vcd, sva),
-        Request::Judge { vcd, sva } => (vcd, sva),
-    };
-    let dump = match open(rt, vcd.as_str()) {
+/// Opens the dump, then reads the text, and judges it.
+fn serve_text<R: Files + Print + Eprint + AllocGlobal>(
+    rt: &R,
+    vcd: &str,
+    sva: &str,
+    window: Option<u64>,
+) -> u8 {
+    let dump = match open(rt, vcd) {
         Ok(dump) => dump,
         Err(fault) => return shown_status(rt, &Err(fault)),
     };
-    let text = match read_text(rt, sva.as_str()) {
+    let text = match read_text(rt, sva) {
         Ok(text) => text,
         Err(fault) => return shown_status(rt, &Err(fault)),
     };
-    shown_status(rt, &judge_text(rt, request, dump, text.as_str()))
+    shown_status(rt, &judge_text(rt, dump, text.as_str(), window))
+}
+
+/// Verifies the program in a file; the line of its limits goes to standard output.
+fn verify_file<R: Files + Print + AllocGlobal>(rt: &R, path: &str) -> Result<(), Fault<'static>> {
+    let bytes = read_bytes(rt, path)?;
+    let mut out = Counted::new(io::writer(rt));
+    verify_code(rt.alloc(), bytes.as_slice(), &mut out)
+}
+
+/// Verifies the program in a file, and answers the status: 0 where it may run.
+fn serve_code<R: Files + Print + Eprint + AllocGlobal>(rt: &R, path: &str) -> u8 {
+    match verify_file(rt, path) {
+        Ok(()) => 0,
+        Err(fault) => shown_status(rt, &Err(fault)),
+    }
+}
+
+/// Runs a program over a dump, through windows of so many clocks; the report goes to standard output.
+fn run_bytes<R: Files + Print + AllocGlobal>(
+    rt: &R,
+    dump: R::File,
+    code: &[u8],
+    window: u64,
+) -> Result<[u64; 5], Fault<'static>> {
+    let mut dump = Counted::new(dump);
+    let mut out = Counted::new(io::writer(rt));
+    run_code(rt.alloc(), &mut dump, code, window, &mut out)
+}
+
+/// Opens the dump, then reads the program, and runs it.
+fn run_file<R: Files + Print + AllocGlobal>(
+    rt: &R,
+    vcd: &str,
+    code: &str,
+    window: u64,
+) -> Result<[u64; 5], Fault<'static>> {
+    let dump = open(rt, vcd)?;
+    let bytes = read_bytes(rt, code)?;
+    run_bytes(rt, dump, bytes.as_slice(), window)
+}
+
+/// Does what the words ask for.
+fn serve<R: Files + Print + Eprint + AllocGlobal>(rt: &R, request: &Request) -> u8 {
+    match request {
+        Request::Check { vcd, sva, window } => {
+            serve_text(rt, vcd.as_str(), sva.as_str(), Some(*window))
+        }
+        Request::Verify { code } => serve_code(rt, code.as_str()),
+        Request::Run { vcd, code, window } => {
+            shown_status(rt, &run_file(rt, vcd.as_str(), code.as_str(), *window))
+        }
+        Request::Judge { vcd, sva } => serve_text(rt, vcd.as_str(), sva.as_str(), None),
+    }
 }
 
 /// The words of the command line, the program's name first.
@@ -66,11 +122,13 @@ fn words_of<R: Env + AllocGlobal>(rt: &R) -> io::Result<Vec<String>> {
     Ok(env::args(rt)?.collect(rt.alloc())?)
 }
 
-/// Refuses words that can't be had, and answers the status: one that is no text as clap does, or else want of memory.
+/// Refuses words that can't be had, and answers the status: one that is no text as clap does, or
+/// else want of memory.
 fn refuse_words<R: Eprint + AllocGlobal>(rt: &R, error: &io::Error) -> u8 {
     if error.kind() == ErrorKind::InvalidData {
         let _ = eprintln!(rt;
-            "error: invalid UTF-8 was detected in one or more arguments\n\nFor more information, try '--help'."
+            "error: invalid UTF-8 was detected in one or more arguments\n\nFor more information, \
+             try '--help'."
         );
         return 2;
     }

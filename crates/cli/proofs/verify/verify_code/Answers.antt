@@ -1,0 +1,21 @@
+use Rattle.std.proofs.Common.{subst}
+use Rattle.bytecode.specs.declared.limits.Limits.{Limits}
+use Rattle.verdicts.specs.Written.{WhyUnwritten}
+use Rattle.limits_line.specs.Texts.{limits_text}
+use Rattle.cli.specs.Faults.{report_fault}
+use Rattle.cli.specs.Verifications.{WhyNotTold, verification_of}
+use Rattle.cli.proofs.TextLaws.{err_is}
+use Rattle.cli.proofs.VerifyLaws.{unwritten_line}
+use Rattle.cli.proofs.verify.verify_code.Goals as goal
+
+pub returns-in_err-write_limits-clause-refused : goal.returns-in_err-write_limits-clause-refused
+returns-in_err-write_limits-clause-refused g c =
+    let old = g.W.Sink.contents c.args.out.now in
+    let new = g.W.Sink.contents c.write_limits.new.out in
+    let before = g.W.Sink.failures c.args.out.now in
+    let after = g.W.Sink.failures c.write_limits.new.out in
+    let v = verification_of c.args.bytes.now old new before after in
+    let fault = c.in_err-write_limits.field-0.0 in
+    err_is c.from_residual-in_err-write_limits.result (report_fault fault) (WhyNotTold v) c.from_residual-in_err-write_limits.ensures.1
+    (unwritten_line v c.in_ok-verified.verified fault c.in_ok-verified.ensures.ok
+    (subst (λ (l : Limits). WhyUnwritten old new before after (limits_text l) fault) c.limits.ensures c.in_err-write_limits.ensures.refused))

@@ -1,0 +1,44 @@
+//! The lines that name the faults of programs.
+
+use bytecode::CodeFault;
+use std::alloc::{AllocError, Global};
+use verifier::Refusal;
+
+/// The line that names a fault of bytes that are no program.
+pub(crate) fn code_line(alloc: Global, fault: CodeFault) -> Result<String, AllocError> {
+    match fault {
+        CodeFault::Magic => String::from_str(alloc, "svamon: B1 Magic"),
+        CodeFault::Version => String::from_str(alloc, "svamon: B2 Version"),
+        CodeFault::Truncated(at) => format!(in alloc; "svamon: B3 Truncated {at}"),
+        CodeFault::BadOpcode(at) => format!(in alloc; "svamon: B4 BadOpcode {at}"),
+        CodeFault::BadField(at) => format!(in alloc; "svamon: B5 BadField {at}"),
+        CodeFault::TrailingBytes(at) => format!(in alloc; "svamon: B6 TrailingBytes {at}"),
+        CodeFault::Memory => String::from_str(alloc, "svamon: OutOfMemory"),
+    }
+}
+
+/// The line that names why a program may not run.
+pub(crate) fn refusal_line(alloc: Global, refusal: Refusal) -> Result<String, AllocError> {
+    match refusal {
+        Refusal::Operand(pc) => format!(in alloc; "svamon: F1 Operand {pc}"),
+        Refusal::Underflow(pc) => format!(in alloc; "svamon: F2 Underflow {pc}"),
+        Refusal::Overflow(pc) => format!(in alloc; "svamon: F3 Overflow {pc}"),
+        Refusal::JumpRange(pc) => format!(in alloc; "svamon: F4 JumpRange {pc}"),
+        Refusal::BackwardJump(pc) => format!(in alloc; "svamon: F5 BackwardJump {pc}"),
+        Refusal::JoinMismatch(pc) => format!(in alloc; "svamon: F6 JoinMismatch {pc}"),
+        Refusal::Unreached(pc) => format!(in alloc; "svamon: F7 Unreached {pc}"),
+        Refusal::NoHalt => String::from_str(alloc, "svamon: F8 NoHalt"),
+        Refusal::SlotRange(pc) => format!(in alloc; "svamon: F9 SlotRange {pc}"),
+        Refusal::HistoryTooShort(least) => {
+            format!(in alloc; "svamon: F10 HistoryTooShort {least}")
+        }
+        Refusal::StackTooShort(least) => format!(in alloc; "svamon: F11 StackTooShort {least}"),
+        Refusal::Cycle(position) => format!(in alloc; "svamon: F12 Cycle {position}"),
+        Refusal::PoolTooSmall(pool, least) => {
+            format!(in alloc; "svamon: F13 PoolTooSmall {pool} {least}")
+        }
+        Refusal::BudgetTooSmall(least) => format!(in alloc; "svamon: F14 BudgetTooSmall {least}"),
+        Refusal::LimitTooLarge(field) => format!(in alloc; "svamon: F15 LimitTooLarge {field}"),
+        Refusal::Memory => String::from_str(alloc, "svamon: OutOfMemory"),
+    }
+}

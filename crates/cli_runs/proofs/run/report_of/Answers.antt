@@ -1,0 +1,19 @@
+use Rattle.std.proofs.Common.{◌≡◌}
+use Rattle.cli.specs.Faults.{window_fault}
+use Rattle.cli.proofs.TextLaws.{err_is}
+use Rattle.cli_runs.specs.Outcomes.{WhyNoRunReport}
+use Rattle.cli_runs.proofs.RunLaws.{no_program, unbound}
+use Rattle.cli_runs.proofs.run.report_of.Goals as goal
+
+pub returns-in_err-report_run-clause-err : goal.returns-in_err-report_run-clause-err
+returns-in_err-report_run-clause-err c = λ k holds.
+    let fault = c.in_err-report_run.field-0.0 in
+    err_is c.from_residual.result (window_fault fault) (WhyNoRunReport k c.args.code.now c.args.size) c.from_residual.ensures.1
+    (unbound k c.args.code.now c.args.size c.in-Ok.verified c.in-Ok.ensures.ok fault (c.in_err-report_run.ensures.refused k holds))
+
+pub returns-clause-ok : goal.returns-clause-ok
+returns-clause-ok c = λ k holds. record {
+  program = c.in-Ok.verified;
+  accepted = c.in-Ok.ensures.ok;
+  reports = c.in_ok-report_run.ensures.report k holds;
+}

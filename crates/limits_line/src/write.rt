@@ -1,0 +1,34 @@
+//! Writing the line.
+
+ghost use Rattle.std.specs.Prelude.{◌≡◌, OnOk, IfErr};
+ghost use Rattle.std.specs.Io.KnownBytes.{Appends};
+ghost use Rattle.verdicts.specs.Written.{WhyUnwritten};
+ghost use Rattle.limits_line.specs.Texts.{limits_text};
+
+use crate::text::text_of;
+use bytecode::Limits;
+use signals::{Sink, write_all};
+use std::alloc::Global;
+use verdicts::ReportFault;
+
+/// Writes the line of these limits to the device, and flushes it.
+///
+/// Where the device fails, it holds a beginning of the line behind what it held before.
+pub fn write_limits<W: Sink>(alloc: Global, limits: &Limits, out: &mut W) -> Result<(), ReportFault>
+    ensures written { OnOk result (Appends (W.contents out.old) (W.contents out.new)
+        (limits_text limits.now)) }
+    ensures counted { OnOk result (W.failures out.new ≡ W.failures out.old) }
+    ensures refused { IfErr result (WhyUnwritten (W.contents out.old) (W.contents out.new)
+        (W.failures out.old) (W.failures out.new) (limits_text limits.now)) }
+{
+    let Ok(text) = text_of(alloc, limits) else {
+        return Err(ReportFault::Memory);
+    };
+    if write_all(out, text.as_bytes()).is_err() {
+        return Err(ReportFault::Write);
+    }
+    match out.flush() {
+        Ok(()) => Ok(()),
+        Err(_) => Err(ReportFault::Write),
+    }
+}
