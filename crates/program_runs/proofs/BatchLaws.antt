@@ -23,10 +23,10 @@ abbrev ends_in : State → List Decided → Ran Outcome
 ends_in s ds = done (record { state = s; decided = ds }) 0
 
 -- what a clock decides goes before what the later ones do
-abbrev joined : List Decided → Outcome → ℕ → Ran Outcome
+abbrev pub joined : List Decided → Outcome → ℕ → Ran Outcome
 joined before rest left = done (behind before rest) left
 
-abbrev later : ProgramData → List (List ℕ) → Outcome → ℕ → Ran Outcome
+abbrev pub later : ProgramData → List (List ℕ) → Outcome → ℕ → Ran Outcome
 later p rows first left = and_then (run_from p first.state rows) (joined first.decided)
 
 -- a clock more

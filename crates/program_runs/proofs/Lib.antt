@@ -1,4 +1,5 @@
 pub mod BatchLaws
+pub mod CutLaws
 pub mod CountLaws
 pub mod RowLaws
 pub mod BoundLaws

@@ -17,15 +17,18 @@
 //!
 //! The definitions: the report over the contents of a dump, and why there is none, in
 //! `specs/Reported.antt`; the line of a program over rows in `specs/Lines.antt`; what a program
-//! decides over rows, by the clocks of `checked_machine`, in `specs/Batches.antt`. Ticks and rows
-//! are those of `cycle_window`, and reports those of `verdicts`.
+//! decides over rows, by the clocks of `checked_machine`, in `specs/Batches.antt`; that rows may be
+//! cut anywhere, in `specs/Laws.antt`. Ticks and rows are those of `cycle_window`, and reports
+//! those of `verdicts`.
 //!
 //! Not promised: that memory suffices, or that a program of unknown origin means anything.
 #![tactic(auto)]
 
+mod laws;
 mod line_so_far;
 mod report;
 mod run;
 mod window;
 
+pub use laws::batches_law;
 pub use report::report_run;

@@ -2,6 +2,6 @@
 #![tactic(auto)]
 
 #[cfg(test)]
-mod told;
-#[cfg(test)]
 mod tests;
+#[cfg(test)]
+mod told;

@@ -40,18 +40,22 @@ const THREE: &str = "$scope module top $end\n$var wire 1 ! clk $end\n\
 #[test]
 fn fails_at_its_tick(rt: HostRuntime) -> Result<(), Fail> {
     let report = told(rt.alloc(), BROKEN, OVERLAPPED, 1024)?;
-    assert_eq!(rt; report.as_str(),
+    assert_eq!(rt;
+        report.as_str(),
         "svamon 1\nclocks 1\nmonitor r holds 0 vacuous 0 fails 1 disabled 0 open 0\n\
-        fail r start 0 clock 0\ntotal holds 0 vacuous 0 fails 1 disabled 0 open 0\n");
+        fail r start 0 clock 0\ntotal holds 0 vacuous 0 fails 1 disabled 0 open 0\n"
+    );
     Ok(())
 }
 
 #[test]
 fn holds_at_its_tick(rt: HostRuntime) -> Result<(), Fail> {
     let report = told(rt.alloc(), KEPT, OVERLAPPED, 1024)?;
-    assert_eq!(rt; report.as_str(),
+    assert_eq!(rt;
+        report.as_str(),
         "svamon 1\nclocks 1\nmonitor r holds 1 vacuous 0 fails 0 disabled 0 open 0\n\
-        total holds 1 vacuous 0 fails 0 disabled 0 open 0\n");
+        total holds 1 vacuous 0 fails 0 disabled 0 open 0\n"
+    );
     Ok(())
 }
 
@@ -61,9 +65,12 @@ fn holds_at_its_tick(rt: HostRuntime) -> Result<(), Fail> {
 fn any_window(rt: HostRuntime) -> Result<(), Fail> {
     for size in [1, 2, 1000] {
         let report = told(rt.alloc(), THREE, TWO_POSITIONS, size)?;
-        assert_eq!(rt; report.as_str(),
+        assert_eq!(rt;
+            report.as_str(),
             "svamon 1\nclocks 3\nmonitor r holds 1 vacuous 1 fails 0 disabled 0 open 1\n\
-            total holds 1 vacuous 1 fails 0 disabled 0 open 1\n", "windows of {size}");
+            total holds 1 vacuous 1 fails 0 disabled 0 open 1\n",
+            "windows of {size}"
+        );
     }
     Ok(())
 }
@@ -73,7 +80,11 @@ fn any_window(rt: HostRuntime) -> Result<(), Fail> {
 fn refusals(rt: HostRuntime) -> Result<(), Fail> {
     let cases = [
         ("$enddefinitions $end", 0, "C1 NoClock"),
-        ("$var wire 2 ! top.clk $end $enddefinitions $end", 0, "C2 ClockWidth"),
+        (
+            "$var wire 2 ! top.clk $end $enddefinitions $end",
+            0,
+            "C2 ClockWidth",
+        ),
         (
             "$var wire 1 ! top.clk $end $var wire 2 # top.y $end $enddefinitions $end",
             0,

@@ -55,12 +55,7 @@ fn text_of(alloc: Global, report: &Report) -> Result<String, AllocError> {
 }
 
 /// What a run over a dump tells.
-fn told_over(
-    alloc: Global,
-    dump: &Dump,
-    code: &str,
-    size: usize,
-) -> Result<String, AllocError> {
+fn told_over(alloc: Global, dump: &Dump, code: &str, size: usize) -> Result<String, AllocError> {
     let Some(verified) = verified_of(alloc, code)? else {
         return String::from_str(alloc, "no program");
     };
