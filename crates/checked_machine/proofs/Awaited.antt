@@ -33,7 +33,7 @@ module _ (now : ℕ) (a : Attempt) (entered : ℕ) (started : a.start ≤ now) w
     | inl lt ↦ unborn t lt (bit_at grown (t - a.start) == 1) ∙ sym (unborn t lt (bit_at a.awaited (t - a.start) == 1))
     | inr ge ↦
         let other : bit_at grown (t - a.start) ≡ bit_at a.awaited (t - a.start) =
-            omega (arith, bit_at_or a.awaited (2 ^ (now - a.start)) (t - a.start), bit_at-pow_other (now - a.start) (t - a.start) (λ e. omega (arith, e, ge, before))) in
+        omega (arith, bit_at_or a.awaited (2 ^ (now - a.start)) (t - a.start), bit_at-pow_other (now - a.start) (t - a.start) (λ e. omega (arith, e, ge, before))) in
         older t before (ap (λ n. n == 1) other)
   ]
 
@@ -64,7 +64,7 @@ empty-set : (now : ℕ) (a : Attempt) (b : Bool) → (if b then bit_or a.awaited
 empty-set now a false h = (h, refl)
 empty-set now a true h =
     let one : 1 ≤ bit_at (bit_or a.awaited (2 ^ (now - a.start))) (now - a.start) =
-        omega (arith, bit_at_or a.awaited (2 ^ (now - a.start)) (now - a.start), bit_at-pow_same (now - a.start)) in
+    omega (arith, bit_at_or a.awaited (2 ^ (now - a.start)) (now - a.start), bit_at-pow_same (now - a.start)) in
     absurd (omega (arith, one, ap (λ n. bit_at n (now - a.start)) h, bit_at-zero (now - a.start)))
 
 still-empty : (now : ℕ) (a : Attempt) (b : Bool) → a.awaited ≡ 0 → b ≡ false → (if b then bit_or a.awaited (2 ^ (now - a.start)) else a.awaited) ≡ 0

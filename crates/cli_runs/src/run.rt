@@ -20,12 +20,7 @@ use vcd_reader::{Dump, read_dump};
 use verdicts::{Report, ReportFault, write_report};
 
 /// The report of the program that bytes spell, over a dump.
-fn report_of(
-    alloc: Global,
-    dump: &Dump,
-    code: &[u8],
-    size: usize,
-) -> Result<Report, Fault<'static>>
+fn report_of(alloc: Global, dump: &Dump, code: &[u8], size: usize) -> Result<Report, Fault<'static>>
     ensures ok { (c : Contents) → HoldsContents dump.now c
         → IfOk result (λ r. HasRunReport c code.now (data_of r)) }
     ensures err { (c : Contents) → HoldsContents dump.now c
