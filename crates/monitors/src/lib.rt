@@ -1,0 +1,2 @@
+//! A monitor decides by the meaning of its assertion.
+#![tactic(auto)]
