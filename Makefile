@@ -12,6 +12,7 @@ BYTECODE := crates/oracle_bytecode/out/oracle_bytecode
 VERIFIER := crates/oracle_verifier/out/oracle_verifier
 MACHINE := crates/oracle_machine/out/oracle_machine
 REFUSING := scripts/fail_alloc 3 crates/svamon/out/svamon
+PROGRAM := examples/fails_at_its_tick/program.svm
 FILES = --vcd examples/$(1)/dump.vcd --sva examples/$(1)/assertion.sva
 
 help:
@@ -73,6 +74,8 @@ allocations: svamon oracle_bytecode oracle_verifier
 	$(REFUSING) check $(call FILES,fails_at_its_tick)
 	$(REFUSING) check $(call FILES,one_then_down)
 	$(REFUSING) judge $(call FILES,whole_profile)
+	$(REFUSING) verify $(PROGRAM)
+	$(REFUSING) run --vcd examples/fails_at_its_tick/dump.vcd --code $(PROGRAM)
 
 random: svamon oracle_bytecode oracle_verifier oracle_machine
 	scripts/random_bytecode.py $(BYTECODE) $(MUTANTS) $(SEED)

@@ -6,4 +6,6 @@
 #[cfg(test)]
 mod profile;
 #[cfg(test)]
+mod programs;
+#[cfg(test)]
 mod reports;
