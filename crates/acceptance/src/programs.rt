@@ -155,8 +155,10 @@ fn lines_of_refusals(rt: HostRuntime) -> Result<(), Fail> {
 fn words_of_programs(rt: HostRuntime) -> Result<(), Fail> {
     let alloc = rt.alloc();
     let words = ["svamon", "verify", "a.svm"];
-    let read = read_words(alloc, words.as_slice());
-    assert!(rt; matches!(read, Ok(Request::Verify { code }) if code.as_str() == "a.svm"));
+    let Ok(Request::Verify { code }) = read_words(alloc, words.as_slice()) else {
+        return Err(Fail::from("the words are refused"));
+    };
+    assert_eq!(rt; code.as_str(), "a.svm");
     let words = ["svamon", "run", "--vcd", "a.vcd", "--code", "a.svm", "--window", "7"];
     let Ok(Request::Run { vcd, code, window }) = read_words(alloc, words.as_slice()) else {
         return Err(Fail::from("the words are refused"));

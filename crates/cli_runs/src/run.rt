@@ -57,8 +57,14 @@ fn run_through<S: Source, W: Sink>(
 ) -> Result<[u64; 5], Fault<'static>>
     requires some { 1 ≤ size }
     requires most { size ≤ 65536 }
-    ensures answered { IfOk result (IsRunAnswered (run_of code.now (S.remaining source.old) (S.remaining source.new) (S.failures source.old) (S.failures source.new) (W.contents out.old) (W.contents out.new) (W.failures out.old) (W.failures out.new))) }
-    ensures refused { IfErr result (WhyRunFails size (run_of code.now (S.remaining source.old) (S.remaining source.new) (S.failures source.old) (S.failures source.new) (W.contents out.old) (W.contents out.new) (W.failures out.old) (W.failures out.new))) }
+    ensures answered { IfOk result (IsRunAnswered (run_of code.now
+        (S.remaining source.old) (S.remaining source.new)
+        (S.failures source.old) (S.failures source.new)
+        (W.contents out.old) (W.contents out.new) (W.failures out.old) (W.failures out.new))) }
+    ensures refused { IfErr result (WhyRunFails size (run_of code.now
+        (S.remaining source.old) (S.remaining source.new)
+        (S.failures source.old) (S.failures source.new)
+        (W.contents out.old) (W.contents out.new) (W.failures out.old) (W.failures out.new))) }
 {
     let dump = read_dump(alloc, source)?;
     let report = match report_of(alloc, &dump, code, size) {
@@ -91,8 +97,14 @@ pub fn run_code<S: Source, W: Sink>(
     window: u64,
     out: &mut W,
 ) -> Result<[u64; 5], Fault<'static>>
-    ensures answered { IfOk result (IsRunAnswered (run_of code.now (S.remaining source.old) (S.remaining source.new) (S.failures source.old) (S.failures source.new) (W.contents out.old) (W.contents out.new) (W.failures out.old) (W.failures out.new))) }
-    ensures refused { IfErr result (WhyNotRun window (run_of code.now (S.remaining source.old) (S.remaining source.new) (S.failures source.old) (S.failures source.new) (W.contents out.old) (W.contents out.new) (W.failures out.old) (W.failures out.new))) }
+    ensures answered { IfOk result (IsRunAnswered (run_of code.now
+        (S.remaining source.old) (S.remaining source.new)
+        (S.failures source.old) (S.failures source.new)
+        (W.contents out.old) (W.contents out.new) (W.failures out.old) (W.failures out.new))) }
+    ensures refused { IfErr result (WhyNotRun window (run_of code.now
+        (S.remaining source.old) (S.remaining source.new)
+        (S.failures source.old) (S.failures source.new)
+        (W.contents out.old) (W.contents out.new) (W.failures out.old) (W.failures out.new))) }
     ensures bad_size { IsBadSize window ↔ (result ≡ Err (Window BadSize)) }
 {
     if window < 1 || window > 65_536 {

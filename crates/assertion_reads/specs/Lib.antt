@@ -1,0 +1,4 @@
+pub mod Names
+pub mod Reads
+pub mod Scans
+pub mod Marks
