@@ -1,2 +1,6 @@
 pub mod Automata
 pub mod Effects
+pub mod Monitors
+pub mod Standing
+pub mod Clocked
+pub mod Laws
