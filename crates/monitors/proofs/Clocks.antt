@@ -385,7 +385,10 @@ module _ (B : Type 0) (value : B → ℕ → Bool) (r s : Seq B) (m : Monitor) (
       ∙ select-same open_now (λ c. falls_at n (verdict (n + 1) c)) (λ c. record { start = c; verdict = outcome.Disabled n }) (λ c. record { start = c; verdict = verdict (n + 1) c }) 0 (suc n) (λ c from below. falls c (omega arith)) (λ c from below is. ap (λ v. record { start = c; verdict = v }) (sym (off-Disabled B value m.off r s verdict are n c (omega arith) is off)))
       ∙ ap (λ k. select (λ c. falls_at n (verdict (n + 1) c)) (λ c. record { start = c; verdict = verdict (n + 1) c }) 0 k) more in
       let whole : List Attempt → List Obligation → List Decided → Settled = λ xs os ds. record { state = record { now = n + 1; attempts = xs; obligations = os }; decided = ds } in
-      ap (λ ds. whole [] [] ds) fall ∙ ap (λ xs. whole xs [] (falling verdict n)) live ∙ ap (λ os. whole (standing_at m verdict (n + 1)).attempts os (falling verdict n)) owed_none
+      let next = standing_at m verdict (n + 1) in
+      let rest : whole [] [] (falling verdict n) ≡ whole next.attempts next.obligations (falling verdict n) =
+      ap (λ xs. whole xs [] (falling verdict n)) live ∙ ap (λ os. whole next.attempts os (falling verdict n)) owed_none in
+      ap (λ ds. whole [] [] ds) fall ∙ rest
     where
       and-true : (b : Bool) → (b && true) ≡ b
       and-true true = refl

@@ -9,3 +9,5 @@ pub mod Blocks
 pub mod Machines
 pub mod Deciding
 pub mod Theorem
+pub mod Histories
+pub mod Rows

@@ -4,7 +4,7 @@ use Rattle.std.proofs.lemmas.Bool.{cases_Bool}
 use Rattle.std.specs.Prelude.{map}
 use Rattle.assertions.specs.Quantifiers.{some_of, some_in}
 use Rattle.monitors.specs.Standing.{select}
-use Rattle.monitors.specs.Clocked.{ticks_from}
+use Rattle.std.specs.List.{range_with_len}
 
 -- what one tick adds
 abbrev pub last_of : {A : Type 0} → Bool → A → List A
@@ -79,8 +79,8 @@ map-select g p f i (suc k) =
       | inr off ↦ rw off rest
     ]
 
-pub map-same : {A : Type 0} (f g : ℕ → A) (i k : ℕ) → ((j : ℕ) → i ≤ j → j < i + k → f j ≡ g j) → map f (ticks_from i k) ≡ map g (ticks_from i k)
+pub map-same : {A : Type 0} (f g : ℕ → A) (i k : ℕ) → ((j : ℕ) → i ≤ j → j < i + k → f j ≡ g j) → map f (range_with_len i k) ≡ map g (range_with_len i k)
 map-same f g i zero same = refl
 map-same f g i (suc k) same =
-    ap (λ x. x ∷ map f (ticks_from (i + 1) k)) (same i (omega arith) (omega arith))
+    ap (λ x. x ∷ map f (range_with_len (i + 1) k)) (same i (omega arith) (omega arith))
     ∙ ap (λ xs. g i ∷ xs) (map-same f g (i + 1) k (λ j from below. same j (omega arith) (omega arith)))

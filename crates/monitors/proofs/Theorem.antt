@@ -1,6 +1,7 @@
 -- Over any atoms the clocks of the checked machine decide by the meaning.
 use Rattle.std.proofs.Common.{◌≡◌, ◌∙◌, ℕ, zero, suc, ◌+◌, ◌<◌, Bool, List, [], ◌∷◌, sym, ap, subst, arith}
 use Rattle.std.specs.Prelude.{map}
+use Rattle.std.specs.List.{range_with_len}
 use Rattle.signals.specs.declared.verdict.Verdict.{Verdict}
 use Rattle.bytecode.specs.Values.{ProgramData}
 use Rattle.verifier.specs.Programs.{IsAccepted}
@@ -13,7 +14,7 @@ use Rattle.checked_machine.specs.Bounds.{IsReached}
 use Rattle.checked_machine.proofs.Outcomes.{Meets-and_then, Meets-weaker}
 use Rattle.monitors.specs.Monitors.{Monitor, monitor_of}
 use Rattle.monitors.specs.Standing.{standing_at, falling}
-use Rattle.monitors.specs.Clocked.{ticks_from, Clocked, behind_batch, clocks_after}
+use Rattle.monitors.specs.Clocked.{Clocked, behind_batch, clocks_after}
 use Rattle.monitors.specs.Laws.{Watches, Fills, fallen, starts_of, IsJudged, IsSampled, sampled_at, DecidesByMeaning}
 use Rattle.monitors.proofs.Selections.{map-same}
 use Rattle.monitors.proofs.Deciding.{Goes, clock-decides, falling-fallen, starts-open}
@@ -26,12 +27,12 @@ module _ (p : ProgramData) (atoms : ℕ → List Bool) (left : ℕ → ℕ) (val
   v = verdict value m.off r s
 
   abbrev came_to : ℕ → ℕ → Clocked
-  came_to first count = record { standing = standing_at m v (first + count); batches = map (falling v) (ticks_from first count) }
+  came_to first count = record { standing = standing_at m v (first + count); batches = map (falling v) (range_with_len first count) }
 
   abbrev Comes : ℕ → ℕ → Clocked → ℕ → Type 0
   Comes first count x rest = x ≡ came_to first count
 
-  clocks-decide : (first count : ℕ) → ((k : ℕ) → k < first + count → IsSampled p (sampled_at atoms left k)) → IsReached p (standing_at m v first) → Meets (Comes first count) (clocks_after p (standing_at m v first) (map (sampled_at atoms left) (ticks_from first count)))
+  clocks-decide : (first count : ℕ) → ((k : ℕ) → k < first + count → IsSampled p (sampled_at atoms left k)) → IsReached p (standing_at m v first) → Meets (Comes first count) (clocks_after p (standing_at m v first) (map (sampled_at atoms left) (range_with_len first count)))
   clocks-decide first zero sampled reached =
       let e : first ≡ first + zero = omega arith in
       ap (λ k. record { standing = standing_at m v k; batches = [] }) e
@@ -42,14 +43,14 @@ module _ (p : ProgramData) (atoms : ℕ → List Bool) (left : ℕ → ℕ) (val
       (clock-decides p atoms value r s accepted watches fills first (left first) reached here.atoms here.left)
       (λ o rest h.
       let state : o.state ≡ standing_at m v (first + 1) = ap (λ (o : Settled). o.state) h.1 in
-      let later = map (sampled_at atoms left) (ticks_from (first + 1) count) in
+      let later = map (sampled_at atoms left) (range_with_len (first + 1) count) in
       Meets-and_then (Comes (first + 1) count) (Comes first (suc count)) (clocks_after p o.state later) _
       (subst (λ st. Meets (Comes (first + 1) count) (clocks_after p st later)) (sym state)
       (clocks-decide (first + 1) count (λ k below. sampled k (omega arith)) (subst (IsReached p) state h.0)))
       (λ x last is.
       ap (behind_batch o.decided) is
       ∙ ap (λ ds. behind_batch ds (came_to (first + 1) count)) (ap (λ (o : Settled). o.decided) h.1)
-      ∙ ap (λ k. record { standing = standing_at m v k; batches = falling v first ∷ map (falling v) (ticks_from (first + 1) count) }) e))
+      ∙ ap (λ k. record { standing = standing_at m v k; batches = falling v first ∷ map (falling v) (range_with_len (first + 1) count) }) e))
 
   judged : (count : ℕ) (x : Clocked) → x ≡ came_to 0 count → IsJudged (v count) count x
   judged count x is =
@@ -63,9 +64,9 @@ module _ (p : ProgramData) (atoms : ℕ → List Bool) (left : ℕ → ℕ) (val
             ∙ starts-open p atoms value r s accepted watches fills count;
       }
 
-  pub decides-atoms : (count : ℕ) → ((k : ℕ) → k < count → IsSampled p (sampled_at atoms left k)) → Meets (λ x rest. IsJudged (v count) count x) (clocks_after p none_standing (map (sampled_at atoms left) (ticks_from 0 count)))
+  pub decides-atoms : (count : ℕ) → ((k : ℕ) → k < count → IsSampled p (sampled_at atoms left k)) → Meets (λ x rest. IsJudged (v count) count x) (clocks_after p none_standing (map (sampled_at atoms left) (range_with_len 0 count)))
   decides-atoms count sampled =
-      Meets-weaker (Comes 0 count) (λ x rest. IsJudged (v count) count x) (clocks_after p none_standing (map (sampled_at atoms left) (ticks_from 0 count))) (λ x rest. judged count x)
+      Meets-weaker (Comes 0 count) (λ x rest. IsJudged (v count) count x) (clocks_after p none_standing (map (sampled_at atoms left) (range_with_len 0 count))) (λ x rest. judged count x)
       (clocks-decide 0 count (λ k below. sampled k (omega arith)) (record { attempts = omega arith; obligations = omega arith }))
 
 pub theorem : DecidesByMeaning

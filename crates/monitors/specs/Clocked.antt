@@ -1,14 +1,9 @@
 -- Clocks of the checked machine behind their sample code, one after another.
-use Rattle.std.specs.Prelude.{ℕ, zero, suc, ◌+◌, Bool, List, [], ◌∷◌}
+use Rattle.std.specs.Prelude.{ℕ, Bool, List, [], ◌∷◌}
 use Rattle.signals.specs.declared.verdict.Decided.{Decided}
 use Rattle.bytecode.specs.Values.{ProgramData}
 use Rattle.checked_machine.specs.Outcomes.{Ran, done, and_then}
 use Rattle.checked_machine.specs.Clocks.{Standing, clock_after}
-
--- so many ticks from the first one on
-abbrev pub ticks_from : ℕ → ℕ → List ℕ
-ticks_from first zero = []
-ticks_from first (suc count) = first ∷ ticks_from (first + 1) count
 
 -- What the sample code of a clock gave: the atoms, and the ticks that it left of the budget.
 pub record Sampled : Type 0 where

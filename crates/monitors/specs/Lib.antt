@@ -3,4 +3,5 @@ pub mod Effects
 pub mod Monitors
 pub mod Standing
 pub mod Clocked
+pub mod History
 pub mod Laws

@@ -1,5 +1,5 @@
--- A clock of a monitor without budget, pools and traps: what a clock of the checked machine comes to
--- behind its sample code.
+-- A clock of a monitor without budget, pools and traps: what a clock of the checked machine comes
+-- to behind its sample code.
 use Rattle.std.specs.Prelude.{ℕ, zero, suc, ◌+◌, Bool, true, false, ◌||◌, List, [], ◌∷◌, ◌++◌}
 use Rattle.std.specs.Prelude.{unwrap_or}
 use Rattle.signals.specs.declared.verdict.Decided.{Decided}
