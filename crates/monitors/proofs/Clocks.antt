@@ -380,10 +380,13 @@ module _ (B : Type 0) (value : B → ℕ → Bool) (r s : Seq B) (m : Monitor) (
       let owed_none : [] ≡ (standing_at m verdict (n + 1)).obligations = sym (select-none (is_owed m verdict (n + 1)) (obligation_at m (n + 1)) 0 (n + 1) (λ e from below. ended e (omega arith))) in
       let falls : (c : ℕ) → c ≤ n → open_now c ≡ falls_at n (verdict (n + 1) c) = λ c le.
       (sym (falls-was_open B value m.off r s verdict are n c le ∙ ap (λ b. open_now c && not b) (closed c le) ∙ and-true (open_now c))) in
-      let fall : disable_each n (select open_now (attempt_at m n) 0 (suc n)) ≡ falling verdict n =
-      disable_each-select n open_now (attempt_at m n) 0 (suc n)
-      ∙ select-same open_now (λ c. falls_at n (verdict (n + 1) c)) (λ c. record { start = c; verdict = outcome.Disabled n }) (λ c. record { start = c; verdict = verdict (n + 1) c }) 0 (suc n) (λ c from below. falls c (omega arith)) (λ c from below is. ap (λ v. record { start = c; verdict = v }) (sym (off-Disabled B value m.off r s verdict are n c (omega arith) is off)))
-      ∙ ap (λ k. select (λ c. falls_at n (verdict (n + 1) c)) (λ c. record { start = c; verdict = verdict (n + 1) c }) 0 k) more in
+      let ended_at : ℕ → Decided = λ c. record { start = c; verdict = outcome.Disabled n } in
+      let fallen_at : ℕ → Decided = λ c. record { start = c; verdict = verdict (n + 1) c } in
+      let each : disable_each n (select open_now (attempt_at m n) 0 (suc n)) ≡ select open_now ended_at 0 (suc n) = disable_each-select n open_now (attempt_at m n) 0 (suc n) in
+      let same : select open_now ended_at 0 (suc n) ≡ select (λ c. falls_at n (verdict (n + 1) c)) fallen_at 0 (suc n) =
+      select-same open_now (λ c. falls_at n (verdict (n + 1) c)) ended_at fallen_at 0 (suc n) (λ c from below. falls c (omega arith)) (λ c from below is. ap (λ v. record { start = c; verdict = v }) (sym (off-Disabled B value m.off r s verdict are n c (omega arith) is off))) in
+      let last : select (λ c. falls_at n (verdict (n + 1) c)) fallen_at 0 (suc n) ≡ falling verdict n = ap (select (λ c. falls_at n (verdict (n + 1) c)) fallen_at 0) more in
+      let fall : disable_each n (select open_now (attempt_at m n) 0 (suc n)) ≡ falling verdict n = each ∙ (same ∙ last) in
       let whole : List Attempt → List Obligation → List Decided → Settled = λ xs os ds. record { state = record { now = n + 1; attempts = xs; obligations = os }; decided = ds } in
       let next = standing_at m verdict (n + 1) in
       let rest : whole [] [] (falling verdict n) ≡ whole next.attempts next.obligations (falling verdict n) =

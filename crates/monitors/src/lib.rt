@@ -12,10 +12,10 @@
 //!
 //! The definitions: `specs/Automata.antt` (a section over the ticks of a run, and what it
 //! follows), `specs/Effects.antt` (what the blocks of a section make), `specs/Monitors.antt` (a
-//! clock without budget, pools and traps), `specs/Standing.antt` (what stands between clocks, as a
-//! function of the verdicts), `specs/History.antt` (the rows that sample code reads, and what it
-//! makes of them), `specs/Clocked.antt` (clocks behind their sample code), `specs/Laws.antt`.
-//! Sequences, matches and verdicts are those of `assertions`, and clocks those of `checked_machine`.
+//! clock without budget, pools and traps), `specs/Standing.antt` (what stands between clocks, as
+//! a function of the verdicts), `specs/History.antt` (the rows that sample code reads, and what
+//! it makes of them), `specs/Clocked.antt` (clocks behind their sample code), `specs/Laws.antt`.
+//! Sequences, matches and verdicts are those of `assertions`, clocks those of `checked_machine`.
 //!
 //! Not promised: that any section follows a sequence, or that sample code sets the atoms that it
 //! should. Both are premises here.
