@@ -1,0 +1,9 @@
+pub mod Lists
+pub mod Steps
+pub mod Instructions
+pub mod Operators
+pub mod Expressions
+pub mod Values
+pub mod Runs
+pub mod Counters
+pub mod Meanings

@@ -1,0 +1,6 @@
+//! Sample code of typed expressions and counters.
+#![tactic(auto)]
+
+mod laws;
+
+pub use laws::{counter_law, expression_law};
