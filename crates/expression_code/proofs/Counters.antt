@@ -21,7 +21,7 @@ use Rattle.bytecode.specs.declared.sample_instr.SampleInstr.TheVariants.{Push, L
 use Rattle.bytecode.specs.declared.sample_instr.SampleInstr.TheVariants.{Mux}
 use Rattle.bytecode.specs.Instructions.{FrameData}
 use Rattle.checked_machine.specs.Samples.{Operand, operand}
-use Rattle.expression_code.specs.Codes.{Slots, bit_test, code_of, need, reach}
+use Rattle.expression_code.specs.Codes.{Slots, code_of, need, reach}
 use Rattle.expression_code.specs.Samples.{truth_code, cut, number_code, amount_code, balance_code}
 use Rattle.expression_code.specs.Samples.{sum_code, loaded_code, cleared_code, Held, held_slot}
 use Rattle.expression_code.specs.Samples.{next_code, amount_need, sum_need, loaded_need}
@@ -30,8 +30,7 @@ use Rattle.expression_code.specs.Samples.{counter_terms, largest}
 use Rattle.expression_code.specs.Laws.{Each, IsPlaced, TellsTicks, TellsNames, IsCount}
 use Rattle.expression_code.proofs.Lists.{all-front, all-back}
 use Rattle.expression_code.proofs.Steps.{Moves, Puts, moves-room, moves-then}
-use Rattle.expression_code.proofs.Steps.{moves-none, puts-one, puts-two, puts-three, puts-under}
-use Rattle.expression_code.proofs.Steps.{puts-below}
+use Rattle.expression_code.proofs.Steps.{moves-none, puts-one, puts-two, puts-three}
 use Rattle.expression_code.proofs.Instructions.{push-moves, slice-moves, join-moves, mux-moves}
 use Rattle.expression_code.proofs.Instructions.{read-moves, zero-moves, raw_bit, tested-bit}
 use Rattle.expression_code.proofs.Operators.{moves-to}
@@ -305,6 +304,7 @@ module _ (f : FrameData) (d : Limits) (t : Samples) (at : Slots) (s : ℕ → �
       AllByRecursion (TellsNames t at s k) es → largest reach es ≤ d.history →
       AllByRecursion Here es
   served [] g h le = tt
-  served (e ∷ es) g h le =
-      (record { placed = g.0; told = h.0; near = omega (arith, le) },
-      served es g.1 h.1 (omega (arith, le)))
+  served (e ∷ es) g h le = (
+    record { placed = g.0; told = h.0; near = omega (arith, le) },
+    served es g.1 h.1 (omega (arith, le)),
+  )

@@ -1,6 +1,6 @@
 -- What the code of an expression leaves over any rows, with no word of ticks.
-use Rattle.std.proofs.Common.{◌≡◌, ◌∙◌, ℕ, ◌+◌, ◌-◌, ◌*◌, ◌/◌, ◌%◌, ◌^◌, ◌<◌, ◌≤◌, max, Bool, true}
-use Rattle.std.proofs.Common.{false, List, [], ◌∷◌, ◌++◌, Some, refl, arith}
+use Rattle.std.proofs.Common.{◌≡◌, ℕ, ◌+◌, ◌-◌, ◌*◌, ◌/◌, ◌%◌, ◌^◌, ◌≤◌, max, Bool, true}
+use Rattle.std.proofs.Common.{false, List, [], ◌∷◌, ◌++◌, Some, arith}
 use Rattle.std.specs.Prelude.{◌==◌, if◌then◌else◌, slice_get}
 use Rattle.expressions.specs.Operators.{complement, arithmetic, shift_value, reduction_value}
 use Rattle.expressions.specs.Operators.{change_of}
@@ -10,8 +10,8 @@ use Rattle.bytecode.specs.declared.limits.Limits.{Limits}
 use Rattle.bytecode.specs.declared.sample_instr.SampleInstr.{SampleInstr}
 use Rattle.bytecode.specs.declared.sample_instr.SampleInstr.TheVariants.{Not, Concat, Slice, Mux}
 use Rattle.bytecode.specs.Instructions.{FrameData}
-use Rattle.checked_machine.specs.Samples.{Operand, operand}
-use Rattle.expression_code.specs.Codes.{Slots, slot_of, extension, bit_test, slot_read, reads_slot}
+use Rattle.checked_machine.specs.Samples.{operand}
+use Rattle.expression_code.specs.Codes.{Slots, slot_of, bit_test, slot_read, reads_slot}
 use Rattle.expression_code.specs.Codes.{guarded, reduction_end, arithmetic_end, shift_end}
 use Rattle.expression_code.specs.Codes.{comparison_middle, comparison_end, connective_end}
 use Rattle.expression_code.specs.Codes.{change_middle, change_end, code_of, guarded_need, need, reach}

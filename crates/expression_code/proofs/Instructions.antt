@@ -1,6 +1,6 @@
 -- What each instruction makes of the operands on top.
-use Rattle.std.proofs.Common.{◌≡◌, ◌∙◌, ℕ, zero, suc, ◌+◌, ◌-◌, ◌*◌, ◌/◌, ◌%◌, ◌^◌, ◌<◌, ◌≤◌}
-use Rattle.std.proofs.Common.{max, Bool, true, false, List, [], ◌∷◌, ◌++◌, Some, refl, ap, subst}
+use Rattle.std.proofs.Common.{◌≡◌, ℕ, zero, suc, ◌+◌, ◌-◌, ◌*◌, ◌/◌, ◌%◌, ◌^◌, ◌<◌, ◌≤◌}
+use Rattle.std.proofs.Common.{max, Bool, true, false, List, [], ◌∷◌, ◌++◌, Some, refl, subst}
 use Rattle.std.proofs.Common.{arith, length}
 use Rattle.std.specs.Prelude.{slice_get, slice_index, if◌then◌else◌, ◌==◌, not}
 use Rattle.std.proofs.lemmas.Bool.{le-leb, eq-eqb, lt-ltb, eqb-true}
@@ -20,7 +20,7 @@ use Rattle.bytecode.specs.declared.sample_instr.SampleInstr.{SampleInstr}
 use Rattle.bytecode.specs.Instructions.{FrameData}
 use Rattle.checked_machine.specs.Samples.{Operand, operand, joined, compared, shifted, reduced}
 use Rattle.expression_code.specs.Codes.{extension, bit_test, slot_read, guarded, guarded_need}
-use Rattle.expression_code.proofs.Steps.{Acts, Moves, Puts, acts-moves, moves-none, moves-room, moves-then}
+use Rattle.expression_code.proofs.Steps.{Moves, Puts, acts-moves, moves-none, moves-room, moves-then}
 use Rattle.expression_code.proofs.Steps.{puts-one, puts-two}
 
 pub index-of :

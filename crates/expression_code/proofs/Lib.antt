@@ -7,3 +7,7 @@ pub mod Values
 pub mod Runs
 pub mod Counters
 pub mod Meanings
+pub mod Programs
+pub mod Tables
+pub mod Quiet
+pub mod Accepted

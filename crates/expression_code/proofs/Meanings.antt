@@ -1,5 +1,4 @@
 -- The laws of expressions and of counters.
-use Rattle.std.proofs.Common.{◌≡◌, ℕ}
 use Rattle.expressions.specs.Terms.{value_of}
 use Rattle.expressions.specs.Counters.{next_count}
 use Rattle.expression_code.specs.Codes.{code_of, need}

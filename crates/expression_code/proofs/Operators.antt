@@ -1,8 +1,8 @@
 -- What stands behind operands makes of them what the operators do.
-use Rattle.std.proofs.Common.{◌≡◌, ◌∙◌, inl, inr, ℕ, zero, suc, ◌+◌, ◌-◌, ◌/◌, ◌%◌, ◌^◌, ◌<◌}
-use Rattle.std.proofs.Common.{◌≤◌, max, Bool, true, false, ◌&&◌, List, [], ◌∷◌, ◌++◌, refl, sym}
+use Rattle.std.proofs.Common.{◌≡◌, ℕ, zero, suc, ◌+◌, ◌-◌, ◌/◌, ◌%◌, ◌^◌, ◌<◌}
+use Rattle.std.proofs.Common.{◌≤◌, Bool, true, false, ◌&&◌, List, [], ◌∷◌, ◌++◌, refl}
 use Rattle.std.proofs.Common.{ap, subst, arith}
-use Rattle.std.specs.Prelude.{nat_le, nat_lt, ◌==◌, not, ◌||◌, bit_and, bit_or, bit_xor}
+use Rattle.std.specs.Prelude.{nat_lt, ◌==◌, not, bit_and, bit_or, bit_xor}
 use Rattle.std.specs.Prelude.{count_ones}
 use Rattle.std.proofs.Math.Nat.{div-one}
 use Rattle.signals.specs.Tests.{one_if}
@@ -30,7 +30,7 @@ use Rattle.bytecode.specs.declared.operator.ShiftOperator.TheVariants.{Shl, Shr}
 use Rattle.bytecode.specs.declared.operator.ReduceOperator.TheVariants.{RedAnd, RedOr, RedXor}
 use Rattle.bytecode.specs.declared.operator.ReduceOperator.TheVariants.{Onehot, Onehot0}
 use Rattle.bytecode.specs.declared.sample_instr.SampleInstr.{SampleInstr}
-use Rattle.bytecode.specs.declared.sample_instr.SampleInstr.TheVariants.{Join, Compare, Shift, Not}
+use Rattle.bytecode.specs.declared.sample_instr.SampleInstr.TheVariants.{Join, Compare, Not}
 use Rattle.bytecode.specs.declared.sample_instr.SampleInstr.TheVariants.{Reduce, Slice}
 use Rattle.bytecode.specs.Instructions.{FrameData}
 use Rattle.checked_machine.specs.Samples.{Operand, operand}

@@ -1,5 +1,5 @@
 -- Over rows that tell the names, what the code of an expression leaves is its value.
-use Rattle.std.proofs.Common.{◌≡◌, ◌∙◌, inl, inr, ℕ, ◌+◌, ◌-◌, ◌*◌, ◌/◌, ◌%◌, ◌^◌, ◌<◌, ◌≤◌, max}
+use Rattle.std.proofs.Common.{◌≡◌, ◌∙◌, inl, inr, ℕ, ◌+◌, ◌-◌, ◌^◌, ◌<◌, ◌≤◌, max}
 use Rattle.std.proofs.Common.{Bool, true, false, ◌&&◌, refl, sym, ap, subst, arith}
 use Rattle.std.specs.Prelude.{nat_le, nat_lt, ◌==◌, if◌then◌else◌, not, ◌||◌, bit_and, bit_or}
 use Rattle.std.proofs.lemmas.Bool.{le-leb, lt-leb, eqb-true, lt-ltb, le-ltb, cases_lt}
@@ -137,8 +137,10 @@ module _ (t : Samples) (at : Slots) (s : ℕ → ℕ → ℕ) (k : ℕ) (ticks :
   raw-value (slice part) w n h le seen = rw (h.seen n seen) refl
   raw-value (group e) w n h le seen = raw-value e (width_of e) n h.1 (omega arith) seen
   raw-value (concat a b) w n h le seen =
-      rw (raw-value a (width_of a) n h.1 (omega arith) seen,
-      raw-value b (width_of b) n h.2 (omega arith) seen) refl
+      rw (
+        raw-value a (width_of a) n h.1 (omega arith) seen,
+        raw-value b (width_of b) n h.2 (omega arith) seen,
+      ) refl
   raw-value (inverse e) w n h le seen = rw (raw-value e w n h.1 le seen) refl
   raw-value (reduce op e) w n h le seen =
       rw (raw-value e (width_of e) n h.1 (omega arith) seen) refl
@@ -153,19 +155,28 @@ module _ (t : Samples) (at : Slots) (s : ℕ → ℕ → ℕ) (k : ℕ) (ticks :
       (compared-value op m (value_of t a (k - n) m) (value_of t b (k - n) m)
       (value_fits t a (k - n) m (omega arith)) (value_fits t b (k - n) m (omega arith)))
   raw-value (connect op a b) w n h le seen =
-      rw (raw-value a (width_of a) n h.1 (omega arith) seen,
-      raw-value b (width_of b) n h.2 (omega arith) seen)
-      (rw (raw_bit-value (width_of a) (own a (k - n)) (fits a (k - n)),
-      raw_bit-value (width_of b) (own b (k - n)) (fits b (k - n)))
+      rw (
+        raw-value a (width_of a) n h.1 (omega arith) seen,
+        raw-value b (width_of b) n h.2 (omega arith) seen,
+      )
+      (rw (
+        raw_bit-value (width_of a) (own a (k - n)) (fits a (k - n)),
+        raw_bit-value (width_of b) (own b (k - n)) (fits b (k - n)),
+      )
       (connected-value op (own a (k - n)) (own b (k - n))))
   raw-value (choose c a b) w n h le seen =
-      rw (raw-value c (width_of c) n h.1 (omega arith) seen,
-      raw-value a w n h.2 (omega (arith, le)) seen, raw-value b w n h.3 (omega (arith, le)) seen)
+      rw (
+        raw-value c (width_of c) n h.1 (omega arith) seen,
+        raw-value a w n h.2 (omega (arith, le)) seen,
+        raw-value b w n h.3 (omega (arith, le)) seen,
+      )
       (chosen (width_of c) (own c (k - n)) (value_of t a (k - n) w) (value_of t b (k - n) w)
       (fits c (k - n)))
   raw-value (past e m) w n h le seen =
       guarded-value e n m h.1 seen (λ more. raw-value e (width_of e) (n + m) h.1 (omega arith) more)
   raw-value (change op e) w n h le seen =
-      rw (raw-value e (width_of e) n h.1 (omega arith) seen,
-      guarded-value e n 1 h.1 seen
-      (λ more. raw-value e (width_of e) (n + 1) h.1 (omega arith) more)) refl
+      rw (
+        raw-value e (width_of e) n h.1 (omega arith) seen,
+        guarded-value e n 1 h.1 seen
+            (λ more. raw-value e (width_of e) (n + 1) h.1 (omega arith) more),
+      ) refl

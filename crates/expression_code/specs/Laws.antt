@@ -10,13 +10,17 @@ use Rattle.expressions.specs.Counters.{next_count}
 use Rattle.bytecode.specs.declared.limits.Limits.{Limits}
 use Rattle.bytecode.specs.declared.sample_instr.SampleInstr.{SampleInstr}
 use Rattle.bytecode.specs.Values.{ProgramData}
-use Rattle.bytecode.specs.Instructions.{FrameData, frame_of}
+use Rattle.bytecode.specs.Instructions.{FrameData, frame_of, sample_flow}
+use Rattle.inference.specs.Rules.{sample_rules}
+use Rattle.inference.specs.Typing.{IsTyped, AreShort, longest_list}
+use Rattle.verifier.specs.Limits.{farthest, longest_path}
 use Rattle.verifier.specs.Programs.{IsAccepted}
 use Rattle.checked_machine.specs.Outcomes.{done}
 use Rattle.checked_machine.specs.Samples.{Operand, operand, Made, nothing_made, run_sample}
 use Rattle.expression_code.specs.Codes.{Slots, slot_of, code_of, need, reach}
 use Rattle.expression_code.specs.Samples.{Held, held_slot, next_code, next_need, counter_terms}
-use Rattle.expression_code.specs.Samples.{sample_code, largest}
+use Rattle.expression_code.specs.Samples.{sample_code, sample_need, sample_reach}
+use Rattle.expression_code.specs.Samples.{largest}
 
 -- P holds of an expression and of each of its parts.
 abbrev pub Each : (Term → Type 0) → Term → Type 0
@@ -119,6 +123,23 @@ pub record AreTold (t : Samples) (at : Slots) (sample : ℕ → ℕ → ℕ) (k 
   pub names : AllByRecursion (TellsNames t at sample k) (program_terms es hs)
   pub counts : AllByRecursion (λ h. sample 0 (held_slot at h) ≡ t.counter_at h.place k) hs
   pub fit : AllByRecursion (λ h. t.counter_at h.place k < 2 ^ h.counter.width) hs
+
+-- Code that some table types, with lists of at most so many operands, that reads at most so far back
+-- and has one path.
+pub record IsTypedWithin (f : FrameData) (code : List SampleInstr) (stack history : ℕ) :
+    Type 0 where
+  pub table : ℕ → List ℕ
+  pub typed : IsTyped (sample_rules f) 0 code table
+  pub lists : longest_list table 0 code ≤ stack
+  pub short : stack ≤ 1024 → AreShort (sample_rules f) 0 code table
+  pub near : farthest code ≤ history
+  pub path : longest_path 0 (map sample_flow code) ≡ length code
+
+-- The sample code of a program is typed.
+abbrev pub SamplesAreTyped : Type 0
+SamplesAreTyped =
+    (f : FrameData) (at : Slots) (es : List Term) (hs : List Held) → IsFrame f at es hs →
+    IsTypedWithin f (sample_code at es hs) (sample_need es hs) (sample_reach es hs)
 
 -- A program that the verifier accepts, whose sample code is that of these booleans and counters: at
 -- each clock it runs to its end, one tick for each instruction. Then each atom is the truth of its

@@ -1,7 +1,6 @@
 -- The sample code of a program: an atom for each boolean, then a store for each counter.
 use Rattle.std.specs.Prelude.{ℕ, ◌+◌, ◌-◌, max, nat_le, if◌then◌else◌, List, [], ◌∷◌, ◌++◌}
 use Rattle.std.specs.Prelude.{Option, Some, None}
-use Rattle.std.specs.List.{flat_map}
 use Rattle.expressions.specs.declared.name.Origin.TheVariants.{Counter as CounterPlace}
 use Rattle.expressions.specs.declared.expr.Expr.{Expr}
 use Rattle.expressions.specs.declared.rule.Rule.{Rule}

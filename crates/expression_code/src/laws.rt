@@ -1,6 +1,7 @@
 //! Laws of sample code, each a call that does nothing.
 
 ghost use Rattle.expression_code.specs.Laws.{ExpressionsLeaveValues, CountersLeaveNext};
+ghost use Rattle.expression_code.specs.Laws.{SamplesAreTyped, SamplesTell};
 
 /// The code of an expression leaves its value on any stack.
 pub fn expression_law()
@@ -10,4 +11,15 @@ pub fn expression_law()
 /// The code of a counter leaves its value at the next tick.
 pub fn counter_law()
     ensures { CountersLeaveNext }
+{}
+
+/// The sample code of a program is typed, with lists and reach within bounds.
+pub fn typing_law()
+    ensures { SamplesAreTyped }
+{}
+
+/// At each clock of an accepted program its sample code sets each atom to the truth of its boolean,
+/// and stores each counter's next value.
+pub fn sample_law()
+    ensures { SamplesTell }
 {}
