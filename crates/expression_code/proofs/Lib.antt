@@ -11,3 +11,4 @@ pub mod Programs
 pub mod Tables
 pub mod Quiet
 pub mod Accepted
+pub mod Lengths

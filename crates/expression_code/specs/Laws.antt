@@ -1,6 +1,6 @@
 -- Laws of sample code.
-use Rattle.std.specs.Prelude.{◌≡◌, ℕ, ◌+◌, ◌-◌, ◌^◌, ◌<◌, ◌≤◌, List, [], ◌∷◌, ◌++◌, length, map}
-use Rattle.std.specs.Prelude.{Some, slice_get}
+use Rattle.std.specs.Prelude.{◌≡◌, ℕ, ◌+◌, ◌-◌, ◌*◌, ◌^◌, ◌<◌, ◌≤◌, List, [], ◌∷◌, ◌++◌, length, map}
+use Rattle.std.specs.Prelude.{Some, slice_get, sum_by}
 use Rattle.std.specs.List.{AllByRecursion, flat_map}
 use Rattle.expressions.specs.declared.name.Name.{Name}
 use Rattle.expressions.specs.Terms.{Term, constant, named, slice, group, concat, inverse, reduce}
@@ -157,3 +157,32 @@ SamplesTell =
       stores = map (λ h. Some (next_count t h.counter (t.counter_at h.place k) k)) hs;
     })
     (p.header.limits.budget - length p.sample)
+
+-- operators and operands
+abbrev pub size : Term → ℕ
+size (constant bits) = 1
+size (named name) = 1
+size (slice part) = 1
+size (group e) = 1 + size e
+size (concat a b) = 1 + (size a + size b)
+size (inverse e) = 1 + size e
+size (reduce op e) = 1 + size e
+size (combine op a b) = 1 + (size a + size b)
+size (shift op a b) = 1 + (size a + size b)
+size (compare op a b) = 1 + (size a + size b)
+size (connect op a b) = 1 + (size a + size b)
+size (choose c a b) = 1 + (size c + (size a + size b))
+size (past e ticks) = 1 + size e
+size (change op e) = 1 + size e
+
+-- no call of $rose, $fell, $stable or $changed, which hold the code of their operand twice
+abbrev pub IsNoChange : Term → Type 0
+IsNoChange (change op e) = ⊥
+IsNoChange e = Unit {0}
+
+-- Such code is short: five instructions for each operator and operand, two for each boolean, and the
+-- Halt.
+abbrev pub SamplesAreShort : Type 0
+SamplesAreShort =
+    (at : Slots) (es : List Term) → AllByRecursion (Each IsNoChange) es →
+    length (sample_code at es []) ≤ 5 * sum_by size es + 2 * length es + 1

@@ -1,7 +1,7 @@
 //! Laws of sample code, each a call that does nothing.
 
 ghost use Rattle.expression_code.specs.Laws.{ExpressionsLeaveValues, CountersLeaveNext};
-ghost use Rattle.expression_code.specs.Laws.{SamplesAreTyped, SamplesTell};
+ghost use Rattle.expression_code.specs.Laws.{SamplesAreShort, SamplesAreTyped, SamplesTell};
 
 /// The code of an expression leaves its value on any stack.
 pub fn expression_law()
@@ -22,4 +22,9 @@ pub fn typing_law()
 /// and stores each counter's next value.
 pub fn sample_law()
     ensures { SamplesTell }
+{}
+
+/// Without counters and calls that compare with the tick before, the sample code is short.
+pub fn length_law()
+    ensures { SamplesAreShort }
 {}

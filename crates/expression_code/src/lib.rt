@@ -3,4 +3,4 @@
 
 mod laws;
 
-pub use laws::{counter_law, expression_law, sample_law, typing_law};
+pub use laws::{counter_law, expression_law, length_law, sample_law, typing_law};
