@@ -1,11 +1,11 @@
 pub mod Lists
 pub mod Steps
 pub mod Instructions
-pub mod Operators
-pub mod Expressions
+pub mod OperatorLaws
+pub mod ExpressionLaws
 pub mod Values
 pub mod Runs
-pub mod Counters
+pub mod CounterLaws
 pub mod Meanings
 pub mod Programs
 pub mod Tables

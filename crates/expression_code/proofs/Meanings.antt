@@ -5,7 +5,7 @@ use Rattle.expression_code.specs.Codes.{code_of, need}
 use Rattle.expression_code.specs.Samples.{next_code, next_need, counter_terms}
 use Rattle.expression_code.specs.Laws.{ExpressionsLeaveValues, CountersLeaveNext}
 use Rattle.expression_code.proofs.Runs.{puts-leaves}
-use Rattle.expression_code.proofs.Counters.{value-puts, next-puts, served}
+use Rattle.expression_code.proofs.CounterLaws.{value-puts, next-puts, served}
 
 pub expressions-leave-values : ExpressionsLeaveValues
 expressions-leave-values f d t at s k one ticks e placed told near w le =

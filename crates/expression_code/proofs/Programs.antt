@@ -24,7 +24,7 @@ use Rattle.expression_code.specs.Laws.{TellsTicks, IsCount, IsFrame}
 use Rattle.expression_code.specs.Laws.{AreTold}
 use Rattle.expression_code.proofs.Lists.{all-front, all-back, all-flat}
 use Rattle.expression_code.proofs.Steps.{State, state, steps, steps-append, step-some}
-use Rattle.expression_code.proofs.Counters.{IsServed, truth-puts, next-puts, served}
+use Rattle.expression_code.proofs.CounterLaws.{IsServed, truth-puts, next-puts, served}
 
 get-seam :
     {A : Type 0} (before after : List A) (x : A) →

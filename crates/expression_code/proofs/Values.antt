@@ -18,8 +18,8 @@ use Rattle.expressions.proofs.Fits.{value_fits}
 use Rattle.expression_code.specs.Codes.{Slots, reads_slot}
 use Rattle.expression_code.specs.Laws.{TellsTicks, TellsNames}
 use Rattle.expression_code.proofs.Instructions.{raw_bit, raw_guarded}
-use Rattle.expression_code.proofs.Operators.{bit-cases, raw_compared, raw_connected}
-use Rattle.expression_code.proofs.Expressions.{raw}
+use Rattle.expression_code.proofs.OperatorLaws.{bit-cases, raw_compared, raw_connected}
+use Rattle.expression_code.proofs.ExpressionLaws.{raw}
 
 and-one : (a b : Bool) → bit_and (one_if a) (one_if b) ≡ one_if (a && b)
 and-one true true = refl

@@ -20,10 +20,10 @@ use Rattle.expression_code.proofs.Steps.{Puts, moves-room, puts-one, puts-two, p
 use Rattle.expression_code.proofs.Instructions.{raw_bit, raw_guarded, push-moves, not-moves}
 use Rattle.expression_code.proofs.Instructions.{slice-moves, concat-moves, mux-moves, read-moves}
 use Rattle.expression_code.proofs.Instructions.{extended, test-moves, tested-bit, guarded-puts}
-use Rattle.expression_code.proofs.Operators.{raw_compared, raw_connected, turned, low_width, low}
-use Rattle.expression_code.proofs.Operators.{reduction-moves, arithmetic-moves, shift-end-moves}
-use Rattle.expression_code.proofs.Operators.{connective-moves, middle-moves, comparison-moves}
-use Rattle.expression_code.proofs.Operators.{change-middle-moves, change-moves}
+use Rattle.expression_code.proofs.OperatorLaws.{raw_compared, raw_connected, turned, low_width, low}
+use Rattle.expression_code.proofs.OperatorLaws.{reduction-moves, arithmetic-moves, shift-end-moves}
+use Rattle.expression_code.proofs.OperatorLaws.{connective-moves, middle-moves, comparison-moves}
+use Rattle.expression_code.proofs.OperatorLaws.{change-middle-moves, change-moves}
 
 -- What the code leaves of rows, whatever they tell.
 abbrev pub raw : (ℕ → ℕ → ℕ) → Slots → Term → ℕ → ℕ → ℕ

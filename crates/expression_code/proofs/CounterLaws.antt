@@ -33,8 +33,8 @@ use Rattle.expression_code.proofs.Steps.{Moves, Puts, moves-room, moves-then}
 use Rattle.expression_code.proofs.Steps.{moves-none, puts-one, puts-two, puts-three}
 use Rattle.expression_code.proofs.Instructions.{push-moves, slice-moves, join-moves, mux-moves}
 use Rattle.expression_code.proofs.Instructions.{read-moves, zero-moves, raw_bit, tested-bit}
-use Rattle.expression_code.proofs.Operators.{moves-to}
-use Rattle.expression_code.proofs.Expressions.{raw, need-some, raw-leaves}
+use Rattle.expression_code.proofs.OperatorLaws.{moves-to}
+use Rattle.expression_code.proofs.ExpressionLaws.{raw, need-some, raw-leaves}
 use Rattle.expression_code.proofs.Values.{raw_bit-value, raw-value}
 
 -- One of the two differences is 0, and the other moves the value, held at its end: the whole number,
