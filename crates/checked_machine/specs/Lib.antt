@@ -3,6 +3,7 @@ pub mod Blocks
 pub mod Samples
 pub mod Clocks
 pub mod Machine
+pub mod Runs
 pub mod Bounds
 pub mod Laws
 pub mod Worked

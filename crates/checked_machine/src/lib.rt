@@ -10,7 +10,8 @@
 //! never_traps();    // a contract and no code: what a verified program never meets
 //! ```
 //!
-//! The definitions: `specs/Machine.antt` (a clock, clocks), `specs/Samples.antt` (sample code),
+//! The definitions: `specs/Machine.antt` (a clock, clocks), `specs/Runs.antt` (clocks with all that
+//! they decide), `specs/Samples.antt` (sample code),
 //! `specs/Blocks.antt` (a visit), `specs/Clocks.antt` (what follows the sample code),
 //! `specs/Outcomes.antt` (traps), `specs/Bounds.antt` (what stands between clocks),
 //! `specs/Laws.antt`, `specs/Worked.antt` (a run by hand).

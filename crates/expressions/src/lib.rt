@@ -29,3 +29,4 @@ pub use rows::Rows;
 pub use rule::Rule;
 pub use slice::Slice;
 pub use table::Table;
+pub use width::width_of;

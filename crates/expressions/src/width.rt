@@ -7,7 +7,7 @@ ghost use Rattle.expressions.specs.Nodes.{node_term, is_typed};
 use crate::node::Node;
 
 /// The own width, which the node keeps.
-pub(crate) fn width_of(node: &Node) -> u8
+pub fn width_of(node: &Node) -> u8
     requires { IsTrue (is_typed node.now) }
     ensures own { result ≡ width_of (node_term node.now) }
     ensures some_bits { 1 ≤ result }

@@ -5,7 +5,7 @@ use Rattle.signals.specs.declared.verdict.Decided.{Decided}
 use Rattle.bytecode.specs.Values.{ProgramData}
 use Rattle.checked_machine.specs.Outcomes.{Ran, done, trapped, and_then}
 use Rattle.checked_machine.specs.Machine.{State, Outcome, clock}
-use Rattle.program_runs.specs.Batches.{behind, run_from}
+use Rattle.checked_machine.specs.Runs.{behind, run_from}
 
 -- what came to a value did so by way of another
 record Came {A B : Type 0} (r : Ran A) (go : A → ℕ → Ran B) (b : B) (m : ℕ) : Type 0 where

@@ -4,7 +4,7 @@ use Rattle.signals.specs.declared.verdict.Decided.{Decided}
 use Rattle.bytecode.specs.Values.{ProgramData}
 use Rattle.checked_machine.specs.Outcomes.{Ran, done, trapped, and_then}
 use Rattle.checked_machine.specs.Machine.{State, Outcome, clock, clocks}
-use Rattle.program_runs.specs.Batches.{run_from}
+use Rattle.checked_machine.specs.Runs.{run_from}
 use Rattle.program_runs.proofs.BatchLaws.{joined, later}
 
 -- with nothing decided before

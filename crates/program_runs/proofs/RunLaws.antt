@@ -18,7 +18,7 @@ use Rattle.cycle_window.specs.Held.{columns_in, places_in, clock_in, end_in, Are
 use Rattle.checked_machine.specs.Machine.{State, Outcome, opening}
 use Rattle.machine.specs.Running.{Running, IsClock}
 use Rattle.program_runs.specs.declared.run.Run.{Run}
-use Rattle.program_runs.specs.Batches.{Decides}
+use Rattle.checked_machine.specs.Runs.{Decides}
 use Rattle.program_runs.specs.Lines.{attempts_of}
 use Rattle.program_runs.specs.Working.{TookIn}
 use Rattle.program_runs.specs.Runs.{IsSound, IsOneMore, IsFitting, IsWindowFor, rows_to}

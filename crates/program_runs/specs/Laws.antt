@@ -3,7 +3,7 @@ use Rattle.std.specs.Prelude.{◌≡◌, ℕ, List, ◌++◌}
 use Rattle.bytecode.specs.Values.{ProgramData}
 use Rattle.checked_machine.specs.Outcomes.{done, and_then}
 use Rattle.checked_machine.specs.Machine.{State, clocks}
-use Rattle.program_runs.specs.Batches.{behind, run_from}
+use Rattle.checked_machine.specs.Runs.{behind, run_from}
 
 -- Rows that are cut anywhere decide the same: what the first decide, and behind that what the rest
 -- decide from the state that those leave. So the size of windows changes nothing.

@@ -10,7 +10,7 @@ use Rattle.verdicts.specs.declared.line.Counts.{Counts}
 use Rattle.verdicts.specs.declared.line.Failure.{Failure}
 use Rattle.verdicts.specs.Tallies.{tally_of}
 use Rattle.verdicts.specs.Lines.{LineData}
-use Rattle.program_runs.specs.Batches.{Decides}
+use Rattle.checked_machine.specs.Runs.{Decides}
 
 -- an attempt that failed, with the clock at which it did
 abbrev pub failure_from : ℕ → Verdict → Option Failure

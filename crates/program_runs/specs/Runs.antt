@@ -13,7 +13,7 @@ use Rattle.cycle_window.specs.Ticks.{ticks_of, row_of}
 use Rattle.cycle_window.specs.Held.{ticks_in, places_in, clock_in, columns_in, size_in}
 use Rattle.cycle_window.specs.Held.{first_in, end_in, IsOver, IsWindowOf}
 use Rattle.program_runs.specs.declared.run.Run.{Run}
-use Rattle.program_runs.specs.Batches.{Decides}
+use Rattle.checked_machine.specs.Runs.{Decides}
 use Rattle.program_runs.specs.Lines.{attempts_of}
 use Rattle.program_runs.specs.Reported.{AreBound}
 use Rattle.program_runs.specs.Working.{TookIn}

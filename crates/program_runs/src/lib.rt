@@ -16,10 +16,10 @@
 //! size, in this order.
 //!
 //! The definitions: the report over the contents of a dump, and why there is none, in
-//! `specs/Reported.antt`; the line of a program over rows in `specs/Lines.antt`; what a program
-//! decides over rows, by the clocks of `checked_machine`, in `specs/Batches.antt`; that rows may be
-//! cut anywhere, in `specs/Laws.antt`. Ticks and rows are those of `cycle_window`, and reports
-//! those of `verdicts`.
+//! `specs/Reported.antt`; the line of a program over rows in `specs/Lines.antt`; that rows may be
+//! cut anywhere, in `specs/Laws.antt`. What a program decides over rows is that of
+//! `checked_machine`, in its `specs/Runs.antt`, ticks and rows are those of `cycle_window`, and
+//! reports those of `verdicts`.
 //!
 //! Not promised: that memory suffices, or that a program of unknown origin means anything.
 #![tactic(auto)]

@@ -1,0 +1,14 @@
+pub mod Lists
+pub mod Steps
+pub mod Instructions
+pub mod OperatorLaws
+pub mod ExpressionLaws
+pub mod Values
+pub mod Runs
+pub mod CounterLaws
+pub mod Meanings
+pub mod Programs
+pub mod Tables
+pub mod Quiet
+pub mod Accepted
+pub mod Lengths

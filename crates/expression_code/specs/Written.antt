@@ -1,0 +1,13 @@
+-- Code that is written, instruction by instruction.
+use Rattle.std.specs.Prelude.{ℕ, nat_lt, if◌then◌else◌, List, [], ◌∷◌, ◌++◌, length, Option, Some}
+use Rattle.std.specs.Prelude.{None}
+use Rattle.bytecode.specs.declared.sample_instr.SampleInstr.{SampleInstr}
+
+-- An instruction behind code that has at most 4,096; none where it would have more.
+abbrev pub with_instr : Option (List SampleInstr) → SampleInstr → Option (List SampleInstr)
+with_instr None i = None
+with_instr (Some code) i = if nat_lt (length code) 4096 then Some (code ++ i ∷ []) else None
+
+abbrev pub written : Option (List SampleInstr) → List SampleInstr → Option (List SampleInstr)
+written code [] = code
+written code (i ∷ more) = written (with_instr code i) more

@@ -1,0 +1,30 @@
+//! Laws of sample code, each a call that does nothing.
+
+ghost use Rattle.expression_code.specs.Laws.{ExpressionsLeaveValues, CountersLeaveNext};
+ghost use Rattle.expression_code.specs.Laws.{SamplesAreShort, SamplesAreTyped, SamplesTell};
+
+/// The code of an expression leaves its value on any stack.
+pub fn expression_law()
+    ensures { ExpressionsLeaveValues }
+{}
+
+/// The code of a counter leaves its value at the next tick.
+pub fn counter_law()
+    ensures { CountersLeaveNext }
+{}
+
+/// The sample code of a program is typed, with lists and reach within bounds.
+pub fn typing_law()
+    ensures { SamplesAreTyped }
+{}
+
+/// At each clock of an accepted program its sample code sets each atom to the truth of its boolean,
+/// and stores each counter's next value.
+pub fn sample_law()
+    ensures { SamplesTell }
+{}
+
+/// Without counters and calls that compare with the tick before, the sample code is short.
+pub fn length_law()
+    ensures { SamplesAreShort }
+{}

@@ -1,0 +1,13 @@
+//! Sample code of typed expressions and counters.
+#![tactic(auto)]
+
+mod buffer;
+mod fault;
+mod laws;
+mod operators;
+mod slots;
+
+pub use buffer::CodeBuffer;
+pub use fault::LengthFault;
+pub use laws::{counter_law, expression_law, length_law, sample_law, typing_law};
+pub use slots::SlotTable;

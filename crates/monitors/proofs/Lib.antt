@@ -1,0 +1,13 @@
+pub mod Local
+pub mod Facts
+pub mod Selections
+pub mod Parts
+pub mod Verdicts
+pub mod Clocks
+pub mod Runs
+pub mod Blocks
+pub mod Machines
+pub mod Deciding
+pub mod Theorem
+pub mod Histories
+pub mod Rows

@@ -1,0 +1,3 @@
+pub mod Tallied
+pub mod Failures
+pub mod Lines
