@@ -1,3 +1,4 @@
 pub mod NameLaws
 pub mod ScanLaws
 pub mod ReadLaws
+pub mod MarkLaws

@@ -1,6 +1,7 @@
 //! Which signals and counters are read, and their slots.
 
-ghost use Rattle.std.specs.Prelude.{◌≡◌, ◌+◌, ◌≤◌, IfOk, length};
+ghost use Rattle.std.specs.Prelude.{◌≡◌, ◌+◌, ◌≤◌, ◌<◌, ℕ, false, IfOk, length};
+ghost use Rattle.std.specs.Prelude.{slice_get, Some};
 ghost use Rattle.assertion_reads.specs.Marks.{same_origin, mark_if, mark_all, AreMarks};
 ghost use Rattle.assertion_reads.specs.Marks.{places_from, slots_from};
 
@@ -27,6 +28,15 @@ fn mark(name: &Name, origin: Origin, marks: &mut Vec<bool>)
     }
 }
 
+/// So many places without a mark.
+fn no_marks(alloc: Global, count: usize) -> Result<Vec<bool>, AllocError>
+    ensures long { IfOk result (λ marks. length marks.items ≡ count) }
+    ensures none { IfOk result (λ marks. (place : ℕ) → place < count →
+        slice_get marks.items place ≡ Some false) }
+{
+    vec![in alloc; false; count]
+}
+
 /// For each of so many places of signals or of counters, whether one of the names stands for it.
 pub fn marks_of(
     alloc: Global,
@@ -36,7 +46,7 @@ pub fn marks_of(
 ) -> Result<Vec<bool>, AllocError>
     ensures { IfOk result (λ marks. AreMarks origin names.now count marks.items) }
 {
-    let mut marks = vec![in alloc; false; count]?;
+    let mut marks = no_marks(alloc, count)?;
     for name in names {
         mark(name, origin, &mut marks);
     }
