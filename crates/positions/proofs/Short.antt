@@ -9,7 +9,8 @@ use Rattle.assertions.specs.declared.sequence.Boolean.{Boolean}
 use Rattle.assertions.specs.Written.{Written, boolean, delay, lead, repeat, or, and, throughout, weight}
 use Rattle.positions.specs.Plans.{Plan, tick, skip, any, under, loop, link, moving, plan}
 use Rattle.assertions.specs.Emptiness.{admits_empty, takes_ticks}
-use Rattle.positions.specs.Tables.{Edge, Table, shift, shifted, flat, picked, numbers, tick_table, skip_table, any_table, wanting, under_table, onward, leading, joined, fusing, crossing, link_table, copies, looping, loop_table, table_of}
+use Rattle.std.specs.List.{flat_map}
+use Rattle.positions.specs.Tables.{Edge, Table, shift, shifted, picked, numbers, tick_table, skip_table, any_table, wanting, under_table, onward, leading, joined, fusing, crossing, link_table, copies, looping, loop_table, table_of}
 use Rattle.positions.specs.Sections.{edge_size, block_of, edge_code, blocks_of, rows_of, with_atom, atoms_of, numbered, coded}
 use Rattle.positions.specs.Laws.{IsPlain, booleans, section_for, SectionIsShort}
 use Rattle.positions.proofs.Shapes.{edge-length}
@@ -121,10 +122,10 @@ module _ (B : Type 0) where
         (subst (λ k. Climbs k (t.size + g.size) (shift t.size g.starts)) e (Climbs-shift t.size 0 g.size g.starts c.starts))
         (Climbs-picked (t.size + g.size) (t.size + g.size + u.size) g.empty (shift (t.size + g.size) u.starts) (omega arith) last-climbs)
 
-    lead-alone : (e : Edge B) → flat (λ e. leading true t g u e ∷ fusing false t g u e) (e ∷ []) ≡ leading true t g u e ∷ []
+    lead-alone : (e : Edge B) → flat_map (λ e. leading true t g u e ∷ fusing false t g u e) (e ∷ []) ≡ leading true t g u e ∷ []
     lead-alone e = ap (λ x. leading true t g u e ∷ x) (none e.accepts)
       where
-        none : (x : Bool) → picked (x && false) (map (joined (t.size + g.size) e) (flat u.row u.starts)) ++ [] ≡ []
+        none : (x : Bool) → picked (x && false) (map (joined (t.size + g.size) e) (flat_map u.row u.starts)) ++ [] ≡ []
         none true = refl
         none false = refl
 
@@ -134,10 +135,10 @@ module _ (B : Type 0) where
       row = λ p below. (elim (cases_lt p t.size) [
         | inl low ↦
             let s = a.row p low in
-            let here : whole.row p ≡ flat (λ e. leading true t g u e ∷ fusing false t g u e) (t.row p) = rw (lt-ltb p t.size low) refl in
+            let here : whole.row p ≡ flat_map (λ e. leading true t g u e ∷ fusing false t g u e) (t.row p) = rw (lt-ltb p t.size low) refl in
             record {
               edge = leading true t g u s.edge;
-              alone = here ∙ ap (flat (λ e. leading true t g u e ∷ fusing false t g u e)) s.alone ∙ lead-alone s.edge;
+              alone = here ∙ ap (flat_map (λ e. leading true t g u e ∷ fusing false t g u e)) s.alone ∙ lead-alone s.edge;
               wanted = s.wanted;
               enters = Climbs-append (p + 1) t.size (t.size + g.size + u.size) s.edge.enters (picked (s.edge.accepts && true) (onward t g u)) s.enters (Climbs-picked t.size (t.size + g.size + u.size) (s.edge.accepts && true) (onward t g u) (omega arith) onward-climbs);
             }
@@ -164,15 +165,15 @@ module _ (B : Type 0) where
     }
 
   module _ (most : ℕ) (t : Table B) (a : AreSingle most t) (least turns : ℕ) where
-    flat-climbs : (first count : ℕ) → Climbs (first * t.size) ((first + count) * t.size) (flat (λ c. shift (c * t.size) t.starts) (numbers first count))
+    flat-climbs : (first count : ℕ) → Climbs (first * t.size) ((first + count) * t.size) (flat_map (λ c. shift (c * t.size) t.starts) (numbers first count))
     flat-climbs first zero = let e : first + 0 ≡ first = omega arith in mul-le-mul_right t.size (omega arith)
     flat-climbs first (suc count) =
         let e : first + 1 + count ≡ first + suc count = omega arith in
         let z : first * t.size + 0 ≡ first * t.size = omega arith in
         let next : first * t.size + t.size ≡ (first + 1) * t.size = omega arith in
-        Climbs-append (first * t.size) ((first + 1) * t.size) ((first + suc count) * t.size) (shift (first * t.size) t.starts) (flat (λ c. shift (c * t.size) t.starts) (numbers (first + 1) count))
+        Climbs-append (first * t.size) ((first + 1) * t.size) ((first + suc count) * t.size) (shift (first * t.size) t.starts) (flat_map (λ c. shift (c * t.size) t.starts) (numbers (first + 1) count))
         (subst (λ k. Climbs (first * t.size) k (shift (first * t.size) t.starts)) next (subst (λ k. Climbs k (first * t.size + t.size) (shift (first * t.size) t.starts)) z (Climbs-shift (first * t.size) 0 t.size t.starts a.starts)))
-        (subst (λ k. Climbs ((first + 1) * t.size) (k * t.size) (flat (λ c. shift (c * t.size) t.starts) (numbers (first + 1) count))) e (flat-climbs (first + 1) count))
+        (subst (λ k. Climbs ((first + 1) * t.size) (k * t.size) (flat_map (λ c. shift (c * t.size) t.starts) (numbers (first + 1) count))) e (flat-climbs (first + 1) count))
 
     copies-climbs : (first : ℕ) → first ≤ turns → Climbs (first * t.size) (turns * t.size) (copies t first turns)
     copies-climbs first le =
