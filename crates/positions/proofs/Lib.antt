@@ -1,0 +1,17 @@
+pub mod Ticks
+pub mod Lists
+pub mod Tables
+pub mod Rising
+pub mod Links
+pub mod Loops
+pub mod Pairs
+pub mod Spelling
+pub mod Local
+pub mod Effects
+pub mod Kernels
+pub mod Alive
+pub mod Standing
+pub mod Follows
+pub mod Shapes
+pub mod Theorem
+pub mod Short

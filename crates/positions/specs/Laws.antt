@@ -1,0 +1,88 @@
+-- What the sections of a sequence are good for.
+use Rattle.std.specs.Prelude.{◌≡◌, ◌⊎◌, Option, Some, None, ℕ, ◌+◌, ◌*◌, ◌<◌, ◌≤◌, Bool, List}
+use Rattle.std.specs.Prelude.{length}
+use Rattle.bytecode.specs.Values.{SectionData}
+use Rattle.inference.specs.Sections.{IsSection, size_of}
+use Rattle.assertions.specs.declared.sequence.Boolean.{Boolean}
+use Rattle.assertions.specs.Written.{Written, boolean, delay, lead, repeat, or, and, throughout}
+use Rattle.assertions.specs.Written.{kernel, weight, IsOrdered}
+use Rattle.monitors.specs.Automata.{Follows}
+use Rattle.monitors.specs.Effects.{automaton_of}
+use Rattle.positions.specs.Plans.{plan}
+use Rattle.positions.specs.Tables.{table_of}
+use Rattle.positions.specs.Sections.{section_of, told}
+
+-- A boolean occurs in a sequence; the constant 1 does where a delay needs it.
+abbrev pub Occurs : {B : Type 0} → B → B → Written B → Type 0
+Occurs true_one b (boolean c) = c ≡ b
+Occurs true_one b (delay r least most s) =
+    (true_one ≡ b) ⊎ (Occurs true_one b r ⊎ Occurs true_one b s)
+Occurs true_one b (lead least most s) = (true_one ≡ b) ⊎ Occurs true_one b s
+Occurs true_one b (repeat r least most) = Occurs true_one b r
+Occurs true_one b (or r s) = Occurs true_one b r ⊎ Occurs true_one b s
+Occurs true_one b (and r s) = Occurs true_one b r ⊎ Occurs true_one b s
+Occurs true_one b (throughout c r) = (c ≡ b) ⊎ Occurs true_one b r
+
+-- The atoms of each tick tell the booleans that occur.
+abbrev pub Tells :
+    {B : Type 0} → (B → Option ℕ) → (ℕ → List Bool) → (B → ℕ → Bool) → B → Written B → Type 0
+Tells {B} atom rows value true_one w =
+    (k : ℕ) (b : B) → Occurs true_one b w → told (atom b) (rows k) ≡ value b k
+
+-- an atom that a boolean has is there
+abbrev pub IsThere : ℕ → Option ℕ → Type 0
+IsThere atoms None = Unit {0}
+IsThere atoms (Some n) = n < atoms
+
+-- the section of a sequence, where atom tells the number of each boolean but of the constant 1
+abbrev pub section_for : {B : Type 0} → (B → Option ℕ) → B → Written B → SectionData
+section_for atom true_one w = section_of atom (table_of (plan true_one w))
+
+-- It follows the sequence.
+abbrev pub SectionFollows : Type 0
+SectionFollows =
+    (atom : Boolean → Option ℕ) (true_one : Boolean) (rows : ℕ → List Bool)
+    (value : Boolean → ℕ → Bool) (w : Written Boolean) →
+    IsOrdered w → Tells atom rows value true_one w →
+    Follows value (kernel true_one w) (automaton_of (section_for atom true_one w) rows)
+
+-- It is well formed, as whichever section of a program.
+abbrev pub SectionIsWellFormed : Type 0
+SectionIsWellFormed =
+    (number atoms : ℕ) (atom : Boolean → Option ℕ) (true_one : Boolean) (w : Written Boolean) →
+    ((b : Boolean) → IsThere atoms (atom b)) → IsSection number atoms (section_for atom true_one w)
+
+-- It has no more positions than the sequence weighs.
+abbrev pub SectionIsSmall : Type 0
+SectionIsSmall =
+    (atom : Boolean → Option ℕ) (true_one : Boolean) (w : Written Boolean) →
+    IsOrdered w → length (section_for atom true_one w).blocks ≤ weight w
+
+-- No `and`, and no delay between two parts that may be 0.
+abbrev pub IsPlain : {B : Type 0} → Written B → Type 0
+IsPlain (boolean b) = Unit {0}
+IsPlain (delay r least most s) = (1 ≤ least) × IsPlain r × IsPlain s
+IsPlain (lead least most s) = IsPlain s
+IsPlain (repeat r least most) = IsPlain r
+IsPlain (or r s) = IsPlain r × IsPlain s
+IsPlain (and r s) = ⊥
+IsPlain (throughout b r) = IsPlain r
+
+-- how many booleans are written
+abbrev pub booleans : {B : Type 0} → Written B → ℕ
+booleans (boolean b) = 1
+booleans (delay r least most s) = booleans r + booleans s
+booleans (lead least most s) = booleans s
+booleans (repeat r least most) = booleans r
+booleans (or r s) = booleans r + booleans s
+booleans (and r s) = booleans r + booleans s
+booleans (throughout b r) = booleans r + 1
+
+-- Its section then has at most n (n - 1) / 2 + n (m + 2) instructions, where it weighs n and has m
+-- booleans.
+abbrev pub SectionIsShort : Type 0
+SectionIsShort =
+    (atom : Boolean → Option ℕ) (true_one : Boolean) (w : Written Boolean) →
+    IsOrdered w → IsPlain w →
+    2 * size_of (section_for atom true_one w).blocks + weight w
+    ≤ weight w * weight w + 2 * (weight w * (booleans w + 2))

@@ -1,0 +1,5 @@
+pub mod Plans
+pub mod States
+pub mod Tables
+pub mod Sections
+pub mod Laws
