@@ -1,0 +1,96 @@
+-- The program of an assertion decides as the assertion means.
+use Rattle.std.proofs.Common.{◌≡◌, ◌∙◌, ℕ, ◌<◌, Bool, true, false, List, length, map, Option, Some, None, slice_get, refl, ap, sym, subst}
+use Rattle.std.specs.Option.{option_map}
+use Rattle.std.specs.Prelude.{unwrap_or, string_bytes}
+use Rattle.std.proofs.Math.Path.{fun_ext}
+use Rattle.std.proofs.lemmas.List.{length-map}
+use Rattle.std.proofs.lemmas.Option.{slice_get-map, slice_get-get_or, get_or_from_slice_get}
+use Rattle.signals.specs.declared.verdict.Verdict.{Verdict}
+use Rattle.assertions.specs.declared.sequence.Boolean.{Boolean}
+use Rattle.assertions.specs.declared.sequence.Boolean.TheVariants.{One, Listed}
+use Rattle.assertions.specs.declared.assertion.Assertion.{Assertion}
+use Rattle.assertions.specs.declared.suite.Suite.{Suite}
+use Rattle.assertions.specs.Segments.{always}
+use Rattle.assertions.specs.Written.{Written, kernel, IsOrdered}
+use Rattle.assertions.specs.Shapes.{written_form, shape, value_in, off_in, is_true_at, expression_at}
+use Rattle.assertions.proofs.EmptinessLaws.{empty-Matches, Matches-empty}
+use Rattle.bytecode.specs.Values.{ProgramData, SectionData}
+use Rattle.verifier.specs.Programs.{IsAccepted}
+use Rattle.checked_machine.specs.Clocks.{disabling}
+use Rattle.verdicts.specs.Lines.{line_data_of}
+use Rattle.program_runs.specs.Lines.{IsLineOver}
+use Rattle.monitors.specs.Automata.{Follows}
+use Rattle.monitors.specs.Effects.{automaton_of}
+use Rattle.monitors.specs.Monitors.{monitor_of}
+use Rattle.monitors.specs.History.{SamplesAs}
+use Rattle.monitors.specs.Laws.{Watches, Fills}
+use Rattle.verdict_lines.specs.Laws.{AreVerdicts}
+use Rattle.verdict_lines.proofs.Lines.{by-meaning}
+use Rattle.positions.specs.Laws.{Occurs, section_for}
+use Rattle.positions.specs.Sections.{told}
+use Rattle.positions.proofs.Theorem.{law-section_follows}
+use Rattle.assertion_programs.specs.Programs.{atom_of, disabling_atom, IsListed, CanDisable, IsProgramOf}
+use Rattle.assertion_programs.specs.Laws.{AreRowsOf, picked, AreVerdictsOver, ProgramsDecide}
+use Rattle.assertion_programs.proofs.Samples as made
+
+module _ (suite : Suite) (a : Assertion) (p : ProgramData) (of : IsProgramOf suite a p) (rows : List (List ℕ)) (fit : AreRowsOf suite rows) where
+  abbrev value : Boolean → ℕ → Bool
+  value = value_in suite.booleans.items a.booleans.items (made.t suite a p of rows fit)
+
+  abbrev off : ℕ → Bool
+  off = off_in suite.booleans.items a.booleans.items (made.t suite a p of rows fit) a.disabling
+
+  abbrev atoms : ℕ → List Bool
+  atoms = made.atoms suite a p of rows fit
+
+  -- the atom of a listed boolean
+  atom-at : (k i : ℕ) → i < length a.booleans.items → slice_get (atoms k) i ≡ Some (value (Listed i) k)
+  atom-at k i below =
+      let found = slice_get-get_or a.booleans.items i 0 below in
+      slice_get-map (λ place. is_true_at (made.t suite a p of rows fit) (slice_get suite.booleans.items place) k) a.booleans.items i
+      ∙ ap (option_map (λ place. is_true_at (made.t suite a p of rows fit) (slice_get suite.booleans.items place) k)) found
+      ∙ ap (λ o. Some (is_true_at (made.t suite a p of rows fit) (expression_at suite.booleans.items o) k)) (sym found)
+
+  told-at : (k : ℕ) (b : Boolean) → IsListed (length a.booleans.items) b → told (atom_of b) (atoms k) ≡ value b k
+  told-at k One h = refl
+  told-at k (Listed i) h = get_or_from_slice_get (atoms k) i (value (Listed i) k) true (atom-at k i h)
+
+  follows : (w : Written Boolean) (s : SectionData) → IsOrdered w → ((b : Boolean) → Occurs One b w → IsListed (length a.booleans.items) b) →
+      s ≡ section_for atom_of One w → Follows value (kernel One w) (automaton_of s atoms)
+  follows w s ordered listed is =
+      subst (λ x. Follows value (kernel One w) (automaton_of x atoms)) (sym is)
+      (law-section_follows atom_of One atoms value w ordered (λ k b occurs. told-at k b (listed b occurs)))
+
+  watches : Watches p atoms value (shape a.antecedent) (shape a.consequent)
+  watches = record {
+    antecedent = follows (written_form a.antecedent) p.antecedent a.antecedent_ordered of.antecedent_listed of.antecedent;
+    consequent = follows (written_form a.consequent) p.consequent a.consequent_ordered of.consequent_listed of.consequent;
+  }
+
+  fills : Fills value (shape a.consequent)
+  fills e m =
+      of.fills (empty-Matches Boolean always One (written_form a.consequent) 0 a.consequent_ordered
+      (Matches-empty Boolean value One (written_form a.consequent) e a.consequent_ordered m))
+
+  disabled-at : (d : Option Boolean) → CanDisable (length a.booleans.items) d → (k : ℕ) →
+      unwrap_or (disabling (disabling_atom d) (atoms k)) false ≡ off_in suite.booleans.items a.booleans.items (made.t suite a p of rows fit) d k
+  disabled-at None h k = refl
+  disabled-at (Some One) h k = absurd h
+  disabled-at (Some (Listed i)) h k = ap (λ o. unwrap_or o false) (atom-at k i h)
+
+  same-off : off ≡ (monitor_of p atoms).off
+  same-off = fun_ext (λ k. sym (ap (λ d. unwrap_or (disabling d (atoms k)) false) of.disable ∙ disabled-at a.disabling of.disabling_listed k))
+
+  decides : IsAccepted p → (verdicts : List Verdict) → AreVerdictsOver suite rows a verdicts →
+      IsLineOver p (map (picked of.layout.signals) rows) (line_data_of (string_bytes a.name) verdicts)
+  decides accepted verdicts judged =
+      let long : length rows ≡ length (map (picked of.layout.signals) rows) = sym (length-map rows (picked of.layout.signals)) in
+      subst (λ n. IsLineOver p (map (picked of.layout.signals) rows) (line_data_of n verdicts)) of.name
+      (by-meaning p (map (picked of.layout.signals) rows) (made.counters suite a p of rows fit) atoms value (shape a.antecedent) (shape a.consequent) verdicts accepted
+      (subst (λ n. SamplesAs p (made.signals suite a p of rows fit) (made.counters suite a p of rows fit) atoms n) long (made.samples suite a p of rows fit accepted))
+      watches fills
+      (subst (λ n. AreVerdicts value (monitor_of p atoms).off (shape a.antecedent) (shape a.consequent) n verdicts) long
+      (subst (λ o. AreVerdicts value o (shape a.antecedent) (shape a.consequent) (length rows) verdicts) same-off judged)))
+
+pub programs-decide : ProgramsDecide
+programs-decide suite a p accepted of rows fit verdicts judged = decides suite a p of rows fit accepted verdicts judged

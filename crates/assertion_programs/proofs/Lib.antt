@@ -1,0 +1,4 @@
+pub mod SampleLaws
+pub mod ListLaws
+pub mod Samples
+pub mod Decides
