@@ -1,4 +1,5 @@
 pub mod Codes
+pub mod Chains
 pub mod Samples
 pub mod Slots
 pub mod Written

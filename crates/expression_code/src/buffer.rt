@@ -1,8 +1,8 @@
 //! Sample code that is being made.
 
-ghost use Rattle.std.specs.Prelude.{◌≡◌, [], Some, OnOk};
+ghost use Rattle.std.specs.Prelude.{◌≡◌, [], ◌∷◌, Some, OnOk};
 ghost use Rattle.std.specs.Prelude.{is_none, MatchOption, IfOk};
-ghost use Rattle.expression_code.specs.Written.{with_instr};
+ghost use Rattle.expression_code.specs.Written.{Writes};
 
 use crate::fault::LengthFault;
 use bytecode::SampleInstr;
@@ -49,7 +49,7 @@ impl CodeBuffer {
 
     /// One instruction more.
     pub fn put(&mut self, instr: SampleInstr) -> Result<(), AllocError>
-        ensures { OnOk result (self.new ≡ with_instr self.old instr) }
+        ensures { OnOk result (Writes self.old self.new (instr ∷ [])) }
     {
         if self.is_long {
             return Ok(());

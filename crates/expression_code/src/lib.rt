@@ -2,12 +2,14 @@
 #![tactic(auto)]
 
 mod buffer;
+mod expression;
 mod fault;
 mod laws;
 mod operators;
 mod slots;
 
 pub use buffer::CodeBuffer;
+pub use expression::expression_code;
 pub use fault::LengthFault;
 pub use laws::{counter_law, expression_law, length_law, sample_law, typing_law};
 pub use slots::SlotTable;
