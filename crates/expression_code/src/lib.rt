@@ -2,6 +2,7 @@
 #![tactic(auto)]
 
 mod buffer;
+mod counter;
 mod expression;
 mod fault;
 mod laws;
@@ -9,6 +10,7 @@ mod operators;
 mod slots;
 
 pub use buffer::CodeBuffer;
+pub use counter::counter_code;
 pub use expression::expression_code;
 pub use fault::LengthFault;
 pub use laws::{counter_law, expression_law, length_law, sample_law, typing_law};

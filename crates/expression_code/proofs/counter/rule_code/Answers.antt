@@ -1,0 +1,8 @@
+use Rattle.std.proofs.Common.{◌≡◌, ◌∙◌, ℕ, ◌++◌, refl, sym, ap, append_assoc}
+use Rattle.expression_code.proofs.WrittenLaws.{writes-then, writes-as, on-ok}
+use Rattle.expression_code.proofs.counter.rule_code.Goals as goal
+
+pub returns : goal.returns
+returns c =
+    on-ok c.number_code.result c.number_code.ensures
+    (λ last. writes-then c.in_ok-truth_code.ensures last)
