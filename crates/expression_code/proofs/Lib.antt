@@ -14,3 +14,4 @@ pub mod Accepted
 pub mod Lengths
 pub mod WrittenLaws
 pub mod ChainLaws
+pub mod ChosenLaws

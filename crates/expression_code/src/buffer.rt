@@ -1,7 +1,7 @@
 //! Sample code that is being made.
 
 ghost use Rattle.std.specs.Prelude.{◌≡◌, [], ◌∷◌, Some, OnOk};
-ghost use Rattle.std.specs.Prelude.{is_none, MatchOption, IfOk};
+ghost use Rattle.std.specs.Prelude.{is_none, MatchOption, IsOkAnd};
 ghost use Rattle.expression_code.specs.Written.{Writes};
 
 use crate::fault::LengthFault;
@@ -65,7 +65,7 @@ impl CodeBuffer {
     /// The instructions.
     pub fn finish(self) -> Result<Vec<SampleInstr>, LengthFault>
         ensures { MatchOption self (result ≡ Err LengthFault.TooLong)
-            (λ code. IfOk result (λ made. made.items ≡ code)) }
+            (λ code. IsOkAnd result (λ made. made.items ≡ code)) }
     {
         if self.is_long {
             return Err(LengthFault::TooLong);

@@ -7,6 +7,7 @@ mod expression;
 mod fault;
 mod laws;
 mod operators;
+mod program;
 mod slots;
 
 pub use buffer::CodeBuffer;
@@ -14,4 +15,5 @@ pub use counter::counter_code;
 pub use expression::expression_code;
 pub use fault::LengthFault;
 pub use laws::{counter_law, expression_law, length_law, sample_law, typing_law};
+pub use program::{atom_code, sample_code, store_code};
 pub use slots::SlotTable;

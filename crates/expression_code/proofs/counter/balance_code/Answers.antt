@@ -1,5 +1,4 @@
-use Rattle.std.proofs.Common.{◌≡◌, ◌∙◌, ℕ, ◌++◌, refl, sym, ap, append_assoc}
-use Rattle.expression_code.proofs.WrittenLaws.{writes-then, writes-as, on-ok}
+use Rattle.expression_code.proofs.WrittenLaws.{writes-then, on-ok}
 use Rattle.expression_code.proofs.counter.balance_code.Goals as goal
 
 pub returns : goal.returns

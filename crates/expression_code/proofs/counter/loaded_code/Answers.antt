@@ -1,4 +1,4 @@
-use Rattle.std.proofs.Common.{◌≡◌, ◌∙◌, ℕ, ◌++◌, refl, sym, ap, append_assoc}
+use Rattle.std.proofs.Common.{refl}
 use Rattle.expression_code.proofs.WrittenLaws.{writes-then, writes-as, on-ok}
 use Rattle.expression_code.proofs.counter.loaded_code.Goals as goal
 
