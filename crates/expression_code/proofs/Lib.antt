@@ -12,3 +12,6 @@ pub mod Tables
 pub mod Quiet
 pub mod Accepted
 pub mod Lengths
+pub mod WrittenLaws
+pub mod ChainLaws
+pub mod ChosenLaws

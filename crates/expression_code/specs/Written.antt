@@ -1,5 +1,5 @@
 -- Code that is written, instruction by instruction.
-use Rattle.std.specs.Prelude.{ℕ, nat_lt, if◌then◌else◌, List, [], ◌∷◌, ◌++◌, length, Option, Some}
+use Rattle.std.specs.Prelude.{◌≡◌, nat_lt, if◌then◌else◌, List, [], ◌∷◌, ◌++◌, length, Option, Some}
 use Rattle.std.specs.Prelude.{None}
 use Rattle.bytecode.specs.declared.sample_instr.SampleInstr.{SampleInstr}
 
@@ -11,3 +11,7 @@ with_instr (Some code) i = if nat_lt (length code) 4096 then Some (code ++ i ∷
 abbrev pub written : Option (List SampleInstr) → List SampleInstr → Option (List SampleInstr)
 written code [] = code
 written code (i ∷ more) = written (with_instr code i) more
+
+-- Code that was written, and then this behind it.
+pub record Writes (old new : Option (List SampleInstr)) (code : List SampleInstr) : Type 0 where
+  pub is : new ≡ written old code

@@ -1,8 +1,8 @@
 //! Sample code that is being made.
 
-ghost use Rattle.std.specs.Prelude.{◌≡◌, [], Some, OnOk};
-ghost use Rattle.std.specs.Prelude.{is_none, MatchOption, IfOk};
-ghost use Rattle.expression_code.specs.Written.{with_instr};
+ghost use Rattle.std.specs.Prelude.{◌≡◌, [], ◌∷◌, Some, OnOk};
+ghost use Rattle.std.specs.Prelude.{is_none, MatchOption, IsOkAnd};
+ghost use Rattle.expression_code.specs.Written.{Writes};
 
 use crate::fault::LengthFault;
 use bytecode::SampleInstr;
@@ -49,7 +49,7 @@ impl CodeBuffer {
 
     /// One instruction more.
     pub fn put(&mut self, instr: SampleInstr) -> Result<(), AllocError>
-        ensures { OnOk result (self.new ≡ with_instr self.old instr) }
+        ensures { OnOk result (Writes self.old self.new (instr ∷ [])) }
     {
         if self.is_long {
             return Ok(());
@@ -65,7 +65,7 @@ impl CodeBuffer {
     /// The instructions.
     pub fn finish(self) -> Result<Vec<SampleInstr>, LengthFault>
         ensures { MatchOption self (result ≡ Err LengthFault.TooLong)
-            (λ code. IfOk result (λ made. made.items ≡ code)) }
+            (λ code. IsOkAnd result (λ made. made.items ≡ code)) }
     {
         if self.is_long {
             return Err(LengthFault::TooLong);

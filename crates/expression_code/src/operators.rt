@@ -1,11 +1,11 @@
 //! What stands behind and between the operands of operators.
 
-ghost use Rattle.std.specs.Prelude.{◌≡◌, OnOk};
+ghost use Rattle.std.specs.Prelude.{OnOk};
 ghost use Rattle.expression_code.specs.Codes.{extension, bit_test, slot_read, reduction_end};
 ghost use Rattle.expression_code.specs.Codes.{arithmetic_end, shift_end, comparison_middle};
 ghost use Rattle.expression_code.specs.Codes.{comparison_end, connective_end, change_middle};
 ghost use Rattle.expression_code.specs.Codes.{change_end};
-ghost use Rattle.expression_code.specs.Written.{written};
+ghost use Rattle.expression_code.specs.Written.{Writes};
 
 use crate::buffer::CodeBuffer;
 use bytecode::{CompareOperator, JoinOperator, ReduceOperator, SampleInstr, ShiftOperator};
@@ -14,7 +14,7 @@ use std::alloc::AllocError;
 
 /// From a width to one that is no smaller.
 pub(crate) fn extend(code: &mut CodeBuffer, from: u8, to: u8) -> Result<(), AllocError>
-    ensures { OnOk result (code.new ≡ written code.old (extension from to)) }
+    ensures { OnOk result (Writes code.old code.new (extension from to)) }
 {
     if from == to {
         return Ok(());
@@ -24,7 +24,7 @@ pub(crate) fn extend(code: &mut CodeBuffer, from: u8, to: u8) -> Result<(), Allo
 
 /// From so many bits to one: whether the value is not 0.
 pub(crate) fn test_bit(code: &mut CodeBuffer, width: u8) -> Result<(), AllocError>
-    ensures { OnOk result (code.new ≡ written code.old (bit_test width)) }
+    ensures { OnOk result (Writes code.old code.new (bit_test width)) }
 {
     if width == 1 {
         return Ok(());
@@ -34,7 +34,7 @@ pub(crate) fn test_bit(code: &mut CodeBuffer, width: u8) -> Result<(), AllocErro
 
 /// What a slot held so many ticks before.
 pub(crate) fn read_slot(code: &mut CodeBuffer, slot: u16, back: u16) -> Result<(), AllocError>
-    ensures { OnOk result (code.new ≡ written code.old (slot_read slot back)) }
+    ensures { OnOk result (Writes code.old code.new (slot_read slot back)) }
 {
     if back == 0 {
         return code.put(SampleInstr::Load(slot));
@@ -43,7 +43,7 @@ pub(crate) fn read_slot(code: &mut CodeBuffer, slot: u16, back: u16) -> Result<(
 }
 
 pub(crate) fn reduce(code: &mut CodeBuffer, op: Reduction) -> Result<(), AllocError>
-    ensures { OnOk result (code.new ≡ written code.old (reduction_end op)) }
+    ensures { OnOk result (Writes code.old code.new (reduction_end op)) }
 {
     match op {
         Reduction::Zero => {
@@ -67,7 +67,7 @@ pub(crate) fn reduce(code: &mut CodeBuffer, op: Reduction) -> Result<(), AllocEr
 }
 
 pub(crate) fn combine(code: &mut CodeBuffer, op: Arithmetic) -> Result<(), AllocError>
-    ensures { OnOk result (code.new ≡ written code.old (arithmetic_end op)) }
+    ensures { OnOk result (Writes code.old code.new (arithmetic_end op)) }
 {
     match op {
         Arithmetic::Add => code.put(SampleInstr::Join(JoinOperator::Add)),
@@ -83,7 +83,7 @@ pub(crate) fn combine(code: &mut CodeBuffer, op: Arithmetic) -> Result<(), Alloc
 }
 
 pub(crate) fn shift(code: &mut CodeBuffer, op: Shift) -> Result<(), AllocError>
-    ensures { OnOk result (code.new ≡ written code.old (shift_end op)) }
+    ensures { OnOk result (Writes code.old code.new (shift_end op)) }
 {
     match op {
         Shift::Left => code.put(SampleInstr::Shift(ShiftOperator::Shl)),
@@ -93,7 +93,7 @@ pub(crate) fn shift(code: &mut CodeBuffer, op: Shift) -> Result<(), AllocError>
 
 /// Behind the left operand.
 pub(crate) fn turn(code: &mut CodeBuffer, op: Comparison) -> Result<(), AllocError>
-    ensures { OnOk result (code.new ≡ written code.old (comparison_middle op)) }
+    ensures { OnOk result (Writes code.old code.new (comparison_middle op)) }
 {
     match op {
         Comparison::Greater | Comparison::AtMost => code.put(SampleInstr::Not),
@@ -102,7 +102,7 @@ pub(crate) fn turn(code: &mut CodeBuffer, op: Comparison) -> Result<(), AllocErr
 }
 
 pub(crate) fn compare(code: &mut CodeBuffer, op: Comparison) -> Result<(), AllocError>
-    ensures { OnOk result (code.new ≡ written code.old (comparison_end op)) }
+    ensures { OnOk result (Writes code.old code.new (comparison_end op)) }
 {
     match op {
         Comparison::Equal => code.put(SampleInstr::Compare(CompareOperator::Eq)),
@@ -128,7 +128,7 @@ pub(crate) fn compare(code: &mut CodeBuffer, op: Comparison) -> Result<(), Alloc
 }
 
 pub(crate) fn connect(code: &mut CodeBuffer, op: Connective) -> Result<(), AllocError>
-    ensures { OnOk result (code.new ≡ written code.old (connective_end op)) }
+    ensures { OnOk result (Writes code.old code.new (connective_end op)) }
 {
     match op {
         Connective::Both => code.put(SampleInstr::Join(JoinOperator::And)),
@@ -138,7 +138,7 @@ pub(crate) fn connect(code: &mut CodeBuffer, op: Connective) -> Result<(), Alloc
 
 /// Between the value of this tick and that of the one before.
 pub(crate) fn cut_now(code: &mut CodeBuffer, op: Change) -> Result<(), AllocError>
-    ensures { OnOk result (code.new ≡ written code.old (change_middle op)) }
+    ensures { OnOk result (Writes code.old code.new (change_middle op)) }
 {
     match op {
         Change::Rose => code.put(SampleInstr::Slice(0, 0)),
@@ -152,7 +152,7 @@ pub(crate) fn cut_now(code: &mut CodeBuffer, op: Change) -> Result<(), AllocErro
 
 /// Behind both.
 pub(crate) fn compare_ticks(code: &mut CodeBuffer, op: Change) -> Result<(), AllocError>
-    ensures { OnOk result (code.new ≡ written code.old (change_end op)) }
+    ensures { OnOk result (Writes code.old code.new (change_end op)) }
 {
     match op {
         Change::Rose => {

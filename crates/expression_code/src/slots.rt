@@ -11,6 +11,7 @@ pub struct SlotTable {
 
 impl SlotTable {
     ghost use Rattle.std.specs.Prelude.{◌≡◌};
+    ghost use Rattle.expressions.specs.declared.name.Origin.TheVariants.{Counter};
     ghost use Rattle.expression_code.specs.Codes.{slot_of};
     ghost use Rattle.expression_code.specs.Slots.{slots_in};
 
@@ -20,7 +21,14 @@ impl SlotTable {
     {
         match name.origin {
             Origin::Signal => self.signals.get(name.place).copied().unwrap_or(0),
-            Origin::Counter => self.counters.get(name.place).copied().unwrap_or(0),
+            Origin::Counter => self.counter_slot(name.place),
         }
+    }
+
+    /// The slot of a counter by its place, or slot 0 where it has none.
+    pub fn counter_slot(&self, place: usize) -> u16
+        ensures { result ≡ slots_in self.now Counter place }
+    {
+        self.counters.get(place).copied().unwrap_or(0)
     }
 }
