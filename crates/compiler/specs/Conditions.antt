@@ -1,0 +1,113 @@
+-- What an assertion keeps to that is of a suite which the type checker made of a text.
+use Rattle.std.specs.Prelude.{◌≡◌, ℕ, ◌<◌, ◌≤◌, IsTrue, Option, Some, None, length, slice_get}
+use Rattle.std.specs.Prelude.{string_bytes}
+use Rattle.std.specs.List.{AllByRecursion}
+use Rattle.expressions.specs.declared.name.Origin.{Origin}
+use Rattle.expressions.specs.declared.name.Origin.TheVariants.{Signal, Counter}
+use Rattle.expressions.specs.declared.name.Name.{Name}
+use Rattle.expressions.specs.declared.expr.Expr.{Expr}
+use Rattle.expressions.specs.declared.counter.Counter as counters
+use Rattle.expressions.specs.Terms.{Term, past, width_of}
+use Rattle.expressions.specs.Expressions.{term_of}
+use Rattle.assertions.specs.declared.sequence.Boolean.{Boolean}
+use Rattle.assertions.specs.declared.sequence.Boolean.TheVariants.{One, Listed}
+use Rattle.assertions.specs.declared.signal.Signal as signals
+use Rattle.assertions.specs.declared.assertion.Assertion.{Assertion}
+use Rattle.assertions.specs.declared.suite.Suite.{Suite}
+use Rattle.assertions.specs.Segments.{AdmitsEmpty}
+use Rattle.assertions.specs.Written.{Written, boolean, delay, lead, repeat, or, and, throughout}
+use Rattle.assertions.specs.Shapes.{written_form, shape}
+use Rattle.bytecode.specs.Texts.{is_word, is_path}
+use Rattle.expression_code.specs.Laws.{Each, OfName}
+use Rattle.expression_code.specs.Samples.{counter_terms}
+use Rattle.compiler.specs.Depths.{depth}
+
+-- What the suite has at a place has so many bits.
+pub record IsSignalAt (suite : Suite) (place width : ℕ) : Type 0 where
+  pub signal : signals.Signal
+  pub found : slice_get suite.names.items place ≡ Some signal
+  pub wide : signal.width ≡ width
+
+pub record IsCounterAt (suite : Suite) (place width : ℕ) : Type 0 where
+  pub counter : counters.Counter
+  pub found : slice_get suite.counters.items place ≡ Some counter
+  pub wide : counter.width ≡ width
+
+-- A name is a signal or a counter of the suite.
+abbrev pub IsAt : Suite → Origin → ℕ → ℕ → Type 0
+IsAt suite Signal place width = IsSignalAt suite place width
+IsAt suite Counter place width = IsCounterAt suite place width
+
+abbrev pub IsNamed : Suite → Name → Type 0
+IsNamed suite name = IsAt suite name.origin name.place name.width
+
+-- $past looks back 64 ticks at most.
+abbrev pub IsNear : Term → Type 0
+IsNear (past e ticks) = ticks ≤ 64
+IsNear e = Unit {0}
+
+-- An expression that a text of the suite may have: each name is one of the suite's, no part has over
+-- 128 bits, no $past looks back over 64 ticks, and at most 64 brackets are open at once.
+pub record IsKnown (suite : Suite) (e : Term) : Type 0 where
+  pub names : Each (OfName (IsNamed suite)) e
+  pub narrow : Each (λ part. width_of part ≤ 128) e
+  pub near : Each IsNear e
+  pub shallow : depth e ≤ 64
+
+-- Its counters count by such expressions.
+abbrev pub CountsByKnown : Suite → counters.Counter → Type 0
+CountsByKnown suite c = AllByRecursion (IsKnown suite) (counter_terms c)
+
+-- What the suite's assertions share: the clock and the signals have paths, and the counters count by
+-- known expressions.
+pub record IsSound (suite : Suite) : Type 0 where
+  pub clock : IsTrue (is_path (string_bytes suite.clock))
+  pub signals : AllByRecursion (λ s. IsTrue (is_path (string_bytes s.path))) suite.names.items
+  pub counters : AllByRecursion (CountsByKnown suite) suite.counters.items
+
+-- a known expression at a place of the suite's
+pub record IsKnownAt (suite : Suite) (place : ℕ) : Type 0 where
+  pub expression : Expr
+  pub found : slice_get suite.booleans.items place ≡ Some expression
+  pub known : IsKnown suite (term_of expression)
+
+-- P holds of each boolean of a sequence.
+abbrev pub EachBoolean : {B : Type 0} → (B → Type 0) → Written B → Type 0
+EachBoolean P (boolean b) = P b
+EachBoolean P (delay r least most s) = EachBoolean P r × EachBoolean P s
+EachBoolean P (lead least most s) = EachBoolean P s
+EachBoolean P (repeat r least most) = EachBoolean P r
+EachBoolean P (or r s) = EachBoolean P r × EachBoolean P s
+EachBoolean P (and r s) = EachBoolean P r × EachBoolean P s
+EachBoolean P (throughout b r) = P b × EachBoolean P r
+
+-- It is the constant 1, or one of so many that are listed.
+abbrev pub IsListed : ℕ → Boolean → Type 0
+IsListed count One = Unit {0}
+IsListed count (Listed i) = i < count
+
+-- A disabling boolean is listed.
+abbrev pub IsListedOption : ℕ → Option Boolean → Type 0
+IsListedOption count None = Unit {0}
+IsListedOption count (Some One) = ⊥
+IsListedOption count (Some (Listed i)) = i < count
+
+-- An assertion's list has places of known expressions, and all its booleans are in the list.
+pub record IsPlaced (suite : Suite) (a : Assertion) : Type 0 where
+  pub booleans : AllByRecursion (IsKnownAt suite) a.booleans.items
+  pub antecedent :
+      EachBoolean (IsListed (length a.booleans.items)) (written_form a.antecedent)
+  pub consequent :
+      EachBoolean (IsListed (length a.booleans.items)) (written_form a.consequent)
+  pub disabling : IsListedOption (length a.booleans.items) a.disabling
+
+-- Its name is a word, and its consequent takes at least a tick.
+pub record IsProper (a : Assertion) : Type 0 where
+  pub name : IsTrue (is_word (string_bytes a.name))
+  pub filled : AdmitsEmpty (shape a.consequent) → ⊥
+
+-- The assertion is of the suite.
+pub record IsFit (suite : Suite) (a : Assertion) : Type 0 where
+  pub sound : IsSound suite
+  pub placed : IsPlaced suite a
+  pub proper : IsProper a

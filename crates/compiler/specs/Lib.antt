@@ -1,0 +1,3 @@
+pub mod Depths
+pub mod Conditions
+pub mod Laws
