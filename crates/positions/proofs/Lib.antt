@@ -15,3 +15,4 @@ pub mod Follows
 pub mod Shapes
 pub mod Theorem
 pub mod Short
+pub mod RowLaws

@@ -1,6 +1,12 @@
 //! Sections from sequences.
 #![tactic(auto)]
 
+mod change;
+mod draft;
+mod edge;
+mod fault;
 mod laws;
+mod list;
 
+pub use fault::SectionFault;
 pub use laws::{section_law, size_law};
