@@ -11,6 +11,7 @@ use crate::change::Change;
 use crate::edge::Edge;
 use crate::fault::SectionFault;
 use crate::list::put_edge;
+use crate::table::Table;
 use std::alloc::Global;
 use std::marker::Model;
 use std::mem;
@@ -111,5 +112,13 @@ impl Draft {
             self.close(alloc)?;
         }
         Ok(())
+    }
+
+    /// The table of the rows that are done.
+    pub fn table(self, starts: Vec<u8>, empty: bool) -> Table
+        ensures { result ≡ record { rows = self.rows; starts = starts.items; empty = empty } }
+    {
+        let _ = &self.room;
+        Table::new(self.rows, starts, empty)
     }
 }

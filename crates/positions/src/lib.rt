@@ -7,6 +7,7 @@ mod edge;
 mod fault;
 mod laws;
 mod list;
+mod table;
 
 pub use fault::SectionFault;
 pub use laws::{section_law, size_law};
