@@ -16,3 +16,4 @@ pub mod Shapes
 pub mod Theorem
 pub mod Short
 pub mod RowLaws
+pub mod NearLaws

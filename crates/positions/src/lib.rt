@@ -4,6 +4,7 @@
 mod change;
 mod draft;
 mod edge;
+mod either;
 mod fault;
 mod laws;
 mod list;
