@@ -17,3 +17,4 @@ pub mod Theorem
 pub mod Short
 pub mod RowLaws
 pub mod NearLaws
+pub mod CopyLaws

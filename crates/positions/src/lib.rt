@@ -8,6 +8,7 @@ mod either;
 mod fault;
 mod laws;
 mod list;
+mod repeat;
 mod table;
 
 pub use fault::SectionFault;
