@@ -15,3 +15,6 @@ pub mod Follows
 pub mod Shapes
 pub mod Theorem
 pub mod Short
+pub mod RowLaws
+pub mod NearLaws
+pub mod CopyLaws
