@@ -15,3 +15,4 @@ pub mod Lengths
 pub mod WrittenLaws
 pub mod ChainLaws
 pub mod ChosenLaws
+pub mod DepthLaws

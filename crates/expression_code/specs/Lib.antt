@@ -5,3 +5,4 @@ pub mod Chosen
 pub mod Slots
 pub mod Written
 pub mod Laws
+pub mod Depths

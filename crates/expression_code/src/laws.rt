@@ -1,6 +1,7 @@
 //! Laws of sample code, each a call that does nothing.
 
 ghost use Rattle.expression_code.specs.Laws.{ExpressionsLeaveValues, CountersLeaveNext};
+ghost use Rattle.expression_code.specs.Depths.{DepthBoundsCode};
 ghost use Rattle.expression_code.specs.Laws.{SamplesAreShort, SamplesAreTyped, SamplesTell};
 
 /// The code of an expression leaves its value on any stack.
@@ -27,4 +28,10 @@ pub fn sample_law()
 /// Without counters and calls that compare with the tick before, the sample code is short.
 pub fn length_law()
     ensures { SamplesAreShort }
+{}
+
+/// What the code of expressions asks of the stack and of the history is bounded by how many brackets
+/// and unfinished operators are open at once in them.
+pub fn depth_law()
+    ensures { DepthBoundsCode }
 {}
