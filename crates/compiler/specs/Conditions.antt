@@ -7,7 +7,7 @@ use Rattle.expressions.specs.declared.name.Origin.TheVariants.{Signal, Counter}
 use Rattle.expressions.specs.declared.name.Name.{Name}
 use Rattle.expressions.specs.declared.expr.Expr.{Expr}
 use Rattle.expressions.specs.declared.counter.Counter as counters
-use Rattle.expressions.specs.Terms.{Term, past, width_of}
+use Rattle.expressions.specs.Terms.{Term, width_of}
 use Rattle.expressions.specs.Expressions.{term_of}
 use Rattle.assertions.specs.declared.sequence.Boolean.{Boolean}
 use Rattle.assertions.specs.declared.sequence.Boolean.TheVariants.{One, Listed}
@@ -20,7 +20,7 @@ use Rattle.assertions.specs.Shapes.{written_form, shape}
 use Rattle.bytecode.specs.Texts.{is_word, is_path}
 use Rattle.expression_code.specs.Laws.{Each, OfName}
 use Rattle.expression_code.specs.Samples.{counter_terms}
-use Rattle.compiler.specs.Depths.{depth}
+use Rattle.expression_code.specs.Depths.{depth, IsShortPast}
 
 -- What the suite has at a place has so many bits.
 pub record IsSignalAt (suite : Suite) (place width : ℕ) : Type 0 where
@@ -41,17 +41,12 @@ IsAt suite Counter place width = IsCounterAt suite place width
 abbrev pub IsNamed : Suite → Name → Type 0
 IsNamed suite name = IsAt suite name.origin name.place name.width
 
--- $past looks back 64 ticks at most.
-abbrev pub IsNear : Term → Type 0
-IsNear (past e ticks) = ticks ≤ 64
-IsNear e = Unit {0}
-
 -- An expression that a text of the suite may have: each name is one of the suite's, no part has over
 -- 128 bits, no $past looks back over 64 ticks, and at most 64 brackets are open at once.
 pub record IsKnown (suite : Suite) (e : Term) : Type 0 where
   pub names : Each (OfName (IsNamed suite)) e
   pub narrow : Each (λ part. width_of part ≤ 128) e
-  pub near : Each IsNear e
+  pub near : Each IsShortPast e
   pub shallow : depth e ≤ 64
 
 -- Its counters count by such expressions.

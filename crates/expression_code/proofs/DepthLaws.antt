@@ -77,8 +77,13 @@ left-within :
     Within y (level b) (depth b) →
     Within (max x (1 + y)) own (left_depth own (level a) (depth a) (level b) (depth b))
 left-within own x y a b some most g h =
-    omega (arith, some, most, bracketed-within own (level a) (depth a) x g,
-    bracketed-within (own - 1) (level b) (depth b) y h)
+    omega (
+      arith,
+      some,
+      most,
+      bracketed-within own (level a) (depth a) x g,
+      bracketed-within (own - 1) (level b) (depth b) y h,
+    )
 
 reduction-within :
     (op : Reduction) (e : Term) (n : ℕ) → Within n (level e) (depth e) →
@@ -118,21 +123,33 @@ need-within (connect op a b) =
     left-within (connective_level op) (need a) (need b) a b (connective-loose op).0
     (connective-loose op).1 (need-within a) (need-within b)
 need-within (choose c a b) =
-    omega (arith, bracketed-within 9 (level c) (depth c) (need c) (need-within c), need-within a,
-    need-within b)
+    omega (
+      arith,
+      bracketed-within 9 (level c) (depth c) (need c) (need-within c),
+      need-within a,
+      need-within b,
+    )
 need-within (past e ticks) =
     omega (arith, guarded-within (reads_slot e) (need e) (depth e) (omega (arith, need-within e)))
 need-within (change op e) =
-    omega (arith, guarded-within (reads_slot e) (need e) (depth e) (omega (arith, need-within e)),
-    need-within e)
+    omega (
+      arith,
+      guarded-within (reads_slot e) (need e) (depth e) (omega (arith, need-within e)),
+      need-within e,
+    )
 
 -- a bound with 64 ticks for each bracket
 left-reaches :
     (own x y : ℕ) (a b : Term) → x ≤ 64 * depth a → y ≤ 64 * depth b →
     max x y ≤ 64 * left_depth own (level a) (depth a) (level b) (depth b)
 left-reaches own x y a b g h =
-    omega (arith, g, h, bracketed-more own (level a) (depth a),
-    bracketed-more (own - 1) (level b) (depth b))
+    omega (
+      arith,
+      g,
+      h,
+      bracketed-more own (level a) (depth a),
+      bracketed-more (own - 1) (level b) (depth b),
+    )
 
 reduction-deeper : (op : Reduction) (loose deep : ℕ) → deep ≤ reduction_depth op loose deep
 reduction-deeper OneHot loose deep = omega arith
@@ -166,8 +183,13 @@ reach-within (connect op a b) h =
     left-reaches (connective_level op) (reach a) (reach b) a b (reach-within a h.1)
     (reach-within b h.2)
 reach-within (choose c a b) h =
-    omega (arith, bracketed-more 9 (level c) (depth c), reach-within c h.1, reach-within a h.2,
-    reach-within b h.3)
+    omega (
+      arith,
+      bracketed-more 9 (level c) (depth c),
+      reach-within c h.1,
+      reach-within a h.2,
+      reach-within b h.3,
+    )
 reach-within (past e ticks) h = omega (arith, h.0, reach-within e h.1)
 reach-within (change op e) h = omega (arith, reach-within e h.1)
 
@@ -247,13 +269,19 @@ depth-bounds-code es hs most g h =
     all-flat P (λ h. counter_terms h.counter) hs (all-back P es others all) in
     record {
       need =
-          omega (arith, largest-under need P (11 * most + 10) (needs most) es here,
-          largest-under (λ h. next_need h.counter) (λ h. AllByRecursion P (counter_terms h.counter))
-          (11 * most + 17) (λ h served. next-within most h.counter served) hs held);
+          omega (
+            arith,
+            largest-under need P (11 * most + 10) (needs most) es here,
+            largest-under (λ h. next_need h.counter) (λ h. AllByRecursion P (counter_terms h.counter))
+                (11 * most + 17) (λ h served. next-within most h.counter served) hs held,
+          );
       reach =
-          omega (arith, largest-under reach P (64 * most) (reaches most) es here,
-          largest-under (λ h. largest reach (counter_terms h.counter))
-          (λ h. AllByRecursion P (counter_terms h.counter)) (64 * most)
-          (λ h served. largest-under reach P (64 * most) (reaches most) (counter_terms h.counter)
-          served) hs held);
+          omega (
+            arith,
+            largest-under reach P (64 * most) (reaches most) es here,
+            largest-under (λ h. largest reach (counter_terms h.counter))
+                (λ h. AllByRecursion P (counter_terms h.counter)) (64 * most)
+                (λ h served. largest-under reach P (64 * most) (reaches most) (counter_terms h.counter)
+                served) hs held,
+          );
     }

@@ -55,8 +55,13 @@ copies-within g f first (suc n) zero below =
     omega (arith, ap (λ k. sum_by g (f k)) e, sum_by-append g (f first) (flat_map f (numbers (first + 1) n)))
 copies-within g f first (suc n) (suc k) below =
     let e : first + 1 + k ≡ first + suc k = omega arith in
-    omega (arith, copies-within g f (first + 1) n k (omega arith), ap (λ k. sum_by g (f k)) e,
-    sum_by-append g (f first) (flat_map f (numbers (first + 1) n)), sum_by-append g (f first) (flat_map f (numbers (first + 1) k)))
+    omega (
+      arith,
+      copies-within g f (first + 1) n k (omega arith),
+      ap (λ k. sum_by g (f k)) e,
+      sum_by-append g (f first) (flat_map f (numbers (first + 1) n)),
+      sum_by-append g (f first) (flat_map f (numbers (first + 1) k)),
+    )
 
 pub rows-within : (f : ℕ → List (List (Edge ℕ))) (draft : DraftData) (made : List (List (Edge ℕ))) (next most : ℕ) →
     made ≡ f next → draft ≡ record { rows = flat_map f (numbers 0 next); begun = [] } → next < most →

@@ -17,8 +17,12 @@ pub sum-next : {A C E : Type 0} (g : E → ℕ) (f : C → E) (view : A → C) (
 sum-next g f view [] i d below = absurd (omega arith)
 sum-next g f view (x ∷ xs) zero d below = omega (arith, sum_by-cons g (f (view x)) (map f (map view xs)))
 sum-next g f view (x ∷ xs) (suc i) d below =
-    omega (arith, sum-next g f view xs i d (omega arith), sum_by-cons g (f (view x)) (map f (map view xs)),
-    sum_by-cons g (f (view x)) (map f (map view (take i xs))))
+    omega (
+      arith,
+      sum-next g f view xs i d (omega arith),
+      sum_by-cons g (f (view x)) (map f (map view xs)),
+      sum_by-cons g (f (view x)) (map f (map view (take i xs))),
+    )
 
 -- A loop that adds edges to the next row: what is there with one more is no more than the whole.
 pub edges-next : {A C : Type 0} (f : C → Edge ℕ) (view : A → C) (xs : List A) (i : ℕ) (item : A) (d now : DraftData) (made : Edge ℕ) →

@@ -85,7 +85,12 @@ impl Draft {
     }
 
     /// Adds what becomes of edges to the next row.
-    pub fn put_changed(&mut self, alloc: Global, row: &[Edge], change: &Change) -> Result<(), SectionFault>
+    pub fn put_changed(
+        &mut self,
+        alloc: Global,
+        row: &[Edge],
+        change: &Change,
+    ) -> Result<(), SectionFault>
         requires { AreNear change.now.by row.now }
         ensures ok { OnOk result (self.new
             ≡ with_edges self.old (map (changed (change_data change.now)) (map edge_data row.now))) }
@@ -99,7 +104,12 @@ impl Draft {
     }
 
     /// Adds what becomes of rows.
-    pub fn put_rows(&mut self, alloc: Global, rows: &[Vec<Edge>], change: &Change) -> Result<(), SectionFault>
+    pub fn put_rows(
+        &mut self,
+        alloc: Global,
+        rows: &[Vec<Edge>],
+        change: &Change,
+    ) -> Result<(), SectionFault>
         requires near { All (λ row. AreNear change.now.by row.items) rows.now }
         requires begun { self.old.begun ≡ [] }
         ensures ok { OnOk result

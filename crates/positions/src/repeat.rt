@@ -20,7 +20,11 @@ fn copies(alloc: Global, body: &Table, first: usize, most: usize) -> Result<Vec<
     ensures { IfOk result (λ v. v.items ≡ copies_data body.now first most) }
 {
     let rest = most.saturating_sub(first);
-    let count = if body.admits_empty() { rest } else { rest.min(1) };
+    let count = if body.admits_empty() {
+        rest
+    } else {
+        rest.min(1)
+    };
     let mut list = Vec::new(alloc);
     for copy in first..first + count {
         put_moved(&mut list, body.starts(), copy * body.len())?;
