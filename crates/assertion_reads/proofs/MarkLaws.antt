@@ -11,8 +11,8 @@ use Rattle.expressions.specs.declared.name.Name.{Name}
 use Rattle.assertion_reads.specs.Marks.{IsAmong, AreMarks, same_origin, mark_if, mark_all}
 
 -- whether a place is marked
-abbrev pub is_marked : List Bool → ℕ → Bool
-is_marked marks place = get_or marks place false
+abbrev pub has_mark : List Bool → ℕ → Bool
+has_mark marks place = get_or marks place false
 
 same-one : (a b : Origin) → same_origin a b ≡ true → a ≡ b
 same-one Signal Signal h = refl
@@ -34,15 +34,15 @@ all-length origin marks (n ∷ names) =
     all-length origin (mark_if (same_origin n.origin origin) marks n.place) names ∙ mark-length (same_origin n.origin origin) marks n.place
 
 -- a mark stays, and what is new is the name's
-mark-kept : (test : Bool) (marks : List Bool) (p place : ℕ) → place < length marks → is_marked marks place ≡ true → is_marked (mark_if test marks p) place ≡ true
+mark-kept : (test : Bool) (marks : List Bool) (p place : ℕ) → place < length marks → has_mark marks place ≡ true → has_mark (mark_if test marks p) place ≡ true
 mark-kept false marks p place below h = h
 mark-kept true marks p place below h = elim (cases_eq place p) [
-  | inl same ↦ subst (λ q. is_marked (set marks q true) place ≡ true) same (get_or-set_same marks place true false below)
+  | inl same ↦ subst (λ q. has_mark (set marks q true) place ≡ true) same (get_or-set_same marks place true false below)
   | inr other ↦ get_or-set_other marks p place true false other ∙ h
 ]
 
-mark-new : (test : Bool) (marks : List Bool) (p place : ℕ) → is_marked (mark_if test marks p) place ≡ true →
-    (is_marked marks place ≡ true) ⊎ ((test ≡ true) × (p ≡ place))
+mark-new : (test : Bool) (marks : List Bool) (p place : ℕ) → has_mark (mark_if test marks p) place ≡ true →
+    (has_mark marks place ≡ true) ⊎ ((test ≡ true) × (p ≡ place))
 mark-new false marks p place h = inl h
 mark-new true marks p place h = elim (cases_eq place p) [
   | inl same ↦ inr (refl, sym same)
@@ -58,15 +58,15 @@ behind n names origin place a = record {
   place_is = a.place_is;
 }
 
-all-marked : (origin : Origin) (marks : List Bool) (names : List Name) (place : ℕ) → place < length marks → is_marked marks place ≡ true →
-    is_marked (mark_all origin marks names) place ≡ true
+all-marked : (origin : Origin) (marks : List Bool) (names : List Name) (place : ℕ) → place < length marks → has_mark marks place ≡ true →
+    has_mark (mark_all origin marks names) place ≡ true
 all-marked origin marks [] place below h = h
 all-marked origin marks (n ∷ names) place below h =
     let test = same_origin n.origin origin in
     all-marked origin (mark_if test marks n.place) names place (omega (arith, below, mark-length test marks n.place)) (mark-kept test marks n.place place below h)
 
 found-marked : (origin : Origin) (marks : List Bool) (names : List Name) (place k : ℕ) (name : Name) → place < length marks → slice_get names k ≡ Some name →
-    name.origin ≡ origin → name.place ≡ place → is_marked (mark_all origin marks names) place ≡ true
+    name.origin ≡ origin → name.place ≡ place → has_mark (mark_all origin marks names) place ≡ true
 found-marked origin marks [] place k name below is o p = absurd (omega (arith, slice_get_within [] k name is))
 found-marked origin marks (n ∷ names) place zero name below is o p =
     let one : n ≡ name = ap (λ x. unwrap_or x n) is in
@@ -74,14 +74,14 @@ found-marked origin marks (n ∷ names) place zero name below is o p =
     let on : test ≡ true = subst (λ x. same_origin x origin ≡ true) (sym (ap (λ (x : Name). x.origin) one ∙ o)) (one-same origin) in
     let here : n.place ≡ place = ap (λ (x : Name). x.place) one ∙ p in
     all-marked origin (mark_if test marks n.place) names place (omega (arith, below, mark-length test marks n.place))
-    (subst (λ b. is_marked (mark_if b marks n.place) place ≡ true) (sym on)
-    (subst (λ q. is_marked (set marks q true) place ≡ true) (sym here) (get_or-set_same marks place true false below)))
+    (subst (λ b. has_mark (mark_if b marks n.place) place ≡ true) (sym on)
+    (subst (λ q. has_mark (set marks q true) place ≡ true) (sym here) (get_or-set_same marks place true false below)))
 found-marked origin marks (n ∷ names) place (suc k) name below is o p =
     let test = same_origin n.origin origin in
     found-marked origin (mark_if test marks n.place) names place k name (omega (arith, below, mark-length test marks n.place)) is o p
 
-marked-found : (origin : Origin) (marks : List Bool) (names : List Name) (place : ℕ) → is_marked (mark_all origin marks names) place ≡ true →
-    (is_marked marks place ≡ true) ⊎ IsAmong origin names place
+marked-found : (origin : Origin) (marks : List Bool) (names : List Name) (place : ℕ) → has_mark (mark_all origin marks names) place ≡ true →
+    (has_mark marks place ≡ true) ⊎ IsAmong origin names place
 marked-found origin marks [] place h = inl h
 marked-found origin marks (n ∷ names) place h = elim (marked-found origin (mark_if (same_origin n.origin origin) marks n.place) names place h) [
   | inl before ↦

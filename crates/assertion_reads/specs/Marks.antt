@@ -19,6 +19,9 @@ pub record AreMarks (origin : Origin) (names : List Name) (count : ℕ) (marks :
   pub each : (place : ℕ) → place < count →
       slice_get marks place ≡ Some true ↔ IsAmong origin names place
 
+abbrev pub is_marked : Bool → Bool
+is_marked mark = mark
+
 -- the places that are marked, from a place on, in rising order
 abbrev pub places_from : ℕ → List Bool → List ℕ
 places_from place [] = []

@@ -1,9 +1,9 @@
 //! Which signals and counters are read, and their slots.
 
 ghost use Rattle.std.specs.Prelude.{◌≡◌, ◌+◌, ◌≤◌, ◌<◌, ℕ, false, IfOk, length};
-ghost use Rattle.std.specs.Prelude.{slice_get, Some};
+ghost use Rattle.std.specs.Prelude.{slice_get, Some, count_by};
 ghost use Rattle.assertion_reads.specs.Marks.{same_origin, mark_if, mark_all, AreMarks};
-ghost use Rattle.assertion_reads.specs.Marks.{places_from, slots_from};
+ghost use Rattle.assertion_reads.specs.Marks.{is_marked, places_from, slots_from};
 
 use expressions::{Name, Origin};
 use std::alloc::{AllocError, Global};
@@ -68,7 +68,7 @@ pub fn marked_places(alloc: Global, marks: &[bool]) -> Result<Vec<usize>, AllocE
 
 /// The slots of places: those that are marked one after another from `first` on, 0 for the others.
 pub fn slots_of(alloc: Global, marks: &[bool], first: u16) -> Result<Vec<u16>, AllocError>
-    requires { first + length marks.now ≤ 65535 }
+    requires { first + count_by is_marked marks.now ≤ 65535 }
     ensures { IfOk result (λ slots. slots.items ≡ slots_from first marks.now) }
 {
     let mut slots = Vec::with_capacity(alloc, marks.len())?;
