@@ -25,7 +25,9 @@ const PROGRAM: [u8; 114] = [
 fn changed(alloc: Global, place: usize, bytes: &[u8]) -> Result<Vec<u8>, AllocError> {
     let mut code = Vec::with_capacity(alloc, 114)?;
     for (at, byte) in PROGRAM.as_slice().iter().enumerate() {
-        let other = at.checked_sub(place).and_then(|from| bytes.get(from).copied());
+        let other = at
+            .checked_sub(place)
+            .and_then(|from| bytes.get(from).copied());
         code.push(other.unwrap_or(*byte))?;
     }
     Ok(code)
@@ -47,7 +49,10 @@ fn told(alloc: Global, code: &[u8]) -> Result<String, Fail> {
 #[test]
 fn verify_prints_limits(rt: HostRuntime) -> Result<(), Fail> {
     let line = told(rt.alloc(), PROGRAM.as_slice())?;
-    assert_eq!(rt; line.as_str(), "history 0 stack 1 attempts 1 obligations 1 budget 14\n");
+    assert_eq!(rt;
+        line.as_str(),
+        "history 0 stack 1 attempts 1 obligations 1 budget 14\n"
+    );
     Ok(())
 }
 
@@ -62,7 +67,11 @@ fn declared_limits(rt: HostRuntime) -> Result<(), Fail> {
         (11, [0x04, 0x00], [0x04, 0x01], "obligations"),
     ] {
         let accepted = changed(alloc, place, most.as_slice())?;
-        assert!(rt; told(alloc, accepted.as_slice())?.as_str().starts_with("history "));
+        assert!(rt;
+            told(alloc, accepted.as_slice())?
+                .as_str()
+                .starts_with("history ")
+        );
         let refused = changed(alloc, place, more.as_slice())?;
         let line = format!(in alloc; "svamon: F15 LimitTooLarge {field}")?;
         assert_eq!(rt; told(alloc, refused.as_slice())?, line);
@@ -71,7 +80,10 @@ fn declared_limits(rt: HostRuntime) -> Result<(), Fail> {
     let line = "history 0 stack 1 attempts 1 obligations 1 budget 16777216\n";
     assert_eq!(rt; told(alloc, most.as_slice())?.as_str(), line);
     let more = changed(alloc, 13, [1, 0, 0, 1].as_slice())?;
-    assert_eq!(rt; told(alloc, more.as_slice())?.as_str(), "svamon: F15 LimitTooLarge budget");
+    assert_eq!(rt;
+        told(alloc, more.as_slice())?.as_str(),
+        "svamon: F15 LimitTooLarge budget"
+    );
     Ok(())
 }
 
@@ -95,7 +107,11 @@ fn refused_programs(rt: HostRuntime) -> Result<(), Fail> {
         (17, [2].as_slice(), "svamon: F9 SlotRange 0"),
         (7, [0, 0].as_slice(), "svamon: F11 StackTooShort 1"),
         (9, [0, 0].as_slice(), "svamon: F13 PoolTooSmall attempts 1"),
-        (11, [0, 0].as_slice(), "svamon: F13 PoolTooSmall obligations 1"),
+        (
+            11,
+            [0, 0].as_slice(),
+            "svamon: F13 PoolTooSmall obligations 1",
+        ),
         (16, [13].as_slice(), "svamon: F14 BudgetTooSmall 14"),
     ] {
         let code = changed(alloc, place, bytes)?;
@@ -114,7 +130,10 @@ fn cut_and_longer_programs(rt: HostRuntime) -> Result<(), Fail> {
     }
     let mut longer = changed(alloc, 114, [].as_slice())?;
     longer.push(0)?;
-    assert_eq!(rt; told(alloc, longer.as_slice())?.as_str(), "svamon: B6 TrailingBytes 114");
+    assert_eq!(rt;
+        told(alloc, longer.as_slice())?.as_str(),
+        "svamon: B6 TrailingBytes 114"
+    );
     Ok(())
 }
 
@@ -159,11 +178,16 @@ fn words_of_programs(rt: HostRuntime) -> Result<(), Fail> {
         return Err(Fail::from("the words are refused"));
     };
     assert_eq!(rt; code.as_str(), "a.svm");
-    let words = ["svamon", "run", "--vcd", "a.vcd", "--code", "a.svm", "--window", "7"];
+    let words = [
+        "svamon", "run", "--vcd", "a.vcd", "--code", "a.svm", "--window", "7",
+    ];
     let Ok(Request::Run { vcd, code, window }) = read_words(alloc, words.as_slice()) else {
         return Err(Fail::from("the words are refused"));
     };
-    assert_eq!(rt; (vcd.as_str(), code.as_str(), window), ("a.vcd", "a.svm", 7));
+    assert_eq!(rt;
+        (vcd.as_str(), code.as_str(), window),
+        ("a.vcd", "a.svm", 7)
+    );
     let words = ["svamon", "run", "--code", "a.svm", "--vcd", "a.vcd"];
     let read = read_words(alloc, words.as_slice());
     assert!(rt; matches!(read, Ok(Request::Run { window: 1024, .. })));

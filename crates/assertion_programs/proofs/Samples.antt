@@ -28,7 +28,7 @@ use Rattle.monitors.proofs.Histories.{reads}
 use Rattle.verdict_lines.specs.Laws.{row_of}
 use Rattle.expression_code.specs.Codes.{slot_of}
 use Rattle.expression_code.specs.Samples.{Held, held_slot}
-use Rattle.expression_code.specs.Laws.{Each, OfName, IsPlaced, Tells, TellsNames, IsFrame, AreTold, program_terms}
+use Rattle.expression_code.specs.Laws.{Each, OfName, HasSlot, IsNarrow, Tells, TellsNames, IsFrame, AreTold, program_terms}
 use Rattle.expression_code.proofs.Accepted.{samples-tell}
 use Rattle.assertion_programs.specs.Programs.{HoldsAt, HoldsName, IsSampled, IsSlotOf, IsProgramOf}
 use Rattle.assertion_programs.specs.Laws.{AreRowsOf, picked}
@@ -165,12 +165,13 @@ module _ (suite : Suite) (a : Assertion) (p : ProgramData) (of : IsProgramOf sui
   frame : IsFrame (frame_of p) of.at (map term_of of.booleans) of.layout.counters
   frame = record {
     one = refl;
-    placed = all-more (Each (IsSampled suite of.layout)) (Each (IsPlaced (frame_of p) of.at)) (program_terms (map term_of of.booleans) of.layout.counters)
-        (each-more (IsSampled suite of.layout) (IsPlaced (frame_of p) of.at) (λ e s. record {
-          slot = of-name-more (HoldsName suite of.layout) (λ name. slice_get (frame_of p).slots (slot_of of.at name) ≡ Some name.width)
-              (λ name h. placed-at name.origin name.place name.width h) e s.name;
-          narrow = s.narrow;
-        }))
+    slots = all-more (Each (IsSampled suite of.layout)) (Each (HasSlot (frame_of p) of.at)) (program_terms (map term_of of.booleans) of.layout.counters)
+        (each-more (IsSampled suite of.layout) (HasSlot (frame_of p) of.at) (λ e s.
+        of-name-more (HoldsName suite of.layout) (λ name. slice_get (frame_of p).slots (slot_of of.at name) ≡ Some name.width)
+        (λ name h. placed-at name.origin name.place name.width h) e s.name))
+        of.sampled;
+    narrow = all-more (Each (IsSampled suite of.layout)) (Each IsNarrow) (program_terms (map term_of of.booleans) of.layout.counters)
+        (each-more (IsSampled suite of.layout) IsNarrow (λ e s. s.narrow))
         of.sampled;
     held = all-by-places (λ (h : Held). slice_get (frame_of p).slots (held_slot of.at h) ≡ Some h.counter.width) of.layout.counters (λ i h is.
         placed-at Counter h.place h.counter.width (record { slot = i; counter = h; held = is; is = refl; wide = refl }));

@@ -33,7 +33,9 @@ list-within table pc (i ∷ code) (suc k) lt =
     rw on (omega (arith, h))
 
 -- Typed code that runs under some limits runs under any that hold its lists and its reach.
-module _ (f : FrameData) (wide d : Limits) (s : ℕ → ℕ → ℕ) (code : List SampleInstr) (table : ℕ → List ℕ) (typed : IsTyped (sample_rules f) 0 code table) (lists : longest_list table 0 code ≤ d.stack) where
+module _ (f : FrameData) (wide d : Limits) (s : ℕ → ℕ → ℕ) (code : List SampleInstr) (table : ℕ →
+    List ℕ) (typed : IsTyped (sample_rules f) 0 code table) (lists : longest_list table 0 code ≤
+    d.stack) where
   fit : (pc : ℕ) → pc < length code → length (table pc) ≤ d.stack
   fit pc lt =
       let h : length (table pc) ≤ longest_list table 0 code =
@@ -70,7 +72,8 @@ module _ (f : FrameData) (wide d : Limits) (s : ℕ → ℕ → ℕ) (code : Lis
       let ops : results f s i xs ≡ g.next.operands =
       ap (λ (r : State). r.operands) g.first.left in
       steps-append f d s (i ∷ []) part from g.next first
-      ∙ narrowed part (pc + 1) g.next to stand.1 (omega (arith, inside)) (on ∙ ap (map width_of) ops)
+      ∙ narrowed part (pc + 1) g.next to stand.1 (omega (arith, inside)) (on ∙ ap (map width_of)
+      ops)
       (omega (arith, near)) g.others
 
 pub samples-tell : SamplesTell
@@ -98,7 +101,8 @@ samples-tell p at es hs accepted is frame t s k told =
     (samples-are-typed f at es hs frame).path in
     let short : length code ≤ d.budget =
     omega (arith, path, ap (λ c. longest_path 0 (map sample_flow c)) is, accepted.budget) in
-    let spent : d.budget ≡ length part + suc (d.budget - length code) = omega (arith, long, short) in
+    let spent : d.budget ≡ length part + suc (d.budget - length code) = omega (arith, long, short)
+    in
     ap (λ c. run_sample f d s c d.budget 0 [] (nothing_made f)) is
     ∙ (ap (λ n. run_sample f d s code n 0 [] (nothing_made f)) spent
     ∙ (run-halt f d s part (d.budget - length code) (nothing_made f) (made_by t k es hs) straight

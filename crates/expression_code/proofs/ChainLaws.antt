@@ -1,5 +1,6 @@
 -- The code of a chain is that of its first operand and, from the left, of its other operands.
-use Rattle.std.proofs.Common.{◌≡◌, ◌∙◌, ℕ, ◌+◌, ◌<◌, max, false, length, List, [], ◌∷◌, ◌++◌, refl, sym, ap, arith}
+use Rattle.std.proofs.Common.{◌≡◌, ◌∙◌, ℕ, ◌+◌, ◌<◌, max, false, length, List, [], ◌∷◌, ◌++◌, refl}
+use Rattle.std.proofs.Common.{sym, ap, arith}
 use Rattle.std.proofs.Common.{IsTrue, append_assoc, map, drop, get_or}
 use Rattle.std.proofs.lemmas.Bool.{eq-eqb, and_parts}
 use Rattle.std.proofs.lemmas.List.{append-nil}
@@ -170,14 +171,16 @@ reads-no_shift e [] none = refl
 reads-no_shift e (s ∷ rest) none = absurd (omega (arith, none))
 
 -- What a loop over a chain knows of the operand that it has come to, and of those behind it.
-module _ {O : Type 0} (xs : List (O × Node)) (i : ℕ) (x : O × Node) (lt : i < length xs) (is : x ≡ get_or xs i x) where
+module _ {O : Type 0} (xs : List (O × Node)) (i : ℕ) (x : O × Node) (lt : i < length xs) (is : x ≡
+    get_or xs i x) where
   abbrev left : ℕ → List (O × Seen)
   left j = map step_of (drop j xs)
 
   cut : left i ≡ step_of x ∷ left (i + 1)
   cut = step_at (O × Seen) step_of xs i x lt is
 
-  pub near_at : (back : ℕ) → back + chain_reach (left i) < 65536 → back + reach (node_term x.1) < 65536
+  pub near_at : (back : ℕ) → back + chain_reach (left i) < 65536 → back + reach (node_term x.1) <
+      65536
   near_at back h = let g = rw cut at h in omega (arith, g)
 
   pub near_later :
@@ -204,4 +207,5 @@ module _ (xs : List Node) (i : ℕ) (x : Node) (lt : i < length xs) (is : x ≡ 
 
   pub parts_typed_later :
       IsTrue (all_parts_typed (parts_left i)) → IsTrue (all_parts_typed (parts_left (i + 1)))
-  parts_typed_later h = (and_parts (is_typed x) (all_parts_typed (parts_left (i + 1))) (rw part_cut at h)).1
+  parts_typed_later h = (and_parts (is_typed x) (all_parts_typed (parts_left (i + 1))) (rw part_cut
+      at h)).1

@@ -44,7 +44,8 @@ module _ (places : List ℕ) (i : ℕ) (lt : i < length places) where
       held_at all (drop i places) ≡ counter_held x ∷ held_at all (drop (i + 1) places)
   held_more all x inside is =
       ap (held_at all) cut
-      ∙ ap (λ o. held_found place o (held_at all (drop (i + 1) places))) (found all place x inside is)
+      ∙ ap (λ o. held_found place o (held_at all (drop (i + 1) places))) (found all place x inside
+      is)
 
   pub held_skip :
       (all : List Counter) → length all ≤ place →

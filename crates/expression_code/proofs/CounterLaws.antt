@@ -25,7 +25,8 @@ use Rattle.expression_code.specs.Codes.{Slots, code_of, need, reach}
 use Rattle.expression_code.specs.Samples.{truth_code, cut, number_code, amount_code, balance_code}
 use Rattle.expression_code.specs.Samples.{sum_code, loaded_code, cleared_code, Held, held_slot}
 use Rattle.expression_code.specs.Samples.{next_code, amount_need, sum_need, loaded_need}
-use Rattle.expression_code.specs.Samples.{cleared_need, need_two, next_need, rule_terms, clear_terms}
+use Rattle.expression_code.specs.Samples.{cleared_need, need_two, next_need, rule_terms}
+use Rattle.expression_code.specs.Samples.{clear_terms}
 use Rattle.expression_code.specs.Samples.{counter_terms, largest}
 use Rattle.expression_code.specs.Laws.{Each, IsPlaced, TellsTicks, TellsNames, IsCount}
 use Rattle.expression_code.proofs.Lists.{all-front, all-back}
@@ -37,7 +38,8 @@ use Rattle.expression_code.proofs.OperatorLaws.{moves-to}
 use Rattle.expression_code.proofs.ExpressionLaws.{raw, need-some, raw-leaves}
 use Rattle.expression_code.proofs.Values.{raw_bit-value, raw-value}
 
--- One of the two differences is 0, and the other moves the value, held at its end: the whole number,
+-- One of the two differences is 0, and the other moves the value, held at its end: the whole
+-- number,
 -- held between 0 and the largest.
 balance :
     (now n m most : ℕ) → now ≤ most →
@@ -71,7 +73,8 @@ pub record IsServed (f : FrameData) (d : Limits) (t : Samples) (at : Slots) (s :
   pub told : TellsNames t at s k e
   pub near : reach e ≤ d.history
 
-module _ (f : FrameData) (d : Limits) (t : Samples) (at : Slots) (s : ℕ → ℕ → ℕ) (k : ℕ) (one : slice_get f.slots 0 ≡ Some 1) (ticks : TellsTicks s k) where
+module _ (f : FrameData) (d : Limits) (t : Samples) (at : Slots) (s : ℕ → ℕ → ℕ) (k : ℕ) (one :
+    slice_get f.slots 0 ≡ Some 1) (ticks : TellsTicks s k) where
   abbrev Here : Term → Type 0
   Here e = IsServed f d t at s k e
 
@@ -92,7 +95,8 @@ module _ (f : FrameData) (d : Limits) (t : Samples) (at : Slots) (s : ℕ → �
       (e : Term) → Here e → Gives (truth_code at e) 1 (one_if (is_true t e k)) (need e)
   truth-puts e h =
       let v : ℕ = value_of t e k (width_of e) in
-      moves-to f d s (truth_code at e) [] 1 (raw_bit (width_of e) v) (one_if (is_true t e k)) (need e)
+      moves-to f d s (truth_code at e) [] 1 (raw_bit (width_of e) v) (one_if (is_true t e k)) (need
+      e)
       (raw_bit-value (width_of e) v (value_fits t e k (width_of e) (omega arith)))
       (tested-bit f d s (code_of at e (width_of e) 0) (width_of e) v (need e) (need-some e)
       (value-puts e (width_of e) h (omega arith)))
@@ -155,7 +159,8 @@ module _ (f : FrameData) (d : Limits) (t : Samples) (at : Slots) (s : ℕ → �
       (operand w x) (operand w (if p == 1 then x else 0)) (need c) (need e) 3 (truth-puts c g)
       (number-puts e w some h) (zero-moves f d s w p x)))
 
-  module _ (slot w now : ℕ) (some : 1 ≤ w) (stands : slice_get f.slots slot ≡ Some w) (is : s 0 slot ≡ now) (fits : now < 2 ^ w) where
+  module _ (slot w now : ℕ) (some : 1 ≤ w) (stands : slice_get f.slots slot ≡ Some w) (is : s 0 slot
+      ≡ now) (fits : now < 2 ^ w) where
     load-puts : Gives (Load slot ∷ []) w now 1
     load-puts =
         moves-to f d s (Load slot ∷ []) [] w (s 0 slot) now 1 is
@@ -170,7 +175,10 @@ module _ (f : FrameData) (d : Limits) (t : Samples) (at : Slots) (s : ℕ → �
         moves-then f d s (Join SubSat ∷ []) (Join AddSat ∷ [])
         (operand w z ∷ operand w y ∷ operand w x ∷ []) (operand w (y - z) ∷ operand w x ∷ [])
         (operand w (min (x + (y - z)) (2 ^ w - 1)) ∷ []) 2 1
-        (λ xs made room. join-moves f d s SubSat w y z (operand w x ∷ xs) made (omega (arith, room)))
+        (λ xs made room. join-moves f d s SubSat w y z (operand w x ∷ xs) made (omega (
+          arith,
+          room,
+        )))
         (join-moves f d s AddSat w x (y - z))
 
     two-differences :
@@ -181,7 +189,10 @@ module _ (f : FrameData) (d : Limits) (t : Samples) (at : Slots) (s : ℕ → �
         moves-then f d s (Join SubSat ∷ []) (Join SubSat ∷ [])
         (operand w z ∷ operand w y ∷ operand w x ∷ []) (operand w (y - z) ∷ operand w x ∷ [])
         (operand w (x - (y - z)) ∷ []) 2 1
-        (λ xs made room. join-moves f d s SubSat w y z (operand w x ∷ xs) made (omega (arith, room)))
+        (λ xs made room. join-moves f d s SubSat w y z (operand w x ∷ xs) made (omega (
+          arith,
+          room,
+        )))
         (join-moves f d s SubSat w x (y - z))
 
     balance-puts :
@@ -215,7 +226,8 @@ module _ (f : FrameData) (d : Limits) (t : Samples) (at : Slots) (s : ℕ → �
         (add sub : Option Rule) → Ruled add → Ruled sub →
         Gives (sum_code at w slot add sub) w (sum_of add sub) (sum_need add sub)
     sum-puts None None g h =
-        moves-to f d s (Load slot ∷ []) [] w now (sum_of None None) 1 (omega (arith, fits)) load-puts
+        moves-to f d s (Load slot ∷ []) [] w now (sum_of None None) 1 (omega (arith, fits))
+        load-puts
     sum-puts (Some r) None g h =
         let n : ℕ = amount_of w (Some r) in
         let sum : ℕ = min (now + n) (2 ^ w - 1) in
@@ -243,7 +255,8 @@ module _ (f : FrameData) (d : Limits) (t : Samples) (at : Slots) (s : ℕ → �
   loaded-puts :
       (load : Option Rule) (w : ℕ) (code : List SampleInstr) (v n : ℕ) → 1 ≤ w →
       AllByRecursion Here (rule_terms load) → Gives code w v n →
-      Gives (loaded_code at w load code) w (unwrap_or (rule_value t w load k) v) (loaded_need load n)
+      Gives (loaded_code at w load code) w (unwrap_or (rule_value t w load k) v) (loaded_need load
+      n)
   loaded-puts None w code v n some h g = g
   loaded-puts (Some r) w code v n some h g =
       let c : Term = term_of r.when in

@@ -1,9 +1,9 @@
 -- What code asks is bounded by the depth of its expression.
-use Rattle.std.proofs.Common.{◌≡◌, ℕ, ◌+◌, ◌-◌, ◌*◌, ◌<◌, ◌≤◌, max, min, Bool, true, false, List, []}
+use Rattle.std.proofs.Common.{◌≡◌, ℕ, ◌+◌, ◌-◌, ◌*◌, ◌≤◌, max, min, Bool, true, false, List, []}
 use Rattle.std.proofs.Common.{◌∷◌, ◌++◌, Option, Some, None, refl, arith}
 use Rattle.std.specs.Prelude.{nat_le, if◌then◌else◌}
 use Rattle.std.specs.List.{AllByRecursion, flat_map}
-use Rattle.std.proofs.lemmas.Bool.{leb-true, leb-false}
+use Rattle.std.proofs.lemmas.Bool.{leb-true}
 use Rattle.expressions.specs.declared.expr.Expr.{Expr}
 use Rattle.expressions.specs.declared.rule.Rule.{Rule}
 use Rattle.expressions.specs.declared.counter.Counter.{Counter}
@@ -20,11 +20,12 @@ use Rattle.expressions.specs.Terms.{Term, constant, named, slice, group, concat,
 use Rattle.expressions.specs.Terms.{combine, shift, compare, connect, choose, past, change}
 use Rattle.expressions.specs.Expressions.{term_of}
 use Rattle.expression_code.specs.Codes.{reads_slot, guarded_need, need, reach}
-use Rattle.expression_code.specs.Samples.{Held, amount_need, sum_need, loaded_need, cleared_need}
-use Rattle.expression_code.specs.Samples.{next_need, largest, rule_terms, clear_terms, counter_terms}
-use Rattle.expression_code.specs.Samples.{sample_need, sample_reach}
-use Rattle.expression_code.specs.Laws.{Each, program_terms}
-use Rattle.expression_code.specs.Depths.{arithmetic_level, comparison_level, connective_level, level}
+use Rattle.expression_code.specs.Samples.{amount_need, sum_need, loaded_need, cleared_need}
+use Rattle.expression_code.specs.Samples.{next_need, largest, rule_terms, clear_terms}
+use Rattle.expression_code.specs.Samples.{counter_terms}
+use Rattle.expression_code.specs.Laws.{Each}
+use Rattle.expression_code.specs.Depths.{arithmetic_level, comparison_level, connective_level}
+use Rattle.expression_code.specs.Depths.{level}
 use Rattle.expression_code.specs.Depths.{bracketed, left_depth, reduction_depth, braced, depth}
 use Rattle.expression_code.specs.Depths.{IsShortPast, DepthBoundsCode}
 use Rattle.expression_code.proofs.Lists.{all-front, all-back, all-flat}
@@ -217,7 +218,8 @@ module _ (most : ℕ) where
   reaches : (e : Term) → Shallow e → reach e ≤ 64 * most
   reaches e h = omega (arith, reach-within e h.1, h.0)
 
-  amount-within : (r : Rule) → AllByRecursion Shallow (rule_terms (Some r)) → amount_need r ≤ 11 * most + 11
+  amount-within : (r : Rule) → AllByRecursion Shallow (rule_terms (Some r)) → amount_need r ≤ 11 *
+      most + 11
   amount-within r h =
       omega (arith, needs (term_of r.when) h.0, needs (term_of r.by) h.1.0)
 
@@ -272,7 +274,8 @@ depth-bounds-code es hs most g h =
           omega (
             arith,
             largest-under need P (11 * most + 10) (needs most) es here,
-            largest-under (λ h. next_need h.counter) (λ h. AllByRecursion P (counter_terms h.counter))
+            largest-under (λ h. next_need h.counter) (λ h. AllByRecursion P (counter_terms
+                h.counter))
                 (11 * most + 17) (λ h served. next-within most h.counter served) hs held,
           );
       reach =
@@ -281,7 +284,8 @@ depth-bounds-code es hs most g h =
             largest-under reach P (64 * most) (reaches most) es here,
             largest-under (λ h. largest reach (counter_terms h.counter))
                 (λ h. AllByRecursion P (counter_terms h.counter)) (64 * most)
-                (λ h served. largest-under reach P (64 * most) (reaches most) (counter_terms h.counter)
+                (λ h served. largest-under reach P (64 * most) (reaches most) (counter_terms
+                h.counter)
                 served) hs held,
           );
     }

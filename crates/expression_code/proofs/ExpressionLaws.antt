@@ -5,7 +5,8 @@ use Rattle.std.specs.Prelude.{◌==◌, if◌then◌else◌, slice_get}
 use Rattle.expressions.specs.Operators.{complement, arithmetic, shift_value, reduction_value}
 use Rattle.expressions.specs.Operators.{change_of}
 use Rattle.expressions.specs.Terms.{Term, constant, named, slice, group, concat, inverse, reduce}
-use Rattle.expressions.specs.Terms.{combine, shift, compare, connect, choose, past, change, width_of}
+use Rattle.expressions.specs.Terms.{combine, shift, compare, connect, choose, past, change}
+use Rattle.expressions.specs.Terms.{width_of}
 use Rattle.bytecode.specs.declared.limits.Limits.{Limits}
 use Rattle.bytecode.specs.declared.sample_instr.SampleInstr.{SampleInstr}
 use Rattle.bytecode.specs.declared.sample_instr.SampleInstr.TheVariants.{Not, Concat, Slice, Mux}
@@ -14,9 +15,11 @@ use Rattle.checked_machine.specs.Samples.{operand}
 use Rattle.expression_code.specs.Codes.{Slots, slot_of, bit_test, slot_read, reads_slot}
 use Rattle.expression_code.specs.Codes.{guarded, reduction_end, arithmetic_end, shift_end}
 use Rattle.expression_code.specs.Codes.{comparison_middle, comparison_end, connective_end}
-use Rattle.expression_code.specs.Codes.{change_middle, change_end, code_of, guarded_need, need, reach}
+use Rattle.expression_code.specs.Codes.{change_middle, change_end, code_of, guarded_need, need}
+use Rattle.expression_code.specs.Codes.{reach}
 use Rattle.expression_code.specs.Laws.{Each, IsPlaced}
-use Rattle.expression_code.proofs.Steps.{Puts, moves-room, puts-one, puts-two, puts-three, puts-turned}
+use Rattle.expression_code.proofs.Steps.{Puts, moves-room, puts-one, puts-two, puts-three}
+use Rattle.expression_code.proofs.Steps.{puts-turned}
 use Rattle.expression_code.proofs.Instructions.{raw_bit, raw_guarded, push-moves, not-moves}
 use Rattle.expression_code.proofs.Instructions.{slice-moves, concat-moves, mux-moves, read-moves}
 use Rattle.expression_code.proofs.Instructions.{extended, test-moves, tested-bit, guarded-puts}
@@ -90,7 +93,8 @@ width-some (choose c a b) = omega (arith, width-some a)
 width-some (past e ticks) = width-some e
 width-some (change op e) = omega arith
 
-module _ (f : FrameData) (d : Limits) (at : Slots) (s : ℕ → ℕ → ℕ) (one : slice_get f.slots 0 ≡ Some 1) where
+module _ (f : FrameData) (d : Limits) (at : Slots) (s : ℕ → ℕ → ℕ) (one : slice_get f.slots 0 ≡ Some
+    1) where
   abbrev Fine : Term → Type 0
   Fine = Each (IsPlaced f at)
 
@@ -203,7 +207,8 @@ module _ (f : FrameData) (d : Limits) (at : Slots) (s : ℕ → ℕ → ℕ) (on
       let p : ℕ = raw_bit (width_of c) x in
       let y : ℕ = raw s at a w n in
       let z : ℕ = raw s at b w n in
-      puts-three f d s (cc ++ bit_test (width_of c)) (code_of at a w n) (code_of at b w n) (Mux ∷ [])
+      puts-three f d s (cc ++ bit_test (width_of c)) (code_of at a w n) (code_of at b w n) (Mux ∷
+      [])
       (operand 1 p) (operand w y) (operand w z) (operand w (if p == 1 then y else z)) (need c)
       (need a) (need b)
       (tested-bit f d s cc (width_of c) x (need c) (need-some c)

@@ -20,7 +20,8 @@ use Rattle.bytecode.specs.declared.sample_instr.SampleInstr.{SampleInstr}
 use Rattle.bytecode.specs.Instructions.{FrameData}
 use Rattle.checked_machine.specs.Samples.{Operand, operand, joined, compared, shifted, reduced}
 use Rattle.expression_code.specs.Codes.{extension, bit_test, slot_read, guarded, guarded_need}
-use Rattle.expression_code.proofs.Steps.{Moves, Puts, acts-moves, moves-none, moves-room, moves-then}
+use Rattle.expression_code.proofs.Steps.{Moves, Puts, acts-moves, moves-none, moves-room}
+use Rattle.expression_code.proofs.Steps.{moves-then}
 use Rattle.expression_code.proofs.Steps.{puts-one, puts-two}
 
 pub index-of :
@@ -129,7 +130,8 @@ module _ (f : FrameData) (d : Limits) (s : ℕ → ℕ → ℕ) where
       Moves f d s (Compare op ∷ []) (operand w y ∷ operand w x ∷ [])
       (operand 1 (compared op x y) ∷ []) 1
   compare-moves op w x y =
-      acts-moves f d s (Compare op) (operand w y ∷ operand w x ∷ []) (operand 1 (compared op x y) ∷ [])
+      acts-moves f d s (Compare op) (operand w y ∷ operand w x ∷ []) (operand 1 (compared op x y) ∷
+      [])
       (record {
         there = refl;
         rule = λ xs. rw (eq-eqb w w refl) refl;
@@ -160,7 +162,8 @@ module _ (f : FrameData) (d : Limits) (s : ℕ → ℕ → ℕ) where
       Moves f d s (Concat ∷ []) (operand u y ∷ operand w x ∷ [])
       (operand (w + u) (x * 2 ^ u + y) ∷ []) 1
   concat-moves w x u y le =
-      acts-moves f d s Concat (operand u y ∷ operand w x ∷ []) (operand (w + u) (x * 2 ^ u + y) ∷ [])
+      acts-moves f d s Concat (operand u y ∷ operand w x ∷ []) (operand (w + u) (x * 2 ^ u + y) ∷
+      [])
       (record {
         there = refl;
         rule = λ xs. rw (le-leb (w + u) 128 le) refl;
@@ -220,7 +223,8 @@ module _ (f : FrameData) (d : Limits) (s : ℕ → ℕ → ℕ) where
   zero-moves w bit x =
       let low : List Operand = operand w x ∷ operand 1 bit ∷ [] in
       let above : Moves f d s (Push w 0 ∷ []) low (operand w 0 ∷ low) 3 =
-      (λ xs made fits. push-moves w 0 (operand w x ∷ operand 1 bit ∷ xs) made (omega (arith, fits))) in
+      (λ xs made fits. push-moves w 0 (operand w x ∷ operand 1 bit ∷ xs) made (omega (arith, fits)))
+      in
       moves-then f d s (Push w 0 ∷ []) (Mux ∷ []) low (operand w 0 ∷ low)
       (operand w (if bit == 1 then x else 0) ∷ []) 3 2 above (mux-moves w bit x 0)
 

@@ -1,5 +1,6 @@
 -- Code without changes is short.
-use Rattle.std.proofs.Common.{◌≡◌, ℕ, zero, suc, ◌+◌, ◌-◌, ◌*◌, ◌≤◌, max, Bool, true, false, List, []}
+use Rattle.std.proofs.Common.{◌≡◌, ℕ, zero, suc, ◌+◌, ◌-◌, ◌*◌, ◌≤◌, max, Bool, true, false, List}
+use Rattle.std.proofs.Common.{[]}
 use Rattle.std.proofs.Common.{◌∷◌, ◌++◌, length, refl, arith, length-append}
 use Rattle.std.specs.Prelude.{◌==◌, if◌then◌else◌, sum_by}
 use Rattle.std.specs.List.{AllByRecursion}
@@ -18,7 +19,8 @@ use Rattle.expressions.specs.declared.operator.Reduction.TheVariants.{Zero, NonZ
 use Rattle.expressions.specs.declared.operator.Reduction.TheVariants.{NotAllOnes, Odd, Even}
 use Rattle.expressions.specs.declared.operator.Reduction.TheVariants.{OneHot, OneHotOrZero}
 use Rattle.expressions.specs.Terms.{Term, constant, named, slice, group, concat, inverse, reduce}
-use Rattle.expressions.specs.Terms.{combine, shift, compare, connect, choose, past, change, width_of}
+use Rattle.expressions.specs.Terms.{combine, shift, compare, connect, choose, past, change}
+use Rattle.expressions.specs.Terms.{width_of}
 use Rattle.bytecode.specs.declared.operator.ReduceOperator.TheVariants.{RedOr}
 use Rattle.bytecode.specs.declared.sample_instr.SampleInstr.{SampleInstr}
 use Rattle.bytecode.specs.declared.sample_instr.SampleInstr.TheVariants.{Push, Reduce, Zext, Mux}

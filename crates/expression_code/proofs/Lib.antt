@@ -16,3 +16,5 @@ pub mod WrittenLaws
 pub mod ChainLaws
 pub mod ChosenLaws
 pub mod DepthLaws
+pub mod NarrowLaws
+pub mod FitLaws

@@ -133,7 +133,8 @@ module _ (f : FrameData) (d : Limits) (s : ℕ → ℕ → ℕ) where
   reduction-moves NonZero w v = reduce-moves f d s RedOr w v
   reduction-moves AllOnes w v = reduce-moves f d s RedAnd w v
   reduction-moves NotAllOnes w v =
-      negated (Reduce RedAnd ∷ []) (operand w v ∷ []) (v + 1 == 2 ^ w) (reduce-moves f d s RedAnd w v)
+      negated (Reduce RedAnd ∷ []) (operand w v ∷ []) (v + 1 == 2 ^ w) (reduce-moves f d s RedAnd w
+      v)
   reduction-moves Odd w v = reduce-moves f d s RedXor w v
   reduction-moves Even w v =
       moves-then f d s (Reduce RedXor ∷ []) (Not ∷ []) (operand w v ∷ [])
@@ -189,7 +190,8 @@ module _ (f : FrameData) (d : Limits) (s : ℕ → ℕ → ℕ) where
   comparison-greater w x y =
       moves-then f d s (Not ∷ []) (Compare Lt ∷ []) (operand w y ∷ operand w (complement w x) ∷ [])
       (operand w (complement w y) ∷ operand w (complement w x) ∷ [])
-      (operand 1 (raw_compared Greater w x y) ∷ []) 2 1 (moves-above f d s (Not ∷ []) (operand w (complement w x)) (operand w y)
+      (operand 1 (raw_compared Greater w x y) ∷ []) 2 1 (moves-above f d s (Not ∷ []) (operand w
+      (complement w x)) (operand w y)
       (operand w (complement w y)) 1 (not-moves f d s w y))
       (compare-moves f d s Lt w (complement w x) (complement w y))
 
@@ -256,10 +258,13 @@ module _ (f : FrameData) (d : Limits) (s : ℕ → ℕ → ℕ) where
   change-moves Rose w x y some =
       let p : Operand = operand 1 (x % 2) in
       let q : ℕ = 2 ^ 1 - 1 - y % 2 in
-      let turn : Moves f d s (Slice 0 0 ∷ Not ∷ []) (operand w y ∷ p ∷ []) (operand 1 q ∷ p ∷ []) 2 =
+      let turn : Moves f d s (Slice 0 0 ∷ Not ∷ []) (operand w y ∷ p ∷ []) (operand 1 q ∷ p ∷ []) 2
+      =
       moves-then f d s (Slice 0 0 ∷ []) (Not ∷ []) (operand w y ∷ p ∷ [])
-      (operand 1 (y % 2) ∷ p ∷ []) (operand 1 q ∷ p ∷ []) 2 2 (moves-above f d s (Slice 0 0 ∷ []) p (operand w y) (operand 1 (y % 2)) 1 (low-moves w y some))
-      (moves-above f d s (Not ∷ []) p (operand 1 (y % 2)) (operand 1 q) 1 (not-moves f d s 1 (y % 2))) in
+      (operand 1 (y % 2) ∷ p ∷ []) (operand 1 q ∷ p ∷ []) 2 2 (moves-above f d s (Slice 0 0 ∷ []) p
+      (operand w y) (operand 1 (y % 2)) 1 (low-moves w y some))
+      (moves-above f d s (Not ∷ []) p (operand 1 (y % 2)) (operand 1 q) 1 (not-moves f d s 1 (y %
+      2))) in
       moves-to (Slice 0 0 ∷ Not ∷ Join And ∷ []) (operand w y ∷ p ∷ []) 1 (bit_and (x % 2) q)
       (change_of Rose x y) 2 (rising (x % 2) (y % 2) (omega arith) (omega arith))
       (moves-then f d s (Slice 0 0 ∷ Not ∷ []) (Join And ∷ []) (operand w y ∷ p ∷ [])

@@ -1,6 +1,7 @@
 -- The sample code of a program, in order.
 use Rattle.std.proofs.Common.{◌≡◌, ◌∙◌, ℕ, ◌+◌, ◌^◌, ◌<◌, ◌≤◌, max, Bool, true, false, List, []}
-use Rattle.std.proofs.Common.{◌∷◌, ◌++◌, length, map, Option, Some, None, refl, sym, ap, subst, arith}
+use Rattle.std.proofs.Common.{◌∷◌, ◌++◌, length, map, Option, Some, None, refl, sym, ap, subst}
+use Rattle.std.proofs.Common.{arith}
 use Rattle.std.proofs.Common.{append_assoc, length-append}
 use Rattle.std.specs.Prelude.{slice_get, ◌==◌, not, replicate}
 use Rattle.std.specs.List.{AllByRecursion, flat_map}
@@ -23,6 +24,7 @@ use Rattle.expression_code.specs.Samples.{sample_need, sample_reach}
 use Rattle.expression_code.specs.Laws.{TellsTicks, IsCount, IsFrame}
 use Rattle.expression_code.specs.Laws.{AreTold}
 use Rattle.expression_code.proofs.Lists.{all-front, all-back, all-flat}
+use Rattle.expression_code.proofs.NarrowLaws.{all-placed}
 use Rattle.expression_code.proofs.Steps.{State, state, steps, steps-append, step-some}
 use Rattle.expression_code.proofs.CounterLaws.{IsServed, truth-puts, next-puts, served}
 
@@ -39,7 +41,8 @@ not-zero false = refl
 abbrev pub made_of : List Bool → List (Option ℕ) → State
 made_of atoms stores = state [] (record { atoms = atoms; stores = stores })
 
-module _ (f : FrameData) (d : Limits) (t : Samples) (at : Slots) (s : ℕ → ℕ → ℕ) (k : ℕ) (one : slice_get f.slots 0 ≡ Some 1) (ticks : TellsTicks s k) where
+module _ (f : FrameData) (d : Limits) (t : Samples) (at : Slots) (s : ℕ → ℕ → ℕ) (k : ℕ) (one :
+    slice_get f.slots 0 ≡ Some 1) (ticks : TellsTicks s k) where
   abbrev Here : Term → Type 0
   Here e = IsServed f d t at s k e
 
@@ -94,9 +97,11 @@ module _ (f : FrameData) (d : Limits) (t : Samples) (at : Slots) (s : ℕ → �
       (omega (arith, length-append before (truth e ∷ []), long)) (omega (arith, same))
       (omega (arith, room)) in
       then-steps code rest from mid (made_of (before ++ (truth e ∷ map truth es)) stores) first
-      (ap (λ atoms. steps f d s rest (made_of atoms stores)) (sym (append_assoc before (truth e ∷ []) olds))
+      (ap (λ atoms. steps f d s rest (made_of atoms stores)) (sym (append_assoc before (truth e ∷
+      []) olds))
       ∙ (others
-      ∙ ap (λ atoms. Some (made_of atoms stores)) (append_assoc before (truth e ∷ []) (map truth es))))
+      ∙ ap (λ atoms. Some (made_of atoms stores)) (append_assoc before (truth e ∷ []) (map truth
+      es))))
 
   abbrev next : Held → ℕ
   next h = next_count t h.counter (t.counter_at h.place k) k
@@ -126,7 +131,8 @@ module _ (f : FrameData) (d : Limits) (t : Samples) (at : Slots) (s : ℕ → �
 
   -- the counters from the i-th on
   stores-steps :
-      (hs : List Held) (i : ℕ) (widths : List ℕ) (before olds : List (Option ℕ)) (atoms : List Bool) →
+      (hs : List Held) (i : ℕ) (widths : List ℕ) (before olds : List (Option ℕ)) (atoms : List Bool)
+      →
       AllByRecursion (IsCount f t at s k) hs →
       AllByRecursion (λ h. AllByRecursion Here (counter_terms h.counter)) hs →
       largest (λ h. next_need h.counter) hs ≤ d.stack →
@@ -164,7 +170,8 @@ module _ (f : FrameData) (d : Limits) (t : Samples) (at : Slots) (s : ℕ → �
       (ap (λ stores. steps f d s rest (made_of atoms stores))
       (sym (append_assoc before (Some (next h) ∷ []) olds))
       ∙ (after
-      ∙ ap (λ stores. Some (made_of atoms stores)) (append_assoc before (Some (next h) ∷ []) later)))
+      ∙ ap (λ stores. Some (made_of atoms stores)) (append_assoc before (Some (next h) ∷ [])
+      later)))
 
 -- what the code of a program makes
 abbrev pub made_by : Samples → ℕ → List Term → List Held → Made
@@ -173,12 +180,12 @@ made_by t k es hs = record {
   stores = map (λ h. Some (next_count t h.counter (t.counter_at h.place k) k)) hs;
 }
 
-largest-append :
+pub largest-append :
     (f : Term → ℕ) (es ds : List Term) → largest f (es ++ ds) ≡ max (largest f es) (largest f ds)
 largest-append f [] ds = omega arith
 largest-append f (e ∷ es) ds = omega (arith, largest-append f es ds)
 
-largest-flat :
+pub largest-flat :
     (f : Term → ℕ) (hs : List Held) →
     largest f (flat_map (λ h. counter_terms h.counter) hs)
     ≡ largest (λ h. largest f (counter_terms h.counter)) hs
@@ -211,7 +218,8 @@ module _ (f : FrameData) (d : Limits) (t : Samples) (at : Slots) (s : ℕ → �
       let Here : Term → Type 0 = IsServed f d t at s k in
       let others : List Term = flat_map (λ h. counter_terms h.counter) hs in
       let terms : AllByRecursion Here (es ++ others) =
-      served f d t at s k frame.one told.ticks (es ++ others) frame.placed told.names
+      served f d t at s k frame.one told.ticks (es ++ others)
+      (all-placed f at (es ++ others) frame.slots frame.narrow) told.names
       (omega (arith, far, largest-append reach es others, largest-flat reach hs)) in
       let none : Option ℕ = None in
       let olds : List (Option ℕ) = replicate (length f.counters) none in

@@ -15,7 +15,8 @@ use Rattle.checked_machine.specs.Outcomes.{Ran, done, trapped, bad_operand, past
 use Rattle.checked_machine.specs.Samples.{Operand, operand, width_of, results, Made, top, making}
 use Rattle.checked_machine.specs.Samples.{reaches, follow, met, obey_sample, run_sample}
 use Rattle.expression_code.specs.Laws.{Leaves}
-use Rattle.expression_code.proofs.Steps.{State, state, onward, only_on, tested, stepped, step, steps}
+use Rattle.expression_code.proofs.Steps.{State, state, onward, only_on, tested, stepped, step}
+use Rattle.expression_code.proofs.Steps.{steps}
 use Rattle.expression_code.proofs.Steps.{Puts}
 
 -- these instructions stand from this place on
@@ -33,7 +34,11 @@ stands-later x code (i ∷ part) pc h =
 
 stands-first : (part after : List SampleInstr) → Stands (part ++ after) 0 part
 stands-first [] after = tt
-stands-first (i ∷ part) after = (refl, stands-later i (part ++ after) part 0 (stands-first part after))
+stands-first (i ∷ part) after = (
+  refl,
+  stands-later i (part ++ after) part 0 (stands-first part
+      after),
+)
 
 pub stands-between :
     (before part after : List SampleInstr) →

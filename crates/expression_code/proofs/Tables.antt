@@ -205,7 +205,8 @@ module _ (f : FrameData) (d : Limits) (s : ℕ → ℕ → ℕ) where
       ∙ omega (arith, path-steps part g.next to g.others (pc + 1))
 
   -- code to the Halt behind it, from no operands to none
-  module _ (code : List SampleInstr) (from to : State) (h : steps f d s code from ≡ Some to) (none : from.operands ≡ []) (end : to.operands ≡ []) where
+  module _ (code : List SampleInstr) (from to : State) (h : steps f d s code from ≡ Some to) (none :
+      from.operands ≡ []) (end : to.operands ≡ []) where
     abbrev whole : List SampleInstr
     whole = code ++ Halt ∷ []
 
@@ -258,7 +259,8 @@ module _ (f : FrameData) (d : Limits) (s : ℕ → ℕ → ℕ) where
       | inl inside ↦ fine-inside k i inside
       | inr ends ↦
           subst (λ n. IsFine (sample_rules f) (0 + length whole) table (0 + n) i) (sym ends.0)
-          (subst (IsFine (sample_rules f) (0 + length whole) table (0 + length code)) ends.1 fine-last)
+          (subst (IsFine (sample_rules f) (0 + length whole) table (0 + length code)) ends.1
+          fine-last)
     ]
 
     ends :

@@ -145,7 +145,11 @@ module _ (t : Samples) (at : Slots) (s : ℕ → ℕ → ℕ) (k : ℕ) (ticks :
   raw-value (reduce op e) w n h le seen =
       rw (raw-value e (width_of e) n h.1 (omega arith) seen) refl
   raw-value (combine op a b) w n h le seen =
-      rw (raw-value a w n h.1 (omega (arith, le)) seen, raw-value b w n h.2 (omega (arith, le)) seen)
+      rw (
+        raw-value a w n h.1 (omega (arith, le)) seen,
+        raw-value b w n h.2 (omega (arith, le))
+            seen,
+      )
       refl
   raw-value (shift op a b) w n h le seen =
       rw (raw-value a w n h.1 le seen, raw-value b (width_of b) n h.2 (omega arith) seen) refl

@@ -98,7 +98,8 @@ is-whole out code h = elim (cases_lt 4096 (length code)) [
 ]
 
 -- what a finished buffer answers
-abbrev pub Finishes : Result (Vec SampleInstr Global) LengthFault → Option (List SampleInstr) → Type 0
+abbrev pub Finishes : Result (Vec SampleInstr Global) LengthFault → Option (List SampleInstr) → Type
+    0
 Finishes r out =
     MatchOption out (r ≡ Err TooLong) (λ code. IsOkAnd r (λ made. made.items ≡ code))
 

@@ -1,4 +1,5 @@
--- The code of what a chain has behind its first operand. Contracts of public functions name no chain.
+-- The code of what a chain has behind its first operand. Contracts of public functions name no
+-- chain.
 use Rattle.std.specs.Prelude.{ℕ, max, List, [], ◌∷◌, ◌++◌}
 use Rattle.expressions.specs.declared.operator.Arithmetic.{Arithmetic}
 use Rattle.expressions.specs.declared.operator.Shift.{Shift}

@@ -19,7 +19,8 @@ use Rattle.expressions.specs.declared.operator.Reduction.TheVariants.{OneHot, On
 use Rattle.expressions.specs.declared.operator.Change.{Change}
 use Rattle.expressions.specs.declared.operator.Change.TheVariants.{Rose, Fell, Stable, Changed}
 use Rattle.expressions.specs.Terms.{Term, constant, named, slice, group, concat, inverse, reduce}
-use Rattle.expressions.specs.Terms.{combine, shift, compare, connect, choose, past, change, width_of}
+use Rattle.expressions.specs.Terms.{combine, shift, compare, connect, choose, past, change}
+use Rattle.expressions.specs.Terms.{width_of}
 use Rattle.bytecode.specs.declared.operator.JoinOperator.TheVariants.{And, Or, Xor, Add, Sub}
 use Rattle.bytecode.specs.declared.operator.CompareOperator.TheVariants.{Eq, Lt}
 use Rattle.bytecode.specs.declared.operator.ShiftOperator.TheVariants.{Shl, Shr}
@@ -118,9 +119,9 @@ change_end Fell = Slice 0 0 ∷ Join And ∷ []
 change_end Stable = Compare Eq ∷ []
 change_end Changed = Compare Eq ∷ Not ∷ []
 
--- The code of an expression in a context of w bits, over the rows of n ticks before. An operand that
--- the context determines has the context's width, both of a comparison the larger of theirs, and any
--- other its own.
+-- The code of an expression in a context of w bits, over the rows of n ticks before. An operand
+-- that the context determines has the context's width, both of a comparison the larger of theirs,
+-- and any other its own.
 abbrev pub code_of : Slots → Term → ℕ → ℕ → List SampleInstr
 code_of at (constant bits) w n = Push w bits.value ∷ []
 code_of at (named name) w n = slot_read (slot_of at name) n ++ extension name.width w

@@ -14,8 +14,8 @@ use Rattle.expressions.specs.Terms.{combine, shift, compare, connect, choose, pa
 use Rattle.expression_code.specs.Samples.{Held, sample_need, sample_reach}
 use Rattle.expression_code.specs.Laws.{Each, program_terms}
 
--- How loosely operators join their operands: 1 to 9 are left operators, from the tightest, 10 is the
--- condition, and 0 is what needs no brackets anywhere (11.3.2).
+-- How loosely operators join their operands: 1 to 9 are left operators, from the tightest, 10 is
+-- the condition, and 0 is what needs no brackets anywhere (11.3.2).
 abbrev pub arithmetic_level : Arithmetic → ℕ
 arithmetic_level arithmetic.Add = 1
 arithmetic_level arithmetic.Sub = 1
@@ -45,7 +45,8 @@ level e = 0
 abbrev pub bracketed : ℕ → ℕ → ℕ → ℕ
 bracketed most level depth = if nat_le level most then depth else 1 + depth
 
--- A left operator takes what is no looser than itself on its left, and what is tighter on its right.
+-- A left operator takes what is no looser than itself on its left, and what is tighter on its
+-- right.
 abbrev pub left_depth : ℕ → ℕ → ℕ → ℕ → ℕ → ℕ
 left_depth own left_level left right_level right =
     max (bracketed own left_level left) (bracketed (own - 1) right_level right)

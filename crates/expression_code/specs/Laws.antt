@@ -1,15 +1,18 @@
 -- Laws of sample code.
-use Rattle.std.specs.Prelude.{◌≡◌, ℕ, ◌+◌, ◌-◌, ◌*◌, ◌^◌, ◌<◌, ◌≤◌, List, [], ◌∷◌, ◌++◌, length, map}
-use Rattle.std.specs.Prelude.{Some, slice_get, sum_by}
-use Rattle.std.specs.List.{AllByRecursion, flat_map}
+use Rattle.std.specs.Prelude.{◌≡◌, ℕ, ◌+◌, ◌-◌, ◌*◌, ◌^◌, ◌<◌, ◌≤◌, List, [], ◌∷◌, ◌++◌, length}
+use Rattle.std.specs.Prelude.{map}
+use Rattle.std.specs.Prelude.{Some, slice_get, sum_by, true}
+use Rattle.std.specs.List.{AllByRecursion, flat_map, list_all}
 use Rattle.expressions.specs.declared.name.Name.{Name}
+use Rattle.expressions.specs.declared.expr.Expr.{Expr}
+use Rattle.expressions.specs.declared.counter.Counter.{Counter}
 use Rattle.expressions.specs.Terms.{Term, constant, named, slice, group, concat, inverse, reduce}
 use Rattle.expressions.specs.Terms.{combine, shift, compare, connect, choose, past, change}
 use Rattle.expressions.specs.Terms.{Samples, name_at, width_of, value_of, is_true}
 use Rattle.expressions.specs.Counters.{next_count}
 use Rattle.bytecode.specs.declared.limits.Limits.{Limits}
 use Rattle.bytecode.specs.declared.sample_instr.SampleInstr.{SampleInstr}
-use Rattle.bytecode.specs.Values.{ProgramData}
+use Rattle.bytecode.specs.Values.{ProgramData, fits_sample}
 use Rattle.bytecode.specs.Instructions.{FrameData, frame_of, sample_flow}
 use Rattle.inference.specs.Rules.{sample_rules}
 use Rattle.inference.specs.Typing.{IsTyped, AreShort, longest_list}
@@ -21,6 +24,7 @@ use Rattle.expression_code.specs.Codes.{Slots, slot_of, code_of, need, reach}
 use Rattle.expression_code.specs.Samples.{Held, held_slot, next_code, next_need, counter_terms}
 use Rattle.expression_code.specs.Samples.{sample_code, sample_need, sample_reach}
 use Rattle.expression_code.specs.Samples.{largest}
+use Rattle.expression_code.specs.Chosen.{terms_at, held_at}
 
 -- P holds of an expression and of each of its parts.
 abbrev pub Each : (Term → Type 0) → Term → Type 0
@@ -45,10 +49,17 @@ OfName P (named name) = P name
 OfName P (slice part) = P part.name
 OfName P e = Unit {0}
 
--- A name's slot has its width, and no expression has over 128 bits.
+abbrev pub IsNarrow : Term → Type 0
+IsNarrow e = width_of e ≤ 128
+
+-- a name's slot has its width
+abbrev pub HasSlot : FrameData → Slots → Term → Type 0
+HasSlot f at = OfName (λ name. slice_get f.slots (slot_of at name) ≡ Some name.width)
+
+-- the same, and no expression has over 128 bits
 pub record IsPlaced (f : FrameData) (at : Slots) (e : Term) : Type 0 where
-  pub slot : OfName (λ name. slice_get f.slots (slot_of at name) ≡ Some name.width) e
-  pub narrow : width_of e ≤ 128
+  pub slot : HasSlot f at e
+  pub narrow : IsNarrow e
 
 -- Rows up to the tick k, counted back from it: what a slot held at the ticks that there were, and 0
 -- before them.
@@ -110,7 +121,8 @@ program_terms es hs = es ++ flat_map (λ h. counter_terms h.counter) hs
 -- an atom for each boolean, a store for each counter.
 pub record IsFrame (f : FrameData) (at : Slots) (es : List Term) (hs : List Held) : Type 0 where
   pub one : slice_get f.slots 0 ≡ Some 1
-  pub placed : AllByRecursion (Each (IsPlaced f at)) (program_terms es hs)
+  pub slots : AllByRecursion (Each (HasSlot f at)) (program_terms es hs)
+  pub narrow : AllByRecursion (Each IsNarrow) (program_terms es hs)
   pub held :
       AllByRecursion (λ h. slice_get f.slots (held_slot at h) ≡ Some h.counter.width) hs
   pub atoms : f.atoms ≡ length es
@@ -124,8 +136,15 @@ pub record AreTold (t : Samples) (at : Slots) (sample : ℕ → ℕ → ℕ) (k 
   pub counts : AllByRecursion (λ h. sample 0 (held_slot at h) ≡ t.counter_at h.place k) hs
   pub fit : AllByRecursion (λ h. t.counter_at h.place k < 2 ^ h.counter.width) hs
 
--- Code that some table types, with lists of at most so many operands, that reads at most so far back
--- and has one path.
+-- No part of the expressions and counters that a program is made of has over 128 bits.
+abbrev pub ProgramsAreNarrow : Type 0
+ProgramsAreNarrow =
+    (booleans : List Expr) (atoms : List ℕ) (counters : List Counter) (stores : List ℕ) →
+    AllByRecursion (Each IsNarrow)
+    (program_terms (terms_at booleans atoms) (held_at counters stores))
+
+-- Code that some table types, with lists of at most so many operands, that reads at most so far
+-- back and has one path.
 pub record IsTypedWithin (f : FrameData) (code : List SampleInstr) (stack history : ℕ) :
     Type 0 where
   pub table : ℕ → List ℕ
@@ -158,6 +177,13 @@ SamplesTell =
     })
     (p.header.limits.budget - length p.sample)
 
+-- Each instruction of the sample code of a program can be written to a file.
+abbrev pub SamplesFit : Type 0
+SamplesFit =
+    (f : FrameData) (at : Slots) (es : List Term) (hs : List Held) → IsFrame f at es hs →
+    length f.slots ≤ 65536 → length es ≤ 256 → length hs ≤ 256 → sample_reach es hs < 65536 →
+    list_all fits_sample (sample_code at es hs) ≡ true
+
 -- operators and operands
 abbrev pub size : Term → ℕ
 size (constant bits) = 1
@@ -180,8 +206,8 @@ abbrev pub IsNoChange : Term → Type 0
 IsNoChange (change op e) = ⊥
 IsNoChange e = Unit {0}
 
--- Such code is short: five instructions for each operator and operand, two for each boolean, and the
--- Halt.
+-- Such code is short: five instructions for each operator and operand, two for each boolean, and
+-- the Halt.
 abbrev pub SamplesAreShort : Type 0
 SamplesAreShort =
     (at : Slots) (es : List Term) → AllByRecursion (Each IsNoChange) es →

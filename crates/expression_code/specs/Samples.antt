@@ -131,4 +131,5 @@ abbrev pub counter_terms : Counter → List Term
 counter_terms c = clear_terms c.clear ++ rule_terms c.load ++ rule_terms c.add ++ rule_terms c.sub
 
 abbrev pub sample_reach : List Term → List Held → ℕ
-sample_reach es hs = max (largest reach es) (largest (λ h. largest reach (counter_terms h.counter)) hs)
+sample_reach es hs =
+    max (largest reach es) (largest (λ h. largest reach (counter_terms h.counter)) hs)

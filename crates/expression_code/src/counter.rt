@@ -45,7 +45,8 @@ fn cut(code: &mut CodeBuffer, from: u8, width: u8) -> Result<(), AllocError>
     code.put(SampleInstr::Slice(width - 1, 0))
 }
 
-/// The low bits of the value in a context of so many bits, or at its own width where that is larger.
+/// The low bits of the value in a context of so many bits, or at its own width where that is
+/// larger.
 fn number_code(
     code: &mut CodeBuffer,
     expr: &Expr,
@@ -98,8 +99,8 @@ fn amount_code(
     code.put(SampleInstr::Mux)
 }
 
-/// The difference of what is added and what is taken, added to the value so far, and that of what is
-/// taken and what is added, taken from it.
+/// The difference of what is added and what is taken, added to the value so far, and that of what
+/// is taken and what is added, taken from it.
 fn balance_code(
     code: &mut CodeBuffer,
     add: &Rule,

@@ -2,7 +2,8 @@
 
 ghost use Rattle.expression_code.specs.Laws.{ExpressionsLeaveValues, CountersLeaveNext};
 ghost use Rattle.expression_code.specs.Depths.{DepthBoundsCode};
-ghost use Rattle.expression_code.specs.Laws.{SamplesAreShort, SamplesAreTyped, SamplesTell};
+ghost use Rattle.expression_code.specs.Laws.{ProgramsAreNarrow, SamplesAreShort, SamplesAreTyped};
+ghost use Rattle.expression_code.specs.Laws.{SamplesFit, SamplesTell};
 
 /// The code of an expression leaves its value on any stack.
 pub fn expression_law()
@@ -30,8 +31,18 @@ pub fn length_law()
     ensures { SamplesAreShort }
 {}
 
-/// What the code of expressions asks of the stack and of the history is bounded by how many brackets
-/// and unfinished operators are open at once in them.
+/// What the code of expressions asks of the stack and of the history is bounded by how many
+/// brackets and unfinished operators are open at once in them.
 pub fn depth_law()
     ensures { DepthBoundsCode }
+{}
+
+/// No part of the expressions and counters of a program has over 128 bits.
+pub fn narrow_law()
+    ensures { ProgramsAreNarrow }
+{}
+
+/// Each instruction of the sample code of a program can be written to a file.
+pub fn fit_law()
+    ensures { SamplesFit }
 {}

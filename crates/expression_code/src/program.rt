@@ -97,8 +97,9 @@ fn stores_code(
     Ok(())
 }
 
-/// The sample code of a program: an atom for each expression of `booleans` that `atoms` names by its
-/// place, in that order, and a store for each counter of `counters` that `stores` names.
+/// The sample code of a program: an atom for each expression of `booleans` that `atoms` names by
+/// its place, in that order, and a store for each counter of `counters` that `stores` names. A
+/// place that isn't there gets no code.
 pub fn sample_code(
     alloc: Global,
     booleans: &[Expr],

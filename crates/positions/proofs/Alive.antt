@@ -63,18 +63,18 @@ module _ (B : Type 0) where
       IsAlive p = (x : State p) (i : ℕ) → n ≤ i → (j : ℕ) × Left holds p x i j
 
       -- a match begins at each tick; one of a tick or more
-      abbrev IsMet : Plan B → Type 0
+      abbrev pub IsMet : Plan B → Type 0
       IsMet p = (i : ℕ) → n ≤ i → (j : ℕ) × (i ≤ j) × Matches holds (shape p) i j
 
-      abbrev Moves : Plan B → Type 0
+      abbrev pub Moves : Plan B → Type 0
       Moves p = (i : ℕ) → n ≤ i → (j : ℕ) × (i < j) × Matches holds (shape p) i j
 
-      plan-moves : (w : Written B) → IsOrdered w → IsTrue (takes_ticks w) → Moves (plan true_one w)
+      pub plan-moves : (w : Written B) → IsOrdered w → IsTrue (takes_ticks w) → Moves (plan true_one w)
       plan-moves w ordered takes i late =
           let m = takes-moves w ordered takes i in
           (m.0, m.1, (plan-kernel B holds true_one w ordered i m.0).0 (Matches-local B always holds (kernel true_one w) i m.0 (λ b k from below x. free b k (omega arith)) m.2))
 
-      plan-met : (w : Written B) → IsOrdered w → IsTrue (admits_empty w || takes_ticks w) → IsMet (plan true_one w)
+      pub plan-met : (w : Written B) → IsOrdered w → IsTrue (admits_empty w || takes_ticks w) → IsMet (plan true_one w)
       plan-met w ordered some i late = elim (or_cases (admits_empty w) (takes_ticks w) some) [
         | inl empty ↦ (i, omega arith, (plan-kernel B holds true_one w ordered i i).0 (empty-Matches B holds true_one w i ordered empty))
         | inr takes ↦ let m = plan-moves w ordered takes i late in (m.0, omega (arith, m.1), m.2)
@@ -166,7 +166,7 @@ module _ (B : Type 0) where
       all-alive p q ap aq (inr (inr x)) i late = aq x i late
 
       -- what the form of a delay tells of its parts
-      delay-told : (r s : Written B) (least most : ℕ) → IsTrue (takes_ticks (delay r least most s)) → IsTrue (admits_empty s || takes_ticks s) × ((1 ≤ most) ⊎ (IsTrue (takes_ticks r && takes_ticks s) × IsTrue (takes_ticks s)))
+      pub delay-told : (r s : Written B) (least most : ℕ) → IsTrue (takes_ticks (delay r least most s)) → IsTrue (admits_empty s || takes_ticks s) × ((1 ≤ most) ⊎ (IsTrue (takes_ticks r && takes_ticks s) × IsTrue (takes_ticks s)))
       delay-told r s least most t =
           let rm : Bool = admits_empty r || takes_ticks r in
           let sm : Bool = admits_empty s || takes_ticks s in

@@ -18,3 +18,9 @@ pub mod Short
 pub mod RowLaws
 pub mod NearLaws
 pub mod CopyLaws
+pub mod LinkLaws
+pub mod PartLaws
+pub mod ListedLaws
+pub mod SizeLaws
+pub mod SequenceLaws
+pub mod ResultLaws

@@ -5,4 +5,5 @@ pub mod Sections
 pub mod Rows
 pub mod Views
 pub mod Faults
+pub mod Sequences
 pub mod Laws

@@ -3,14 +3,19 @@ use Rattle.std.specs.Prelude.{ℕ, ◌+◌, ◌*◌, ◌-◌, ◌<◌, ◌≤◌
 use Rattle.std.specs.Prelude.{[], ◌∷◌, ◌++◌, length, map, Option, Some, None, sum_by, All}
 use Rattle.std.specs.Prelude.{slice_get, unwrap_or, min, if◌then◌else◌}
 use Rattle.std.specs.List.{flat_map}
-use Rattle.positions.specs.Tables.{Edge, EachOf, shift, picked, numbers}
-use Rattle.positions.specs.Sections.{edge_size, with_atom}
+use Rattle.positions.specs.Tables.{Edge, Table, EachOf, shift, picked, numbers}
+use Rattle.positions.specs.Sections.{edge_size, with_atom, coded, rows_of}
 
 -- Positions in order, each by its edges; those that begin; whether an empty match is there.
 pub record TableData : Type 0 where
   pub rows : List (List (Edge ℕ))
   pub starts : List ℕ
   pub empty : Bool
+
+-- a table's rows by their atoms
+abbrev pub listed : {B : Type 0} → (B → Option ℕ) → Table B → TableData
+listed atom t =
+    record { rows = rows_of (coded atom t) 0 t.size; starts = t.starts; empty = t.empty }
 
 -- What becomes of an edge: it may want one more atom, what it enters is so much further on, and
 -- where it accepts it also goes on to others, and accepts still or not.
@@ -198,3 +203,16 @@ pub record IsPlaced (d : TableData) : Type 0 where
   pub few : length d.rows ≤ 127
   pub starts : EachOf (λ q. q < length d.rows) d.starts
   pub enters : EachOf (λ row. EachOf (λ (e : Edge ℕ). EachOf (λ q. q < length d.rows) e.enters) row) d.rows
+
+-- what lies between the two parts of a delay of one tick or more
+abbrev pub gap_data : ℕ → ℕ → TableData
+gap_data least most =
+    if most == 0 then still_data true else repeat_data (tick_data None) (least - 1) (most - 1)
+
+abbrev pub apart_data : Bool → TableData → TableData → ℕ → ℕ → TableData
+apart_data shares t u least most =
+    link_data (shares && least == 0) (nat_le 1 most) t (gap_data least most) u
+
+abbrev pub lead_in_data : ℕ → ℕ → TableData → TableData
+lead_in_data least most u =
+    link_data false true (repeat_data (tick_data None) least most) (still_data true) u

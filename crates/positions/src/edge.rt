@@ -1,7 +1,7 @@
 //! Edges of positions.
 
 ghost use Rattle.std.specs.Prelude.{◌≡◌, IfOk};
-ghost use Rattle.positions.specs.Rows.{changed};
+ghost use Rattle.positions.specs.Rows.{changed, joined_data};
 ghost use Rattle.positions.specs.Sections.{edge_size};
 ghost use Rattle.positions.specs.Views.{edge_data, change_data, IsNear};
 
@@ -46,6 +46,22 @@ impl Edge {
             wanted,
             enters,
             accepts: self.accepts && change.keeps,
+        })
+    }
+
+    /// It does at its tick what another does, whose positions are so much further on.
+    pub fn joined(&self, alloc: Global, other: &Edge, by: usize) -> Result<Edge, AllocError>
+        requires { IsNear by other.now }
+        ensures { IfOk result (λ e. edge_data e ≡ joined_data by (edge_data self.now) (edge_data other.now)) }
+    {
+        let mut wanted = Vec::from_slice(alloc, &self.wanted)?;
+        wanted.extend_from_slice(&other.wanted)?;
+        let mut enters = Vec::new(alloc);
+        put_moved(&mut enters, &other.enters, by)?;
+        Ok(Edge {
+            wanted,
+            enters,
+            accepts: other.accepts,
         })
     }
 }

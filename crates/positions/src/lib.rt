@@ -1,14 +1,21 @@
 //! Sections from sequences.
 #![tactic(auto)]
 
+mod both;
 mod change;
+mod delay;
 mod draft;
 mod edge;
 mod either;
+mod extent;
 mod fault;
 mod laws;
+mod lead;
+mod link;
 mod list;
+mod pairing;
 mod repeat;
+mod sequence;
 mod table;
 
 pub use fault::SectionFault;

@@ -130,7 +130,8 @@ compare_all-loop-step-preserved t c =
     let front = λ (m : ℕ). extension w m ++ comparison_middle x.0
     ++ code_of at (node_term x.1) m c.args.back ++ comparison_end x.0 in
     let two = writes-then (c.in_ok-extend.ensures) (c.in_ok-turn.ensures) in
-    let four = writes-then (writes-then two (c.in_ok-node_code.ensures)) (c.in_ok-compare.ensures) in
+    let four = writes-then (writes-then two (c.in_ok-node_code.ensures)) (c.in_ok-compare.ensures)
+    in
     record {
       same = written-rest four rest
           ∙ (ap (λ m. written c.loop-step.code (front m ++ rest)) larger ∙ (rw e at inv.same));
@@ -153,7 +154,8 @@ connect_all-loop-step-preserved t c =
     let front = λ (m : ℕ). bit_test c.loop-step.left ++ code_of at e' (width_of e') c.args.back
     ++ bit_test m ++ connective_end x.0 in
     let two = writes-then (c.in_ok-test_bit.ensures) (c.in_ok-own_code.ensures) in
-    let four = writes-then (writes-then two (c.in_ok-test_bit-2.ensures)) (c.in_ok-connect.ensures) in
+    let four = writes-then (writes-then two (c.in_ok-test_bit-2.ensures)) (c.in_ok-connect.ensures)
+    in
     record {
       same = written-rest four rest
           ∙ (ap (λ m. written c.loop-step.code (front m ++ rest)) c.width_of.ensures.own
@@ -199,7 +201,8 @@ pub node_code-own_code-requires-in-Concat : goal.node_code-own_code-requires-in-
 node_code-own_code-requires-in-Concat t c =
     let v = c.in-Concat in
     let o = opens_concat c.args.node.now v.own v.first v.parts v.is c.requires.typed in
-    let far = ap reach o.term ∙ reach-parts (node_term v.first.value) (map seen_node v.parts.items) in (
+    let far = ap reach o.term ∙ reach-parts (node_term v.first.value) (map seen_node v.parts.items)
+    in (
       search (rules, the_lemmas),
       (
         rw c.deref-in-Concat.ensures o.first_typed,
@@ -211,7 +214,8 @@ pub node_code-join_all-requires : goal.node_code-join_all-requires
 node_code-join_all-requires t c =
     let v = c.in-Concat in
     let o = opens_concat c.args.node.now v.own v.first v.parts v.is c.requires.typed in
-    let far = ap reach o.term ∙ reach-parts (node_term v.first.value) (map seen_node v.parts.items) in (
+    let far = ap reach o.term ∙ reach-parts (node_term v.first.value) (map seen_node v.parts.items)
+    in (
       search (rules, the_lemmas),
       (
         rw c.deref-in-Concat-2.ensures.value o.parts_typed,
@@ -223,8 +227,10 @@ pub node_code-node_code-requires-in-Arithmetic : goal.node_code-node_code-requir
 node_code-node_code-requires-in-Arithmetic t c =
     let v = c.in-Arithmetic in
     let o = opens_sums c.args.node.now v.field-0 v.first v.steps v.is c.requires.typed in
-    let far = ap reach o.chain.term ∙ reach-chain combine (λ op a b. refl) (node_term v.first.value) (map (step_of {O = Arithmetic}) v.steps.items) in
-    let n = narrow_sums (node_term v.first.value) (map step_of v.steps.items) c.args.width (rw o.chain.term at c.requires.context) in (
+    let far = ap reach o.chain.term ∙ reach-chain combine (λ op a b. refl) (node_term v.first.value)
+    (map (step_of {O = Arithmetic}) v.steps.items) in
+    let n = narrow_sums (node_term v.first.value) (map step_of v.steps.items) c.args.width (rw
+    o.chain.term at c.requires.context) in (
       search (rules, the_lemmas),
       (
         rw c.deref-in-Arithmetic.ensures o.chain.first_typed,
@@ -239,8 +245,10 @@ pub node_code-combine_all-requires : goal.node_code-combine_all-requires
 node_code-combine_all-requires t c =
     let v = c.in-Arithmetic in
     let o = opens_sums c.args.node.now v.field-0 v.first v.steps v.is c.requires.typed in
-    let far = ap reach o.chain.term ∙ reach-chain combine (λ op a b. refl) (node_term v.first.value) (map (step_of {O = Arithmetic}) v.steps.items) in
-    let n = narrow_sums (node_term v.first.value) (map step_of v.steps.items) c.args.width (rw o.chain.term at c.requires.context) in (
+    let far = ap reach o.chain.term ∙ reach-chain combine (λ op a b. refl) (node_term v.first.value)
+    (map (step_of {O = Arithmetic}) v.steps.items) in
+    let n = narrow_sums (node_term v.first.value) (map step_of v.steps.items) c.args.width (rw
+    o.chain.term at c.requires.context) in (
       search (rules, the_lemmas),
       (
         rw c.deref-in-Arithmetic-2.ensures.value o.chain.steps_typed,
@@ -255,8 +263,10 @@ pub node_code-node_code-requires-in-Shift : goal.node_code-node_code-requires-in
 node_code-node_code-requires-in-Shift t c =
     let v = c.in-Shift in
     let o = opens_shifts c.args.node.now v.field-0 v.first v.steps v.is c.requires.typed in
-    let far = ap reach o.chain.term ∙ reach-chain shift (λ op a b. refl) (node_term v.first.value) (map (step_of {O = Shift}) v.steps.items) in
-    let w = ap width_of o.chain.term ∙ width-shifted (node_term v.first.value) (map step_of v.steps.items) in (
+    let far = ap reach o.chain.term ∙ reach-chain shift (λ op a b. refl) (node_term v.first.value)
+    (map (step_of {O = Shift}) v.steps.items) in
+    let w = ap width_of o.chain.term ∙ width-shifted (node_term v.first.value) (map step_of
+    v.steps.items) in (
       search (rules, the_lemmas),
       (
         rw c.deref-in-Shift.ensures o.chain.first_typed,
@@ -271,7 +281,8 @@ pub node_code-shift_all-requires : goal.node_code-shift_all-requires
 node_code-shift_all-requires t c =
     let v = c.in-Shift in
     let o = opens_shifts c.args.node.now v.field-0 v.first v.steps v.is c.requires.typed in
-    let far = ap reach o.chain.term ∙ reach-chain shift (λ op a b. refl) (node_term v.first.value) (map (step_of {O = Shift}) v.steps.items) in (
+    let far = ap reach o.chain.term ∙ reach-chain shift (λ op a b. refl) (node_term v.first.value)
+    (map (step_of {O = Shift}) v.steps.items) in (
       search (rules, the_lemmas),
       (
         rw c.deref-in-Shift-2.ensures.value o.chain.steps_typed,
@@ -283,7 +294,8 @@ pub node_code-node_code-requires-in-Compare : goal.node_code-node_code-requires-
 node_code-node_code-requires-in-Compare t c =
     let v = c.in-Compare in
     let o = opens_compare c.args.node.now v.larger v.first v.steps v.is c.requires.typed in
-    let far = ap reach o.chain.term ∙ reach-chain compare (λ op a b. refl) (node_term v.first.value) (map (step_of {O = Comparison}) v.steps.items) in (
+    let far = ap reach o.chain.term ∙ reach-chain compare (λ op a b. refl) (node_term v.first.value)
+    (map (step_of {O = Comparison}) v.steps.items) in (
       search (rules, the_lemmas),
       (
         rw c.deref-in-Compare.ensures o.chain.first_typed,
@@ -298,7 +310,8 @@ pub node_code-compare_all-requires : goal.node_code-compare_all-requires
 node_code-compare_all-requires t c =
     let v = c.in-Compare in
     let o = opens_compare c.args.node.now v.larger v.first v.steps v.is c.requires.typed in
-    let far = ap reach o.chain.term ∙ reach-chain compare (λ op a b. refl) (node_term v.first.value) (map (step_of {O = Comparison}) v.steps.items) in (
+    let far = ap reach o.chain.term ∙ reach-chain compare (λ op a b. refl) (node_term v.first.value)
+    (map (step_of {O = Comparison}) v.steps.items) in (
       search (rules, the_lemmas),
       (
         rw c.deref-in-Compare-2.ensures.value o.chain.steps_typed,
@@ -310,7 +323,8 @@ pub node_code-own_code-requires-in-Connect : goal.node_code-own_code-requires-in
 node_code-own_code-requires-in-Connect t c =
     let v = c.in-Connect in
     let o = opens_connect c.args.node.now v.first v.steps v.is c.requires.typed in
-    let far = ap reach o.chain.term ∙ reach-chain connect (λ op a b. refl) (node_term v.first.value) (map (step_of {O = Connective}) v.steps.items) in (
+    let far = ap reach o.chain.term ∙ reach-chain connect (λ op a b. refl) (node_term v.first.value)
+    (map (step_of {O = Connective}) v.steps.items) in (
       search (rules, the_lemmas),
       (
         rw c.deref-in-Connect.ensures o.chain.first_typed,
@@ -322,7 +336,8 @@ pub node_code-connect_all-requires : goal.node_code-connect_all-requires
 node_code-connect_all-requires t c =
     let v = c.in-Connect in
     let o = opens_connect c.args.node.now v.first v.steps v.is c.requires.typed in
-    let far = ap reach o.chain.term ∙ reach-chain connect (λ op a b. refl) (node_term v.first.value) (map (step_of {O = Connective}) v.steps.items) in (
+    let far = ap reach o.chain.term ∙ reach-chain connect (λ op a b. refl) (node_term v.first.value)
+    (map (step_of {O = Connective}) v.steps.items) in (
       search (rules, the_lemmas),
       (
         rw c.deref-in-Connect-2.ensures.value o.chain.steps_typed,
@@ -333,7 +348,8 @@ node_code-connect_all-requires t c =
 pub node_code-node_code-requires-in-Choose : goal.node_code-node_code-requires-in-Choose
 node_code-node_code-requires-in-Choose t c =
     let v = c.in-Choose in
-    let o = opens_choose c.args.node.now v.field-0 v.condition v.first v.second v.is c.requires.typed in (
+    let o = opens_choose c.args.node.now v.field-0 v.condition v.first v.second v.is
+    c.requires.typed in (
       search (rules, the_lemmas),
       (
         rw c.deref-in-Choose-3.ensures o.first_typed,
@@ -347,7 +363,8 @@ node_code-node_code-requires-in-Choose t c =
 pub node_code-node_code-requires-in-Choose-2 : goal.node_code-node_code-requires-in-Choose-2
 node_code-node_code-requires-in-Choose-2 t c =
     let v = c.in-Choose in
-    let o = opens_choose c.args.node.now v.field-0 v.condition v.first v.second v.is c.requires.typed in (
+    let o = opens_choose c.args.node.now v.field-0 v.condition v.first v.second v.is
+    c.requires.typed in (
       search (rules, the_lemmas),
       (
         rw c.deref-in-Choose-4.ensures o.second_typed,
@@ -366,7 +383,8 @@ node_code-returns-in_ok-own_code-in-Group t c =
     (λ last. writes-as (rw (c.deref.ensures, o.width.is, o.term) refl)
     (writes-then (c.in_ok-own_code-in-Group.ensures) last))
 
-pub node_code-returns-in_ok-node_code-in-Complement : goal.node_code-returns-in_ok-node_code-in-Complement
+pub node_code-returns-in_ok-node_code-in-Complement :
+    goal.node_code-returns-in_ok-node_code-in-Complement
 node_code-returns-in_ok-node_code-in-Complement t c =
     let v = c.in-Complement in
     let o = opens_complement c.args.node.now v.field-0 v.operand v.is c.requires.typed in
@@ -391,22 +409,27 @@ node_code-returns-in_ok-before_code-in-Past t c =
     (λ last. writes-as (rw (c.deref-in-Past.ensures, o.width.is, o.term) refl)
     (writes-then (c.in_ok-before_code-in-Past.ensures) last))
 
-pub node_code-returns-in_ok-compare_ticks-in-Change : goal.node_code-returns-in_ok-compare_ticks-in-Change
+pub node_code-returns-in_ok-compare_ticks-in-Change :
+    goal.node_code-returns-in_ok-compare_ticks-in-Change
 node_code-returns-in_ok-compare_ticks-in-Change t c =
     let v = c.in-Change in
     let o = opens_change c.args.node.now v.op v.operand v.is c.requires.typed in
-    let two = writes-then (c.in_ok-own_code-in-Change.ensures) (c.in_ok-cut_now-in-Change.ensures) in
+    let two = writes-then (c.in_ok-own_code-in-Change.ensures) (c.in_ok-cut_now-in-Change.ensures)
+    in
     let four = writes-then (writes-then two (c.in_ok-before_code-in-Change.ensures))
     (c.in_ok-compare_ticks-in-Change.ensures) in
     on-ok c.extend-in-Change.result c.extend-in-Change.ensures
     (λ last. writes-as (rw (c.deref-in-Change.ensures, c.deref-in-Change-2.ensures, o.term) refl)
     (writes-then four last))
 
-pub node_code-returns-in_ok-node_code-in-Choose-2 : goal.node_code-returns-in_ok-node_code-in-Choose-2
+pub node_code-returns-in_ok-node_code-in-Choose-2 :
+    goal.node_code-returns-in_ok-node_code-in-Choose-2
 node_code-returns-in_ok-node_code-in-Choose-2 t c =
     let v = c.in-Choose in
-    let o = opens_choose c.args.node.now v.field-0 v.condition v.first v.second v.is c.requires.typed in
-    let two = writes-then (c.in_ok-own_code-in-Choose.ensures) (c.in_ok-test_bit-in-Choose.ensures) in
+    let o = opens_choose c.args.node.now v.field-0 v.condition v.first v.second v.is
+    c.requires.typed in
+    let two = writes-then (c.in_ok-own_code-in-Choose.ensures) (c.in_ok-test_bit-in-Choose.ensures)
+    in
     let four = writes-then (writes-then two (c.in_ok-node_code-in-Choose.ensures))
     (c.in_ok-node_code-in-Choose-2.ensures) in
     on-ok c.put-in-Choose.result c.put-in-Choose.ensures
@@ -421,14 +444,16 @@ node_code-returns-in_ok-node_code-in-Choose-2 t c =
     ) refl)
     (writes-then four last))
 
-pub node_code-returns-in_ok-node_code-in-Arithmetic : goal.node_code-returns-in_ok-node_code-in-Arithmetic
+pub node_code-returns-in_ok-node_code-in-Arithmetic :
+    goal.node_code-returns-in_ok-node_code-in-Arithmetic
 node_code-returns-in_ok-node_code-in-Arithmetic t c =
     let at = slots_in c.args.slots.now in
     let w = c.args.width in
     let n = c.args.back in
     let v = c.in-Arithmetic in
     let o = opens_sums c.args.node.now v.field-0 v.first v.steps v.is c.requires.typed in
-    let whole = ap (λ (e : Term). code_of at e w n) o.chain.term ∙ code-sums at n w (node_term v.first.value) (map step_of v.steps.items) in
+    let whole = ap (λ (e : Term). code_of at e w n) o.chain.term ∙ code-sums at n w (node_term
+    v.first.value) (map step_of v.steps.items) in
     on-ok c.combine_all.result c.combine_all.ensures
     (λ last. writes-as
     (rw (c.deref-in-Arithmetic.ensures, c.deref-in-Arithmetic-2.ensures.value) (sym whole))
@@ -441,20 +466,23 @@ node_code-returns-in_ok-node_code-in-Shift t c =
     let n = c.args.back in
     let v = c.in-Shift in
     let o = opens_shifts c.args.node.now v.field-0 v.first v.steps v.is c.requires.typed in
-    let whole = ap (λ (e : Term). code_of at e w n) o.chain.term ∙ code-shifts at n w (node_term v.first.value) (map step_of v.steps.items) in
+    let whole = ap (λ (e : Term). code_of at e w n) o.chain.term ∙ code-shifts at n w (node_term
+    v.first.value) (map step_of v.steps.items) in
     on-ok c.shift_all.result c.shift_all.ensures
     (λ last. writes-as
     (rw (c.deref-in-Shift.ensures, c.deref-in-Shift-2.ensures.value) (sym whole))
     (writes-then (c.in_ok-node_code-in-Shift.ensures) last))
 
-pub node_code-returns-in_ok-compare_all-in-Compare : goal.node_code-returns-in_ok-compare_all-in-Compare
+pub node_code-returns-in_ok-compare_all-in-Compare :
+    goal.node_code-returns-in_ok-compare_all-in-Compare
 node_code-returns-in_ok-compare_all-in-Compare t c =
     let at = slots_in c.args.slots.now in
     let w = c.args.width in
     let n = c.args.back in
     let v = c.in-Compare in
     let o = opens_compare c.args.node.now v.larger v.first v.steps v.is c.requires.typed in
-    let whole = ap (λ (e : Term). code_of at e w n) o.chain.term ∙ code-comparisons at n w v.larger (node_term v.first.value) (map step_of v.steps.items) o.width.is o.some in
+    let whole = ap (λ (e : Term). code_of at e w n) o.chain.term ∙ code-comparisons at n w v.larger
+    (node_term v.first.value) (map step_of v.steps.items) o.width.is o.some in
     on-ok c.extend-in-Compare.result c.extend-in-Compare.ensures
     (λ last. writes-as
     (rw (c.deref-in-Compare.ensures, c.deref-in-Compare-2.ensures.value) (sym whole))
@@ -462,14 +490,16 @@ node_code-returns-in_ok-compare_all-in-Compare t c =
     (writes-then (c.in_ok-node_code-in-Compare.ensures) (c.in_ok-compare_all-in-Compare.ensures))
     last))
 
-pub node_code-returns-in_ok-connect_all-in-Connect : goal.node_code-returns-in_ok-connect_all-in-Connect
+pub node_code-returns-in_ok-connect_all-in-Connect :
+    goal.node_code-returns-in_ok-connect_all-in-Connect
 node_code-returns-in_ok-connect_all-in-Connect t c =
     let at = slots_in c.args.slots.now in
     let w = c.args.width in
     let n = c.args.back in
     let v = c.in-Connect in
     let o = opens_connect c.args.node.now v.first v.steps v.is c.requires.typed in
-    let whole = ap (λ (e : Term). code_of at e w n) o.chain.term ∙ code-connections at n w (node_term v.first.value) (map step_of v.steps.items) o.some in
+    let whole = ap (λ (e : Term). code_of at e w n) o.chain.term ∙ code-connections at n w
+    (node_term v.first.value) (map step_of v.steps.items) o.some in
     on-ok c.extend-in-Connect.result c.extend-in-Connect.ensures
     (λ last. writes-as
     (rw (
@@ -489,7 +519,8 @@ node_code-returns-in_ok-join_all-in-Concat t c =
     let n = c.args.back in
     let v = c.in-Concat in
     let o = opens_concat c.args.node.now v.own v.first v.parts v.is c.requires.typed in
-    let whole = ap (λ (e : Term). code_of at e w n) o.term ∙ code-parts at n w v.own (node_term v.first.value) (map seen_node v.parts.items) o.width.is o.some in
+    let whole = ap (λ (e : Term). code_of at e w n) o.term ∙ code-parts at n w v.own (node_term
+    v.first.value) (map seen_node v.parts.items) o.width.is o.some in
     on-ok c.extend-in-Concat.result c.extend-in-Concat.ensures
     (λ last. writes-as
     (rw (c.deref-in-Concat.ensures, c.deref-in-Concat-2.ensures.value) (sym whole))

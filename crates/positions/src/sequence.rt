@@ -1,0 +1,93 @@
+//! Tables of sequences.
+
+ghost use Rattle.std.specs.Prelude.{◌≡◌, ◌≤◌, ◌&&◌, IfOk, IfErr};
+ghost use Rattle.assertions.specs.Emptiness.{takes_ticks};
+ghost use Rattle.assertions.specs.Written.{weight, IsOrdered};
+ghost use Rattle.assertions.specs.Shapes.{written_form};
+ghost use Rattle.positions.specs.Rows.{rows_size};
+ghost use Rattle.positions.specs.Sequences.{atom_in, listed_for};
+ghost use Rattle.positions.specs.Faults.{IsLong};
+
+use crate::both::both;
+use crate::delay::{apart, lead_in};
+use crate::either::{during, either, tick};
+use crate::extent::extent_of;
+use crate::fault::SectionFault;
+use crate::repeat::repeat;
+use crate::table::Table;
+use assertions::{Boolean, Sequence};
+use std::alloc::Global;
+
+/// The atom of a boolean; the constant 1 has none.
+fn atom_of(boolean: Boolean, atoms: &[u8]) -> Option<u8>
+    ensures { result ≡ atom_in atoms.now boolean }
+{
+    match boolean {
+        Boolean::One => None,
+        Boolean::Listed(place) => atoms.get(place).copied(),
+    }
+}
+
+/// Whether two parts may share a tick: both take ticks.
+fn is_shared(first: &Sequence, second: &Sequence) -> bool
+    ensures { result
+        ≡ (takes_ticks (written_form first.now) && takes_ticks (written_form second.now)) }
+{
+    extent_of(first).ticks && extent_of(second).ticks
+}
+
+/// The table of a sequence. Nothing is made from what takes no tick.
+pub(crate) fn table_of(
+    alloc: Global,
+    sequence: &Sequence,
+    atoms: &[u8],
+) -> Result<Table, SectionFault>
+    requires ordered { IsOrdered (written_form sequence.now) }
+    requires bound { weight (written_form sequence.now) ≤ 127 }
+    ensures ok { IfOk result (λ t. t ≡ listed_for atoms.now (written_form sequence.now)) }
+    ensures err { IfErr result
+        (IsLong (rows_size (listed_for atoms.now (written_form sequence.now)).rows)) }
+{
+    let extent = extent_of(sequence);
+    if !extent.ticks {
+        return Ok(Table::still(alloc, extent.empty));
+    }
+    match sequence {
+        Sequence::Boolean(boolean) => Ok(tick(alloc, atom_of(*boolean, atoms))?),
+        Sequence::Delay(first, least, most, second) => {
+            let shares = is_shared(first, second);
+            let front = table_of(alloc, first, atoms)?;
+            let rest = table_of(alloc, second, atoms)?;
+            apart(
+                alloc,
+                shares,
+                &front,
+                &rest,
+                *least as usize,
+                *most as usize,
+            )
+        }
+        Sequence::Lead(least, most, body) => {
+            let table = table_of(alloc, body, atoms)?;
+            lead_in(alloc, *least as usize, *most as usize, &table)
+        }
+        Sequence::Repeat(body, least, most) => {
+            let table = table_of(alloc, body, atoms)?;
+            repeat(alloc, &table, *least as usize, *most as usize)
+        }
+        Sequence::Or(first, second) => {
+            let front = table_of(alloc, first, atoms)?;
+            let rest = table_of(alloc, second, atoms)?;
+            either(alloc, &front, &rest)
+        }
+        Sequence::And(first, second) => {
+            let front = table_of(alloc, first, atoms)?;
+            let rest = table_of(alloc, second, atoms)?;
+            both(alloc, &front, &rest)
+        }
+        Sequence::Throughout(boolean, body) => {
+            let table = table_of(alloc, body, atoms)?;
+            during(alloc, atom_of(*boolean, atoms), &table)
+        }
+    }
+}
