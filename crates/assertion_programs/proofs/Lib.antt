@@ -1,4 +1,5 @@
 pub mod SampleLaws
 pub mod ListLaws
+pub mod Frames
 pub mod Samples
 pub mod Decides

@@ -1,1 +1,4 @@
 pub mod Conditions
+pub mod Readings
+pub mod Faults
+pub mod Parts

@@ -1,17 +1,32 @@
-//! What the compiler of assertions may take for granted.
-//!
-//! Definitions alone so far. An assertion is of a suite (`IsFit`) where the suite's clock and signals
-//! have paths, its counters count by known expressions, and the assertion's booleans are in its list
-//! and name known expressions. Of a known expression each name is a signal or a counter of the
-//! suite, no part has over 128 bits, no `$past` looks back over 64 ticks, and at most 64 brackets are
-//! open at once.
+//! Programs of assertions: `compile` makes the bytecode whose verdicts are the assertion's.
 //!
 //! ```text
-//! requires fit { IsFit suite.now assertion.now }    // what `compile` will ask
+//! let suite = check(alloc, &file, &names)?;
+//! for assertion in suite.assertions() {
+//!     let verified = compile(alloc, assertion, &suite)?;
+//! }
 //! ```
 //!
-//! The definitions: `specs/Conditions.antt`; how deep brackets nest is `depth` of
-//! `expression_code`, which bounds the stack and the history of a program.
+//! A program samples the signals and counts the counters that the assertion reads, also through
+//! other counters; it has an atom for each boolean of the assertion's list, and a section for each
+//! side, made by `positions`. Its limits are the least that serve it, by the verifier's own
+//! functions, and the verifier accepts it always: `compile` answers no refusal of the verifier.
 //!
-//! Not promised: that a suite of a text keeps to this, which is to be proved in a crate above.
+//! The definitions: what a program of an assertion is, and that it decides as the assertion means,
+//! in `assertion_programs`; what `compile` takes for granted of an assertion and its suite in
+//! `specs/Conditions.antt` (it follows where the type checker made the suite of a text); what an
+//! assertion reads in `specs/Readings.antt`; why there is no program in `specs/Faults.antt`.
+//!
+//! Not promised: that memory suffices, or that code is as short as can be.
 #![tactic(auto)]
+
+mod compile;
+mod fault;
+mod limits;
+mod program;
+mod reading;
+mod slots;
+mod texts;
+
+pub use compile::compile;
+pub use fault::CompileFault;

@@ -1,0 +1,73 @@
+//! The limits of a program.
+
+ghost use Rattle.std.specs.Prelude.{◌≡◌, IfOk};
+ghost use Rattle.inference.specs.declared.refusal.Refusal.{Refusal};
+ghost use Rattle.bytecode.specs.Programs.{data_of};
+ghost use Rattle.verifier.specs.Programs.{IsWellFormed, HasRoom, least_limits};
+ghost use Rattle.compiler.specs.Parts.{AreModest, no_limits, declared_from, with_limits};
+
+use bytecode::{Limits, Program};
+use std::alloc::{AllocError, Global};
+use verifier::{LeastLimits, Refusal, Verified, least_limits, verify};
+
+/// The refusal of a program that has no fault.
+fn want_of_memory(refusal: Refusal) -> AllocError
+    requires { refusal ≡ Refusal.Memory }
+{
+    match refusal {
+        Refusal::Memory => AllocError,
+        _ => unreachable!(),
+    }
+}
+
+/// The least limits, declared.
+fn declared(least: LeastLimits) -> Limits
+    requires { AreModest least }
+    ensures { result ≡ declared_from least }
+{
+    Limits {
+        history: least.history as u16,
+        stack: least.stack as u16,
+        attempts: least.attempts as u16,
+        obligations: least.obligations as u16,
+        budget: least.budget as u32,
+    }
+}
+
+/// The same program, which declares these limits.
+fn declaring(program: Program, least: LeastLimits) -> Program
+    requires { AreModest least }
+    ensures { data_of result ≡ with_limits (data_of program) (declared_from least) }
+{
+    Program {
+        limits: declared(least),
+        ..program
+    }
+}
+
+/// The least limits of a program that has no fault.
+fn least_of(alloc: Global, program: &Program) -> Result<LeastLimits, AllocError>
+    requires formed { IsWellFormed (data_of program.now) }
+    requires room { HasRoom (data_of program.now) }
+    ensures { IfOk result (λ least. least ≡ least_limits (data_of program.now)) }
+{
+    match least_limits(alloc, program) {
+        Ok(least) => Ok(least),
+        Err(refusal) => Err(want_of_memory(refusal)),
+    }
+}
+
+/// A program that has no fault, accepted with the least limits that serve it.
+pub(crate) fn accepted(alloc: Global, program: Program) -> Result<Verified, AllocError>
+    requires formed { IsWellFormed (data_of program) }
+    requires room { HasRoom (data_of program) }
+    requires modest { AreModest (least_limits (data_of program)) }
+    ensures { IfOk result (λ verified. verified
+        ≡ with_limits (data_of program) (declared_from (least_limits (data_of program)))) }
+{
+    let least = least_of(alloc, &program)?;
+    match verify(alloc, declaring(program, least)) {
+        Ok(verified) => Ok(verified),
+        Err(refusal) => Err(want_of_memory(refusal)),
+    }
+}

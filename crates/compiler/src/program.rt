@@ -1,0 +1,138 @@
+//! The program of an assertion, before it declares its limits.
+
+ghost use Rattle.std.specs.Prelude.{◌≡◌, ◌≤◌, length, IfOk, IfErr};
+ghost use Rattle.assertions.specs.declared.sequence.Boolean.TheVariants.{One};
+ghost use Rattle.assertions.specs.Written.{weight, IsOrdered};
+ghost use Rattle.assertions.specs.Shapes.{written_form};
+ghost use Rattle.assertions.specs.Listed.{EachBoolean, IsListed, IsListedOption};
+ghost use Rattle.assertion_reads.specs.Marks.{places_from};
+ghost use Rattle.positions.specs.Sequences.{atom_of};
+ghost use Rattle.positions.specs.Laws.{section_for};
+ghost use Rattle.assertion_programs.specs.Programs.{disabling_atom};
+ghost use Rattle.bytecode.specs.Programs.{data_of};
+ghost use Rattle.bytecode.specs.Views.{section_data};
+ghost use Rattle.inference.specs.Sections.{size_of};
+ghost use Rattle.compiler.specs.Conditions.{IsFit};
+ghost use Rattle.compiler.specs.Readings.{IsReading, slot_count, code_over};
+ghost use Rattle.compiler.specs.Faults.{HasLongText};
+ghost use Rattle.compiler.specs.Parts.{AreParts, IsCodeFault, IsSideFault, no_limits};
+
+use crate::fault::CompileFault;
+use crate::reading::{Reading, count_marked};
+use crate::slots::{counter_widths, signal_slots};
+use assertion_reads::{marked_places, slots_of};
+use assertions::{Assertion, Boolean, Sequence, Suite};
+use bytecode::{Limits, Program, SampleInstr, Section};
+use expression_code::{SlotTable, sample_code};
+use positions::positions_of;
+use std::alloc::Global;
+
+/// The sample code of the assertion's booleans and of the counters that it reads.
+fn code_of(
+    alloc: Global,
+    assertion: &Assertion,
+    suite: &Suite,
+    reading: &Reading,
+    counters: &[usize],
+) -> Result<Vec<SampleInstr>, CompileFault>
+    requires fit { IsFit suite.now assertion.now }
+    requires reading { IsReading suite.now assertion.now reading.now.signals.items
+        reading.now.counters.items }
+    requires atoms { length assertion.now.booleans.items ≤ 127 }
+    requires slots { slot_count reading.now.signals.items reading.now.counters.items ≤ 256 }
+    requires counters { counters.now ≡ places_from 0 reading.now.counters.items }
+    ensures made { IfOk result (λ code. code.items ≡ code_over suite.now assertion.now
+        reading.now.signals.items reading.now.counters.items) }
+    ensures short { IfOk result (λ code. length code.items ≤ 4096) }
+    ensures fault { IfErr result (IsCodeFault suite.now assertion.now
+        reading.now.signals.items reading.now.counters.items) }
+{
+    let first = 1 + count_marked(reading.signals.as_slice()) as u16;
+    let slots = SlotTable {
+        signals: slots_of(alloc, reading.signals.as_slice(), 1)?,
+        counters: slots_of(alloc, reading.counters.as_slice(), first)?,
+    };
+    Ok(sample_code(
+        alloc,
+        suite.booleans.as_slice(),
+        assertion.booleans.as_slice(),
+        suite.counters.as_slice(),
+        counters,
+        &slots,
+    )?)
+}
+
+/// The section that follows a side.
+fn side_of(alloc: Global, side: &Sequence) -> Result<Section, CompileFault>
+    requires ordered { IsOrdered (written_form side.now) }
+    requires bound { weight (written_form side.now) ≤ 127 }
+    requires listed { EachBoolean (IsListed 127) (written_form side.now) }
+    ensures made { IfOk result (λ s.
+        section_data s ≡ section_for atom_of One (written_form side.now)) }
+    ensures short { IfOk result (λ s. size_of (section_data s).blocks ≤ 4096) }
+    ensures fault { IfErr result (IsSideFault side.now) }
+{
+    Ok(positions_of(alloc, side)?)
+}
+
+/// The atom of the disabling boolean, if there is one.
+fn disabling(boolean: Option<Boolean>) -> Option<u8>
+    requires { IsListedOption 127 boolean }
+    ensures { result ≡ disabling_atom boolean }
+{
+    match boolean {
+        None => None,
+        Some(Boolean::One) => None,
+        Some(Boolean::Listed(place)) => Some(place as u8),
+    }
+}
+
+/// No limits yet.
+fn undeclared() -> Limits
+    ensures { result ≡ no_limits }
+{
+    Limits {
+        history: 0,
+        stack: 0,
+        attempts: 0,
+        obligations: 0,
+        budget: 0,
+    }
+}
+
+/// The program of an assertion that reads these signals and counters, without limits.
+pub(crate) fn program_of(
+    alloc: Global,
+    assertion: &Assertion,
+    suite: &Suite,
+    reading: &Reading,
+) -> Result<Program, CompileFault>
+    requires fit { IsFit suite.now assertion.now }
+    requires reading { IsReading suite.now assertion.now reading.now.signals.items
+        reading.now.counters.items }
+    requires atoms { length assertion.now.booleans.items ≤ 127 }
+    requires slots { slot_count reading.now.signals.items reading.now.counters.items ≤ 256 }
+    requires texts { HasLongText suite.now assertion.now reading.now.signals.items → ⊥ }
+    ensures made { IfOk result (λ p. AreParts suite.now assertion.now
+        reading.now.signals.items reading.now.counters.items (data_of p)) }
+    ensures fault { IfErr result (IsCodeFault suite.now assertion.now
+        reading.now.signals.items reading.now.counters.items) }
+{
+    let signals = marked_places(alloc, reading.signals.as_slice())?;
+    let counters = marked_places(alloc, reading.counters.as_slice())?;
+    let sample = code_of(alloc, assertion, suite, reading, counters.as_slice())?;
+    let antecedent = side_of(alloc, &assertion.antecedent)?;
+    let consequent = side_of(alloc, &assertion.consequent)?;
+    Ok(Program {
+        limits: undeclared(),
+        disable: disabling(assertion.disabling),
+        atoms: assertion.booleans.len() as u8,
+        name: String::from_str(alloc, assertion.name.as_str())?,
+        clock: String::from_str(alloc, suite.clock.as_str())?,
+        signals: signal_slots(alloc, suite.names.as_slice(), signals.as_slice())?,
+        counters: counter_widths(alloc, suite.counters.as_slice(), counters.as_slice())?,
+        sample,
+        antecedent,
+        consequent,
+    })
+}
