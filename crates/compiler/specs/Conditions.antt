@@ -1,5 +1,5 @@
 -- What an assertion keeps to that is of a suite which the type checker made of a text.
-use Rattle.std.specs.Prelude.{◌≡◌, ℕ, ◌<◌, ◌≤◌, IsTrue, Option, Some, None, length, slice_get}
+use Rattle.std.specs.Prelude.{◌≡◌, ℕ, ◌≤◌, IsTrue, Some, length, slice_get}
 use Rattle.std.specs.Prelude.{string_bytes}
 use Rattle.std.specs.List.{AllByRecursion}
 use Rattle.expressions.specs.declared.name.Origin.{Origin}
@@ -9,13 +9,11 @@ use Rattle.expressions.specs.declared.expr.Expr.{Expr}
 use Rattle.expressions.specs.declared.counter.Counter as counters
 use Rattle.expressions.specs.Terms.{Term, width_of}
 use Rattle.expressions.specs.Expressions.{term_of}
-use Rattle.assertions.specs.declared.sequence.Boolean.{Boolean}
-use Rattle.assertions.specs.declared.sequence.Boolean.TheVariants.{One, Listed}
 use Rattle.assertions.specs.declared.signal.Signal as signals
 use Rattle.assertions.specs.declared.assertion.Assertion.{Assertion}
 use Rattle.assertions.specs.declared.suite.Suite.{Suite}
 use Rattle.assertions.specs.Segments.{AdmitsEmpty}
-use Rattle.assertions.specs.Written.{Written, boolean, delay, lead, repeat, or, and, throughout}
+use Rattle.assertions.specs.Listed.{EachBoolean, IsListed, IsListedOption}
 use Rattle.assertions.specs.Shapes.{written_form, shape}
 use Rattle.bytecode.specs.Texts.{is_word, is_path}
 use Rattle.expression_code.specs.Laws.{Each, OfName}
@@ -65,27 +63,6 @@ pub record IsKnownAt (suite : Suite) (place : ℕ) : Type 0 where
   pub expression : Expr
   pub found : slice_get suite.booleans.items place ≡ Some expression
   pub known : IsKnown suite (term_of expression)
-
--- P holds of each boolean of a sequence.
-abbrev pub EachBoolean : {B : Type 0} → (B → Type 0) → Written B → Type 0
-EachBoolean P (boolean b) = P b
-EachBoolean P (delay r least most s) = EachBoolean P r × EachBoolean P s
-EachBoolean P (lead least most s) = EachBoolean P s
-EachBoolean P (repeat r least most) = EachBoolean P r
-EachBoolean P (or r s) = EachBoolean P r × EachBoolean P s
-EachBoolean P (and r s) = EachBoolean P r × EachBoolean P s
-EachBoolean P (throughout b r) = P b × EachBoolean P r
-
--- It is the constant 1, or one of so many that are listed.
-abbrev pub IsListed : ℕ → Boolean → Type 0
-IsListed count One = Unit {0}
-IsListed count (Listed i) = i < count
-
--- A disabling boolean is listed.
-abbrev pub IsListedOption : ℕ → Option Boolean → Type 0
-IsListedOption count None = Unit {0}
-IsListedOption count (Some One) = ⊥
-IsListedOption count (Some (Listed i)) = i < count
 
 -- An assertion's list has places of known expressions, and all its booleans are in the list.
 pub record IsPlaced (suite : Suite) (a : Assertion) : Type 0 where
