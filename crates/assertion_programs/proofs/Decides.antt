@@ -1,5 +1,5 @@
 -- The program of an assertion decides as the assertion means.
-use Rattle.std.proofs.Common.{◌≡◌, ◌∙◌, ℕ, ◌<◌, Bool, true, false, List, length, map, Option, Some, None, slice_get, refl, ap, sym, subst}
+use Rattle.std.proofs.Common.{◌≡◌, ◌∙◌, ℕ, ◌<◌, Bool, true, false, List, length, map, Option, Some, None, slice_get, refl, ap, sym, subst, inl, inr}
 use Rattle.std.specs.Option.{option_map}
 use Rattle.std.specs.Prelude.{unwrap_or, string_bytes}
 use Rattle.std.proofs.Math.Path.{fun_ext}
@@ -11,7 +11,7 @@ use Rattle.assertions.specs.declared.sequence.Boolean.TheVariants.{One, Listed}
 use Rattle.assertions.specs.declared.assertion.Assertion.{Assertion}
 use Rattle.assertions.specs.declared.suite.Suite.{Suite}
 use Rattle.assertions.specs.Segments.{always}
-use Rattle.assertions.specs.Written.{Written, kernel, IsOrdered}
+use Rattle.assertions.specs.Written.{Written, boolean, delay, lead, repeat, or, and, throughout, kernel, IsOrdered}
 use Rattle.assertions.specs.Shapes.{written_form, shape, value_in, off_in, is_true_at, expression_at}
 use Rattle.assertions.proofs.EmptinessLaws.{empty-Matches, Matches-empty}
 use Rattle.bytecode.specs.Values.{ProgramData, SectionData}
@@ -29,9 +29,31 @@ use Rattle.verdict_lines.proofs.Lines.{by-meaning}
 use Rattle.positions.specs.Laws.{Occurs, section_for}
 use Rattle.positions.specs.Sections.{told}
 use Rattle.positions.proofs.Theorem.{law-section_follows}
-use Rattle.assertion_programs.specs.Programs.{atom_of, disabling_atom, IsListed, CanDisable, IsProgramOf}
+use Rattle.assertions.specs.Listed.{EachBoolean, IsListed, IsListedOption}
+use Rattle.positions.specs.Sequences.{atom_of}
+use Rattle.compiler.specs.Programs.{disabling_atom, IsProgramOf}
 use Rattle.assertion_programs.specs.Laws.{AreRowsOf, picked, AreVerdictsOver, ProgramsDecide}
 use Rattle.assertion_programs.proofs.Samples as made
+
+one-listed : (n : ℕ) (b : Boolean) → One ≡ b → IsListed n b
+one-listed n b is = subst (IsListed n) is tt
+
+same-listed : (n : ℕ) (b c : Boolean) → IsListed n c → c ≡ b → IsListed n b
+same-listed n b c h is = subst (IsListed n) is h
+
+-- a boolean that occurs is listed, where each boolean of the sequence is
+occurs-listed : (n : ℕ) (w : Written Boolean) (b : Boolean) → EachBoolean (IsListed n) w → Occurs One b w → IsListed n b
+occurs-listed n (boolean c) b h o = same-listed n b c h o
+occurs-listed n (delay r least most s) b h o =
+    elim o [
+      | inl one ↦ one-listed n b one
+      | inr more ↦ elim more [ | inl x ↦ occurs-listed n r b h.0 x | inr y ↦ occurs-listed n s b h.1 y ]
+    ]
+occurs-listed n (lead least most s) b h o = elim o [ | inl one ↦ one-listed n b one | inr y ↦ occurs-listed n s b h y ]
+occurs-listed n (repeat r least most) b h o = occurs-listed n r b h o
+occurs-listed n (or r s) b h o = elim o [ | inl x ↦ occurs-listed n r b h.0 x | inr y ↦ occurs-listed n s b h.1 y ]
+occurs-listed n (and r s) b h o = elim o [ | inl x ↦ occurs-listed n r b h.0 x | inr y ↦ occurs-listed n s b h.1 y ]
+occurs-listed n (throughout c r) b h o = elim o [ | inl x ↦ same-listed n b c h.0 x | inr y ↦ occurs-listed n r b h.1 y ]
 
 module _ (suite : Suite) (a : Assertion) (p : ProgramData) (of : IsProgramOf suite a p) (rows : List (List ℕ)) (fit : AreRowsOf suite rows) where
   abbrev value : Boolean → ℕ → Bool
@@ -55,11 +77,11 @@ module _ (suite : Suite) (a : Assertion) (p : ProgramData) (of : IsProgramOf sui
   told-at k One h = refl
   told-at k (Listed i) h = get_or_from_slice_get (atoms k) i (value (Listed i) k) true (atom-at k i h)
 
-  follows : (w : Written Boolean) (s : SectionData) → IsOrdered w → ((b : Boolean) → Occurs One b w → IsListed (length a.booleans.items) b) →
+  follows : (w : Written Boolean) (s : SectionData) → IsOrdered w → EachBoolean (IsListed (length a.booleans.items)) w →
       s ≡ section_for atom_of One w → Follows value (kernel One w) (automaton_of s atoms)
   follows w s ordered listed is =
       subst (λ x. Follows value (kernel One w) (automaton_of x atoms)) (sym is)
-      (law-section_follows atom_of One atoms value w ordered (λ k b occurs. told-at k b (listed b occurs)))
+      (law-section_follows atom_of One atoms value w ordered (λ k b occurs. told-at k b (occurs-listed (length a.booleans.items) w b listed occurs)))
 
   watches : Watches p atoms value (shape a.antecedent) (shape a.consequent)
   watches = record {
@@ -72,7 +94,7 @@ module _ (suite : Suite) (a : Assertion) (p : ProgramData) (of : IsProgramOf sui
       of.fills (empty-Matches Boolean always One (written_form a.consequent) 0 a.consequent_ordered
       (Matches-empty Boolean value One (written_form a.consequent) e a.consequent_ordered m))
 
-  disabled-at : (d : Option Boolean) → CanDisable (length a.booleans.items) d → (k : ℕ) →
+  disabled-at : (d : Option Boolean) → IsListedOption (length a.booleans.items) d → (k : ℕ) →
       unwrap_or (disabling (disabling_atom d) (atoms k)) false ≡ off_in suite.booleans.items a.booleans.items (made.t suite a p of rows fit) d k
   disabled-at None h k = refl
   disabled-at (Some One) h k = absurd h

@@ -1,5 +1,3 @@
 pub mod SampleLaws
-pub mod ListLaws
-pub mod Frames
 pub mod Samples
 pub mod Decides

@@ -30,11 +30,11 @@ use Rattle.expression_code.specs.Codes.{slot_of}
 use Rattle.expression_code.specs.Samples.{Held, held_slot}
 use Rattle.expression_code.specs.Laws.{Each, OfName, HasSlot, IsNarrow, Tells, TellsNames, IsFrame, AreTold, program_terms}
 use Rattle.expression_code.proofs.Accepted.{samples-tell}
-use Rattle.assertion_programs.specs.Programs.{HoldsAt, HoldsName, IsSampled, IsSlotOf, IsProgramOf}
+use Rattle.compiler.specs.Programs.{HoldsAt, HoldsName, IsSampled, IsSlotOf, IsProgramOf}
 use Rattle.assertion_programs.specs.Laws.{AreRowsOf, picked}
-use Rattle.assertion_programs.proofs.ListLaws.{some-one, zip-at, zip-long, all-at, all-by-places, all-more, map-twice, all-zeros, signal-slot, counter-slot, by-index}
+use Rattle.compiler.proofs.ListLaws.{some-one, zip-at, zip-long, all-at, all-by-places, all-more, map-twice, all-zeros, signal-slot, counter-slot, by-index}
 use Rattle.assertion_programs.proofs.SampleLaws.{same-run}
-use Rattle.assertion_programs.proofs.Frames.{each-more, of-name-more, frame}
+use Rattle.compiler.proofs.Frames.{each-more, of-name-more, frame}
 
 -- a slot that holds at each tick what is told of it
 tells : (row : ℕ → List ℕ) (k slot : ℕ) (value : ℕ → ℕ) → ((j : ℕ) → j ≤ k → slice_index (row j) slot ≡ value j) → Tells (held row k) k slot value

@@ -13,7 +13,7 @@ use Rattle.verifier.specs.Programs.{IsAccepted}
 use Rattle.verdicts.specs.Lines.{line_data_of}
 use Rattle.program_runs.specs.Lines.{IsLineOver}
 use Rattle.verdict_lines.specs.Laws.{AreVerdicts}
-use Rattle.assertion_programs.specs.Programs.{IsProgramOf}
+use Rattle.compiler.specs.Programs.{IsProgramOf}
 
 -- rows of the suite's signals, whose values have the signals' widths
 abbrev pub AreRowsOf : Suite → List (List ℕ) → Type 0

@@ -1,2 +1,1 @@
-pub mod Programs
 pub mod Laws

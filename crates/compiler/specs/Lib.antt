@@ -1,4 +1,5 @@
 pub mod Conditions
+pub mod Programs
 pub mod Readings
 pub mod Faults
 pub mod Parts

@@ -15,7 +15,7 @@ use Rattle.verifier.specs.declared.least.LeastLimits.{LeastLimits}
 use Rattle.assertion_reads.specs.Marks.{places_from}
 use Rattle.positions.specs.Laws.{section_for}
 use Rattle.positions.specs.Sequences.{atom_of}
-use Rattle.assertion_programs.specs.Programs.{disabling_atom}
+use Rattle.compiler.specs.Programs.{disabling_atom}
 use Rattle.compiler.specs.Readings.{code_over}
 use Rattle.compiler.specs.Faults.{StandsOver, side_size}
 use Rattle.compiler.specs.declared.fault.CompileFault.{CompileFault}

@@ -4,7 +4,7 @@ ghost use Rattle.std.specs.Prelude.{◌≡◌, IfOk, IfErr, MatchOption};
 ghost use Rattle.compiler.specs.Conditions.{IsFit};
 ghost use Rattle.compiler.specs.Readings.{IsReading};
 ghost use Rattle.compiler.specs.Faults.{WhyNotCompiled, AreCounted, IsCountFault};
-ghost use Rattle.assertion_programs.specs.Programs.{IsProgramOf};
+ghost use Rattle.compiler.specs.Programs.{IsProgramOf};
 ghost use Rattle.verifier.specs.Programs.{IsAccepted};
 ghost use Rattle.bytecode.specs.Values.{ProgramData};
 

@@ -8,7 +8,7 @@ ghost use Rattle.assertions.specs.Listed.{EachBoolean, IsListed, IsListedOption}
 ghost use Rattle.assertion_reads.specs.Marks.{places_from};
 ghost use Rattle.positions.specs.Sequences.{atom_of};
 ghost use Rattle.positions.specs.Laws.{section_for};
-ghost use Rattle.assertion_programs.specs.Programs.{disabling_atom};
+ghost use Rattle.compiler.specs.Programs.{disabling_atom};
 ghost use Rattle.bytecode.specs.Programs.{data_of};
 ghost use Rattle.bytecode.specs.Views.{section_data};
 ghost use Rattle.inference.specs.Sections.{size_of};

@@ -1,5 +1,5 @@
 -- What a program of an assertion is.
-use Rattle.std.specs.Prelude.{◌≡◌, ℕ, ◌+◌, ◌<◌, ◌≤◌, List, length, map, Option, Some, None}
+use Rattle.std.specs.Prelude.{◌≡◌, ℕ, ◌+◌, ◌≤◌, List, length, map, Option, Some, None}
 use Rattle.std.specs.Prelude.{slice_get, string_bytes}
 use Rattle.std.specs.List.{AllByRecursion, AllZip}
 use Rattle.expressions.specs.declared.name.Origin.TheVariants.{Signal, Counter}
@@ -9,17 +9,19 @@ use Rattle.expressions.specs.declared.expr.Expr.{Expr}
 use Rattle.expressions.specs.Terms.{Term, width_of}
 use Rattle.expressions.specs.Expressions.{term_of}
 use Rattle.assertions.specs.declared.sequence.Boolean.{Boolean}
-use Rattle.assertions.specs.declared.sequence.Boolean.TheVariants.{One, Listed}
+use Rattle.assertions.specs.declared.sequence.Boolean.TheVariants.{One}
 use Rattle.assertions.specs.declared.signal.Signal.{Signal as Watched}
 use Rattle.assertions.specs.declared.assertion.Assertion.{Assertion}
 use Rattle.assertions.specs.declared.suite.Suite.{Suite}
 use Rattle.assertions.specs.Segments.{AdmitsEmpty}
 use Rattle.assertions.specs.Shapes.{written_form, shape}
+use Rattle.assertions.specs.Listed.{EachBoolean, IsListed, IsListedOption}
 use Rattle.bytecode.specs.Values.{ProgramData, SlotData}
 use Rattle.expression_code.specs.Codes.{Slots}
 use Rattle.expression_code.specs.Samples.{Held, sample_code}
 use Rattle.expression_code.specs.Laws.{Each, OfName, program_terms}
-use Rattle.positions.specs.Laws.{Occurs, section_for}
+use Rattle.positions.specs.Sequences.{atom_of}
+use Rattle.positions.specs.Laws.{section_for}
 
 -- What a program holds of a suite: the places of signals, and counters, in the order of its slots.
 pub record Layout : Type 0 where
@@ -60,11 +62,7 @@ pub record IsSampled (suite : Suite) (l : Layout) (e : Term) : Type 0 where
   pub name : OfName (HoldsName suite l) e
   pub narrow : width_of e ≤ 128
 
--- the atom of a boolean, but of the constant 1
-abbrev pub atom_of : Boolean → Option ℕ
-atom_of One = None
-atom_of (Listed i) = Some i
-
+-- the atom of a disabling boolean, if there is one
 abbrev pub disabling_atom : Option Boolean → Option ℕ
 disabling_atom None = None
 disabling_atom (Some b) = atom_of b
@@ -75,17 +73,6 @@ pub record IsSlotOf (suite : Suite) (place : ℕ) (slot : SlotData) : Type 0 whe
   pub is : slice_get suite.names.items place ≡ Some signal
   pub width : slot.width ≡ signal.width
   pub path : slot.path ≡ string_bytes signal.path
-
--- A boolean that an assertion lists, or the constant 1.
-abbrev pub IsListed : ℕ → Boolean → Type 0
-IsListed count One = Unit {0}
-IsListed count (Listed i) = i < count
-
--- a disabling boolean is one of those that are listed
-abbrev pub CanDisable : ℕ → Option Boolean → Type 0
-CanDisable count None = Unit {0}
-CanDisable count (Some One) = ⊥
-CanDisable count (Some (Listed i)) = i < count
 
 -- The program of an assertion of a suite: an atom for each boolean of its list, in order, and for
 -- each of its sides the section that follows it.
@@ -113,9 +100,9 @@ pub record IsProgramOf (suite : Suite) (a : Assertion) (p : ProgramData) : Type 
   pub consequent : p.consequent ≡ section_for atom_of One (written_form a.consequent)
   pub disable : p.header.disable ≡ disabling_atom a.disabling
   -- what is asked of the assertion
-  pub antecedent_listed : (b : Boolean) → Occurs One b (written_form a.antecedent) →
-      IsListed (length a.booleans.items) b
-  pub consequent_listed : (b : Boolean) → Occurs One b (written_form a.consequent) →
-      IsListed (length a.booleans.items) b
-  pub disabling_listed : CanDisable (length a.booleans.items) a.disabling
+  pub antecedent_listed :
+      EachBoolean (IsListed (length a.booleans.items)) (written_form a.antecedent)
+  pub consequent_listed :
+      EachBoolean (IsListed (length a.booleans.items)) (written_form a.consequent)
+  pub disabling_listed : IsListedOption (length a.booleans.items) a.disabling
   pub fills : AdmitsEmpty (shape a.consequent) → ⊥

@@ -14,8 +14,8 @@ use Rattle.bytecode.specs.Instructions.{frame_of}
 use Rattle.expression_code.specs.Codes.{slot_of}
 use Rattle.expression_code.specs.Samples.{Held, held_slot}
 use Rattle.expression_code.specs.Laws.{Each, OfName, HasSlot, IsNarrow, IsFrame, program_terms}
-use Rattle.assertion_programs.specs.Programs.{HoldsAt, HoldsName, IsSampled, IsSlotOf, IsProgramOf}
-use Rattle.assertion_programs.proofs.ListLaws.{some-one, zip-at, zip-long, all-by-places, all-more, signal-slot, counter-slot}
+use Rattle.compiler.specs.Programs.{HoldsAt, HoldsName, IsSampled, IsSlotOf, IsProgramOf}
+use Rattle.compiler.proofs.ListLaws.{some-one, zip-at, zip-long, all-by-places, all-more, signal-slot, counter-slot}
 
 -- what holds of each part, from what holds of it
 pub each-more : (P Q : Term → Type 0) → ((e : Term) → P e → Q e) → (e : Term) → Each P e → Each Q e

@@ -1,0 +1,5 @@
+pub mod ListLaws
+pub mod Frames
+pub mod Names
+pub mod Places
+pub mod Known
