@@ -2,6 +2,7 @@ pub mod Quantifiers
 pub mod Segments
 pub mod Attempts
 pub mod Shapes
+pub mod Listed
 pub mod Written
 pub mod Ordered
 pub mod Emptiness

@@ -14,7 +14,7 @@ use Rattle.positions.specs.Plans.{Plan, tick, skip, any, all, under, loop, link,
 use Rattle.positions.specs.States.{State, First, Left}
 use Rattle.positions.specs.Tables.{Edge, Table, SomeOf, EachOf, Has, Enters, Accepts, Fires, IsRising, Spells, table_of, tick_table, loop_table, shift}
 use Rattle.positions.specs.Sections.{edge_size, numbered, coded, rows_of}
-use Rattle.positions.specs.Sequences.{atom_in, listed_for}
+use Rattle.positions.specs.Sequences.{atom_of}
 use Rattle.positions.specs.Rows.{TableData, IsPlaced, listed, edges_size, row_size, rows_size, row_at, joined_data, fused_data}
 use Rattle.positions.specs.Rows.{still_data, tick_data, either_data, during_data, link_data, repeat_data, both_data, gap_data, apart_data, lead_in_data}
 use Rattle.positions.proofs.Ticks.{Match-begins, Left-goes}
@@ -109,12 +109,9 @@ moving-true : (t e : Bool) (p : Plan Boolean) → t ≡ true → moving t e p �
 moving-true true e p is = refl
 moving-true false e p is = cc
 
-module _ (atoms : List ℕ) where
-  abbrev atom : Boolean → Option ℕ
-  atom = atom_in atoms
-
+module _ (atom : Boolean → Option ℕ) where
   abbrev L : Written Boolean → TableData
-  L w = listed_for atoms w
+  L w = listed atom (table_for w)
 
   -- where no match takes a tick
   still-moving : (t e : Bool) (p : Plan Boolean) → t ≡ false → listed atom (table_of (moving t e p)) ≡ still_data e
@@ -320,21 +317,21 @@ ticks-rising least most = rising Boolean (loop (tick One) least most) (loop_tabl
 pub ticks-length : (least most : ℕ) → length (repeat_data (tick_data None) least most).rows ≡ most
 ticks-length least most =
     let one : most * 1 ≡ most = omega arith in
-    ap (λ (d : TableData). length d.rows) (sym (made-ticks [] least most))
-    ∙ rows_of-length (coded (atom_in []) (loop_table (tick_table One) least most)) 0 (most * 1) ∙ one
+    ap (λ (d : TableData). length d.rows) (sym (made-ticks atom_of least most))
+    ∙ rows_of-length (coded atom_of (loop_table (tick_table One) least most)) 0 (most * 1) ∙ one
 
 pub ticks-placed : (least most : ℕ) → most ≤ 127 → IsPlaced (repeat_data (tick_data None) least most)
 ticks-placed least most few =
     let one : most * 1 ≡ most = omega arith in
-    subst IsPlaced (made-ticks [] least most) (placed Boolean (atom_in []) (loop_table (tick_table One) least most) (ticks-rising least most) (omega (arith, one)))
+    subst IsPlaced (made-ticks atom_of least most) (placed Boolean atom_of (loop_table (tick_table One) least most) (ticks-rising least most) (omega (arith, one)))
 
 pub still-placed : (empty : Bool) → IsPlaced (still_data empty)
 still-placed empty = record { few = omega arith; starts = tt; enters = tt }
 
 pub gap-placed : (least most : ℕ) → most ≤ 127 → IsPlaced (gap_data least most)
 gap-placed least zero few = still-placed true
-gap-placed least (suc most) few = subst IsPlaced (sym (gap-some [] least most)) (ticks-placed (least - 1) (suc most - 1) (omega arith))
+gap-placed least (suc most) few = subst IsPlaced (sym (gap-some atom_of least most)) (ticks-placed (least - 1) (suc most - 1) (omega arith))
 
 pub gap-length : (least most : ℕ) → length (gap_data least most).rows ≤ most
 gap-length least zero = omega arith
-gap-length least (suc most) = omega (arith, ap (λ (d : TableData). length d.rows) (gap-some [] least most), ticks-length (least - 1) (suc most - 1))
+gap-length least (suc most) = omega (arith, ap (λ (d : TableData). length d.rows) (gap-some atom_of least most), ticks-length (least - 1) (suc most - 1))

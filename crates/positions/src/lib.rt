@@ -1,6 +1,7 @@
 //! Sections from sequences.
 #![tactic(auto)]
 
+mod block;
 mod both;
 mod change;
 mod delay;
@@ -15,8 +16,10 @@ mod link;
 mod list;
 mod pairing;
 mod repeat;
+mod section;
 mod sequence;
 mod table;
 
 pub use fault::SectionFault;
 pub use laws::{section_law, size_law};
+pub use section::positions_of;
