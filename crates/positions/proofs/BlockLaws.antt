@@ -5,6 +5,8 @@ use Rattle.std.specs.Prelude.{sum_by, max, bit_or, All}
 use Rattle.std.specs.Global.{Global}
 use Rattle.std.proofs.lemmas.List.{map-append}
 use Rattle.std.proofs.lemmas.List.Sums.{sum_by-cons}
+use Rattle.std.proofs.Math.Pow.{pow-lt}
+use Rattle.std.proofs.Math.Nat.{mod-eq_of_lt}
 use Rattle.std.proofs.lemmas.Nat.Bits.{bit_at_or, same_from_bits}
 use Rattle.std.specs.Int.{bit_at}
 use Rattle.std.specs.Int.Bits.{or_zero_l}
@@ -162,12 +164,15 @@ or-swap a b c =
     same_from_bits (bit_or (bit_or a b) c) (bit_or a (bit_or c b))
     (λ i. omega (arith, bit_at_or (bit_or a b) c i, bit_at_or a b i, bit_at_or a (bit_or c b) i, bit_at_or c b i))
 
-pub bits-next : (qs : List ℕ) (i : ℕ) (item set new : ℕ) → i < length qs → item ≡ get_or qs i item →
-    bit_or (bits (drop i qs)) set ≡ bits qs → new ≡ bit_or set (2 ^ item) → bit_or (bits (drop (i + 1) qs)) new ≡ bits qs
-bits-next qs i item set new below at so_far is =
+pub bits-next : (qs : List ℕ) (i set : ℕ) → i < length qs → get_or qs i 0 < 128 → bit_or (bits (drop i qs)) set ≡ bits qs →
+    bit_or (bits (drop (i + 1) qs)) (bit_or set (1 * 2 ^ get_or qs i 0 % 2 ^ 128)) ≡ bits qs
+bits-next qs i set below small so_far =
+    let item : ℕ = get_or qs i 0 in
     let more : suc i ≡ i + 1 = omega arith in
-    let split : drop i qs ≡ item ∷ drop (i + 1) qs = drop-cons qs i item below ∙ ap (λ x. x ∷ drop (suc i) qs) (sym at) ∙ ap (λ n. item ∷ drop n qs) more in
-    ap (bit_or (bits (drop (i + 1) qs))) is
+    let split : drop i qs ≡ item ∷ drop (i + 1) qs = drop-cons qs i 0 below ∙ ap (λ n. item ∷ drop n qs) more in
+    let alone : 1 * 2 ^ item ≡ 2 ^ item = omega arith in
+    let fits : 1 * 2 ^ item % 2 ^ 128 ≡ 2 ^ item = ap (λ n. n % 2 ^ 128) alone ∙ mod-eq_of_lt (pow-lt small) in
+    ap (λ n. bit_or (bits (drop (i + 1) qs)) (bit_or set n)) fits
     ∙ sym (or-swap (bits (drop (i + 1) qs)) (2 ^ item) set)
     ∙ ap (λ left. bit_or (bits left) set) (sym split)
     ∙ so_far

@@ -5,6 +5,7 @@ use Rattle.assertions.specs.declared.sequence.Boolean.{Boolean}
 use Rattle.assertions.specs.declared.sequence.Sequence.{Sequence}
 use Rattle.assertions.specs.declared.sequence.Sequence.TheViews.{the_lemmas}
 use Rattle.assertions.specs.Shapes.{written_form}
+use Rattle.assertions.specs.Listed.{EachBoolean, IsListed}
 use Rattle.assertions.specs.Written.{Written, delay, lead, repeat, or, and, throughout, weight, IsOrdered}
 use Rattle.assertions.specs.Emptiness.{takes_ticks}
 use Rattle.positions.specs.Rows.{TableData, IsPlaced, rows_size, still_data, either_data, both_data, repeat_data, during_data, apart_data, lead_in_data}
@@ -20,10 +21,10 @@ told : (w v : Written Boolean) → w ≡ v → listed_for w ≡ listed_for v
 told w v e = ap listed_for e
 
 placed_as : (t : TableData) (w : Written Boolean) → t ≡ listed_for w → IsOrdered w → weight w ≤ 127 → IsPlaced t
-placed_as t w is ordered bound = subst IsPlaced (sym is) (placed-for atom_of w ordered bound)
+placed_as t w is ordered bound = subst IsPlaced (sym is) (placed-for w ordered bound)
 
 length_as : (t : TableData) (w : Written Boolean) → t ≡ listed_for w → IsOrdered w → length t.rows ≤ weight w
-length_as t w is ordered = omega (arith, ap (λ (x : TableData). length x.rows) is, length-for atom_of w ordered)
+length_as t w is ordered = omega (arith, ap (λ (x : TableData). length x.rows) is, length-for w ordered)
 
 size_as : (w v : Written Boolean) (n : ℕ) → w ≡ v → n ≤ rows_size (listed_for v).rows → n ≤ rows_size (listed_for w).rows
 size_as w v n e le = omega (arith, ap (λ x. rows_size (listed_for x).rows) e, le)
@@ -31,7 +32,7 @@ size_as w v n e le = omega (arith, ap (λ x. rows_size (listed_for x).rows) e, l
 pub returns-then-not-extent-clause-ok : goal.returns-then-not-extent-clause-ok
 returns-then-not-extent-clause-ok t c =
     let quiet : takes_ticks (written_form c.args.sequence.now) ≡ false = sym c.extent_of-extent.ensures.ticks ∙ c.if-not-extent.true in
-    c.still.ensures ∙ ap still_data c.extent_of-extent.ensures.empty ∙ sym (still-for atom_of (written_form c.args.sequence.now) quiet)
+    c.still.ensures ∙ ap still_data c.extent_of-extent.ensures.empty ∙ sym (still-for (written_form c.args.sequence.now) quiet)
 
 pub returns-in_err-front-in-Delay-clause-err : goal.returns-in_err-front-in-Delay-clause-err
 returns-in_err-front-in-Delay-clause-err t c =
@@ -42,7 +43,7 @@ returns-in_err-front-in-Delay-clause-err t c =
     let ordered : IsOrdered (delay r c.in-Delay.least c.in-Delay.most s) = subst IsOrdered e c.requires.ordered in
     let bound : weight (delay r c.in-Delay.least c.in-Delay.most s) ≤ 127 = subst (λ w. weight w ≤ 127) e c.requires.bound in
     long_on _ _ _ _ c.from_residual-in_err-front-in-Delay.ensures.1 c.in_err-front-in-Delay.ensures.err
-    (size_as (written_form c.args.sequence.now) (delay r c.in-Delay.least c.in-Delay.most s) _ e (first-delay atom_of r s c.in-Delay.least c.in-Delay.most ordered takes))
+    (size_as (written_form c.args.sequence.now) (delay r c.in-Delay.least c.in-Delay.most s) _ e (first-delay r s c.in-Delay.least c.in-Delay.most ordered takes))
 
 pub returns-in_err-rest-in-Delay-clause-err : goal.returns-in_err-rest-in-Delay-clause-err
 returns-in_err-rest-in-Delay-clause-err t c =
@@ -53,7 +54,7 @@ returns-in_err-rest-in-Delay-clause-err t c =
     let ordered : IsOrdered (delay r c.in-Delay.least c.in-Delay.most s) = subst IsOrdered e c.requires.ordered in
     let bound : weight (delay r c.in-Delay.least c.in-Delay.most s) ≤ 127 = subst (λ w. weight w ≤ 127) e c.requires.bound in
     long_on _ _ _ _ c.from_residual-in_err-rest-in-Delay.ensures.1 c.in_err-rest-in-Delay.ensures.err
-    (size_as (written_form c.args.sequence.now) (delay r c.in-Delay.least c.in-Delay.most s) _ e (second-delay atom_of r s c.in-Delay.least c.in-Delay.most ordered takes))
+    (size_as (written_form c.args.sequence.now) (delay r c.in-Delay.least c.in-Delay.most s) _ e (second-delay r s c.in-Delay.least c.in-Delay.most ordered takes))
 
 pub apart-requires-clause-first_placed : goal.apart-requires-clause-first_placed
 apart-requires-clause-first_placed t c =
@@ -106,7 +107,7 @@ returns-in_ok-rest-in-Delay-clause-ok t c =
     ap (λ b. apart_data b c.in_ok-front-in-Delay.front c.in_ok-rest-in-Delay.rest c.in-Delay.least c.in-Delay.most) shared
     ∙ ap (λ x. apart_data (takes_ticks r && takes_ticks s) x c.in_ok-rest-in-Delay.rest c.in-Delay.least c.in-Delay.most) c.in_ok-front-in-Delay.ensures.ok
     ∙ ap (λ x. apart_data (takes_ticks r && takes_ticks s) (listed_for r) x c.in-Delay.least c.in-Delay.most) c.in_ok-rest-in-Delay.ensures.ok
-    ∙ sym (made-delay atom_of r s c.in-Delay.least c.in-Delay.most ordered takes) ∙ sym (told (written_form c.args.sequence.now) (delay r c.in-Delay.least c.in-Delay.most s) e) in
+    ∙ sym (made-delay r s c.in-Delay.least c.in-Delay.most ordered takes) ∙ sym (told (written_form c.args.sequence.now) (delay r c.in-Delay.least c.in-Delay.most s) e) in
     ok_same c.apart.result _ _ c.apart.ensures.ok same
 
 pub returns-in_ok-rest-in-Delay-clause-err : goal.returns-in_ok-rest-in-Delay-clause-err
@@ -124,7 +125,7 @@ returns-in_ok-rest-in-Delay-clause-err t c =
     ap (λ b. apart_data b c.in_ok-front-in-Delay.front c.in_ok-rest-in-Delay.rest c.in-Delay.least c.in-Delay.most) shared
     ∙ ap (λ x. apart_data (takes_ticks r && takes_ticks s) x c.in_ok-rest-in-Delay.rest c.in-Delay.least c.in-Delay.most) c.in_ok-front-in-Delay.ensures.ok
     ∙ ap (λ x. apart_data (takes_ticks r && takes_ticks s) (listed_for r) x c.in-Delay.least c.in-Delay.most) c.in_ok-rest-in-Delay.ensures.ok
-    ∙ sym (made-delay atom_of r s c.in-Delay.least c.in-Delay.most ordered takes) ∙ sym (told (written_form c.args.sequence.now) (delay r c.in-Delay.least c.in-Delay.most s) e) in
+    ∙ sym (made-delay r s c.in-Delay.least c.in-Delay.most ordered takes) ∙ sym (told (written_form c.args.sequence.now) (delay r c.in-Delay.least c.in-Delay.most s) e) in
     err_same c.apart.result _ _ c.apart.ensures.err (ap (λ (x : TableData). rows_size x.rows) same)
 
 pub returns-in_err-front-in-Or-clause-err : goal.returns-in_err-front-in-Or-clause-err
@@ -136,7 +137,7 @@ returns-in_err-front-in-Or-clause-err t c =
     let ordered : IsOrdered (or r s) = subst IsOrdered e c.requires.ordered in
     let bound : weight (or r s) ≤ 127 = subst (λ w. weight w ≤ 127) e c.requires.bound in
     long_on _ _ _ _ c.from_residual-in_err-front-in-Or.ensures.1 c.in_err-front-in-Or.ensures.err
-    (size_as (written_form c.args.sequence.now) (or r s) _ e (first-or atom_of r s takes))
+    (size_as (written_form c.args.sequence.now) (or r s) _ e (first-or r s takes))
 
 pub returns-in_err-rest-in-Or-clause-err : goal.returns-in_err-rest-in-Or-clause-err
 returns-in_err-rest-in-Or-clause-err t c =
@@ -147,7 +148,7 @@ returns-in_err-rest-in-Or-clause-err t c =
     let ordered : IsOrdered (or r s) = subst IsOrdered e c.requires.ordered in
     let bound : weight (or r s) ≤ 127 = subst (λ w. weight w ≤ 127) e c.requires.bound in
     long_on _ _ _ _ c.from_residual-in_err-rest-in-Or.ensures.1 c.in_err-rest-in-Or.ensures.err
-    (size_as (written_form c.args.sequence.now) (or r s) _ e (second-or atom_of r s takes))
+    (size_as (written_form c.args.sequence.now) (or r s) _ e (second-or r s takes))
 
 pub either-requires-clause-first_placed : goal.either-requires-clause-first_placed
 either-requires-clause-first_placed t c =
@@ -196,7 +197,7 @@ returns-in_ok-rest-in-Or-clause-ok t c =
     let same : either_data c.in_ok-front-in-Or.front c.in_ok-rest-in-Or.rest ≡ listed_for (written_form c.args.sequence.now) =
     ap (λ x. either_data x c.in_ok-rest-in-Or.rest) c.in_ok-front-in-Or.ensures.ok
     ∙ ap (either_data (listed_for r)) c.in_ok-rest-in-Or.ensures.ok
-    ∙ sym (made-or atom_of r s takes) ∙ sym (told (written_form c.args.sequence.now) (or r s) e) in
+    ∙ sym (made-or r s takes) ∙ sym (told (written_form c.args.sequence.now) (or r s) e) in
     ok_same c.either.result _ _ c.either.ensures.ok same
 
 pub returns-in_ok-rest-in-Or-clause-err : goal.returns-in_ok-rest-in-Or-clause-err
@@ -210,7 +211,7 @@ returns-in_ok-rest-in-Or-clause-err t c =
     let same : either_data c.in_ok-front-in-Or.front c.in_ok-rest-in-Or.rest ≡ listed_for (written_form c.args.sequence.now) =
     ap (λ x. either_data x c.in_ok-rest-in-Or.rest) c.in_ok-front-in-Or.ensures.ok
     ∙ ap (either_data (listed_for r)) c.in_ok-rest-in-Or.ensures.ok
-    ∙ sym (made-or atom_of r s takes) ∙ sym (told (written_form c.args.sequence.now) (or r s) e) in
+    ∙ sym (made-or r s takes) ∙ sym (told (written_form c.args.sequence.now) (or r s) e) in
     err_same c.either.result _ _ c.either.ensures.err (ap (λ (x : TableData). rows_size x.rows) same)
 
 pub returns-in_err-front-in-And-clause-err : goal.returns-in_err-front-in-And-clause-err
@@ -222,7 +223,7 @@ returns-in_err-front-in-And-clause-err t c =
     let ordered : IsOrdered (and r s) = subst IsOrdered e c.requires.ordered in
     let bound : weight (and r s) ≤ 127 = subst (λ w. weight w ≤ 127) e c.requires.bound in
     long_on _ _ _ _ c.from_residual-in_err-front-in-And.ensures.1 c.in_err-front-in-And.ensures.err
-    (size_as (written_form c.args.sequence.now) (and r s) _ e (first-and atom_of r s takes))
+    (size_as (written_form c.args.sequence.now) (and r s) _ e (first-and r s takes))
 
 pub returns-in_err-rest-in-And-clause-err : goal.returns-in_err-rest-in-And-clause-err
 returns-in_err-rest-in-And-clause-err t c =
@@ -233,7 +234,7 @@ returns-in_err-rest-in-And-clause-err t c =
     let ordered : IsOrdered (and r s) = subst IsOrdered e c.requires.ordered in
     let bound : weight (and r s) ≤ 127 = subst (λ w. weight w ≤ 127) e c.requires.bound in
     long_on _ _ _ _ c.from_residual-in_err-rest-in-And.ensures.1 c.in_err-rest-in-And.ensures.err
-    (size_as (written_form c.args.sequence.now) (and r s) _ e (second-and atom_of r s takes))
+    (size_as (written_form c.args.sequence.now) (and r s) _ e (second-and r s takes))
 
 pub both-requires-clause-first_placed : goal.both-requires-clause-first_placed
 both-requires-clause-first_placed t c =
@@ -289,7 +290,7 @@ returns-in_ok-rest-in-And-clause-ok t c =
     let same : both_data c.in_ok-front-in-And.front c.in_ok-rest-in-And.rest ≡ listed_for (written_form c.args.sequence.now) =
     ap (λ x. both_data x c.in_ok-rest-in-And.rest) c.in_ok-front-in-And.ensures.ok
     ∙ ap (both_data (listed_for r)) c.in_ok-rest-in-And.ensures.ok
-    ∙ sym (made-and atom_of r s takes) ∙ sym (told (written_form c.args.sequence.now) (and r s) e) in
+    ∙ sym (made-and r s takes) ∙ sym (told (written_form c.args.sequence.now) (and r s) e) in
     ok_same c.both.result _ _ c.both.ensures.ok same
 
 pub returns-in_ok-rest-in-And-clause-err : goal.returns-in_ok-rest-in-And-clause-err
@@ -303,7 +304,7 @@ returns-in_ok-rest-in-And-clause-err t c =
     let same : both_data c.in_ok-front-in-And.front c.in_ok-rest-in-And.rest ≡ listed_for (written_form c.args.sequence.now) =
     ap (λ x. both_data x c.in_ok-rest-in-And.rest) c.in_ok-front-in-And.ensures.ok
     ∙ ap (both_data (listed_for r)) c.in_ok-rest-in-And.ensures.ok
-    ∙ sym (made-and atom_of r s takes) ∙ sym (told (written_form c.args.sequence.now) (and r s) e) in
+    ∙ sym (made-and r s takes) ∙ sym (told (written_form c.args.sequence.now) (and r s) e) in
     err_same c.both.result _ _ c.both.ensures.err (ap (λ (x : TableData). rows_size x.rows) same)
 
 pub returns-in_err-table-in-Lead-clause-err : goal.returns-in_err-table-in-Lead-clause-err
@@ -314,7 +315,7 @@ returns-in_err-table-in-Lead-clause-err t c =
     let ordered : IsOrdered (lead c.in-Lead.least c.in-Lead.most r) = subst IsOrdered e c.requires.ordered in
     let bound : weight (lead c.in-Lead.least c.in-Lead.most r) ≤ 127 = subst (λ w. weight w ≤ 127) e c.requires.bound in
     long_on _ _ _ _ c.from_residual-in_err-table-in-Lead.ensures.1 c.in_err-table-in-Lead.ensures.err
-    (size_as (written_form c.args.sequence.now) (lead c.in-Lead.least c.in-Lead.most r) _ e (body-lead atom_of r c.in-Lead.least c.in-Lead.most takes))
+    (size_as (written_form c.args.sequence.now) (lead c.in-Lead.least c.in-Lead.most r) _ e (body-lead r c.in-Lead.least c.in-Lead.most takes))
 
 pub lead_in-requires-clause-placed : goal.lead_in-requires-clause-placed
 lead_in-requires-clause-placed t c =
@@ -345,7 +346,7 @@ returns-in_ok-table-in-Lead-clause-ok t c =
     let bound : weight (lead c.in-Lead.least c.in-Lead.most r) ≤ 127 = subst (λ w. weight w ≤ 127) e c.requires.bound in
     let same : lead_in_data c.in-Lead.least c.in-Lead.most c.in_ok-table-in-Lead.table ≡ listed_for (written_form c.args.sequence.now) =
     ap (lead_in_data c.in-Lead.least c.in-Lead.most) c.in_ok-table-in-Lead.ensures.ok
-    ∙ sym (made-lead atom_of r c.in-Lead.least c.in-Lead.most takes) ∙ sym (told (written_form c.args.sequence.now) (lead c.in-Lead.least c.in-Lead.most r) e) in
+    ∙ sym (made-lead r c.in-Lead.least c.in-Lead.most takes) ∙ sym (told (written_form c.args.sequence.now) (lead c.in-Lead.least c.in-Lead.most r) e) in
     ok_same c.lead_in.result _ _ c.lead_in.ensures.ok same
 
 pub returns-in_ok-table-in-Lead-clause-err : goal.returns-in_ok-table-in-Lead-clause-err
@@ -357,7 +358,7 @@ returns-in_ok-table-in-Lead-clause-err t c =
     let bound : weight (lead c.in-Lead.least c.in-Lead.most r) ≤ 127 = subst (λ w. weight w ≤ 127) e c.requires.bound in
     let same : lead_in_data c.in-Lead.least c.in-Lead.most c.in_ok-table-in-Lead.table ≡ listed_for (written_form c.args.sequence.now) =
     ap (lead_in_data c.in-Lead.least c.in-Lead.most) c.in_ok-table-in-Lead.ensures.ok
-    ∙ sym (made-lead atom_of r c.in-Lead.least c.in-Lead.most takes) ∙ sym (told (written_form c.args.sequence.now) (lead c.in-Lead.least c.in-Lead.most r) e) in
+    ∙ sym (made-lead r c.in-Lead.least c.in-Lead.most takes) ∙ sym (told (written_form c.args.sequence.now) (lead c.in-Lead.least c.in-Lead.most r) e) in
     err_same c.lead_in.result _ _ c.lead_in.ensures.err (ap (λ (x : TableData). rows_size x.rows) same)
 
 pub returns-in_err-table-in-Repeat-clause-err : goal.returns-in_err-table-in-Repeat-clause-err
@@ -368,7 +369,7 @@ returns-in_err-table-in-Repeat-clause-err t c =
     let ordered : IsOrdered (repeat r c.in-Repeat.least c.in-Repeat.most) = subst IsOrdered e c.requires.ordered in
     let bound : weight (repeat r c.in-Repeat.least c.in-Repeat.most) ≤ 127 = subst (λ w. weight w ≤ 127) e c.requires.bound in
     long_on _ _ _ _ c.from_residual-in_err-table-in-Repeat.ensures.1 c.in_err-table-in-Repeat.ensures.err
-    (size_as (written_form c.args.sequence.now) (repeat r c.in-Repeat.least c.in-Repeat.most) _ e (body-for-repeat atom_of r c.in-Repeat.least c.in-Repeat.most ordered takes))
+    (size_as (written_form c.args.sequence.now) (repeat r c.in-Repeat.least c.in-Repeat.most) _ e (body-for-repeat r c.in-Repeat.least c.in-Repeat.most ordered takes))
 
 pub table_of-requires-in-Repeat : goal.table_of-requires-in-Repeat
 table_of-requires-in-Repeat t c =
@@ -377,10 +378,11 @@ table_of-requires-in-Repeat t c =
     let takes : IsTrue (takes_ticks (repeat r c.in-Repeat.least c.in-Repeat.most)) = ap takes_ticks (sym e) ∙ sym c.extent_of-extent.ensures.ticks ∙ c.if-not-extent.false in
     let ordered : IsOrdered (repeat r c.in-Repeat.least c.in-Repeat.most) = subst IsOrdered e c.requires.ordered in
     let bound : weight (repeat r c.in-Repeat.least c.in-Repeat.most) ≤ 127 = subst (λ w. weight w ≤ 127) e c.requires.bound in
-    let some = (repeat-told atom_of r c.in-Repeat.least c.in-Repeat.most takes).0 in
+    let some = (repeat-told r c.in-Repeat.least c.in-Repeat.most takes).0 in
     let one_of : 1 * weight r ≤ c.in-Repeat.most * weight r = mul-le-mul_right (weight r) some in
     let rb : weight r ≤ 127 = omega (arith, bound, one_of) in
-    (search (rules, the_lemmas), (ordered.1, rb))
+    let listed : EachBoolean (IsListed 127) (repeat r c.in-Repeat.least c.in-Repeat.most) = subst (EachBoolean (IsListed 127)) e c.requires.listed in
+    (search (rules, the_lemmas), (ordered.1, (rb, listed)))
 
 pub repeat-requires-clause-placed : goal.repeat-requires-clause-placed
 repeat-requires-clause-placed t c =
@@ -389,7 +391,7 @@ repeat-requires-clause-placed t c =
     let takes : IsTrue (takes_ticks (repeat r c.in-Repeat.least c.in-Repeat.most)) = ap takes_ticks (sym e) ∙ sym c.extent_of-extent.ensures.ticks ∙ c.if-not-extent.false in
     let ordered : IsOrdered (repeat r c.in-Repeat.least c.in-Repeat.most) = subst IsOrdered e c.requires.ordered in
     let bound : weight (repeat r c.in-Repeat.least c.in-Repeat.most) ≤ 127 = subst (λ w. weight w ≤ 127) e c.requires.bound in
-    let some = (repeat-told atom_of r c.in-Repeat.least c.in-Repeat.most takes).0 in
+    let some = (repeat-told r c.in-Repeat.least c.in-Repeat.most takes).0 in
     let one_of : 1 * weight r ≤ c.in-Repeat.most * weight r = mul-le-mul_right (weight r) some in
     let rb : weight r ≤ 127 = omega (arith, bound, one_of) in
     placed_as c.in_ok-table-in-Repeat.table r c.in_ok-table-in-Repeat.ensures.ok ordered.1 rb
@@ -414,7 +416,7 @@ returns-in_ok-table-in-Repeat-clause-ok t c =
     let bound : weight (repeat r c.in-Repeat.least c.in-Repeat.most) ≤ 127 = subst (λ w. weight w ≤ 127) e c.requires.bound in
     let same : repeat_data c.in_ok-table-in-Repeat.table c.in-Repeat.least c.in-Repeat.most ≡ listed_for (written_form c.args.sequence.now) =
     ap ((λ x. repeat_data x c.in-Repeat.least c.in-Repeat.most)) c.in_ok-table-in-Repeat.ensures.ok
-    ∙ sym (made-repeat atom_of r c.in-Repeat.least c.in-Repeat.most takes) ∙ sym (told (written_form c.args.sequence.now) (repeat r c.in-Repeat.least c.in-Repeat.most) e) in
+    ∙ sym (made-repeat r c.in-Repeat.least c.in-Repeat.most takes) ∙ sym (told (written_form c.args.sequence.now) (repeat r c.in-Repeat.least c.in-Repeat.most) e) in
     ok_same c.repeat.result _ _ c.repeat.ensures.ok same
 
 pub returns-in_ok-table-in-Repeat-clause-err : goal.returns-in_ok-table-in-Repeat-clause-err
@@ -426,7 +428,7 @@ returns-in_ok-table-in-Repeat-clause-err t c =
     let bound : weight (repeat r c.in-Repeat.least c.in-Repeat.most) ≤ 127 = subst (λ w. weight w ≤ 127) e c.requires.bound in
     let same : repeat_data c.in_ok-table-in-Repeat.table c.in-Repeat.least c.in-Repeat.most ≡ listed_for (written_form c.args.sequence.now) =
     ap ((λ x. repeat_data x c.in-Repeat.least c.in-Repeat.most)) c.in_ok-table-in-Repeat.ensures.ok
-    ∙ sym (made-repeat atom_of r c.in-Repeat.least c.in-Repeat.most takes) ∙ sym (told (written_form c.args.sequence.now) (repeat r c.in-Repeat.least c.in-Repeat.most) e) in
+    ∙ sym (made-repeat r c.in-Repeat.least c.in-Repeat.most takes) ∙ sym (told (written_form c.args.sequence.now) (repeat r c.in-Repeat.least c.in-Repeat.most) e) in
     err_same c.repeat.result _ _ c.repeat.ensures.err (ap (λ (x : TableData). rows_size x.rows) same)
 
 pub returns-in_err-table-in-Throughout-clause-err : goal.returns-in_err-table-in-Throughout-clause-err
@@ -437,7 +439,7 @@ returns-in_err-table-in-Throughout-clause-err t c =
     let ordered : IsOrdered (throughout c.in-Throughout.boolean r) = subst IsOrdered e c.requires.ordered in
     let bound : weight (throughout c.in-Throughout.boolean r) ≤ 127 = subst (λ w. weight w ≤ 127) e c.requires.bound in
     long_on _ _ _ _ c.from_residual-in_err-table-in-Throughout.ensures.1 c.in_err-table-in-Throughout.ensures.err
-    (size_as (written_form c.args.sequence.now) (throughout c.in-Throughout.boolean r) _ e (body-throughout atom_of c.in-Throughout.boolean r takes))
+    (size_as (written_form c.args.sequence.now) (throughout c.in-Throughout.boolean r) _ e (body-throughout c.in-Throughout.boolean r takes))
 
 pub during-requires : goal.during-requires
 during-requires t c =
@@ -459,7 +461,7 @@ returns-in_ok-table-in-Throughout-clause-ok t c =
     let same : during_data c.atom_number-in-Throughout.result c.in_ok-table-in-Throughout.table ≡ listed_for (written_form c.args.sequence.now) =
     ap (λ o. during_data o c.in_ok-table-in-Throughout.table) c.atom_number-in-Throughout.ensures
     ∙ ap (during_data (atom_of c.in-Throughout.boolean)) c.in_ok-table-in-Throughout.ensures.ok
-    ∙ sym (made-throughout atom_of c.in-Throughout.boolean r takes) ∙ sym (told (written_form c.args.sequence.now) (throughout c.in-Throughout.boolean r) e) in
+    ∙ sym (made-throughout c.in-Throughout.boolean r takes) ∙ sym (told (written_form c.args.sequence.now) (throughout c.in-Throughout.boolean r) e) in
     ok_same c.during.result _ _ c.during.ensures.ok same
 
 pub returns-in_ok-table-in-Throughout-clause-err : goal.returns-in_ok-table-in-Throughout-clause-err
@@ -472,5 +474,5 @@ returns-in_ok-table-in-Throughout-clause-err t c =
     let same : during_data c.atom_number-in-Throughout.result c.in_ok-table-in-Throughout.table ≡ listed_for (written_form c.args.sequence.now) =
     ap (λ o. during_data o c.in_ok-table-in-Throughout.table) c.atom_number-in-Throughout.ensures
     ∙ ap (during_data (atom_of c.in-Throughout.boolean)) c.in_ok-table-in-Throughout.ensures.ok
-    ∙ sym (made-throughout atom_of c.in-Throughout.boolean r takes) ∙ sym (told (written_form c.args.sequence.now) (throughout c.in-Throughout.boolean r) e) in
+    ∙ sym (made-throughout c.in-Throughout.boolean r takes) ∙ sym (told (written_form c.args.sequence.now) (throughout c.in-Throughout.boolean r) e) in
     err_same c.during.result _ _ c.during.ensures.err (ap (λ (x : TableData). rows_size x.rows) same)
