@@ -1,30 +1,30 @@
 -- The table of each sequence, by its parts: equal to the form's, placed, and with no part longer than the whole.
 use Rattle.std.proofs.Common.{◌≡◌, ◌∙◌, ◌⊎◌, inl, inr, ℕ, zero, suc, ◌+◌, ◌-◌, ◌*◌, ◌<◌, ◌≤◌, Bool, true, false, ◌&&◌, ◌||◌}
-use Rattle.std.proofs.Common.{if◌then◌else◌, List, [], ◌∷◌, length, map, nat_le, Option, Some, None, refl, sym, ap, subst, arith}
-use Rattle.std.specs.Prelude.{IsTrue, ◌==◌, sum_by}
+use Rattle.std.proofs.Common.{if◌then◌else◌, List, [], ◌∷◌, length, map, nat_le, Option, None, refl, sym, ap, subst, arith}
+use Rattle.std.specs.Prelude.{IsTrue, ◌==◌}
 use Rattle.std.specs.List.{flat_map}
-use Rattle.std.proofs.lemmas.Bool.{cases_Bool, le-leb, leb-true, eqb-true, false_from_ne_true, eq-eqb, and_from, cases_lt, and_parts}
+use Rattle.std.proofs.lemmas.Bool.{le-leb, leb-true, eqb-true, false_from_ne_true, eq-eqb, and_from, cases_lt, and_parts}
 use Rattle.std.proofs.lemmas.List.Sums.{sum_by-append, sum_by-cons}
 use Rattle.assertions.specs.declared.sequence.Boolean.{Boolean}
-use Rattle.assertions.specs.declared.sequence.Boolean.TheVariants.{One, Listed}
-use Rattle.assertions.specs.Segments.{always, Matches}
+use Rattle.assertions.specs.declared.sequence.Boolean.TheVariants.{One}
+use Rattle.assertions.specs.Segments.{always}
 use Rattle.assertions.specs.Written.{Written, boolean, delay, lead, repeat, or, and, throughout, weight, IsOrdered}
 use Rattle.assertions.specs.Emptiness.{admits_empty, takes_ticks}
-use Rattle.positions.specs.Plans.{Plan, tick, skip, any, all, under, loop, link, shape, apart, moving, plan}
-use Rattle.positions.specs.States.{State, First, Left}
-use Rattle.positions.specs.Tables.{Edge, Table, SomeOf, EachOf, Has, Enters, Accepts, Fires, IsRising, Spells, table_of, tick_table, loop_table, shift}
+use Rattle.positions.specs.Plans.{Plan, tick, skip, any, all, under, loop, link, apart, moving, plan}
+use Rattle.positions.specs.States.{State, First}
+use Rattle.positions.specs.Tables.{Edge, Table, SomeOf, EachOf, Has, Fires, IsRising, table_of, tick_table, loop_table, shift}
 use Rattle.positions.specs.Sections.{edge_size, numbered, coded, rows_of}
 use Rattle.positions.specs.Sequences.{atom_of, listed_for}
-use Rattle.positions.specs.Rows.{TableData, IsPlaced, listed, edges_size, row_size, rows_size, row_at, joined_data, fused_data}
+use Rattle.positions.specs.Rows.{TableData, IsPlaced, listed, edges_size, rows_size, row_at, joined_data, fused_data}
 use Rattle.positions.specs.Rows.{still_data, tick_data, either_data, during_data, link_data, repeat_data, both_data, gap_data, apart_data, lead_in_data}
 use Rattle.positions.proofs.Ticks.{Match-begins, Left-goes}
 use Rattle.positions.proofs.Rising.{rising}
 use Rattle.positions.proofs.Spelling.{spelling}
-use Rattle.positions.proofs.Lists.{SomeOf-each, SomeOf-map, EachOf-all}
-use Rattle.positions.proofs.Alive.{IsMet, plan-alive, plan-met, plan-moves, delay-told}
+use Rattle.positions.proofs.Lists.{SomeOf-each}
+use Rattle.positions.proofs.Alive.{IsMet, plan-met, plan-moves, delay-told}
 use Rattle.positions.proofs.Theorem.{size-weight}
 use Rattle.positions.proofs.ListedLaws.{rows_of-length, row_at-rows, listed-any, listed-under, listed-link, listed-loop, listed-all}
-use Rattle.positions.proofs.SizeLaws.{IsOpen, first-either, second-either, body-during, first-both, second-both, first-link, second-link, body-repeat, ticks-short, copies-some}
+use Rattle.positions.proofs.SizeLaws.{IsOpen, first-either, second-either, body-during, first-both, second-both, first-link, second-link, body-repeat, copies-some}
 
 -- rising tables are placed
 

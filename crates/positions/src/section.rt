@@ -50,7 +50,8 @@ pub fn positions_of(alloc: Global, sequence: &Sequence) -> Result<Section, Secti
     requires ordered { IsOrdered (written_form sequence.now) }
     requires bound { weight (written_form sequence.now) ≤ 127 }
     requires listed { EachBoolean (IsListed 127) (written_form sequence.now) }
-    ensures ok { IfOk result (λ s. section_data s ≡ section_for atom_of One (written_form sequence.now)) }
+    ensures ok { IfOk result
+        (λ s. section_data s ≡ section_for atom_of One (written_form sequence.now)) }
     ensures err { IfErr result
         (IsLong (size_of (section_for atom_of One (written_form sequence.now)).blocks)) }
 {

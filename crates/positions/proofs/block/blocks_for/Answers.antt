@@ -1,4 +1,4 @@
-use Rattle.std.proofs.Common.{◌+◌, ap, arith, length}
+use Rattle.std.proofs.Common.{◌+◌, arith}
 use Rattle.positions.proofs.BlockLaws.{are-next}
 use Rattle.positions.proofs.block.blocks_for.Goals as goal
 
