@@ -13,6 +13,7 @@ pub mod Alive
 pub mod Standing
 pub mod Follows
 pub mod Shapes
+pub mod Wanted
 pub mod Theorem
 pub mod Short
 pub mod RowLaws
@@ -24,3 +25,4 @@ pub mod ListedLaws
 pub mod SizeLaws
 pub mod SequenceLaws
 pub mod ResultLaws
+pub mod BlockLaws

@@ -188,21 +188,27 @@ EachOf-map : {A C : Type 0} (P : C → Type 0) (f : A → C) (xs : List A) → (
 EachOf-map P f [] each = tt
 EachOf-map P f (x ∷ xs) each = (each x, EachOf-map P f xs each)
 
-atoms-there : {B : Type 0} (atoms : ℕ) (atom : B → Option ℕ) → ((b : B) → IsThere atoms (atom b)) → (bs : List B) → EachOf (λ n. n < atoms) (atoms_of atom bs)
-atoms-there atoms atom there [] = tt
-atoms-there atoms atom there (b ∷ bs) = more (atom b) (there b) (atoms-there atoms atom there bs)
+atoms-there : {B : Type 0} (atoms : ℕ) (atom : B → Option ℕ) (bs : List B) → EachOf (λ b. IsThere atoms (atom b)) bs → EachOf (λ n. n < atoms) (atoms_of atom bs)
+atoms-there atoms atom [] there = tt
+atoms-there atoms atom (b ∷ bs) there = more (atom b) there.0 (atoms-there atoms atom bs there.1)
   where
     more : (o : Option ℕ) → IsThere atoms o → EachOf (λ n. n < atoms) (atoms_of atom bs) → EachOf (λ n. n < atoms) (with_atom o (atoms_of atom bs))
     more None h k = k
     more (Some n) h k = (h, k)
 
-pub is-section : (B : Type 0) (t : Table B) → IsRising t → (section atoms : ℕ) (atom : B → Option ℕ) → ((b : B) → IsThere atoms (atom b)) → IsSection section atoms (section_of atom t)
+edges-there : {B : Type 0} (atoms : ℕ) (atom : B → Option ℕ) (es : List (Edge B)) → EachOf (λ (e : Edge B). EachOf (λ b. IsThere atoms (atom b)) e.wanted) es →
+    EachOf (λ (e : Edge ℕ). EachOf (λ n. n < atoms) e.wanted) (map (numbered atom) es)
+edges-there atoms atom [] there = tt
+edges-there atoms atom (e ∷ es) there = (atoms-there atoms atom e.wanted there.0, edges-there atoms atom es there.1)
+
+pub is-section : (B : Type 0) (t : Table B) → IsRising t → (section atoms : ℕ) (atom : B → Option ℕ) →
+    ((k : ℕ) → EachOf (λ (e : Edge B). EachOf (λ b. IsThere atoms (atom b)) e.wanted) (t.row k)) → IsSection section atoms (section_of atom t)
 is-section B t rising section atoms atom there =
     let size : length (section_of atom t).blocks ≡ t.size = blocks-length (coded atom t) 0 0 t.size in
     record {
       blocks = subst (λ n. AreTyped section atoms n 0 0 (section_of atom t).blocks) (sym size)
           (blocks-typed section atoms t.size (coded atom t) 0 0 t.size
-          (λ k. EachOf-map (λ (e : Edge ℕ). EachOf (λ n. n < atoms) e.wanted) (numbered atom) (t.row k) (λ e. atoms-there atoms atom there e.wanted))
+          (λ k. edges-there atoms atom (t.row k) (there k))
           (λ k q below has. rising.enters k q (omega arith) (SomeOf-map (λ (e : Edge ℕ). Has e.enters q) (numbered atom) (t.row k) has)));
       start = subst (λ n. bits t.starts < 2 ^ n) (sym size) (bits-below t.size t.starts (λ q h. rising.starts q h));
     }

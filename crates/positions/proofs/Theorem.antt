@@ -15,9 +15,10 @@ use Rattle.positions.proofs.Spelling.{spelling}
 use Rattle.monitors.specs.Automata.{Automaton, Follows}
 use Rattle.monitors.specs.Effects.{automaton_of}
 use Rattle.positions.specs.Sections.{coded, told}
-use Rattle.positions.specs.Laws.{Occurs, section_for, SectionFollows, SectionIsWellFormed, SectionIsSmall}
+use Rattle.positions.specs.Laws.{IsThere, Occurs, section_for, SectionFollows, SectionIsWellFormed, SectionIsSmall}
 use Rattle.positions.proofs.Follows.{section-follows}
 use Rattle.positions.proofs.Kernels.{plan-kernel}
+use Rattle.positions.proofs.Wanted.{plan-wants, sequence-of}
 use Rattle.positions.proofs.Shapes.{is-section, blocks-length}
 
 -- what follows a sequence follows one that matches the same
@@ -106,7 +107,8 @@ law-section_follows atom true_one rows value w ordered tells =
 pub law-section_is_well_formed : SectionIsWellFormed
 law-section_is_well_formed number atoms atom true_one w there =
     let r : Plan Boolean = plan true_one w in
-    is-section Boolean (table_of r) (rising Boolean r (table_of r) (spelling Boolean r)) number atoms atom there
+    is-section Boolean (table_of r) (rising Boolean r (table_of r) (spelling Boolean r)) number atoms atom
+    (plan-wants Boolean (λ b. IsThere atoms (atom b)) r (sequence-of Boolean (λ b. IsThere atoms (atom b)) true_one w there))
 
 -- no more positions than the weight
 moving-size : (t e : Bool) (p : Plan Boolean) (n : ℕ) → (table_of p).size ≤ n → (table_of (moving t e p)).size ≤ n

@@ -46,11 +46,12 @@ SectionFollows =
     IsOrdered w → Tells atom rows value true_one w →
     Follows value (kernel true_one w) (automaton_of (section_for atom true_one w) rows)
 
--- It is well formed, as whichever section of a program.
+-- It is well formed, as whichever section of a program that has an atom for each boolean.
 abbrev pub SectionIsWellFormed : Type 0
 SectionIsWellFormed =
     (number atoms : ℕ) (atom : Boolean → Option ℕ) (true_one : Boolean) (w : Written Boolean) →
-    ((b : Boolean) → IsThere atoms (atom b)) → IsSection number atoms (section_for atom true_one w)
+    ((b : Boolean) → Occurs true_one b w → IsThere atoms (atom b)) →
+    IsSection number atoms (section_for atom true_one w)
 
 -- It has no more positions than the sequence weighs.
 abbrev pub SectionIsSmall : Type 0
