@@ -3,3 +3,5 @@ pub mod Frames
 pub mod Names
 pub mod Places
 pub mod Known
+pub mod Formed
+pub mod Fits

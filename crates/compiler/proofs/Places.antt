@@ -121,3 +121,9 @@ module _ (all : List Counter) where
   place-held (q ∷ ps) below (suc i) h at =
       let d = stands-at all q below.0 in
       place-held ps below.1 i h (sym (ap (λ hs. slice_get hs (suc i)) (found-there q ps d.0 d.1)) ∙ at)
+
+  pub held-long : (ps : List ℕ) → AreBelow (length all) ps → length (held_at all ps) ≡ length ps
+  held-long [] below = refl
+  held-long (q ∷ ps) below =
+      let d = stands-at all q below.0 in
+      ap length (found-there q ps d.0 d.1) ∙ ap suc (held-long ps below.1)

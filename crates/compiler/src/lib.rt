@@ -20,7 +20,7 @@
 //! Not promised: that memory suffices, or that code is as short as can be.
 #![tactic(auto)]
 
-mod compile;
+mod compilation;
 mod fault;
 mod limits;
 mod program;
@@ -28,5 +28,5 @@ mod reading;
 mod slots;
 mod texts;
 
-pub use compile::compile;
+pub use compilation::compile;
 pub use fault::CompileFault;

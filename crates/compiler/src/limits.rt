@@ -39,9 +39,29 @@ fn declaring(program: Program, least: LeastLimits) -> Program
     requires { AreModest least }
     ensures { data_of result ≡ with_limits (data_of program) (declared_from least) }
 {
+    let Program {
+        disable,
+        atoms,
+        name,
+        clock,
+        signals,
+        counters,
+        sample,
+        antecedent,
+        consequent,
+        ..
+    } = program;
     Program {
         limits: declared(least),
-        ..program
+        disable,
+        atoms,
+        name,
+        clock,
+        signals,
+        counters,
+        sample,
+        antecedent,
+        consequent,
     }
 }
 

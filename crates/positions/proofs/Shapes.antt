@@ -184,10 +184,6 @@ bits-below : (n : ℕ) (qs : List ℕ) → ((q : ℕ) → Has qs q → q < n) �
 bits-below n [] below = pow_pos n
 bits-below n (q ∷ qs) below = or_lt n (bits qs) (2 ^ q) (bits-below n qs (λ r has. below r (inr has))) (pow-lt (below q (inl refl)))
 
-EachOf-map : {A C : Type 0} (P : C → Type 0) (f : A → C) (xs : List A) → ((x : A) → P (f x)) → EachOf P (map f xs)
-EachOf-map P f [] each = tt
-EachOf-map P f (x ∷ xs) each = (each x, EachOf-map P f xs each)
-
 atoms-there : {B : Type 0} (atoms : ℕ) (atom : B → Option ℕ) (bs : List B) → EachOf (λ b. IsThere atoms (atom b)) bs → EachOf (λ n. n < atoms) (atoms_of atom bs)
 atoms-there atoms atom [] there = tt
 atoms-there atoms atom (b ∷ bs) there = more (atom b) there.0 (atoms-there atoms atom bs there.1)

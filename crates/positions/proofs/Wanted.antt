@@ -66,8 +66,11 @@ module _ (B : Type 0) (Q : B → Type 0) where
       (flat_map (λ e. leading follows t g u e ∷ fusing fuses t g u e) (t.row p))
       (if nat_lt p (t.size + g.size) then map (crossing t g u) (g.row (p - t.size)) else map (shifted (t.size + g.size)) (u.row (p - (t.size + g.size))))
       (each-flat (λ e. leading follows t g u e ∷ fusing fuses t g u e)
-      (λ e w. (w, each-picked (e.accepts && fuses) (map (joined (t.size + g.size) e) (flat_map u.row u.starts))
-      (joined-wants (t.size + g.size) e w (flat_map u.row u.starts) (each-place u.row hu u.starts))))
+      (λ e w. (
+        w,
+        each-picked (e.accepts && fuses) (map (joined (t.size + g.size) e) (flat_map u.row u.starts))
+            (joined-wants (t.size + g.size) e w (flat_map u.row u.starts) (each-place u.row hu u.starts)),
+      ))
       (t.row p) (ht p))
       (either-way (nat_lt p (t.size + g.size)) (map (crossing t g u) (g.row (p - t.size))) (map (shifted (t.size + g.size)) (u.row (p - (t.size + g.size))))
       (each-map (crossing t g u) (λ e k. k) (g.row (p - t.size)) (hg (p - t.size)))
@@ -99,8 +102,8 @@ module _ (B : Type 0) (Q : B → Type 0) where
   Of (link fuses follows r g s) = Of r × Of g × Of s
 
   pub plan-wants : (r : Plan B) → Of r → Rows (table_of r)
-  plan-wants (tick b) h p = ((h, tt), tt)
-  plan-wants skip h p = tt
+  plan-wants (tick b) h = λ p. ((h, tt), tt)
+  plan-wants skip h = λ p. tt
   plan-wants (any r s) h = any-wants (table_of r) (table_of s) (plan-wants r h.0) (plan-wants s h.1)
   plan-wants (all r s) h = all-wants (table_of r) (table_of s) (plan-wants r h.0) (plan-wants s h.1)
   plan-wants (under b r) h = under-wants b (table_of r) h.0 (plan-wants r h.1)

@@ -36,7 +36,8 @@ fn set_of(positions: &[u8]) -> u128
 /// The section of a table.
 fn section_at(alloc: Global, table: &Table) -> Result<Section, AllocError>
     requires { IsPlaced table.now }
-    ensures { IfOk result (λ s. section_data s ≡ coded_section table.now) }
+    ensures made { IfOk result (λ s. section_data s ≡ coded_section table.now) }
+    ensures short { IfOk result (λ s. size_of (section_data s).blocks ≤ 4096) }
 {
     let blocks = blocks_for(alloc, table.rows())?;
     Ok(Section {
