@@ -1,8 +1,8 @@
 -- A file can hold the program of an assertion.
 use Rattle.std.proofs.Common.{◌≡◌, ◌∙◌, ℕ, zero, suc, ◌+◌, ◌^◌, ◌<◌, ◌≤◌, Bool, true, false, List, [], ◌∷◌, ◌++◌, length, map}
 use Rattle.std.proofs.Common.{Option, Some, None, slice_get, refl, ap, sym, subst, arith, inl, inr, IsTrue}
-use Rattle.std.specs.Prelude.{◌&&◌, ◌-◌, string_bytes, nat_lt, nat_le, if◌then◌else◌, count_by}
-use Rattle.std.specs.List.{AllByRecursion, list_all}
+use Rattle.std.specs.Prelude.{◌&&◌, ◌||◌, ◌-◌, string_bytes, nat_lt, nat_le, if◌then◌else◌, count_by}
+use Rattle.std.specs.List.{AllByRecursion, list_all, list_any}
 use Rattle.std.proofs.lemmas.Bool.{lt-ltb, le-leb, cases_lt, ltb-true}
 use Rattle.std.proofs.lemmas.Nat.{pow_below}
 use Rattle.std.proofs.Math.Nat.{pow-le-pow_right}
@@ -36,9 +36,9 @@ use Rattle.assertion_reads.proofs.SlotLaws.{place-at}
 use Rattle.compiler.specs.Conditions.{IsFit}
 use Rattle.compiler.specs.Programs.{disabling_atom}
 use Rattle.compiler.specs.Readings.{IsReading, slots_over, counters_read}
-use Rattle.compiler.specs.Faults.{HasLongText, HasLongPath, AreCounted}
+use Rattle.compiler.specs.Faults.{is_long, is_long_found, is_long_path, AreCounted}
 use Rattle.compiler.specs.Parts.{slot_found, slot_at, width_found, width_at, no_limits, AreParts}
-use Rattle.compiler.proofs.ListLaws.{all-at}
+use Rattle.compiler.proofs.ListLaws.{some-one, all-at}
 use Rattle.compiler.proofs.Places.{AreBelow, stands-at, places-long, held-long}
 use Rattle.compiler.proofs.Known as known
 use Rattle.compiler.proofs.Formed as made
@@ -52,10 +52,22 @@ small n most lt = lt-ltb n most lt
 width-fits : (w : ℕ) → 1 ≤ w → w ≤ 128 → is_width w ≡ true
 width-fits w low high = both (nat_le 1 w) (nat_le w 128) (le-leb 1 w low) (le-leb w 128 high)
 
-text-fits : (is_text : List ℕ → Bool) (bytes : List ℕ) → (65535 < length bytes → ⊥) → is_text bytes ≡ true → fits_text is_text bytes ≡ true
+text-fits : (is_text : List ℕ → Bool) (bytes : List ℕ) → (is_long bytes ≡ true → ⊥) → is_text bytes ≡ true → fits_text is_text bytes ≡ true
 text-fits is_text bytes short is =
     both (in_two (length bytes)) (is_text bytes)
-    (small (length bytes) 65536 (elim (cases_lt 65535 (length bytes)) [ | inl long ↦ absurd (short long) | inr le ↦ omega (arith, le) ])) is
+    (small (length bytes) 65536 (elim (cases_lt 65535 (length bytes)) [ | inl long ↦ absurd (short (lt-ltb 65535 (length bytes) long)) | inr le ↦ omega (arith, le) ])) is
+
+or_left : (a b : Bool) → a ≡ true → (a || b) ≡ true
+or_left a b h = ap (λ c. c || b) h
+
+or_right : (a b : Bool) → b ≡ true → (a || b) ≡ true
+or_right true b h = refl
+or_right false b h = h
+
+any-at : (f : ℕ → Bool) (xs : List ℕ) (i x : ℕ) → slice_get xs i ≡ Some x → f x ≡ true → list_any f xs ≡ true
+any-at f [] i x is h = absurd (omega (arith, slice_get_within [] i x is))
+any-at f (y ∷ ys) zero x is h = or_left (f y) (list_any f ys) (ap f (some-one y x is) ∙ h)
+any-at f (y ∷ ys) (suc i) x is h = or_right (f y) (list_any f ys) (any-at f ys i x is h)
 
 all-made : {A : Type 0} (f : A → Bool) (g : ℕ → A) (n : ℕ) (places : List ℕ) → ((p : ℕ) → p < n → f (g p) ≡ true) → AreBelow n places →
     list_all f (map g places) ≡ true
@@ -121,6 +133,9 @@ disabling-fits n (Some (Listed i)) few h = small i 255 (omega (arith, few, h))
 
 module _ (suite : Suite) (a : Assertion) (fit : IsFit suite a) (signals counters : List Bool) (reading : IsReading suite a signals counters)
     (counted : AreCounted suite a signals counters) (p : ProgramData) (parts : AreParts suite a signals counters p) where
+  abbrev paths : Bool
+  paths = list_any (is_long_path suite.names.items) (places_from 0 signals)
+
   header-fits : fits_header p.header ≡ true
   header-fits =
       both (fits_limits p.header.limits) (fits_disable p.header.disable && (in_byte p.header.atoms && (fits_text is_word p.header.name && fits_text is_path p.header.clock)))
@@ -130,8 +145,8 @@ module _ (suite : Suite) (a : Assertion) (fit : IsFit suite a) (signals counters
       (both (in_byte p.header.atoms) (fits_text is_word p.header.name && fits_text is_path p.header.clock)
       (small p.header.atoms 256 (omega (arith, parts.atoms, counted.atoms)))
       (both (fits_text is_word p.header.name) (fits_text is_path p.header.clock)
-      (ap (fits_text is_word) parts.name ∙ text-fits is_word (string_bytes a.name) (λ long. counted.texts (inl long)) fit.proper.name)
-      (ap (fits_text is_path) parts.clock ∙ text-fits is_path (string_bytes suite.clock) (λ long. counted.texts (inr (inl long))) fit.sound.clock))))
+      (ap (fits_text is_word) parts.name ∙ text-fits is_word (string_bytes a.name) (λ long. counted.texts (or_left (is_long (string_bytes a.name)) (is_long (string_bytes suite.clock) || paths) long)) fit.proper.name)
+      (ap (fits_text is_path) parts.clock ∙ text-fits is_path (string_bytes suite.clock) (λ long. counted.texts (or_right (is_long (string_bytes a.name)) (is_long (string_bytes suite.clock) || paths) (or_left (is_long (string_bytes suite.clock)) paths long))) fit.sound.clock))))
 
   slot-fits : (i place : ℕ) → slice_get (places_from 0 signals) i ≡ Some place → fits_slot (slot_at suite.names.items place) ≡ true
   slot-fits i place at =
@@ -144,7 +159,8 @@ module _ (suite : Suite) (a : Assertion) (fit : IsFit suite a) (signals counters
       ∙ both (is_width s.0.width) (fits_text is_path (string_bytes s.0.path))
       (width-fits s.0.width s.0.some_bits s.0.at_most_128)
       (text-fits is_path (string_bytes s.0.path)
-      (λ long. counted.texts (inr (inr (record { place = place; signal = s.0; marked = mark; is = s.1; long = long }))))
+      (λ long. counted.texts (or_right (is_long (string_bytes a.name)) (is_long (string_bytes suite.clock) || paths)
+      (or_right (is_long (string_bytes suite.clock)) paths (any-at (is_long_path suite.names.items) (places_from 0 signals) i place at (ap is_long_found s.1 ∙ long)))))
       (all-at (λ (x : Signal). IsTrue (is_path (string_bytes x.path))) suite.names.items fit.sound.signals place s.0 s.1))
 
   signals-fit : fits_list fits_slot p.signals ≡ true

@@ -115,7 +115,7 @@ module _ (suite : Suite) (a : Assertion) (fit : IsFit suite a) (signals counters
   abbrev hs : List Held
   hs = counters_read suite counters
 
-  pub program-of : (p : ProgramData) → AreParts suite a signals counters p → IsProgramOf suite a p
+  abbrev pub program-of : (p : ProgramData) → AreParts suite a signals counters p → IsProgramOf suite a p
   program-of p parts =
       let found = known.found suite a fit signals counters reading in
       let below = known.counters-below suite a fit signals counters reading in

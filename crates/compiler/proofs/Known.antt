@@ -49,7 +49,7 @@ flat P f [] h = tt
 flat P f (x ∷ xs) h = append P (f x) (flat_map f xs) h.0 (flat P f xs h.1)
 
 module _ (suite : Suite) where
-  names_at : ℕ → List Name
+  abbrev names_at : ℕ → List Name
   names_at place = expression_names (slice_get suite.booleans.items place)
 
   pub found-all : (places : List ℕ) → AllByRecursion (IsKnownAt suite) places → AreFound suite places
@@ -75,7 +75,7 @@ module _ (suite : Suite) where
       }
 
 module _ (suite : Suite) (a : Assertion) (fit : IsFit suite a) (signals counters : List Bool) (reading : IsReading suite a signals counters) where
-  pub abbrev layout : Layout
+  abbrev pub layout : Layout
   layout = record { signals = places_from 0 signals; counters = counters_read suite counters }
 
   pub found : AreFound suite a.booleans.items

@@ -5,3 +5,6 @@ pub mod Places
 pub mod Known
 pub mod Formed
 pub mod Fits
+pub mod Refusals
+pub mod Counts
+pub mod Loops

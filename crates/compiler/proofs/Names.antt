@@ -1,5 +1,5 @@
 -- The names of an expression, part by part.
-use Rattle.std.proofs.Common.{◌≡◌, ℕ, List, [], ◌∷◌, ◌++◌, Option, Some, None, refl, inl, inr}
+use Rattle.std.proofs.Common.{◌≡◌, ℕ, List, [], ◌∷◌, ◌++◌, Option, Some, None, refl, arith}
 use Rattle.std.specs.Prelude.{Contains}
 use Rattle.std.specs.List.{AllByRecursion, flat_map}
 use Rattle.std.proofs.lemmas.List.Elements.{Contains-append_left, Contains-append_right}
@@ -29,7 +29,7 @@ right-within xs ys n h = Contains-append_right xs ys n h
 
 -- P holds of the name that each part is, where it holds of all names
 module _ (P : Name → Type 0) where
-  Has : Term → Type 0
+  abbrev Has : Term → Type 0
   Has e = (n : Name) → Contains (names_in e) n → P n
 
   two : (a b : Term) → ((n : Name) → Contains (names_in a ++ names_in b) n → P n) → Has a × Has b
@@ -125,7 +125,7 @@ rule-within None = tt
 rule-within (Some r) =
     let a = names_in (term_of r.when) in
     let b = names_in (term_of r.by) in
-    (left-within a b, right-within a b, tt)
+    (left-within a b, (right-within a b, tt))
 
 -- the names of a counter's expressions are those of its clauses
 pub counter-within : (c : Counter) → AllWithin (counter_names c) (counter_terms c)
@@ -134,18 +134,13 @@ counter-within c =
     let n1 = rule_names c.load in
     let n2 = rule_names c.add in
     let n3 = rule_names c.sub in
-    let tail = joined (n2 ++ n3) (rule_terms c.add) (rule_terms c.sub)
-        (further n2 (n2 ++ n3) (rule_terms c.add) (left-within n2 n3) (rule-within c.add))
-        (further n3 (n2 ++ n3) (rule_terms c.sub) (right-within n2 n3) (rule-within c.sub)) in
-    let rest = joined (n1 ++ (n2 ++ n3)) (rule_terms c.load) (rule_terms c.add ++ rule_terms c.sub)
-        (further n1 (n1 ++ (n2 ++ n3)) (rule_terms c.load) (left-within n1 (n2 ++ n3))
-        (rule-within c.load))
-        (further (n2 ++ n3) (n1 ++ (n2 ++ n3)) (rule_terms c.add ++ rule_terms c.sub)
-        (right-within n1 (n2 ++ n3)) tail) in
-    joined (n0 ++ (n1 ++ (n2 ++ n3))) (clear_terms c.clear)
-    (rule_terms c.load ++ rule_terms c.add ++ rule_terms c.sub)
-    (further n0 (n0 ++ (n1 ++ (n2 ++ n3))) (clear_terms c.clear)
-    (left-within n0 (n1 ++ (n2 ++ n3))) (clear-within c.clear))
-    (further (n1 ++ (n2 ++ n3)) (n0 ++ (n1 ++ (n2 ++ n3)))
-    (rule_terms c.load ++ rule_terms c.add ++ rule_terms c.sub)
-    (right-within n0 (n1 ++ (n2 ++ n3))) rest)
+    let m2 = n2 ++ n3 in
+    let m1 = n1 ++ m2 in
+    let all = n0 ++ m1 in
+    let w0 = further n0 all (clear_terms c.clear) (left-within n0 m1) (clear-within c.clear) in
+    let w1 = further n1 all (rule_terms c.load) (λ n k. right-within n0 m1 n (left-within n1 m2 n k)) (rule-within c.load) in
+    let w2 = further n2 all (rule_terms c.add) (λ n k. right-within n0 m1 n (right-within n1 m2 n (left-within n2 n3 n k))) (rule-within c.add) in
+    let w3 = further n3 all (rule_terms c.sub) (λ n k. right-within n0 m1 n (right-within n1 m2 n (right-within n2 n3 n k))) (rule-within c.sub) in
+    joined all (clear_terms c.clear ++ rule_terms c.load ++ rule_terms c.add) (rule_terms c.sub)
+    (joined all (clear_terms c.clear ++ rule_terms c.load) (rule_terms c.add)
+    (joined all (clear_terms c.clear) (rule_terms c.load) w0 w1) w2) w3

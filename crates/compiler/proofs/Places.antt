@@ -1,8 +1,9 @@
 -- Marked places, and what stands at them.
 use Rattle.std.proofs.Common.{◌≡◌, ◌∙◌, ℕ, zero, suc, ◌+◌, ◌-◌, ◌<◌, ◌≤◌, Bool, true, false, List, [], ◌∷◌}
 use Rattle.std.proofs.Common.{◌++◌, length, map, Option, Some, None, slice_get, refl, ap, sym, subst, arith, inl, inr}
-use Rattle.std.specs.Prelude.{unwrap_or, count_by}
+use Rattle.std.specs.Prelude.{unwrap_or, count_by, cond}
 use Rattle.std.specs.List.{AllByRecursion, AllZip, All}
+use Rattle.std.proofs.lemmas.List.Sums.{sum_by-cons}
 use Rattle.std.proofs.lemmas.Option.{slice_get_within, slice_get_cases}
 use Rattle.expressions.specs.declared.counter.Counter.{Counter}
 use Rattle.assertion_reads.specs.Marks.{is_marked, places_from, slots_from}
@@ -39,11 +40,11 @@ below-each n (p ∷ ps) h (suc k) d lt = below-each n ps h.1 k d (omega (arith, 
 pub places-long : (place : ℕ) (marks : List Bool) → length (places_from place marks) ≡ count_by is_marked marks
 places-long place [] = refl
 places-long place (true ∷ marks) =
-    let e : suc (count_by is_marked marks) ≡ 1 + count_by is_marked marks = omega arith in
-    ap suc (places-long (place + 1) marks) ∙ e
+    let count : count_by is_marked (true ∷ marks) ≡ 1 + count_by is_marked marks = sum_by-cons (λ x. cond (is_marked x) 1 0) true marks in
+    omega (arith, places-long (place + 1) marks, count)
 places-long place (false ∷ marks) =
-    let e : count_by is_marked marks ≡ 0 + count_by is_marked marks = omega arith in
-    places-long (place + 1) marks ∙ e
+    let count : count_by is_marked (false ∷ marks) ≡ 0 + count_by is_marked marks = sum_by-cons (λ x. cond (is_marked x) 1 0) false marks in
+    omega (arith, places-long (place + 1) marks, count)
 
 -- the slot of a marked place
 pub slot-at : (first : ℕ) (marks : List Bool) (i place : ℕ) → slice_get (places_from 0 marks) i ≡ Some place →

@@ -1,6 +1,8 @@
 -- Why an assertion has no program.
-use Rattle.std.specs.Prelude.{◌≡◌, ◌⊎◌, ℕ, ◌<◌, ◌≤◌, Bool, true, List, length, Some, slice_get}
-use Rattle.std.specs.Prelude.{string_bytes}
+use Rattle.std.specs.Prelude.{◌⊎◌, ℕ, ◌<◌, ◌≤◌, Bool, false, ◌||◌, nat_lt, IsTrue, List, length}
+use Rattle.std.specs.Prelude.{Option, Some, None, slice_get, string_bytes}
+use Rattle.std.specs.List.{list_any}
+use Rattle.assertion_reads.specs.Marks.{places_from}
 use Rattle.assertions.specs.declared.sequence.Sequence.{Sequence}
 use Rattle.assertions.specs.declared.sequence.Boolean.TheVariants.{One}
 use Rattle.assertions.specs.declared.signal.Signal.{Signal}
@@ -14,25 +16,28 @@ use Rattle.compiler.specs.declared.fault.CompileFault.{CompileFault}
 use Rattle.compiler.specs.declared.fault.CompileFault.TheVariants.{TooManyAtoms, CodeTooLong}
 use Rattle.compiler.specs.declared.fault.CompileFault.TheVariants.{TooManySlots, TextTooLong}
 use Rattle.compiler.specs.declared.fault.CompileFault.TheVariants.{Memory}
-use Rattle.expression_code.specs.declared.fault.LengthFault.{LengthFault}
-use Rattle.expression_code.specs.declared.fault.LengthFault.TheVariants as lengths
-use Rattle.positions.specs.declared.fault.SectionFault.{SectionFault}
-use Rattle.positions.specs.declared.fault.SectionFault.TheVariants as sections
 use Rattle.compiler.specs.Readings.{IsReading, slot_count, code_over}
 
--- the path of a signal that is read has over 65,535 bytes
-pub record HasLongPath (suite : Suite) (signals : List Bool) : Type 0 where
-  pub place : ℕ
-  pub signal : Signal
-  pub marked : slice_get signals place ≡ Some true
-  pub is : slice_get suite.names.items place ≡ Some signal
-  pub long : 65535 < length (string_bytes signal.path)
+-- the text has over 65,535 bytes
+abbrev pub is_long : List ℕ → Bool
+is_long text = nat_lt 65535 (length text)
 
--- a text of the program has over 65,535 bytes: its name, its clock, or the path of a signal
+abbrev pub is_long_found : Option Signal → Bool
+is_long_found None = false
+is_long_found (Some s) = is_long (string_bytes s.path)
+
+-- the path of the signal at a place is long
+abbrev pub is_long_path : List Signal → ℕ → Bool
+is_long_path signals place = is_long_found (slice_get signals place)
+
+-- a text of the program is long: its name, its clock, or the path of a signal at one of the places
+abbrev pub has_long_text : Suite → Assertion → List ℕ → Bool
+has_long_text suite a places =
+    is_long (string_bytes a.name)
+    || (is_long (string_bytes suite.clock) || list_any (is_long_path suite.names.items) places)
+
 abbrev pub HasLongText : Suite → Assertion → List Bool → Type 0
-HasLongText suite a signals =
-    (65535 < length (string_bytes a.name))
-    ⊎ ((65535 < length (string_bytes suite.clock)) ⊎ HasLongPath suite signals)
+HasLongText suite a signals = IsTrue (has_long_text suite a (places_from 0 signals))
 
 -- how many instructions the section of a side has
 abbrev pub side_size : Sequence → ℕ
@@ -87,12 +92,3 @@ pub record IsCountFault (suite : Suite) (a : Assertion) (signals counters : List
 abbrev pub WhyNotCompiled : Suite → Assertion → CompileFault → Type 0
 WhyNotCompiled suite a Memory = Unit {0}
 WhyNotCompiled suite a fault = IsFirstFault suite a fault
-
--- the faults of the parts
-abbrev pub length_fault : LengthFault → CompileFault
-length_fault lengths.TooLong = CodeTooLong
-length_fault lengths.Memory = Memory
-
-abbrev pub section_fault : SectionFault → CompileFault
-section_fault sections.TooLong = CodeTooLong
-section_fault sections.Memory = Memory

@@ -2,11 +2,10 @@
 
 ghost use Rattle.std.specs.Prelude.{◌≡◌, IfOk, IfErr, MatchOption};
 ghost use Rattle.compiler.specs.Conditions.{IsFit};
-ghost use Rattle.compiler.specs.Readings.{IsReading};
+ghost use Rattle.compiler.specs.Reads.{IsReadingOf};
 ghost use Rattle.compiler.specs.Faults.{WhyNotCompiled, AreCounted, IsCountFault};
 ghost use Rattle.compiler.specs.Programs.{IsProgramOf};
 ghost use Rattle.verifier.specs.Programs.{IsAccepted};
-ghost use Rattle.bytecode.specs.Values.{ProgramData};
 
 use crate::fault::CompileFault;
 use crate::limits::accepted;
@@ -19,6 +18,7 @@ use verifier::Verified;
 
 /// The first fault of what an assertion has and reads, in the order K1, K3, K4.
 fn count_fault(assertion: &Assertion, suite: &Suite, reading: &Reading) -> Option<CompileFault>
+    requires { IsReadingOf suite.now assertion.now reading.now }
     ensures { MatchOption result
         (AreCounted suite.now assertion.now reading.now.signals.items reading.now.counters.items)
         (IsCountFault suite.now assertion.now reading.now.signals.items
@@ -30,7 +30,7 @@ fn count_fault(assertion: &Assertion, suite: &Suite, reading: &Reading) -> Optio
     if reading.slot_count() > 256 {
         return Some(CompileFault::TooManySlots);
     }
-    if has_long_text(assertion, suite, reading) {
+    if has_long_text(assertion, suite, reading.signal_places.as_slice()) {
         return Some(CompileFault::TextTooLong);
     }
     None

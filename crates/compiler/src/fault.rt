@@ -3,8 +3,6 @@
 ghost use Rattle.std.specs.Prelude.{◌≡◌};
 ghost use Rattle.compiler.specs.declared.fault.CompileFault.TheVariants as faults;
 
-use expression_code::LengthFault;
-use positions::SectionFault;
 use std::alloc::AllocError;
 use thiserror::Error;
 
@@ -33,31 +31,5 @@ impl From<AllocError> for CompileFault {
 
     fn from(_error: AllocError) -> Self {
         CompileFault::Memory
-    }
-}
-
-impl From<LengthFault> for CompileFault {
-    ghost use Rattle.compiler.specs.Faults.{length_fault};
-
-    ghost from_gives = { λ e fault. fault ≡ length_fault e };
-
-    fn from(fault: LengthFault) -> Self {
-        match fault {
-            LengthFault::TooLong => CompileFault::CodeTooLong,
-            LengthFault::Memory => CompileFault::Memory,
-        }
-    }
-}
-
-impl From<SectionFault> for CompileFault {
-    ghost use Rattle.compiler.specs.Faults.{section_fault};
-
-    ghost from_gives = { λ e fault. fault ≡ section_fault e };
-
-    fn from(fault: SectionFault) -> Self {
-        match fault {
-            SectionFault::TooLong => CompileFault::CodeTooLong,
-            SectionFault::Memory => CompileFault::Memory,
-        }
     }
 }

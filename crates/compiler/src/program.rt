@@ -1,11 +1,11 @@
 //! The program of an assertion, before it declares its limits.
 
-ghost use Rattle.std.specs.Prelude.{◌≡◌, ◌≤◌, length, IfOk, IfErr};
+ghost use Rattle.std.specs.Prelude.{◌≡◌, ◌+◌, ◌≤◌, length, IfOk, IfErr};
 ghost use Rattle.assertions.specs.declared.sequence.Boolean.TheVariants.{One};
 ghost use Rattle.assertions.specs.Written.{weight, IsOrdered};
 ghost use Rattle.assertions.specs.Shapes.{written_form};
 ghost use Rattle.assertions.specs.Listed.{EachBoolean, IsListed, IsListedOption};
-ghost use Rattle.assertion_reads.specs.Marks.{places_from};
+ghost use Rattle.assertion_reads.specs.Marks.{places_from, slots_from};
 ghost use Rattle.positions.specs.Sequences.{atom_of};
 ghost use Rattle.positions.specs.Laws.{section_for};
 ghost use Rattle.compiler.specs.Programs.{disabling_atom};
@@ -13,19 +13,39 @@ ghost use Rattle.bytecode.specs.Programs.{data_of};
 ghost use Rattle.bytecode.specs.Views.{section_data};
 ghost use Rattle.inference.specs.Sections.{size_of};
 ghost use Rattle.compiler.specs.Conditions.{IsFit};
-ghost use Rattle.compiler.specs.Readings.{IsReading, slot_count, code_over};
-ghost use Rattle.compiler.specs.Faults.{HasLongText};
+ghost use Rattle.compiler.specs.Readings.{first_counter, code_over};
+ghost use Rattle.compiler.specs.Reads.{IsReadingOf};
+ghost use Rattle.compiler.specs.Faults.{AreCounted};
 ghost use Rattle.compiler.specs.Parts.{AreParts, IsCodeFault, IsSideFault, no_limits};
 
 use crate::fault::CompileFault;
-use crate::reading::{Reading, count_marked};
+use crate::reading::Reading;
 use crate::slots::{counter_widths, signal_slots};
-use assertion_reads::{marked_places, slots_of};
+use assertion_reads::slots_of;
 use assertions::{Assertion, Boolean, Sequence, Suite};
 use bytecode::{Limits, Program, SampleInstr, Section};
-use expression_code::{SlotTable, sample_code};
-use positions::positions_of;
-use std::alloc::Global;
+use expression_code::{LengthFault, SlotTable, sample_code};
+use positions::{SectionFault, positions_of};
+use std::alloc::{AllocError, Global};
+
+/// The slots of the names that are read.
+fn table_of(alloc: Global, reading: &Reading) -> Result<SlotTable, AllocError>
+    requires signals { reading.now.signal_places.items ≡ places_from 0 reading.now.signals.items }
+    requires counters {
+        reading.now.counter_places.items ≡ places_from 0 reading.now.counters.items }
+    requires few { length reading.now.signal_places.items
+        + length reading.now.counter_places.items ≤ 255 }
+    ensures signals { IfOk result (λ t.
+        t.signals.items ≡ slots_from 1 reading.now.signals.items) }
+    ensures counters { IfOk result (λ t. t.counters.items
+        ≡ slots_from (first_counter reading.now.signals.items) reading.now.counters.items) }
+{
+    let first = 1 + reading.signal_places.len() as u16;
+    Ok(SlotTable {
+        signals: slots_of(alloc, reading.signals.as_slice(), 1)?,
+        counters: slots_of(alloc, reading.counters.as_slice(), first)?,
+    })
+}
 
 /// The sample code of the assertion's booleans and of the counters that it reads.
 fn code_of(
@@ -33,33 +53,31 @@ fn code_of(
     assertion: &Assertion,
     suite: &Suite,
     reading: &Reading,
-    counters: &[usize],
 ) -> Result<Vec<SampleInstr>, CompileFault>
     requires fit { IsFit suite.now assertion.now }
-    requires reading { IsReading suite.now assertion.now reading.now.signals.items
-        reading.now.counters.items }
+    requires reading { IsReadingOf suite.now assertion.now reading.now }
     requires atoms { length assertion.now.booleans.items ≤ 127 }
-    requires slots { slot_count reading.now.signals.items reading.now.counters.items ≤ 256 }
-    requires counters { counters.now ≡ places_from 0 reading.now.counters.items }
+    requires slots { length reading.now.signal_places.items
+        + length reading.now.counter_places.items ≤ 255 }
     ensures made { IfOk result (λ code. code.items ≡ code_over suite.now assertion.now
         reading.now.signals.items reading.now.counters.items) }
     ensures short { IfOk result (λ code. length code.items ≤ 4096) }
     ensures fault { IfErr result (IsCodeFault suite.now assertion.now
         reading.now.signals.items reading.now.counters.items) }
 {
-    let first = 1 + count_marked(reading.signals.as_slice()) as u16;
-    let slots = SlotTable {
-        signals: slots_of(alloc, reading.signals.as_slice(), 1)?,
-        counters: slots_of(alloc, reading.counters.as_slice(), first)?,
-    };
-    Ok(sample_code(
+    let slots = table_of(alloc, reading)?;
+    match sample_code(
         alloc,
         suite.booleans.as_slice(),
         assertion.booleans.as_slice(),
         suite.counters.as_slice(),
-        counters,
+        reading.counter_places.as_slice(),
         &slots,
-    )?)
+    ) {
+        Ok(code) => Ok(code),
+        Err(LengthFault::TooLong) => Err(CompileFault::CodeTooLong),
+        Err(LengthFault::Memory) => Err(CompileFault::Memory),
+    }
 }
 
 /// The section that follows a side.
@@ -72,7 +90,11 @@ fn side_of(alloc: Global, side: &Sequence) -> Result<Section, CompileFault>
     ensures short { IfOk result (λ s. size_of (section_data s).blocks ≤ 4096) }
     ensures fault { IfErr result (IsSideFault side.now) }
 {
-    Ok(positions_of(alloc, side)?)
+    match positions_of(alloc, side) {
+        Ok(section) => Ok(section),
+        Err(SectionFault::TooLong) => Err(CompileFault::CodeTooLong),
+        Err(SectionFault::Memory) => Err(CompileFault::Memory),
+    }
 }
 
 /// The atom of the disabling boolean, if there is one.
@@ -108,19 +130,15 @@ pub(crate) fn program_of(
     reading: &Reading,
 ) -> Result<Program, CompileFault>
     requires fit { IsFit suite.now assertion.now }
-    requires reading { IsReading suite.now assertion.now reading.now.signals.items
+    requires reading { IsReadingOf suite.now assertion.now reading.now }
+    requires counted { AreCounted suite.now assertion.now reading.now.signals.items
         reading.now.counters.items }
-    requires atoms { length assertion.now.booleans.items ≤ 127 }
-    requires slots { slot_count reading.now.signals.items reading.now.counters.items ≤ 256 }
-    requires texts { HasLongText suite.now assertion.now reading.now.signals.items → ⊥ }
     ensures made { IfOk result (λ p. AreParts suite.now assertion.now
         reading.now.signals.items reading.now.counters.items (data_of p)) }
     ensures fault { IfErr result (IsCodeFault suite.now assertion.now
         reading.now.signals.items reading.now.counters.items) }
 {
-    let signals = marked_places(alloc, reading.signals.as_slice())?;
-    let counters = marked_places(alloc, reading.counters.as_slice())?;
-    let sample = code_of(alloc, assertion, suite, reading, counters.as_slice())?;
+    let sample = code_of(alloc, assertion, suite, reading)?;
     let antecedent = side_of(alloc, &assertion.antecedent)?;
     let consequent = side_of(alloc, &assertion.consequent)?;
     Ok(Program {
@@ -129,8 +147,16 @@ pub(crate) fn program_of(
         atoms: assertion.booleans.len() as u8,
         name: String::from_str(alloc, assertion.name.as_str())?,
         clock: String::from_str(alloc, suite.clock.as_str())?,
-        signals: signal_slots(alloc, suite.names.as_slice(), signals.as_slice())?,
-        counters: counter_widths(alloc, suite.counters.as_slice(), counters.as_slice())?,
+        signals: signal_slots(
+            alloc,
+            suite.names.as_slice(),
+            reading.signal_places.as_slice(),
+        )?,
+        counters: counter_widths(
+            alloc,
+            suite.counters.as_slice(),
+            reading.counter_places.as_slice(),
+        )?,
         sample,
         antecedent,
         consequent,

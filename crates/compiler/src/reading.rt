@@ -1,10 +1,9 @@
 //! What an assertion reads.
 
-ghost use Rattle.std.specs.Prelude.{◌≡◌, count_by, IfOk};
-ghost use Rattle.assertion_reads.specs.Marks.{is_marked};
-ghost use Rattle.compiler.specs.Readings.{IsReading, slot_count};
+ghost use Rattle.std.specs.Prelude.{◌≡◌, ◌+◌, length, IfOk};
+ghost use Rattle.compiler.specs.Reads.{IsReadingOf};
 
-use assertion_reads::{marks_of, names_read};
+use assertion_reads::{marked_places, marks_of, names_read};
 use assertions::{Assertion, Suite};
 use expressions::Origin;
 use std::alloc::{AllocError, Global};
@@ -14,26 +13,16 @@ use std::alloc::{AllocError, Global};
 pub(crate) struct Reading {
     pub signals: Vec<bool>,
     pub counters: Vec<bool>,
-}
-
-/// How many places are marked.
-pub(crate) fn count_marked(marks: &[bool]) -> usize
-    ensures { result ≡ count_by is_marked marks.now }
-{
-    let mut count = 0;
-    for mark in marks {
-        if *mark {
-            count += 1;
-        }
-    }
-    count
+    /// The places of those signals that are read, in rising order.
+    pub signal_places: Vec<usize>,
+    /// The places of those counters.
+    pub counter_places: Vec<usize>,
 }
 
 impl Reading {
     /// What the assertion reads of its suite.
     pub fn of(alloc: Global, assertion: &Assertion, suite: &Suite) -> Result<Reading, AllocError>
-        ensures { IfOk result (λ r.
-            IsReading suite.now assertion.now r.signals.items r.counters.items) }
+        ensures { IfOk result (IsReadingOf suite.now assertion.now) }
     {
         let names = names_read(alloc, assertion, suite)?;
         let signals = marks_of(alloc, names.as_slice(), Origin::Signal, suite.names.len())?;
@@ -43,13 +32,21 @@ impl Reading {
             Origin::Counter,
             suite.counters.len(),
         )?;
-        Ok(Reading { signals, counters })
+        let signal_places = marked_places(alloc, signals.as_slice())?;
+        let counter_places = marked_places(alloc, counters.as_slice())?;
+        Ok(Reading {
+            signals,
+            counters,
+            signal_places,
+            counter_places,
+        })
     }
 
     /// How many slots its program has: the constant 1, the signals and the counters.
     pub fn slot_count(&self) -> usize
-        ensures { result ≡ slot_count self.now.signals.items self.now.counters.items }
+        ensures { result ≡ 1 + (length self.now.signal_places.items
+            + length self.now.counter_places.items) }
     {
-        1 + count_marked(self.signals.as_slice()) + count_marked(self.counters.as_slice())
+        1 + (self.signal_places.len() + self.counter_places.len())
     }
 }

@@ -1,36 +1,47 @@
 //! Texts that a program's file can't hold.
 
-ghost use Rattle.std.specs.Prelude.{◌≡◌, ◌↔◌, ◌<◌, ◌≤◌, length, string_bytes, IsTrue};
-ghost use Rattle.compiler.specs.Faults.{HasLongPath, HasLongText};
+ghost use Rattle.std.specs.Prelude.{◌≡◌};
+ghost use Rattle.std.specs.List.{list_any};
+ghost use Rattle.compiler.specs.Faults.{is_long, is_long_path, has_long_text};
+ghost use Rattle.assertion_reads.specs.Marks.{places_from};
 
-use crate::reading::Reading;
-use assertions::{Assertion, Suite};
+use assertions::{Assertion, Signal, Suite};
 
 /// Whether a text has over 65,535 bytes.
 fn is_long(text: &str) -> bool
-    ensures { IsTrue result ↔ (65535 < length text.now) }
+    ensures { result ≡ is_long text.now }
 {
     text.len() > 65_535
 }
 
-/// Whether the path of a signal that is read is long.
-fn has_long_path(suite: &Suite, marks: &[bool]) -> bool
-    ensures { IsTrue result ↔ HasLongPath suite.now marks.now }
+/// Whether the path of the signal at a place is long.
+fn is_long_path(signals: &[Signal], place: usize) -> bool
+    ensures { result ≡ is_long_path signals.now place }
 {
-    for place in 0..suite.names.len() {
-        if marks.get(place).copied().unwrap_or(false) && is_long(suite.names[place].path.as_str()) {
+    match signals.get(place) {
+        None => false,
+        Some(signal) => is_long(signal.path.as_str()),
+    }
+}
+
+/// Whether the path of one of these signals is long.
+fn has_long_path(signals: &[Signal], places: &[usize]) -> bool
+    ensures { result ≡ list_any (is_long_path signals.now) places.now }
+{
+    for place in places {
+        if is_long_path(signals, *place) {
             return true;
         }
     }
     false
 }
 
-/// Whether a text of the assertion's program is too long for a file.
-pub(crate) fn has_long_text(assertion: &Assertion, suite: &Suite, reading: &Reading) -> bool
-    ensures { IsTrue result
-        ↔ HasLongText suite.now assertion.now reading.now.signals.items }
+/// Whether a text of the program of an assertion, which reads the signals at these places, is too
+/// long for a file.
+pub(crate) fn has_long_text(assertion: &Assertion, suite: &Suite, places: &[usize]) -> bool
+    ensures { result ≡ has_long_text suite.now assertion.now places.now }
 {
     is_long(assertion.name.as_str())
         || is_long(suite.clock.as_str())
-        || has_long_path(suite, reading.signals.as_slice())
+        || has_long_path(suite.names.as_slice(), places)
 }
