@@ -37,8 +37,16 @@ fn next_tick(rt: HostRuntime) -> Result<(), Fail> {
     // a ##1 b
     let sequence = Sequence::Delay(boolean(alloc, 0)?, 1, 1, boolean(alloc, 1)?);
     let section = positions_of(alloc, &sequence)?;
-    let first = [BlockInstr::Unless(0, 2), BlockInstr::Enter(1), BlockInstr::Stop];
-    let second = [BlockInstr::Unless(1, 5), BlockInstr::Accept, BlockInstr::Stop];
+    let first = [
+        BlockInstr::Unless(0, 2),
+        BlockInstr::Enter(1),
+        BlockInstr::Stop,
+    ];
+    let second = [
+        BlockInstr::Unless(1, 5),
+        BlockInstr::Accept,
+        BlockInstr::Stop,
+    ];
     let blocks = [first.as_slice(), second.as_slice()];
     assert!(rt; is_section(&section, 1, blocks.as_slice()));
     Ok(())
@@ -57,8 +65,57 @@ fn range_of_delays(rt: HostRuntime) -> Result<(), Fail> {
         BlockInstr::Stop,
     ];
     let middle = [BlockInstr::Enter(2), BlockInstr::Stop];
-    let last = [BlockInstr::Unless(1, 8), BlockInstr::Accept, BlockInstr::Stop];
+    let last = [
+        BlockInstr::Unless(1, 8),
+        BlockInstr::Accept,
+        BlockInstr::Stop,
+    ];
     let blocks = [first.as_slice(), middle.as_slice(), last.as_slice()];
+    assert!(rt; is_section(&section, 1, blocks.as_slice()));
+    Ok(())
+}
+
+#[test]
+fn both_of_two(rt: HostRuntime) -> Result<(), Fail> {
+    let alloc = rt.alloc();
+    // a and (b ##1 c): two pairs of positions, a alone, b alone, c alone
+    let long = Sequence::Delay(boolean(alloc, 1)?, 1, 1, boolean(alloc, 2)?);
+    let sequence = Sequence::And(boolean(alloc, 0)?, Box::new(alloc, long)?);
+    let section = positions_of(alloc, &sequence)?;
+    let first = [
+        BlockInstr::Unless(0, 3),
+        BlockInstr::Unless(1, 3),
+        BlockInstr::Enter(4),
+        BlockInstr::Stop,
+    ];
+    let second = [
+        BlockInstr::Unless(0, 7),
+        BlockInstr::Unless(2, 7),
+        BlockInstr::Accept,
+        BlockInstr::Stop,
+    ];
+    let third = [
+        BlockInstr::Unless(0, 10),
+        BlockInstr::Accept,
+        BlockInstr::Stop,
+    ];
+    let fourth = [
+        BlockInstr::Unless(1, 13),
+        BlockInstr::Enter(4),
+        BlockInstr::Stop,
+    ];
+    let fifth = [
+        BlockInstr::Unless(2, 16),
+        BlockInstr::Accept,
+        BlockInstr::Stop,
+    ];
+    let blocks = [
+        first.as_slice(),
+        second.as_slice(),
+        third.as_slice(),
+        fourth.as_slice(),
+        fifth.as_slice(),
+    ];
     assert!(rt; is_section(&section, 1, blocks.as_slice()));
     Ok(())
 }
