@@ -52,7 +52,7 @@ module _ (e : List Expr) (ps : List ℕ) where
 pub longer : (before after : List ℕ) → Extends before after → length before ≤ length after
 longer before after x =
     let long : length after ≡ length before + length x.added =
-        ap length x.is ∙ length-append before x.added in
+    ap length x.is ∙ length-append before x.added in
     omega (arith, long)
 
 pub listed_on : (before after : List ℕ) (w : Written Boolean) → Extends before after →
@@ -70,8 +70,7 @@ pub of_two : (before between after : List ℕ) (v w : Written Boolean) → AreOf
     AreOf w between after → (p : ℕ) → IsIn p after →
     IsIn p before ⊎ (IsUsed (Listed p) v ⊎ IsUsed (Listed p) w)
 of_two before between after v w f g p h =
-    elim (g p h)
-    [
-      inl there ↦ elim (f p there) [ inl i ↦ inl i | inr u ↦ inr (inl u) ]
-    | inr u ↦ inr (inr u)
+    elim (g p h) [
+      | inl there ↦ elim (f p there) [ inl i ↦ inl i | inr u ↦ inr (inl u) ]
+      | inr u ↦ inr (inr u)
     ]

@@ -1,23 +1,22 @@
 -- What is made of parts that say the same says the same.
-use Rattle.std.proofs.Common.{◌≡◌, ◌⊎◌, inl, inr, ℕ, ◌+◌, ◌-◌, ◌*◌, ◌≤◌, true, false, refl, arith}
+use Rattle.std.proofs.Common.{◌≡◌, inl, inr, ℕ, ◌+◌, ◌-◌, ◌*◌, ◌≤◌, true, false, refl, arith}
 use Rattle.std.proofs.Math.Nat.{mul-le-mul_left, mul-le-mul}
 use Rattle.assertions.specs.declared.sequence.Boolean.{Boolean}
 use Rattle.assertions.specs.declared.sequence.Boolean.TheVariants.{One}
 use Rattle.assertions.specs.Written.{Written, boolean, delay, lead, repeat, or, and, throughout, kernel, weight, after, later, IsOrdered}
 use Rattle.assertions.specs.Emptiness.{admits_empty}
-use Rattle.assertions.specs.Listed.{EachBoolean, IsUsed}
-use Rattle.types_sequences.specs.Entries.{SaysSame, IsUsedOrOne}
-use Rattle.types_sequences.proofs.UsedLaws.{each_map, used_on}
+use Rattle.types_sequences.specs.Entries.{SaysSame}
+use Rattle.types_sequences.proofs.UsedLaws.{used_on}
 use Rattle.types_sequences.proofs.AlikeLaws.{alike_same, alike_one_of, alike_after, alike_later, alike_times, alike_either, alike_both, alike_during}
 use Rattle.types_sequences.proofs.ConstantLaws.{alike_empty, alike_never}
 
 pub says_boolean : (b : Boolean) → SaysSame (boolean b) (boolean b)
 says_boolean b = record {
-      ordered = tt;
-      light = omega arith;
-      known = inl refl;
-      alike = λ holds. alike_same holds (kernel One (boolean b));
-    }
+  ordered = tt;
+  light = omega arith;
+  known = inl refl;
+  alike = λ holds. alike_same holds (kernel One (boolean b));
+}
 
 pub says_delay : (v w a b : Written Boolean) (least most : ℕ) → least ≤ most → SaysSame v a → SaysSame w b → SaysSame (delay v least most w) (delay a least most b)
 says_delay v w a b least most le x y =
@@ -78,16 +77,16 @@ says_throughout b v a x =
 
 pub says_empty : (w : Written Boolean) → IsOrdered w → weight w ≡ 0 → admits_empty w ≡ true → SaysSame w (repeat (boolean One) 0 0)
 says_empty w o z e = record {
-      ordered = (omega arith, tt);
-      light = omega arith;
-      known = inr refl;
-      alike = λ holds. alike_empty holds w o z e;
-    }
+  ordered = (omega arith, tt);
+  light = omega arith;
+  known = inr refl;
+  alike = λ holds. alike_empty holds w o z e;
+}
 
 pub says_never : (w : Written Boolean) → IsOrdered w → weight w ≡ 0 → admits_empty w ≡ false → SaysSame w (delay (repeat (boolean One) 0 0) 0 0 (repeat (boolean One) 0 0))
 says_never w o z e = record {
-      ordered = (omega arith, (omega arith, tt), (omega arith, tt));
-      light = omega arith;
-      known = (inr refl, inr refl);
-      alike = λ holds. alike_never holds w o z e;
-    }
+  ordered = (omega arith, (omega arith, tt), (omega arith, tt));
+  light = omega arith;
+  known = (inr refl, inr refl);
+  alike = λ holds. alike_never holds w o z e;
+}

@@ -1,5 +1,5 @@
 -- What holds of each boolean of a sequence, and which booleans those are.
-use Rattle.std.proofs.Common.{◌≡◌, ◌⊎◌, inl, inr, ℕ, ◌<◌, ◌≤◌, subst, sym, arith}
+use Rattle.std.proofs.Common.{inl, inr, ℕ, ◌≤◌, subst, sym, arith}
 use Rattle.assertions.specs.declared.sequence.Boolean.{Boolean}
 use Rattle.assertions.specs.declared.sequence.Boolean.TheVariants.{One, Listed}
 use Rattle.assertions.specs.Written.{Written, boolean, delay, lead, repeat, or, and, throughout}

@@ -61,9 +61,11 @@ returns-in_ok-new-in-Delay-clause-listed t c =
     let first = c.in_ok-first-in-Delay.ensures.listed in
     let second = c.in_ok-second-in-Delay.ensures.listed in
     let x = c.in_ok-second-in-Delay.ensures.grows in
-    rw c.in_ok-new-in-Delay.ensures.ok
-    (listed_on c.place_sequence.new.places.items c.place_sequence-in-Delay.new.places.items
-    (written_form c.in_ok-first-in-Delay.first.value) x first, second)
+    rw c.in_ok-new-in-Delay.ensures.ok (
+      listed_on c.place_sequence.new.places.items c.place_sequence-in-Delay.new.places.items
+          (written_form c.in_ok-first-in-Delay.first.value) x first,
+      second,
+    )
 
 pub returns-in_ok-new-in-Delay-clause-used : goal.returns-in_ok-new-in-Delay-clause-used
 returns-in_ok-new-in-Delay-clause-used t c =
@@ -78,9 +80,11 @@ returns-in_ok-new-in-Or-clause-listed t c =
     let first = c.in_ok-first-in-Or.ensures.listed in
     let second = c.in_ok-second-in-Or.ensures.listed in
     let x = c.in_ok-second-in-Or.ensures.grows in
-    rw c.in_ok-new-in-Or.ensures.ok
-    (listed_on c.place_sequence-in-Or.new.places.items c.place_sequence-in-Or-2.new.places.items
-    (written_form c.in_ok-first-in-Or.first.value) x first, second)
+    rw c.in_ok-new-in-Or.ensures.ok (
+      listed_on c.place_sequence-in-Or.new.places.items c.place_sequence-in-Or-2.new.places.items
+          (written_form c.in_ok-first-in-Or.first.value) x first,
+      second,
+    )
 
 pub returns-in_ok-new-in-Or-clause-used : goal.returns-in_ok-new-in-Or-clause-used
 returns-in_ok-new-in-Or-clause-used t c =
@@ -95,9 +99,11 @@ returns-in_ok-new-in-And-clause-listed t c =
     let first = c.in_ok-first-in-And.ensures.listed in
     let second = c.in_ok-second-in-And.ensures.listed in
     let x = c.in_ok-second-in-And.ensures.grows in
-    rw c.in_ok-new-in-And.ensures.ok
-    (listed_on c.place_sequence-in-And.new.places.items c.place_sequence-in-And-2.new.places.items
-    (written_form c.in_ok-first-in-And.first.value) x first, second)
+    rw c.in_ok-new-in-And.ensures.ok (
+      listed_on c.place_sequence-in-And.new.places.items c.place_sequence-in-And-2.new.places.items
+          (written_form c.in_ok-first-in-And.first.value) x first,
+      second,
+    )
 
 pub returns-in_ok-new-in-And-clause-used : goal.returns-in_ok-new-in-And-clause-used
 returns-in_ok-new-in-And-clause-used t c =
