@@ -9,7 +9,7 @@ use Rattle.assertions.specs.Shapes.{value_in}
 use Rattle.assertions.specs.Written.{Written, boolean, delay, lead, repeat, or, and, throughout, kernel, after, later}
 use Rattle.assertions.specs.Listed.{EachBoolean, IsUsed, IsListed}
 use Rattle.types_sequences.specs.Drafts.{IsIn}
-use Rattle.types_sequences.specs.Placed.{atom_true, IsPlaced, IsPlacedBoolean, Extends, AreOf}
+use Rattle.types_sequences.specs.Placed.{atom_true, IsPlaced, IsPlacedBoolean, Extends, Adds}
 use Rattle.types_sequences.proofs.InLaws.{in_last}
 use Rattle.types_sequences.proofs.UsedLaws.{each_listed}
 use Rattle.types_sequences.proofs.AlikeLaws.{alike_one, alike_one_of, alike_after, alike_later, alike_times, alike_either, alike_both, alike_during}
@@ -61,13 +61,13 @@ listed_on before after w x h = each_listed (length before) (length after) w (lon
 
 -- the places of a boolean alone, and of two parts
 pub of_pushed : (before after : List ℕ) (place : ℕ) (b : Boolean) → b ≡ Listed place →
-    after ≡ before ++ place ∷ [] → AreOf (boolean b) before after
+    after ≡ before ++ place ∷ [] → Adds (boolean b) before after
 of_pushed before after place b is pushed p h =
     elim (in_last p place before (subst (λ (ps : List ℕ). IsIn p ps) pushed h))
     [ inl x ↦ inl x | inr e ↦ inr (ap Listed e ∙ sym is) ]
 
-pub of_two : (before between after : List ℕ) (v w : Written Boolean) → AreOf v before between →
-    AreOf w between after → (p : ℕ) → IsIn p after →
+pub of_two : (before between after : List ℕ) (v w : Written Boolean) → Adds v before between →
+    Adds w between after → (p : ℕ) → IsIn p after →
     IsIn p before ⊎ (IsUsed (Listed p) v ⊎ IsUsed (Listed p) w)
 of_two before between after v w f g p h =
     elim (g p h) [

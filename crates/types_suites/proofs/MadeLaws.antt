@@ -14,10 +14,10 @@ use Rattle.assertions.specs.Segments.{sat}
 use Rattle.assertions.specs.Written.{Written, weight, IsOrdered}
 use Rattle.assertions.specs.Shapes.{written_form}
 use Rattle.types_sequences.specs.declared.entry.Entry.{Entry}
-use Rattle.assertions.specs.Listed.{EachBoolean, IsUsed, IsListed}
+use Rattle.assertions.specs.Listed.{IsUsed}
 use Rattle.types_sequences.specs.Drafts.{Draft, IsIn}
 use Rattle.types_sequences.specs.Entries.{HasEntry, HasSame, SaysSame, IsUsedOrOne, IsEntry}
-use Rattle.types_sequences.specs.Placed.{IsPlaced, atom_true, Extends, AreOf}
+use Rattle.types_sequences.specs.Placed.{IsPlaced, atom_true, Extends, AllListed, Adds}
 use Rattle.types_sequences.proofs.UsedLaws.{each_used}
 use Rattle.types_sequences.proofs.PlacedLaws.{listed_on}
 use Rattle.types_expressions.specs.Scopes.{Scope}
@@ -58,7 +58,7 @@ fits_light e x f is =
 pub side_of : (booleans : List Expr) (places more : List ℕ) (e : Entry) (x : Box Sequence Global)
     (w made : Written Boolean) → e.facts.weight ≤ 127 → e.sequence ≡ Some x → IsEntry w e →
     IsPlaced booleans (places ++ more) (written_form x.value) made →
-    EachBoolean (IsListed (length places)) made → IsSide booleans (places ++ more) w made
+    AllListed places made → IsSide booleans (places ++ more) w made
 side_of booleans places more e x w made low is h p listed =
     let says = fits_says e x w low h is in
     record {
@@ -76,7 +76,7 @@ meant_too w p (inr one) = elim one [ ]
 
 pub used_by : (before after : List ℕ) (e : Entry) (x : Box Sequence Global) (w : Written Boolean) →
     e.facts.weight ≤ 127 → e.sequence ≡ Some x → IsEntry w e →
-    AreOf (written_form x.value) before after → AreOf w before after
+    Adds (written_form x.value) before after → Adds w before after
 used_by before after e x w low is h f p i =
     let says = fits_says e x w low h is in
     elim (f p i)
@@ -103,7 +103,7 @@ side_on e w made first second third x y f =
 
 -- Each place is one of the two sides' or the disabling one, where none was there at first.
 pub places_used : (start first second third : List ℕ) (v w : Written Boolean) (o : Option ℕ) →
-    start ≡ [] → AreOf v start first → AreOf w first second → AreAt o second third →
+    start ≡ [] → Adds v start first → Adds w first second → AreAt o second third →
     (p : ℕ) → IsIn p third → IsUsed (Listed p) v ⊎ (IsUsed (Listed p) w ⊎ (o ≡ Some p))
 places_used start first second third v w o none f g h p i =
     elim (h p i)
@@ -149,8 +149,8 @@ module _ (s : Scope) (cs : List (List ℕ)) (e : List Expr) where
               subst (λ (u : Written Boolean). IsPlaced e spots h.meant u) (sym is)
               (subst (λ (ps : List ℕ). IsPlaced e ps h.meant w) (sym list) side.placed);
           listed =
-              subst (λ (u : Written Boolean). EachBoolean (IsListed (length spots)) u) (sym is)
-              (subst (λ (ps : List ℕ). EachBoolean (IsListed (length ps)) w) (sym list) side.listed);
+              subst (λ (u : Written Boolean). AllListed spots u) (sym is)
+              (subst (λ (ps : List ℕ). AllListed ps w) (sym list) side.listed);
         }
 
     -- An assertion with these parts is that of the text.

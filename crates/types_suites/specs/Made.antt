@@ -5,11 +5,11 @@ use Rattle.expressions.specs.declared.expr.Expr.{Expr}
 use Rattle.assertions.specs.declared.sequence.Boolean.{Boolean}
 use Rattle.assertions.specs.declared.sequence.Boolean.TheVariants.{Listed}
 use Rattle.assertions.specs.Written.{Written}
-use Rattle.assertions.specs.Listed.{EachBoolean, IsListed, IsListedOption}
+use Rattle.assertions.specs.Listed.{IsListedOption}
 use Rattle.types_sequences.specs.declared.entry.Entry.{Entry}
 use Rattle.types_sequences.specs.Drafts.{Draft, IsIn}
 use Rattle.types_sequences.specs.Entries.{IsEntry}
-use Rattle.types_sequences.specs.Placed.{IsPlaced, IsPlacedBoolean}
+use Rattle.types_sequences.specs.Placed.{IsPlaced, IsPlacedBoolean, AllListed}
 use Rattle.types_suites.specs.declared.resolved.Resolved.{Resolved}
 
 -- the expressions of a suite, what a side says, with names and without, assertions of a text
@@ -47,7 +47,7 @@ AreFitting (m ∷ ms) = SidesFit m × AreFitting ms
 pub record IsSide (booleans : List Expr) (places : List ℕ) (meant made : Written Boolean) :
     Type 0 where
   pub placed : IsPlaced booleans places meant made
-  pub listed : EachBoolean (IsListed (length places)) made
+  pub listed : AllListed places made
 
 -- Each place behind was there before, or it is that of the disabling expression.
 abbrev pub AreAt : Option ℕ → List ℕ → List ℕ → Type 0

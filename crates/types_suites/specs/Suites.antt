@@ -15,11 +15,11 @@ use Rattle.assertions.specs.declared.signal.Signal.{Signal}
 use Rattle.assertions.specs.declared.suite.Suite.{Suite}
 use Rattle.assertions.specs.Written.{Written}
 use Rattle.assertions.specs.Shapes.{written_form}
-use Rattle.assertions.specs.Listed.{EachBoolean, IsUsed, IsListed, IsListedOption}
+use Rattle.assertions.specs.Listed.{IsUsed, IsListedOption}
 use Rattle.types_sequences.specs.Drafts as drafts
 use Rattle.types_sequences.specs.Implications.{rewritten_antecedent}
 use Rattle.types_sequences.specs.Drafts.{Draft, Spells, IsIn}
-use Rattle.types_sequences.specs.Placed.{IsPlaced, IsPlacedBoolean}
+use Rattle.types_sequences.specs.Placed.{IsPlaced, IsPlacedBoolean, AllListed}
 use Rattle.types_expressions.specs.Scopes.{Scope, width_in}
 use Rattle.types_expressions.specs.Columns.{columns_of}
 use Rattle.types_expressions.specs.Meanings.{Means}
@@ -72,13 +72,13 @@ abbrev pub ReadsConsequent : Scope → List (List ℕ) → List Expr → Propert
 ReadsConsequent s columns booleans (plain q) d = Reads s columns booleans q d
 ReadsConsequent s columns booleans (implication a t c) d = Reads s columns booleans c d
 
--- What a side says with the names written out, and that an assertion's sequence matches the same, by
--- booleans of the assertion's list.
+-- What a side says with the names written out, and that an assertion's sequence matches the same,
+-- by booleans of the assertion's list.
 pub record IsMeant (bodies : List (Draft Boolean)) (booleans : List Expr) (places : List ℕ) (d : Draft Boolean) (made : Written Boolean) : Type 0 where
   pub meant : Written Boolean
   pub spells : Spells bodies d meant
   pub placed : IsPlaced booleans places meant made
-  pub listed : EachBoolean (IsListed (length places)) made
+  pub listed : AllListed places made
 
 abbrev pub IsDisabling : Scope → List (List ℕ) → List Expr → List ℕ → Option Tree → Option Boolean → Type 0
 IsDisabling s columns booleans places None None = Unit {0}

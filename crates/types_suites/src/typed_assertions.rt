@@ -4,12 +4,12 @@ ghost use Rattle.std.specs.Prelude.{◌≤◌, ℕ, List, ◌++◌, IfOk, OnOk};
 ghost use Rattle.assertions.specs.Shapes.{written_form};
 ghost use Rattle.assertions.specs.Written.{weight, IsOrdered};
 ghost use Rattle.types_sequences.specs.Entries.{Bodies, IsEntry};
-ghost use Rattle.types_sequences.specs.Placed.{Extends, AreOf};
+ghost use Rattle.types_sequences.specs.Placed.{Extends, Adds};
 ghost use Rattle.types_suites.specs.Readings.{Where};
 ghost use Rattle.types_suites.specs.Suites.{IsAssertion, AreAssertions};
 ghost use Rattle.types_suites.specs.Resolved.{IsResolved, AreResolved};
-ghost use Rattle.types_suites.specs.Made.{Expressions, Side, Statement, Statements, IsFitting, AreFitting};
-ghost use Rattle.types_suites.specs.Made.{IsSide, IsPlacedAt, AreAt};
+ghost use Rattle.types_suites.specs.Made.{Expressions, Side, Statement, Statements, IsSide};
+ghost use Rattle.types_suites.specs.Made.{IsFitting, AreFitting, IsPlacedAt, AreAt};
 
 use crate::resolved::Resolved;
 use assertions::{Assertion, Boolean, Sequence};
@@ -29,7 +29,7 @@ fn side_of(
     ensures meant { (booleans : Expressions) (more : List ℕ) (w : Side) → IsEntry w entry.now →
         IfOk result (λ b. IsSide booleans (places.new.items ++ more) w (written_form b.value)) }
     ensures used { (w : Side) → IsEntry w entry.now →
-        OnOk result (AreOf w places.old.items places.new.items) }
+        OnOk result (Adds w places.old.items places.new.items) }
 {
     match &entry.sequence {
         Some(sequence) => place_sequence(alloc, sequence, places),

@@ -67,10 +67,10 @@ returns-in_ok-new-in-Delay-clause-listed t c =
       second,
     )
 
-pub returns-in_ok-new-in-Delay-clause-used : goal.returns-in_ok-new-in-Delay-clause-used
-returns-in_ok-new-in-Delay-clause-used t c =
-    let first = (rw c.deref.ensures at c.in_ok-first-in-Delay.ensures.used) in
-    let second = (rw c.deref-in-Delay.ensures at c.in_ok-second-in-Delay.ensures.used) in
+pub returns-in_ok-new-in-Delay-clause-own : goal.returns-in_ok-new-in-Delay-clause-own
+returns-in_ok-new-in-Delay-clause-own t c =
+    let first = (rw c.deref.ensures at c.in_ok-first-in-Delay.ensures.own) in
+    let second = (rw c.deref-in-Delay.ensures at c.in_ok-second-in-Delay.ensures.own) in
     rw c.in-Delay.is
     (of_two c.args.places.now.items c.place_sequence.new.places.items c.place_sequence-in-Delay.new.places.items
     (written_form c.in-Delay.first.value) (written_form c.in-Delay.second.value) first second)
@@ -86,10 +86,10 @@ returns-in_ok-new-in-Or-clause-listed t c =
       second,
     )
 
-pub returns-in_ok-new-in-Or-clause-used : goal.returns-in_ok-new-in-Or-clause-used
-returns-in_ok-new-in-Or-clause-used t c =
-    let first = (rw c.deref-in-Or.ensures at c.in_ok-first-in-Or.ensures.used) in
-    let second = (rw c.deref-in-Or-2.ensures at c.in_ok-second-in-Or.ensures.used) in
+pub returns-in_ok-new-in-Or-clause-own : goal.returns-in_ok-new-in-Or-clause-own
+returns-in_ok-new-in-Or-clause-own t c =
+    let first = (rw c.deref-in-Or.ensures at c.in_ok-first-in-Or.ensures.own) in
+    let second = (rw c.deref-in-Or-2.ensures at c.in_ok-second-in-Or.ensures.own) in
     rw c.in-Or.is
     (of_two c.args.places.now.items c.place_sequence-in-Or.new.places.items c.place_sequence-in-Or-2.new.places.items
     (written_form c.in-Or.first.value) (written_form c.in-Or.second.value) first second)
@@ -105,32 +105,32 @@ returns-in_ok-new-in-And-clause-listed t c =
       second,
     )
 
-pub returns-in_ok-new-in-And-clause-used : goal.returns-in_ok-new-in-And-clause-used
-returns-in_ok-new-in-And-clause-used t c =
-    let first = (rw c.deref-in-And.ensures at c.in_ok-first-in-And.ensures.used) in
-    let second = (rw c.deref-in-And-2.ensures at c.in_ok-second-in-And.ensures.used) in
+pub returns-in_ok-new-in-And-clause-own : goal.returns-in_ok-new-in-And-clause-own
+returns-in_ok-new-in-And-clause-own t c =
+    let first = (rw c.deref-in-And.ensures at c.in_ok-first-in-And.ensures.own) in
+    let second = (rw c.deref-in-And-2.ensures at c.in_ok-second-in-And.ensures.own) in
     rw c.in-And.is
     (of_two c.args.places.now.items c.place_sequence-in-And.new.places.items c.place_sequence-in-And-2.new.places.items
     (written_form c.in-And.first.value) (written_form c.in-And.second.value) first second)
 
-pub returns-in_ok-new-in-Lead-clause-used : goal.returns-in_ok-new-in-Lead-clause-used
-returns-in_ok-new-in-Lead-clause-used t c =
-    rw c.in-Lead.is (rw c.deref-in-Lead.ensures at c.in_ok-body-in-Lead.ensures.used)
+pub returns-in_ok-new-in-Lead-clause-own : goal.returns-in_ok-new-in-Lead-clause-own
+returns-in_ok-new-in-Lead-clause-own t c =
+    rw c.in-Lead.is (rw c.deref-in-Lead.ensures at c.in_ok-body-in-Lead.ensures.own)
 
-pub returns-in_ok-new-in-Repeat-clause-used : goal.returns-in_ok-new-in-Repeat-clause-used
-returns-in_ok-new-in-Repeat-clause-used t c =
-    rw c.in-Repeat.is (rw c.deref-in-Repeat.ensures at c.in_ok-body-in-Repeat.ensures.used)
+pub returns-in_ok-new-in-Repeat-clause-own : goal.returns-in_ok-new-in-Repeat-clause-own
+returns-in_ok-new-in-Repeat-clause-own t c =
+    rw c.in-Repeat.is (rw c.deref-in-Repeat.ensures at c.in_ok-body-in-Repeat.ensures.own)
 
-pub returns-in_ok-new-in-Boolean-clause-used : goal.returns-in_ok-new-in-Boolean-clause-used
-returns-in_ok-new-in-Boolean-clause-used t c =
-    rw c.in-Boolean.is c.in_ok-boolean-in-Boolean.ensures.used
+pub returns-in_ok-new-in-Boolean-clause-own : goal.returns-in_ok-new-in-Boolean-clause-own
+returns-in_ok-new-in-Boolean-clause-own t c =
+    rw c.in-Boolean.is c.in_ok-boolean-in-Boolean.ensures.own
 
-pub returns-in_ok-new-in-Throughout-clause-used :
-    goal.returns-in_ok-new-in-Throughout-clause-used
-returns-in_ok-new-in-Throughout-clause-used t c =
-    let body = (rw c.deref-in-Throughout.ensures at c.in_ok-body-in-Throughout.ensures.used) in
+pub returns-in_ok-new-in-Throughout-clause-own :
+    goal.returns-in_ok-new-in-Throughout-clause-own
+returns-in_ok-new-in-Throughout-clause-own t c =
+    let body = (rw c.deref-in-Throughout.ensures at c.in_ok-body-in-Throughout.ensures.own) in
     rw c.in-Throughout.is
     (of_two c.args.places.now.items c.place_boolean-in-Throughout.new.places.items
     c.place_sequence-in-Throughout.new.places.items
     (written.boolean c.in-Throughout.boolean) (written_form c.in-Throughout.body.value)
-    c.in_ok-boolean-in-Throughout.ensures.used body)
+    c.in_ok-boolean-in-Throughout.ensures.own body)

@@ -18,4 +18,4 @@ returns-clause-used c = λ w h.
     (λ f.
     used_by c.args.places.now.items c.place_sequence.new.places.items c.args.entry.now
     c.in-Some.sequence w c.requires.light c.in-Some.is h (rw c.deref.ensures at f))
-    c.place_sequence.ensures.used
+    c.place_sequence.ensures.own
