@@ -1,23 +1,24 @@
 -- Assertions made of what is resolved.
 use Rattle.std.proofs.Common.{◌≡◌, ◌⊎◌, inl, inr, ℕ, ◌+◌, ◌≤◌, ◌<◌, List, [], ◌∷◌, ◌++◌, length, Option, Some, None, Box, refl, sym, ap, ◌∙◌, subst, arith, string_bytes, drop, get_or, drop-cons, add-one}
-use Rattle.std.specs.Prelude.{Result, Ok, Err, IfOk, OnOk}
+use Rattle.std.specs.Prelude.{true, false, Result, Ok, Err, IfOk, OnOk}
 use Rattle.std.proofs.lemmas.List.{append-nil, append_assoc, length-append}
 use Rattle.std.specs.declared.alloc.Global.{Global}
 use Rattle.grammar.specs.Trees as trees
 use Rattle.grammar.specs.Trees.{Tree}
 use Rattle.expressions.specs.declared.expr.Expr.{Expr}
 use Rattle.assertions.specs.declared.sequence.Boolean.{Boolean}
-use Rattle.assertions.specs.declared.sequence.Boolean.TheVariants.{Listed}
+use Rattle.assertions.specs.declared.sequence.Boolean.TheVariants.{One, Listed}
 use Rattle.assertions.specs.declared.sequence.Sequence.{Sequence}
 use Rattle.assertions.specs.declared.assertion.Assertion.{Assertion}
 use Rattle.assertions.specs.Segments.{sat}
-use Rattle.assertions.specs.Written.{Written, weight, IsOrdered}
+use Rattle.expressions.specs.Terms.{Samples}
+use Rattle.assertions.specs.Written.{Written, boolean, weight, IsOrdered}
 use Rattle.assertions.specs.Shapes.{written_form}
 use Rattle.types_sequences.specs.declared.entry.Entry.{Entry}
-use Rattle.assertions.specs.Listed.{IsUsed}
+use Rattle.assertions.specs.Listed.{IsUsed, IsListed, IsListedOption}
 use Rattle.types_sequences.specs.Drafts.{Draft, IsIn}
 use Rattle.types_sequences.specs.Entries.{HasEntry, HasSame, SaysSame, IsUsedOrOne, IsEntry}
-use Rattle.types_sequences.specs.Placed.{IsPlaced, atom_true, Extends, AllListed, Adds}
+use Rattle.types_sequences.specs.Placed.{IsPlaced, IsPlacedBoolean, atom_true, Extends, AllListed, Adds}
 use Rattle.types_sequences.proofs.UsedLaws.{each_used}
 use Rattle.types_sequences.proofs.PlacedLaws.{listed_on}
 use Rattle.types_expressions.specs.Scopes.{Scope}
@@ -28,10 +29,10 @@ use Rattle.types_suites.specs.Resolved.{IsResolved, AreResolved}
 use Rattle.types_suites.specs.Made.{IsFitting, IsSide, IsPlacedAt, AreAt}
 
 -- two things of what a call gives, and what follows from one that isn't of it
-pub ok_both : {X E : Type 0} {P Q : X → Type 0} (r : Result X E) → IfOk r P → IfOk r Q →
+pub ok_both : {X E : Type 0} (P Q : X → Type 0) (r : Result X E) → IfOk r P → IfOk r Q →
     IfOk r (λ x. P x × Q x)
-ok_both (Ok x) f g = (f, g)
-ok_both (Err e) f g = tt
+ok_both P Q (Ok x) f g = (f, g)
+ok_both P Q (Err e) f g = tt
 
 pub on_ok_map : {X E A B : Type 0} (r : Result X E) → (A → B) → OnOk r A → OnOk r B
 on_ok_map (Ok x) f h = f h
@@ -72,7 +73,7 @@ side_of booleans places more e x w made low is h p listed =
 -- Only its booleans have places.
 meant_too : (w : Written Boolean) (p : ℕ) → IsUsedOrOne w (Listed p) → IsUsed (Listed p) w
 meant_too w p (inl u) = u
-meant_too w p (inr one) = elim one [ ]
+meant_too w p (inr is) = absurd cc
 
 pub used_by : (before after : List ℕ) (e : Entry) (x : Box Sequence Global) (w : Written Boolean) →
     e.facts.weight ≤ 127 → e.sequence ≡ Some x → IsEntry w e →
@@ -100,6 +101,20 @@ side_on e w made first second third x y f =
         sym (append_assoc first x.added y.added)
         ∙ sym (ap (λ (ps : List ℕ). ps ++ y.added) x.is) ∙ sym y.is in
     subst (λ (ps : List ℕ). IsSide e ps w made) is (f (x.added ++ y.added))
+
+-- A boolean that stands for one at a place, whatever is there, is listed.
+pub listed_too : (places : List ℕ) (place n : ℕ) (b : Boolean) →
+    IsPlacedBoolean [] places (Listed place) b → IsListed n b → IsListedOption n (Some b)
+listed_too places place n One same h =
+    let t : Samples = record { signal_at = λ p k. 0; counter_at = λ p k. 0 } in
+    let is : false ≡ true = same t 0 in
+    absurd cc
+listed_too places place n (Listed i) same h = h
+
+pub at_own : (place : ℕ) (before after : List ℕ) → Adds (boolean (Listed place)) before after →
+    AreAt (Some place) before after
+at_own place before after f p i =
+    elim (f p i) [ inl there ↦ inl there | inr is ↦ inr (let e : p ≡ place = cc in ap Some (sym e)) ]
 
 -- Each place is one of the two sides' or the disabling one, where none was there at first.
 pub places_used : (start first second third : List ℕ) (v w : Written Boolean) (o : Option ℕ) →
@@ -131,9 +146,9 @@ module _ (s : Scope) (cs : List (List ℕ)) (e : List Expr) where
 
   disabling_place : (t : Option Tree) (o : Option ℕ) (p : ℕ) → IsDisabledBy s cs e t o → o ≡ Some p →
       IsDisablingPlace s cs e t p
-  disabling_place None None p h is = elim is [ ]
+  disabling_place None None p h is = absurd cc
   disabling_place None (Some q) p h is = elim h [ ]
-  disabling_place (Some t) None p h is = elim h [ ]
+  disabling_place (Some t) None p h is = absurd cc
   disabling_place (Some t) (Some q) p h is =
       subst (λ (o : Option ℕ). IsDisabledBy s cs e (Some t) o) is h
 
@@ -160,6 +175,7 @@ module _ (s : Scope) (cs : List (List ℕ)) (e : List Expr) where
         IsPlacedAt e places m.disabling b →
         ((p : ℕ) → IsIn p places → IsUsed (Listed p) r.antecedent_entry.meant ⊎ (IsUsed (Listed p) r.consequent_entry.meant ⊎ (m.disabling ≡ Some p))) →
         IsAssertion s cs e bodies before a made
+    unfolding meant_of
     assertion_made before a m r made first second b places name one two off list h g d used =
         let ps = made.booleans.items in
         record {

@@ -6,7 +6,7 @@ use Rattle.types_suites.proofs.typed_assertions.assertion_of.Goals as goal
 pub returns : goal.returns
 returns c = λ s columns booleans bodies before a r.
     let made = c.in-Some.ensures in
-    let start = c.new.result.items in
+    let start = c.new-places.result.items in
     let first = c.side_of.new.places.items in
     let second = c.side_of-2.new.places.items in
     let third = c.disabling_of.new.places.items in
@@ -27,6 +27,6 @@ returns c = λ s columns booleans bodies before a r.
     (side_here booleans w two second third off.grows
     (λ more. behind_arrow.meant booleans more w r.consequent_entry.entry))
     (off.placed booleans)
-    (places_used start first second third v w c.args.resolved.now.disabling c.new.ensures
+    (places_used start first second third v w c.args.resolved.now.disabling c.new-places.ensures.items
     (before_arrow.used v r.antecedent_entry.entry) (behind_arrow.used w r.consequent_entry.entry)
     off.used)
