@@ -22,6 +22,7 @@ use Rattle.lexer.proofs.CoveringLaws.{tokens_of-covered}
 use Rattle.grammar.specs.declared.terminal.Terminal.{Terminal}
 use Rattle.grammar.specs.declared.terminal.Terminal.TheVariants as terminals
 use Rattle.grammar.specs.Terminals.{kind_terminal, symbol_terminal, system_terminal, terminal, names, is_name, is_word_kind, is_word}
+use Rattle.types_expressions.specs.Scopes.{path_text}
 use Rattle.bytecode.specs.Texts as texts
 use Rattle.bytecode.specs.Texts.{is_first, is_later, goes_on, begins}
 
@@ -183,10 +184,6 @@ pub name_word : (t : Token) → IsTrue (is_name t) → IsTrue (is_word t)
 unfolding is_name is_word
 name_word t h = name_kind t.kind t.text.now h
 
--- TEMP
-abbrev path_text : List Token → List ℕ
-path_text [] = []
-path_text (t ∷ ts) = t.text.now ++ flat_map (λ w. codes "." ++ w.text.now) ts
 -- Words, joined by dots.
 no_dots : (b : ℕ) (more : Bool) → IsTrue (if b == 46 then false else is_later b && more) →
     ((b == 46) ≡ false) × IsTrue (is_later b && more)

@@ -80,10 +80,9 @@ pub used_by : (before after : List ℕ) (e : Entry) (x : Box Sequence Global) (w
     Adds (written_form x.value) before after → Adds w before after
 used_by before after e x w low is h f p i =
     let says = fits_says e x w low h is in
-    elim (f p i)
-    [
-      inl there ↦ inl there
-    | inr u ↦ inr (meant_too w p (each_used (IsUsedOrOne w) (Listed p) (written_form x.value) says.known u))
+    elim (f p i) [
+      | inl there ↦ inl there
+      | inr u ↦ inr (meant_too w p (each_used (IsUsedOrOne w) (Listed p) (written_form x.value) says.known u))
     ]
 
 -- It stays so behind more places.
@@ -98,8 +97,8 @@ pub side_on : (e : List Expr) (w made : Written Boolean) (first second third : L
     ((more : List ℕ) → IsSide e (first ++ more) w made) → IsSide e third w made
 side_on e w made first second third x y f =
     let is : first ++ (x.added ++ y.added) ≡ third =
-        sym (append_assoc first x.added y.added)
-        ∙ sym (ap (λ (ps : List ℕ). ps ++ y.added) x.is) ∙ sym y.is in
+    sym (append_assoc first x.added y.added)
+    ∙ sym (ap (λ (ps : List ℕ). ps ++ y.added) x.is) ∙ sym y.is in
     subst (λ (ps : List ℕ). IsSide e ps w made) is (f (x.added ++ y.added))
 
 -- A boolean that stands for one at a place, whatever is there, is listed.
@@ -121,16 +120,13 @@ pub places_used : (start first second third : List ℕ) (v w : Written Boolean) 
     start ≡ [] → Adds v start first → Adds w first second → AreAt o second third →
     (p : ℕ) → IsIn p third → IsUsed (Listed p) v ⊎ (IsUsed (Listed p) w ⊎ (o ≡ Some p))
 places_used start first second third v w o none f g h p i =
-    elim (h p i)
-    [
-      inr off ↦ inr (inr off)
-    | inl j ↦ elim (g p j)
-      [
-        inr u ↦ inr (inl u)
-      | inl k ↦ elim (f p k)
-        [
-          inr u ↦ inl u
-        | inl l ↦ absurd (subst (λ (ps : List ℕ). IsIn p ps) none l)
+    elim (h p i) [
+      | inr off ↦ inr (inr off)
+      | inl j ↦ elim (g p j) [
+        | inr u ↦ inr (inl u)
+        | inl k ↦ elim (f p k) [
+          | inr u ↦ inl u
+          | inl l ↦ absurd (subst (λ (ps : List ℕ). IsIn p ps) none l)
         ]
       ]
     ]
@@ -189,13 +185,11 @@ module _ (s : Scope) (cs : List (List ℕ)) (e : List Expr) where
           disabling = subst (λ (x : Option Boolean). IsDisabling s cs e ps a.disable x) (sym off)
               (subst (λ (qs : List ℕ). IsDisabling s cs e qs a.disable b) (sym list) (disabling_made places a.disable m.disabling b r.disabling d));
           used = λ p i.
-              elim (used p (subst (λ (qs : List ℕ). IsIn p qs) list i))
-              [
-                inl u ↦ inl u
-              | inr x ↦ elim x
-                [
-                  inl u ↦ inr (inl u)
-                | inr is ↦ inr (inr (disabling_place a.disable m.disabling p r.disabling is))
+              elim (used p (subst (λ (qs : List ℕ). IsIn p qs) list i)) [
+                | inl u ↦ inl u
+                | inr x ↦ elim x [
+                  | inl u ↦ inr (inl u)
+                  | inr is ↦ inr (inr (disabling_place a.disable m.disabling p r.disabling is))
                 ]
               ];
         }

@@ -11,12 +11,13 @@ returns-in_ok-place_boolean-in-Some-clause-placed c = λ booleans.
     let made = c.in_ok-place_boolean-in-Some.field-0 in
     let call = c.in_ok-place_boolean-in-Some.ensures in
     let is = append-nil places in
-    rw c.in-Some.is
-    (subst (λ (ps : List ℕ). IsPlacedBoolean booleans ps (Listed c.in-Some.place) made) is
-    (call.placed booleans []),
-    listed_too places c.in-Some.place (length places) made
-    (subst (λ (ps : List ℕ). IsPlacedBoolean [] ps (Listed c.in-Some.place) made) is
-    (call.placed [] [])) call.listed)
+    rw c.in-Some.is (
+      subst (λ (ps : List ℕ). IsPlacedBoolean booleans ps (Listed c.in-Some.place) made) is
+          (call.placed booleans []),
+      listed_too places c.in-Some.place (length places) made
+          (subst (λ (ps : List ℕ). IsPlacedBoolean [] ps (Listed c.in-Some.place) made) is
+          (call.placed [] [])) call.listed,
+    )
 
 pub returns-in_ok-place_boolean-in-Some-clause-used : goal.returns-in_ok-place_boolean-in-Some-clause-used
 returns-in_ok-place_boolean-in-Some-clause-used c =
