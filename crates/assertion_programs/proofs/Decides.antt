@@ -29,7 +29,8 @@ use Rattle.verdict_lines.proofs.Lines.{by-meaning}
 use Rattle.positions.specs.Laws.{Occurs, section_for}
 use Rattle.positions.specs.Sections.{told}
 use Rattle.positions.proofs.Theorem.{law-section_follows}
-use Rattle.assertion_programs.specs.Programs.{atom_of, disabling_atom, IsListed, CanDisable, IsProgramOf}
+use Rattle.positions.specs.Sequences.{atom_of}
+use Rattle.assertion_programs.specs.Programs.{disabling_atom, IsListed, CanDisable, IsProgramOf}
 use Rattle.assertion_programs.specs.Laws.{AreRowsOf, picked, AreVerdictsOver, ProgramsDecide}
 use Rattle.assertion_programs.proofs.Samples as made
 

@@ -19,6 +19,7 @@ use Rattle.bytecode.specs.Values.{ProgramData, SlotData}
 use Rattle.expression_code.specs.Codes.{Slots}
 use Rattle.expression_code.specs.Samples.{Held, sample_code}
 use Rattle.expression_code.specs.Laws.{Each, OfName, program_terms}
+use Rattle.positions.specs.Sequences.{atom_of}
 use Rattle.positions.specs.Laws.{Occurs, section_for}
 
 -- What a program holds of a suite: the places of signals, and counters, in the order of its slots.
@@ -59,11 +60,6 @@ HoldsName suite l name = HoldsAt suite l name.origin name.place name.width
 pub record IsSampled (suite : Suite) (l : Layout) (e : Term) : Type 0 where
   pub name : OfName (HoldsName suite l) e
   pub narrow : width_of e ≤ 128
-
--- the atom of a boolean, but of the constant 1
-abbrev pub atom_of : Boolean → Option ℕ
-atom_of One = None
-atom_of (Listed i) = Some i
 
 abbrev pub disabling_atom : Option Boolean → Option ℕ
 disabling_atom None = None

@@ -24,3 +24,4 @@ pub mod ListedLaws
 pub mod SizeLaws
 pub mod SequenceLaws
 pub mod ResultLaws
+pub mod BlockLaws

@@ -1,18 +1,17 @@
 -- The rows of each form's table are those of its parts, changed or joined.
-use Rattle.std.proofs.Common.{◌≡◌, ◌∙◌, ℕ, zero, suc, ◌+◌, ◌-◌, ◌*◌, ◌/◌, ◌%◌, ◌<◌, ◌≤◌, nat_lt, Bool, true, false}
+use Rattle.std.proofs.Common.{◌≡◌, ◌∙◌, ℕ, zero, suc, ◌+◌, ◌-◌, ◌*◌, ◌/◌, ◌%◌, ◌<◌, ◌≤◌, Bool, true, false}
 use Rattle.std.proofs.Common.{◌&&◌, ◌||◌, List, [], ◌∷◌, ◌++◌, length, map, Option, Some, None, refl, sym, ap, inl, inr}
 use Rattle.std.proofs.Common.{arith, if◌then◌else◌, min, nat_le}
 use Rattle.std.specs.List.{flat_map}
 use Rattle.std.proofs.lemmas.Bool.{lt-ltb, le-ltb}
 use Rattle.std.proofs.lemmas.List.{append-nil, map-append}
-use Rattle.std.proofs.lemmas.Grind.{flat_map-append}
 use Rattle.std.proofs.lemmas.Nat.{div-mul-add, mod-mul-add}
 use Rattle.std.proofs.Math.Nat.{mul-le-mul_right}
-use Rattle.positions.specs.Tables.{Edge, Table, Has, EachOf, IsRising, shift, shifted, picked, numbers, tick_table, skip_table}
+use Rattle.positions.specs.Tables.{Edge, Table, Has, IsRising, shift, shifted, picked, numbers, tick_table}
 use Rattle.positions.specs.Tables.{any_table, wanting, under_table, onward, leading, joined, fusing, crossing, link_table}
-use Rattle.positions.specs.Tables.{copies, looping, loop_table, products, paired, all_table}
+use Rattle.positions.specs.Tables.{copies, looping, loop_table, paired, all_table}
 use Rattle.positions.specs.Sections.{with_atom, atoms_of, numbered, coded, rows_of}
-use Rattle.positions.specs.Rows.{TableData, ChangeData, listed, changed, change_all, moved, tick_data, still_data, either_data}
+use Rattle.positions.specs.Rows.{TableData, ChangeData, listed, changed, change_all, moved, tick_data, either_data}
 use Rattle.positions.specs.Rows.{wanting_also, during_data, onward_data, leading_data, crossing_data, row_at, joined_data}
 use Rattle.positions.specs.Rows.{fused_data, lead_data, link_data, copies_data, turn_data, repeat_data, pairs_data, paired_data}
 use Rattle.positions.specs.Rows.{pair_row, both_data}

@@ -1,5 +1,5 @@
 -- What tables enter fits a byte, also further on.
-use Rattle.std.proofs.Common.{◌≡◌, ℕ, zero, suc, ◌+◌, ◌<◌, ◌≤◌, List, [], ◌∷◌, length, get_or, sym, subst, arith, Vec}
+use Rattle.std.proofs.Common.{◌≡◌, ℕ, zero, suc, ◌+◌, ◌<◌, ◌≤◌, List, [], ◌∷◌, length, sym, subst, arith, Vec}
 use Rattle.std.specs.Prelude.{map, All}
 use Rattle.std.specs.Global.{Global}
 use Rattle.positions.specs.declared.edge.Edge as code

@@ -1,5 +1,5 @@
 -- What a call found, of something that is equal.
-use Rattle.std.proofs.Common.{◌≡◌, ◌∙◌, ℕ, ◌≤◌, ◌<◌, Result, Ok, Err, IfOk, IfErr, ap, subst, refl, arith}
+use Rattle.std.proofs.Common.{◌≡◌, ◌∙◌, ℕ, ◌≤◌, ◌<◌, Result, Ok, Err, IfOk, IfErr, subst, refl, arith}
 use Rattle.positions.specs.declared.fault.SectionFault.{SectionFault}
 use Rattle.positions.specs.declared.fault.SectionFault.TheVariants.{TooLong, Memory}
 use Rattle.positions.specs.Faults.{IsLong}

@@ -1,16 +1,16 @@
 -- A part's rows make up no more instructions than the whole's.
-use Rattle.std.proofs.Common.{◌≡◌, ◌∙◌, ◌⊎◌, inl, inr, ℕ, zero, suc, ◌+◌, ◌-◌, ◌*◌, ◌<◌, ◌≤◌, Bool, true, false, ◌&&◌, ◌||◌}
+use Rattle.std.proofs.Common.{◌≡◌, ◌⊎◌, inl, inr, ℕ, zero, suc, ◌+◌, ◌-◌, ◌*◌, ◌<◌, ◌≤◌, Bool, true, false, ◌&&◌, ◌||◌}
 use Rattle.std.proofs.Common.{if◌then◌else◌, List, [], ◌∷◌, ◌++◌, length, map, min, nat_le, Option, Some, None, refl, sym, ap, subst, arith}
 use Rattle.std.proofs.Common.{length-append}
 use Rattle.std.specs.Prelude.{IsTrue, sum_by}
 use Rattle.std.specs.List.{flat_map}
-use Rattle.std.proofs.lemmas.Bool.{cases_Bool, cases_lt, le-leb, and_from, or_left}
+use Rattle.std.proofs.lemmas.Bool.{cases_lt, le-leb, and_from, or_left}
 use Rattle.std.proofs.lemmas.List.Sums.{sum_by-append, sum_by-cons}
-use Rattle.positions.specs.Tables.{Edge, Has, shift, picked, numbers}
+use Rattle.positions.specs.Tables.{Edge, shift, picked, numbers}
 use Rattle.positions.specs.Sections.{edge_size, with_atom}
 use Rattle.positions.specs.Rows.{TableData, ChangeData, changed, change_all, moved, edges_size, row_size, rows_size, wanting_also}
-use Rattle.positions.specs.Rows.{either_data, during_data, onward_data, leading_data, joined_data, fused_data, lead_data, link_data}
-use Rattle.positions.specs.Rows.{copies_data, turn_data, repeat_data, both_data, pair_row, row_at, crossing_data, tick_data}
+use Rattle.positions.specs.Rows.{either_data, during_data, leading_data, fused_data, lead_data, link_data}
+use Rattle.positions.specs.Rows.{copies_data, turn_data, repeat_data, both_data, pair_row, crossing_data, tick_data}
 
 shift-length : (n : ℕ) (qs : List ℕ) → length (shift n qs) ≡ length qs
 shift-length n [] = refl

@@ -1,6 +1,6 @@
 -- Tables as lists: for each position a list of edges, each made from another.
 use Rattle.std.specs.Prelude.{ℕ, ◌+◌, ◌*◌, ◌-◌, ◌<◌, ◌≤◌, Bool, true, false, ◌&&◌, ◌||◌, ◌==◌, nat_le, List}
-use Rattle.std.specs.Prelude.{[], ◌∷◌, ◌++◌, length, map, Option, Some, None, sum_by, All}
+use Rattle.std.specs.Prelude.{[], ◌∷◌, ◌++◌, length, map, Option, None, sum_by}
 use Rattle.std.specs.Prelude.{slice_get, unwrap_or, min, if◌then◌else◌}
 use Rattle.std.specs.List.{flat_map}
 use Rattle.positions.specs.Tables.{Edge, Table, EachOf, shift, picked, numbers}

@@ -1,6 +1,29 @@
-//! Sections from sequences.
+//! Sections from sequences: the positions of an antecedent or of a consequent, as code.
+//!
+//! ```text
+//! // `a ##1 b`, where a and b are the first and the second of the assertion's list
+//! let sequence = Sequence::Delay(boolean(0)?, 1, 1, boolean(1)?);
+//! let section = positions_of(alloc, &sequence)?;
+//! // position 0: where atom 0 is 1, enter position 1; position 1: where atom 1 is 1, accept
+//! ```
+//!
+//! A position stands for what an attempt waits for at a tick. It has edges: where each atom that an
+//! edge wants is 1, it enters other positions for the next tick, and accepts or not. A table of
+//! positions is made form by form of the sequence (`table_of`), and written down as one block for
+//! each position (`blocks_for`). Making it stops at 4,096 instructions: `positions_of` answers
+//! `TooLong` only where there would be more, and `Memory` where memory ran out.
+//!
+//! The definitions: `specs/Plans.antt` (what positions are made from), `specs/States.antt` (what
+//! the positions of a plan mean), `specs/Tables.antt` and `specs/Rows.antt` (tables),
+//! `specs/Sections.antt` (their code), `specs/Sequences.antt` (the atoms), `specs/Laws.antt` (that
+//! the section follows the sequence: it accepts exactly where a match ends, and no position is left
+//! exactly where no longer match is possible; that it is well formed; that it is small).
+//!
+//! Not promised: the fewest positions or instructions; how long the section of a sequence is that
+//! has `and`, or a delay between two parts that may be 0.
 #![tactic(auto)]
 
+mod block;
 mod both;
 mod change;
 mod delay;
@@ -15,8 +38,10 @@ mod link;
 mod list;
 mod pairing;
 mod repeat;
+mod section;
 mod sequence;
 mod table;
 
 pub use fault::SectionFault;
 pub use laws::{section_law, size_law};
+pub use section::positions_of;

@@ -4,8 +4,9 @@ ghost use Rattle.std.specs.Prelude.{◌≡◌, ◌≤◌, ◌&&◌, IfOk, IfErr}
 ghost use Rattle.assertions.specs.Emptiness.{takes_ticks};
 ghost use Rattle.assertions.specs.Written.{weight, IsOrdered};
 ghost use Rattle.assertions.specs.Shapes.{written_form};
+ghost use Rattle.assertions.specs.Listed.{EachBoolean, IsListed};
 ghost use Rattle.positions.specs.Rows.{rows_size};
-ghost use Rattle.positions.specs.Sequences.{atom_in, listed_for};
+ghost use Rattle.positions.specs.Sequences.{atom_of, listed_for};
 ghost use Rattle.positions.specs.Faults.{IsLong};
 
 use crate::both::both;
@@ -19,12 +20,13 @@ use assertions::{Boolean, Sequence};
 use std::alloc::Global;
 
 /// The atom of a boolean; the constant 1 has none.
-fn atom_of(boolean: Boolean, atoms: &[u8]) -> Option<u8>
-    ensures { result ≡ atom_in atoms.now boolean }
+fn atom_number(boolean: Boolean) -> Option<u8>
+    requires { IsListed 127 boolean }
+    ensures { result ≡ atom_of boolean }
 {
     match boolean {
         Boolean::One => None,
-        Boolean::Listed(place) => atoms.get(place).copied(),
+        Boolean::Listed(place) => Some(place as u8),
     }
 }
 
@@ -37,27 +39,24 @@ fn is_shared(first: &Sequence, second: &Sequence) -> bool
 }
 
 /// The table of a sequence. Nothing is made from what takes no tick.
-pub(crate) fn table_of(
-    alloc: Global,
-    sequence: &Sequence,
-    atoms: &[u8],
-) -> Result<Table, SectionFault>
+pub(crate) fn table_of(alloc: Global, sequence: &Sequence) -> Result<Table, SectionFault>
     requires ordered { IsOrdered (written_form sequence.now) }
     requires bound { weight (written_form sequence.now) ≤ 127 }
-    ensures ok { IfOk result (λ t. t ≡ listed_for atoms.now (written_form sequence.now)) }
+    requires listed { EachBoolean (IsListed 127) (written_form sequence.now) }
+    ensures ok { IfOk result (λ t. t ≡ listed_for (written_form sequence.now)) }
     ensures err { IfErr result
-        (IsLong (rows_size (listed_for atoms.now (written_form sequence.now)).rows)) }
+        (IsLong (rows_size (listed_for (written_form sequence.now)).rows)) }
 {
     let extent = extent_of(sequence);
     if !extent.ticks {
         return Ok(Table::still(alloc, extent.empty));
     }
     match sequence {
-        Sequence::Boolean(boolean) => Ok(tick(alloc, atom_of(*boolean, atoms))?),
+        Sequence::Boolean(boolean) => Ok(tick(alloc, atom_number(*boolean))?),
         Sequence::Delay(first, least, most, second) => {
             let shares = is_shared(first, second);
-            let front = table_of(alloc, first, atoms)?;
-            let rest = table_of(alloc, second, atoms)?;
+            let front = table_of(alloc, first)?;
+            let rest = table_of(alloc, second)?;
             apart(
                 alloc,
                 shares,
@@ -68,26 +67,26 @@ pub(crate) fn table_of(
             )
         }
         Sequence::Lead(least, most, body) => {
-            let table = table_of(alloc, body, atoms)?;
+            let table = table_of(alloc, body)?;
             lead_in(alloc, *least as usize, *most as usize, &table)
         }
         Sequence::Repeat(body, least, most) => {
-            let table = table_of(alloc, body, atoms)?;
+            let table = table_of(alloc, body)?;
             repeat(alloc, &table, *least as usize, *most as usize)
         }
         Sequence::Or(first, second) => {
-            let front = table_of(alloc, first, atoms)?;
-            let rest = table_of(alloc, second, atoms)?;
+            let front = table_of(alloc, first)?;
+            let rest = table_of(alloc, second)?;
             either(alloc, &front, &rest)
         }
         Sequence::And(first, second) => {
-            let front = table_of(alloc, first, atoms)?;
-            let rest = table_of(alloc, second, atoms)?;
+            let front = table_of(alloc, first)?;
+            let rest = table_of(alloc, second)?;
             both(alloc, &front, &rest)
         }
         Sequence::Throughout(boolean, body) => {
-            let table = table_of(alloc, body, atoms)?;
-            during(alloc, atom_of(*boolean, atoms), &table)
+            let table = table_of(alloc, body)?;
+            during(alloc, atom_number(*boolean), &table)
         }
     }
 }

@@ -1,4 +1,4 @@
-use Rattle.std.proofs.Common.{ℕ, ◌≡◌, ◌+◌, ◌*◌, ◌∙◌, List, Bool, map, ap, sym, length, arith}
+use Rattle.std.proofs.Common.{ℕ, ◌≡◌, ◌+◌, ◌*◌, ◌∙◌, List, map, ap, sym, length, arith}
 use Rattle.std.specs.List.{flat_map}
 use Rattle.positions.specs.Tables.{Edge}
 use Rattle.positions.specs.Rows.{ChangeData, TableData, change_all, moved, pair_row, both_data}

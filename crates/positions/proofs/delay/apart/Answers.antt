@@ -1,5 +1,5 @@
-use Rattle.std.proofs.Common.{ℕ, ◌≡◌, ◌∙◌, Bool, ap, sym, subst, length, arith}
-use Rattle.positions.specs.Rows.{TableData, IsPlaced, link_data, gap_data, apart_data, rows_size}
+use Rattle.std.proofs.Common.{◌≡◌, ◌∙◌, Bool, ap, sym, subst, length, arith}
+use Rattle.positions.specs.Rows.{TableData, IsPlaced, link_data, gap_data, rows_size}
 use Rattle.positions.proofs.ResultLaws.{ok_same, err_same}
 use Rattle.positions.proofs.SequenceLaws.{gap-placed, gap-length}
 use Rattle.positions.proofs.delay.apart.Goals as goal

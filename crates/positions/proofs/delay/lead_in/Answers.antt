@@ -1,7 +1,7 @@
-use Rattle.std.proofs.Common.{◌≡◌, ◌∙◌, None, true, false, ap, sym, subst, length, arith}
-use Rattle.positions.specs.Rows.{TableData, IsPlaced, link_data, repeat_data, tick_data, still_data, rows_size}
-use Rattle.positions.proofs.ResultLaws.{ok_same, err_same}
-use Rattle.positions.proofs.SequenceLaws.{ticks-placed, ticks-length, still-placed}
+use Rattle.std.proofs.Common.{◌≡◌, ◌∙◌, true, false, ap, sym, subst, length, arith}
+use Rattle.positions.specs.Rows.{TableData, IsPlaced, link_data}
+use Rattle.positions.proofs.ResultLaws.{ok_same}
+use Rattle.positions.proofs.SequenceLaws.{ticks-placed, ticks-length}
 use Rattle.positions.proofs.delay.lead_in.Goals as goal
 
 linked : (t t' g g' u : TableData) → t ≡ t' → g ≡ g' → link_data false true t g u ≡ link_data false true t' g' u

@@ -1,4 +1,4 @@
-use Rattle.std.proofs.Common.{None, ap, arith}
+use Rattle.std.proofs.Common.{ap, arith}
 use Rattle.positions.specs.Rows.{TableData, repeat_data, rows_size}
 use Rattle.positions.proofs.ResultLaws.{never_long}
 use Rattle.positions.proofs.SizeLaws.{ticks-short}

@@ -1,4 +1,4 @@
-use Rattle.std.proofs.Common.{◌≡◌, arith, ap}
+use Rattle.std.proofs.Common.{arith, ap}
 use Rattle.positions.specs.Rows.{ChangeData}
 use Rattle.positions.proofs.NearLaws.{near_rows}
 use Rattle.positions.proofs.either.either.Goals as goal

@@ -1,6 +1,5 @@
-use Rattle.std.proofs.Common.{ℕ, ◌≡◌, ◌+◌, ◌∙◌, List, Bool, ap, length, arith}
-use Rattle.positions.specs.Tables.{Edge}
-use Rattle.positions.specs.Rows.{ChangeData, TableData, change_all, moved, leading_data, crossing_data, link_data}
+use Rattle.std.proofs.Common.{ℕ, ◌≡◌, ◌+◌, ◌∙◌, ap, length, arith}
+use Rattle.positions.specs.Rows.{ChangeData, TableData, change_all, moved, link_data}
 use Rattle.positions.specs.Views.{change_data, rows_data}
 use Rattle.positions.proofs.RowLaws.{long_on}
 use Rattle.positions.proofs.NearLaws.{near_rows}

@@ -1,5 +1,4 @@
-use Rattle.std.proofs.Common.{ℕ, ◌≡◌, ◌∙◌, List, ap, length, arith}
-use Rattle.positions.specs.Tables.{Edge}
+use Rattle.std.proofs.Common.{◌∙◌, ap, length, arith}
 use Rattle.positions.specs.Rows.{ChangeData, change_all, turn_data}
 use Rattle.positions.specs.Views.{change_data, rows_data}
 use Rattle.positions.proofs.RowLaws.{long_on}

@@ -1,6 +1,4 @@
-use Rattle.std.proofs.Common.{map}
-use Rattle.positions.specs.Rows.{draft_size, edges_size, changed}
-use Rattle.positions.specs.Sections.{edge_size}
+use Rattle.positions.specs.Rows.{changed}
 use Rattle.positions.specs.Views.{edge_data, change_data}
 use Rattle.positions.proofs.RowLaws.{edges-next, long_on}
 use Rattle.positions.proofs.draft.Draft.put_changed.Goals as goal

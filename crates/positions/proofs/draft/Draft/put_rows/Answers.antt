@@ -1,7 +1,6 @@
-use Rattle.std.proofs.Common.{ℕ, ◌≡◌, ◌+◌, ◌≤◌, List, Vec, map, ap, ◌∙◌, arith}
-use Rattle.std.specs.Global.{Global}
+use Rattle.std.proofs.Common.{ℕ, ◌+◌, ◌≤◌, List, map, ap, arith}
 use Rattle.positions.specs.Tables.{Edge}
-use Rattle.positions.specs.Rows.{changed, draft_size, edges_size, row_size, rows_size, change_all}
+use Rattle.positions.specs.Rows.{changed, draft_size, edges_size, rows_size, change_all}
 use Rattle.positions.specs.Views.{edge_data, change_data, row_data, rows_data}
 use Rattle.positions.proofs.RowLaws.{rows-next, with_edges-size, long_on}
 use Rattle.positions.proofs.draft.Draft.put_rows.Goals as goal

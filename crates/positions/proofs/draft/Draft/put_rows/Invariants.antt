@@ -1,4 +1,4 @@
-use Rattle.std.proofs.Common.{◌≡◌, map, take}
+use Rattle.std.proofs.Common.{◌≡◌, take}
 use Rattle.positions.specs.Rows.{with_rows, change_all}
 use Rattle.positions.specs.Views.{rows_data, change_data}
 use Rattle.positions.proofs.draft.Draft.put_rows.Given as goal

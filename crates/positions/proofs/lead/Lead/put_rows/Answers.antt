@@ -1,4 +1,4 @@
-use Rattle.std.proofs.Common.{ℕ, ◌≡◌, ◌+◌, ◌≤◌, List, map, ap, arith}
+use Rattle.std.proofs.Common.{ℕ, ◌+◌, ◌≤◌, List, map, ap, arith}
 use Rattle.std.specs.List.{flat_map}
 use Rattle.positions.specs.Tables.{Edge}
 use Rattle.positions.specs.Rows.{lead_data, draft_size, edges_size, rows_size}

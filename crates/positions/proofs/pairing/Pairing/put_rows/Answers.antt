@@ -1,4 +1,4 @@
-use Rattle.std.proofs.Common.{ℕ, ◌≡◌, ◌+◌, ◌≤◌, List, map, ap, arith}
+use Rattle.std.proofs.Common.{ℕ, ◌+◌, ◌≤◌, List, map, ap, arith}
 use Rattle.positions.specs.Tables.{Edge}
 use Rattle.positions.specs.Rows.{pair_row, draft_size, edges_size, rows_size}
 use Rattle.positions.specs.Views.{edge_data, row_data, rows_data}

@@ -1,0 +1,60 @@
+//! Sections of sequences.
+
+ghost use Rattle.std.specs.Prelude.{◌≡◌, ◌≤◌, ◌<◌, All, IfOk, IfErr};
+ghost use Rattle.bytecode.specs.Views.{section_data};
+ghost use Rattle.inference.specs.Sections.{size_of};
+ghost use Rattle.assertions.specs.declared.sequence.Boolean.TheVariants.{One};
+ghost use Rattle.assertions.specs.Written.{weight, IsOrdered};
+ghost use Rattle.assertions.specs.Shapes.{written_form};
+ghost use Rattle.assertions.specs.Listed.{EachBoolean, IsListed};
+ghost use Rattle.positions.specs.Rows.{IsPlaced};
+ghost use Rattle.positions.specs.Sections.{bits};
+ghost use Rattle.positions.specs.Sequences.{atom_of, coded_section};
+ghost use Rattle.positions.specs.Laws.{section_for};
+ghost use Rattle.positions.specs.Faults.{IsLong};
+
+use crate::block::blocks_for;
+use crate::fault::SectionFault;
+use crate::sequence::table_of;
+use crate::table::Table;
+use assertions::Sequence;
+use bytecode::Section;
+use std::alloc::{AllocError, Global};
+
+/// The set of these positions.
+fn set_of(positions: &[u8]) -> u128
+    requires { All (λ q. q < 128) positions.now }
+    ensures { result ≡ bits positions.now }
+{
+    let mut set = 0;
+    for position in positions {
+        set |= 1 << *position;
+    }
+    set
+}
+
+/// The section of a table.
+fn section_at(alloc: Global, table: &Table) -> Result<Section, AllocError>
+    requires { IsPlaced table.now }
+    ensures { IfOk result (λ s. section_data s ≡ coded_section table.now) }
+{
+    let blocks = blocks_for(alloc, table.rows())?;
+    Ok(Section {
+        start: set_of(table.starts()),
+        blocks,
+    })
+}
+
+/// The section that follows a sequence. Its atoms are the places of the sequence's booleans.
+pub fn positions_of(alloc: Global, sequence: &Sequence) -> Result<Section, SectionFault>
+    requires ordered { IsOrdered (written_form sequence.now) }
+    requires bound { weight (written_form sequence.now) ≤ 127 }
+    requires listed { EachBoolean (IsListed 127) (written_form sequence.now) }
+    ensures ok { IfOk result
+        (λ s. section_data s ≡ section_for atom_of One (written_form sequence.now)) }
+    ensures err { IfErr result
+        (IsLong (size_of (section_for atom_of One (written_form sequence.now)).blocks)) }
+{
+    let table = table_of(alloc, sequence)?;
+    Ok(section_at(alloc, &table)?)
+}

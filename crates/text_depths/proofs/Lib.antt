@@ -1,0 +1,3 @@
+pub mod LevelLaws
+pub mod DepthLaws
+pub mod FileLaws
