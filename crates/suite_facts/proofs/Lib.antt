@@ -1,2 +1,3 @@
 pub mod WordLaws
 pub mod PathLaws
+pub mod NameLaws
