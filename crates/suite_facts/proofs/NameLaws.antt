@@ -56,7 +56,7 @@ column_signal s cs xs p place h is =
     subst (λ (q : List ℕ). ColumnSignal s q xs place) (sym same) (signal_at s cs xs place at.0 h)
 
 -- The counter of a declaration, where so many stand before.
-record DeclaredCounter (ms : List counters.Counter) (before place width : ℕ) : Type 0 where
+pub record DeclaredCounter (ms : List counters.Counter) (before place width : ℕ) : Type 0 where
   pub later : ℕ
   pub at : place ≡ before + later
   pub made : counters.Counter
@@ -70,7 +70,7 @@ no_counter : (p q w : ℕ) → Some (own.Sequence p) ≡ Some (own.Counter q w) 
 no_counter p q w h = absurd cc
 
 module _ (s : Scope) (cs : List (List ℕ)) where
-  declared_counter : (items : List ItemForm) (ms : List counters.Counter) (name : List ℕ)
+  pub declared_counter : (items : List ItemForm) (ms : List counters.Counter) (name : List ℕ)
       (c n place width : ℕ) → AreCounters s cs (counters_of items) ms →
       look_up (owns_from c n items) name ≡ Some (own.Counter place width) →
       DeclaredCounter ms c place width

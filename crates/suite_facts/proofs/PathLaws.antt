@@ -51,7 +51,7 @@ IsPathText p = IsTrue (texts.is_path p)
 abbrev pub ArePaths : List (List ℕ) → Type 0
 ArePaths ps = AllByRecursion IsPathText ps
 
-both : (ps qs : List (List ℕ)) → ArePaths ps → ArePaths qs → ArePaths (ps ++ qs)
+pub both : (ps qs : List (List ℕ)) → ArePaths ps → ArePaths qs → ArePaths (ps ++ qs)
 both [] qs h g = g
 both (p ∷ ps) qs h g = (h.0, both ps qs h.1 g)
 
