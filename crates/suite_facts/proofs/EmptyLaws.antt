@@ -1,5 +1,6 @@
 -- The consequent of an assertion of a text without faults has no empty match.
-use Rattle.std.proofs.Common.{◌≡◌, ◌⊎◌, inl, inr, ℕ, ◌+◌, ◌-◌, ◌≤◌, leb, List, [], ◌∷◌, ◌++◌, ◌||◌, map, Bool, true, IsTrue, refl, sym, ap, ◌∙◌, subst, arith}
+use Rattle.std.proofs.Common.{◌≡◌, inl, inr, ℕ, ◌-◌, List, [], ◌∷◌, ◌++◌, ◌||◌, map, Bool, true, false, IsTrue, refl, sym, subst, arith}
+use Rattle.std.specs.Prelude.{nat_le}
 use Rattle.std.proofs.lemmas.Bool.{le-leb}
 use Rattle.grammar.specs.Trees as trees
 use Rattle.grammar.specs.Trees.{PropertyForm, plain, implication, ItemForm, counter, declaration, assertion}
@@ -8,24 +9,24 @@ use Rattle.expressions.specs.Terms.{Samples}
 use Rattle.assertions.specs.declared.sequence.Boolean.{Boolean}
 use Rattle.assertions.specs.declared.sequence.Boolean.TheVariants.{One}
 use Rattle.assertions.specs.declared.assertion.Assertion.{Assertion}
-use Rattle.assertions.specs.Segments.{Seq, Matches, sat, always, AdmitsEmpty}
+use Rattle.assertions.specs.Segments.{Matches, sat, always, AdmitsEmpty}
 use Rattle.assertions.specs.Written.{Written, boolean, delay, lead, repeat, or, and, throughout, kernel, after, later}
 use Rattle.assertions.specs.Shapes.{written_form, shape, value_in}
 use Rattle.assertions.proofs.Segments.{Matches-mono}
 use Rattle.types_sequences.specs.Drafts.{Draft, Spells}
-use Rattle.types_sequences.specs.Outlines.{map_draft, map_written}
+use Rattle.types_sequences.specs.Outlines.{map_written}
 use Rattle.types_sequences.specs.Entries.{Alike}
 use Rattle.types_sequences.specs.Placed.{atom_true, IsPlaced}
 use Rattle.types_sequences.proofs.AlikeLaws.{alike_one, alike_one_of, alike_after, alike_later, alike_times, alike_either, alike_both, alike_during}
 use Rattle.types_sequences.proofs.MapLaws.{spells_map}
 use Rattle.types_expressions.specs.Scopes.{Scope}
 use Rattle.types_suites.specs.Texts.{declarations_of, assertions_of}
-use Rattle.types_suites.specs.Readings.{Dot, dot, outline, outlines_of, AllRead}
+use Rattle.types_suites.specs.Readings.{Dot, dot, AllRead}
 use Rattle.types_suites.specs.Suites.{ReadsConsequent, IsMeant}
 use Rattle.types_suites.proofs.OutlineLaws.{dotted, reads_outline}
 use Rattle.types_suites.proofs.BodyLaws.{outlined}
 use Rattle.types.specs.declared.fault.TypeFault.TheVariants.{AdmitsEmpty as Empty}
-use Rattle.types.specs.Faults.{Side, consequent_in, consequents_of, IsSide, IsFaultless}
+use Rattle.types.specs.Faults.{consequent_in, consequents_of, IsSide, IsFaultless}
 
 -- Dots in the places of booleans, where all are true.
 module _ (f : Boolean → Dot) where
@@ -57,11 +58,12 @@ module _ (f : Boolean → Dot) where
       (λ k. refl) (dots_alike r)
 
 -- Before a tick was seen every boolean is true.
+or_left : (x y : Bool) → IsTrue x → IsTrue (x || y)
+or_left true y h = refl
+or_left false y h = absurd cc
+
 none_seen : (value : Boolean → ℕ → Bool) (b : Boolean) (k : ℕ) → IsTrue (sat value 0 b k)
-none_seen value b k = or_left (le-leb 0 k (omega arith))
-  where
-    or_left : {x y : Bool} → x ≡ true → IsTrue (x || y)
-    or_left h = rw h refl
+none_seen value b k = or_left (nat_le 0 k) (value b k) (le-leb 0 k (omega arith))
 
 empty_meant : (e : List Expr) (places : List ℕ) (w u : Written Boolean) → IsPlaced e places w u →
     AdmitsEmpty (kernel One u) → AdmitsEmpty (kernel One w)
@@ -70,7 +72,7 @@ empty_meant e places w u h empty =
     let one = atom_true e t in
     let two = value_in e places t in
     let seen : Matches (sat two 0) (kernel One u) 0 0 =
-        Matches-mono Boolean always (sat two 0) (λ b k x. none_seen two b k) (kernel One u) 0 0 empty in
+    Matches-mono Boolean always (sat two 0) (λ b k x. none_seen two b k) (kernel One u) 0 0 empty in
     Matches-mono Boolean (sat one 0) always (λ b k x. refl) (kernel One w) 0 0 ((h t 0 0 0).1 seen)
 
 -- A consequent of the text.
@@ -99,12 +101,12 @@ module _ (s : Scope) (cs : List (List ℕ)) (e : List Expr) where
       let side = consequent_in s a.property in
       let w = meant.meant in
       let here = subst (λ (xs : List trees.AssertionForm). IsSide side (consequents_of s xs)) (sym is)
-          (consequent_there s before a more) in
+      (consequent_there s before a more) in
       let spelled =
-          subst (λ (bs : List (Draft Dot)). Spells bs side.outline (map_written f w))
-          (outlined s cs e items bodies read)
-          (subst (λ (z : Draft Dot). Spells (map dotted bodies) z (map_written f w))
-          (consequent_outline a.property d reads) (spells_map f bodies d w meant.spells)) in
+      subst (λ (bs : List (Draft Dot)). Spells bs side.outline (map_written f w))
+      (outlined s cs e items bodies read)
+      (subst (λ (z : Draft Dot). Spells (map dotted bodies) z (map_written f w))
+      (consequent_outline a.property d reads) (spells_map f bodies d w meant.spells)) in
       let none = empty_meant e made.booleans.items w (written_form made.consequent) meant.placed empty in
       faultless (Empty side.byte)
       (record {

@@ -1,5 +1,5 @@
 -- Each assertion of a suite of a text keeps to what the compiler takes for granted.
-use Rattle.std.proofs.Common.{◌≡◌, ◌⊎◌, inl, inr, ℕ, ◌+◌, List, [], ◌∷◌, ◌++◌, map, Option, Some, None, Bool, true, false, IsTrue, if◌then◌else◌, length, refl, sym, ap, ◌∙◌, subst, string_bytes}
+use Rattle.std.proofs.Common.{◌≡◌, inl, inr, ℕ, ◌+◌, List, [], ◌∷◌, ◌++◌, map, Option, Some, None, Bool, true, false, IsTrue, if◌then◌else◌, length, refl, sym, ◌∙◌, subst, string_bytes}
 use Rattle.std.specs.List.{AllByRecursion}
 use Rattle.std.proofs.lemmas.List.{append_assoc}
 use Rattle.lexer.specs.declared.token.Token.{Token}
@@ -18,26 +18,26 @@ use Rattle.assertions.specs.declared.assertion.Assertion.{Assertion}
 use Rattle.assertions.specs.declared.suite.Suite.{Suite}
 use Rattle.assertions.specs.Listed.{IsListedOption}
 use Rattle.bytecode.specs.Texts as texts
-use Rattle.expression_code.specs.Samples.{counter_terms, clear_terms, rule_terms}
+use Rattle.expression_code.specs.Samples.{clear_terms, rule_terms}
 use Rattle.expression_code.proofs.NarrowLaws.{expression-narrow}
 use Rattle.types_sequences.specs.Drafts.{Draft, IsIn}
 use Rattle.types_sequences.proofs.UsedLaws.{each_used}
 use Rattle.types_expressions.specs.declared.own.Own.TheVariants as own
-use Rattle.types_expressions.specs.Scopes.{Scope, path_text}
+use Rattle.types_expressions.specs.Scopes.{Scope}
 use Rattle.types_expressions.specs.Columns.{is_listed, with_path, with_paths, columns_of, file_signals}
 use Rattle.types_expressions.specs.Meanings.{Means}
 use Rattle.types_suites.specs.Texts.{declarations_of, counters_of, assertions_of, clock_of, label_text}
 use Rattle.types_suites.specs.Readings.{IsAtom, AllRead}
-use Rattle.types_suites.specs.Suites.{AreSignals, IsCondition, IsRule, IsCounter, AreCounters, IsDisabling, IsDisablingPlace, IsUsedPlace, IsAssertion, AreAssertions, IsSuite}
+use Rattle.types_suites.specs.Suites.{AreSignals, IsCondition, IsRule, AreCounters, IsDisabling, IsDisablingPlace, IsAssertion, AreAssertions}
 use Rattle.types.specs.Faults.{IsFaultless}
 use Rattle.compiler.specs.Conditions.{IsKnown, IsKnownAt, CountsByKnown, IsSound, IsPlaced, IsProper, IsFit}
-use Rattle.text_depths.specs.Trees.{OfOne, OfTwo, OfItem, OfAssertion, EachTree}
+use Rattle.text_depths.specs.Trees.{OfOne, OfTwo, OfAssertion, EachTree}
 use Rattle.text_depths.specs.Laws.{MeansShallow, TextsAreShallow}
 use Rattle.suite_facts.specs.Laws.{SuitesFit, scope_with}
 use Rattle.suite_facts.proofs.WordLaws.{made_word, tokens_worded}
 use Rattle.suite_facts.proofs.PathLaws.{IsPathText, ArePaths, both, IsLabelWord, IsSpoken, file_paths}
 use Rattle.suite_facts.proofs.NameLaws.{DeclaredCounter, declared_counter, means_named}
-use Rattle.suite_facts.proofs.KnownLaws.{EachDraft, spells_each, bodies_each, antecedent_each, consequent_each}
+use Rattle.suite_facts.proofs.KnownLaws.{spells_each, bodies_each, antecedent_each, consequent_each}
 use Rattle.suite_facts.proofs.EmptyLaws.{never_empty}
 
 -- The columns of a text are paths.
@@ -135,10 +135,11 @@ module _
       let P = IsKnown suite in
       let one = clear_terms m.clear in
       let two = rule_terms m.load in
-      let three = rule_terms m.add in
-      (all_both P ((one ++ two) ++ three) (rule_terms m.sub)
-      (all_both P (one ++ two) three (all_both P one two clear load) add) sub,
-      counters_known items ms q.1 h.1)
+      let three = rule_terms m.add in (
+        all_both P ((one ++ two) ++ three) (rule_terms m.sub)
+            (all_both P (one ++ two) three (all_both P one two clear load) add) sub,
+        counters_known items ms q.1 h.1,
+      )
   counters_known (declaration d ∷ items) ms q h = counters_known items ms q.1 h
   counters_known (assertion a ∷ items) ms q h = counters_known items ms q.1 h
 
@@ -181,20 +182,18 @@ module _
         let bs = suite.booleans.items in
         let all = bodies_each IsKnownBoolean s cs bs Shallow atom_known items bodies shallow read in
         let first = antecedent_each IsKnownBoolean s cs bs Shallow atom_known a.property
-            h.antecedent tt q.property h.reads_antecedent in
+        h.antecedent tt q.property h.reads_antecedent in
         let second = consequent_each IsKnownBoolean s cs bs Shallow atom_known a.property
-            h.consequent q.property h.reads_consequent in
+        h.consequent q.property h.reads_consequent in
         let v = h.antecedent_meant.meant in
         let w = h.consequent_meant.meant in
-        elim (h.used p i)
-        [
-          inl u ↦ each_used IsKnownBoolean (Listed p) v
+        elim (h.used p i) [
+          | inl u ↦ each_used IsKnownBoolean (Listed p) v
               (spells_each IsKnownBoolean bodies all h.antecedent v first h.antecedent_meant.spells) u
-        | inr x ↦ elim x
-          [
-            inl u ↦ each_used IsKnownBoolean (Listed p) w
+          | inr x ↦ elim x [
+            | inl u ↦ each_used IsKnownBoolean (Listed p) w
                 (spells_each IsKnownBoolean bodies all h.consequent w second h.consequent_meant.spells) u
-          | inr off ↦ disabling_known a.disable p q.disable off
+            | inr off ↦ disabling_known a.disable p q.disable off
           ]
         ]
 
@@ -209,21 +208,22 @@ module _
     assertions_fit faultless sound before n (a ∷ more) (m ∷ ms) is q spoken h =
         let one = h.0 in
         let placed : IsPlaced suite m =
-            record {
-              booleans = all_in (IsKnownAt suite) m.booleans.items (place_known n a m q.0 one);
-              antecedent = one.antecedent_meant.listed;
-              consequent = one.consequent_meant.listed;
-              disabling = disabling_listed m.booleans.items a.disable m.disabling one.disabling;
-            } in
+        record {
+          booleans = all_in (IsKnownAt suite) m.booleans.items (place_known n a m q.0 one);
+          antecedent = one.antecedent_meant.listed;
+          consequent = one.consequent_meant.listed;
+          disabling = disabling_listed m.booleans.items a.disable m.disabling one.disabling;
+        } in
         let proper : IsProper m =
-            record {
-              name = subst (λ (t : List ℕ). IsTrue (texts.is_word t)) (sym one.name) (label_named n a.label spoken.0.label);
-              filled = never_empty s cs suite.booleans.items items bodies before a more m one.consequent
-                  faultless is read one.reads_consequent one.consequent_meant;
-            } in
-        (record { sound = sound; placed = placed; proper = proper },
-        assertions_fit faultless sound (before ++ a ∷ []) (n + 1) more ms
-        (is ∙ sym (append_assoc before (a ∷ []) more)) q.1 spoken.1 h.1)
+        record {
+          name = subst (λ (t : List ℕ). IsTrue (texts.is_word t)) (sym one.name) (label_named n a.label spoken.0.label);
+          filled = never_empty s cs suite.booleans.items items bodies before a more m one.consequent
+              faultless is read one.reads_consequent one.consequent_meant;
+        } in (
+          record { sound = sound; placed = placed; proper = proper },
+          assertions_fit faultless sound (before ++ a ∷ []) (n + 1) more ms
+              (is ∙ sym (append_assoc before (a ∷ []) more)) q.1 spoken.1 h.1,
+        )
 
 -- The suite of a text.
 pub suites-fit : TextsAreShallow → SuitesFit
@@ -235,14 +235,14 @@ suites-fit law dump text suite x =
     let spoken = file_paths s items x.tokens x.spelled (tokens_worded text x.tokens x.cut) in
     let shallow = law s cs items x.tokens x.spelled in
     let owned : (p : List ℕ) (place width : ℕ) → s.own p ≡ Some (own.Counter place width) →
-        DeclaredCounter suite.counters.items 0 place width =
-        λ p place width is. declared_counter s cs items suite.counters.items p 0 0 place width h.counters is in
+    DeclaredCounter suite.counters.items 0 place width =
+    λ p place width is. declared_counter s cs items suite.counters.items p 0 0 place width h.counters is in
     let sound : IsSound suite =
-        record {
-          clock = subst IsPathText (sym h.clock) (clock_path items x.spelled.asserts spoken.1);
-          signals = signal_paths s cs suite.names.items (paths_kept [] (file_signals s items) tt spoken.0) h.signals;
-          counters = counters_known suite s cs h.signals owned items suite.counters.items shallow h.counters;
-        } in
+    record {
+      clock = subst IsPathText (sym h.clock) (clock_path items x.spelled.asserts spoken.1);
+      signals = signal_paths s cs suite.names.items (paths_kept [] (file_signals s items) tt spoken.0) h.signals;
+      counters = counters_known suite s cs h.signals owned items suite.counters.items shallow h.counters;
+    } in
     assertions_fit suite s cs h.signals owned items h.bodies shallow h.read x.faultless sound []
     0 (assertions_of items) suite.assertions.items refl
     (assertions_all (MeansShallow s cs) items shallow) spoken.1 h.assertions

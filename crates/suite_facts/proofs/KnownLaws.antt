@@ -1,12 +1,11 @@
 -- What a text's sequences say is over known expressions.
-use Rattle.std.proofs.Common.{◌≡◌, ◌⊎◌, inl, inr, ℕ, zero, suc, ◌+◌, List, [], ◌∷◌, map, Option, Some, None, slice_get, refl, sym, ap, ◌∙◌, subst}
+use Rattle.std.proofs.Common.{◌≡◌, ℕ, zero, suc, ◌+◌, List, [], ◌∷◌, map, Option, Some, None, slice_get, sym, subst}
 use Rattle.std.specs.Prelude.{option_map, option_and_then}
 use Rattle.std.specs.List.{AllByRecursion}
 use Rattle.grammar.specs.Trees.{Tree, SequenceForm, boolean, repeated, late, delayed, throughout, all, either, Steps, no_step, step, Others, no_other, other, PropertyForm, plain, implication, ItemForm, counter, declaration, assertion}
 use Rattle.expressions.specs.declared.expr.Expr.{Expr}
-use Rattle.expressions.specs.Expressions.{term_of}
 use Rattle.assertions.specs.declared.sequence.Boolean.{Boolean}
-use Rattle.assertions.specs.declared.sequence.Boolean.TheVariants.{One, Listed}
+use Rattle.assertions.specs.declared.sequence.Boolean.TheVariants.{One}
 use Rattle.assertions.specs.Written as written
 use Rattle.assertions.specs.Written.{Written}
 use Rattle.assertions.specs.Listed.{EachBoolean}
@@ -18,7 +17,7 @@ use Rattle.types_expressions.specs.Scopes.{Scope, sequence_named}
 use Rattle.types_suites.specs.Texts.{declarations_of, implication_by}
 use Rattle.types_suites.specs.Readings.{least_of, extra_of, IsAtom, ReadsBoolean, Reads, ReadsSteps, ReadsAll, ReadsAny, AllRead}
 use Rattle.types_suites.specs.Suites.{before_by, ReadsAntecedent, ReadsConsequent}
-use Rattle.text_depths.specs.Trees.{OfSequence, OfSteps, OfOthers, OfProperty, OfItem, EachTree}
+use Rattle.text_depths.specs.Trees.{OfSequence, OfSteps, OfOthers, OfProperty, EachTree}
 
 -- P holds of each boolean of a draft.
 abbrev pub EachDraft : (Boolean → Type 0) → Draft Boolean → Type 0

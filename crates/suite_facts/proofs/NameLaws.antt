@@ -1,6 +1,6 @@
 -- The names of what a text's expressions mean are signals and counters of its suite.
-use Rattle.std.proofs.Common.{◌≡◌, ℕ, zero, suc, ◌+◌, ◌<◌, List, [], ◌∷◌, ◌++◌, length, Option, Some, None, Bool, true, false, slice_get, get_or, refl, sym, ap, ◌∙◌, subst, arith}
-use Rattle.std.specs.Prelude.{bytes_eq, cond, string_bytes}
+use Rattle.std.proofs.Common.{◌≡◌, ℕ, zero, suc, ◌+◌, ◌<◌, List, [], ◌∷◌, length, Option, Some, None, Bool, true, false, slice_get, get_or, refl, sym, ◌∙◌, subst, arith}
+use Rattle.std.specs.Prelude.{bytes_eq, cond}
 use Rattle.std.specs.Cmp.Lexicographic.{bytes_decides}
 use Rattle.std.proofs.lemmas.List.Quantifiers.{position-Some}
 use Rattle.grammar.specs.Trees.{Tree, number, path, concatenation, past, call, unary, chain, choice, Links, end, link, Parts, no_part, part, ItemForm, counter, declaration, assertion}
@@ -16,8 +16,6 @@ use Rattle.assertions.specs.declared.signal.Signal.{Signal}
 use Rattle.assertions.specs.declared.suite.Suite.{Suite}
 use Rattle.types_expressions.specs.declared.own.Own.{Own}
 use Rattle.types_expressions.specs.declared.own.Own.TheVariants as own
-use Rattle.types_expressions.specs.declared.own.Meaning.{Meaning}
-use Rattle.types_expressions.specs.declared.own.Meaning.TheVariants.{Signal as Path, Own as Declared}
 use Rattle.types_expressions.specs.declared.operator.Binary.{Binary}
 use Rattle.types_expressions.specs.declared.operator.Binary.TheVariants.{Arithmetic, Shift, Comparison, Connective}
 use Rattle.types_expressions.specs.declared.operator.Unary.{Unary}
@@ -27,11 +25,11 @@ use Rattle.types_expressions.specs.declared.operator.Call.TheVariants as calls
 use Rattle.types_expressions.specs.Scopes.{Scope, path_text, meaning, meaning_by, look_up, owns_from, width_in}
 use Rattle.types_expressions.specs.Columns.{column_of}
 use Rattle.types_expressions.specs.Widths.{binary_of, unary_of, call_of, ticks_of}
-use Rattle.types_expressions.specs.Meanings.{binary_term, unary_term, call_term, IsName, IsNameOf, IsWhole, IsPart, IsRead, Means, Chains, Joins, JoinsMore}
+use Rattle.types_expressions.specs.Meanings.{binary_term, unary_term, call_term, IsName, IsNameOf, IsRead, Means, Chains, Joins, JoinsMore}
 use Rattle.types_suites.specs.Texts.{counters_of}
 use Rattle.types_suites.specs.Suites.{AreSignals, AreCounters}
 use Rattle.expression_code.specs.Laws.{Each, OfName}
-use Rattle.compiler.specs.Conditions.{IsSignalAt, IsCounterAt, IsAt, IsNamed}
+use Rattle.compiler.specs.Conditions.{IsAt, IsNamed}
 
 -- The signal of a column.
 record ColumnSignal (s : Scope) (p : List ℕ) (xs : List Signal) (place : ℕ) : Type 0 where
@@ -142,7 +140,7 @@ module _ (s : Scope) (cs : List (List ℕ)) where
     counter_named p place width name known h =
         let r = owned p place width known in
         let at : r.later ≡ name.place =
-            omega (arith, r.at, some_width place name.place h.place_is) in
+        omega (arith, r.at, some_width place name.place h.place_is) in
         subst (λ (o : Origin). IsAt suite o name.place name.width) (sym h.origin_is)
         (record {
           counter = r.made;

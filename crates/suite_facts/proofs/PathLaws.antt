@@ -1,6 +1,6 @@
 -- The paths of a text's expressions, its clock's and its labels are spelled by words.
-use Rattle.std.proofs.Common.{◌≡◌, ℕ, suc, ◌+◌, List, [], ◌∷◌, ◌++◌, Option, Some, None, IsTrue}
-use Rattle.std.specs.List.{AllByRecursion, flat_map}
+use Rattle.std.proofs.Common.{ℕ, List, [], ◌∷◌, ◌++◌, Option, Some, None, IsTrue}
+use Rattle.std.specs.List.{AllByRecursion}
 use Rattle.lexer.specs.declared.token.Token.{Token}
 use Rattle.grammar.specs.declared.bound.Bound.{Bound}
 use Rattle.grammar.specs.declared.bound.Range.{Range}
@@ -37,7 +37,7 @@ use Rattle.types_expressions.specs.Scopes.{Scope, path_text, meaning}
 use Rattle.types_expressions.specs.Columns.{path_signals, signals, link_signals, part_signals}
 use Rattle.types_expressions.specs.Columns.{sequence_signals, step_signals, other_signals}
 use Rattle.types_expressions.specs.Columns.{property_signals, optional_signals, clause_signals}
-use Rattle.types_expressions.specs.Columns.{counter_signals, assertion_signals, item_signals}
+use Rattle.types_expressions.specs.Columns.{counter_signals, assertion_signals}
 use Rattle.types_expressions.specs.Columns.{file_signals}
 use Rattle.types_suites.specs.Texts.{assertions_of}
 use Rattle.suite_facts.proofs.WordLaws.{AreWorded, AreWords, name_word, words_path}
@@ -169,9 +169,11 @@ module _ (s : Scope) where
     spells_paths (is_choice {c = c} {a = a} {b = b} m n o x y) h =
         let i = operand_paths o h in
         let j = spells_paths x i.1.1 in
-        let k = spells_paths y j.1.1 in
-        (both (signals s c) (signals s a ++ signals s b) i.0
-        (both (signals s a) (signals s b) j.0 k.0), k.1)
+        let k = spells_paths y j.1.1 in (
+          both (signals s c) (signals s a ++ signals s b) i.0
+              (both (signals s a) (signals s b) j.0 k.0),
+          k.1,
+        )
 
   mutual
     unfolding sequence_signals
@@ -287,9 +289,11 @@ module _ (s : Scope) where
       let o = clause_paths j n.1 in
       let p = clause_paths k o.1 in
       let two = both (clause_signals s add) (clause_signals s sub) o.0 p.0 in
-      let three = both (clause_signals s load) (clause_signals s add ++ clause_signals s sub) n.0 two in
-      (both (optional_signals s cleared)
-      (clause_signals s load ++ (clause_signals s add ++ clause_signals s sub)) m.0 three, p.1.1)
+      let three = both (clause_signals s load) (clause_signals s add ++ clause_signals s sub) n.0 two in (
+        both (optional_signals s cleared)
+            (clause_signals s load ++ (clause_signals s add ++ clause_signals s sub)) m.0 three,
+        p.1.1,
+      )
 
   declaration_paths : {q : DeclarationForm} {ts rest : Tokens} → SpellsDeclaration q ts rest →
       AreWorded ts → ArePaths (sequence_signals s q.body) × AreWorded rest
@@ -310,9 +314,11 @@ module _ (s : Scope) where
       let named = label_word l h in
       let clocked = path_words x named.1.1.1.1.1.1.1 in
       let off = disable_paths i clocked.1.1 in
-      let said = property_paths j off.1 in
-      (both (optional_signals s o) (property_signals s p) off.0 said.0,
-      record { label = named.0; clock = clocked.0 }, said.1.1.1)
+      let said = property_paths j off.1 in (
+        both (optional_signals s o) (property_signals s p) off.0 said.0,
+        record { label = named.0; clock = clocked.0 },
+        said.1.1.1,
+      )
 
   -- an item's paths, and what it says if it is an assertion
   abbrev ItemIs : ItemForm → Tokens → Type 0

@@ -1,5 +1,5 @@
 -- Texts that are words, and paths of them.
-use Rattle.std.proofs.Common.{◌≡◌, ◌⊎◌, inl, inr, ℕ, zero, suc, ◌+◌, ◌/◌, ◌%◌, ◌<◌, ◌≤◌, Bool, true, false, List, [], ◌∷◌, ◌++◌, map, Option, Some, None, refl, sym, ap, ◌∙◌, subst, arith, IsTrue, take, if◌then◌else◌}
+use Rattle.std.proofs.Common.{◌≡◌, ◌⊎◌, inl, inr, ℕ, zero, suc, ◌/◌, ◌%◌, ◌<◌, Bool, true, false, List, [], ◌∷◌, ◌++◌, map, Option, Some, None, refl, ap, ◌∙◌, arith, IsTrue, take, if◌then◌else◌}
 use Rattle.std.specs.Prelude.{◌||◌, ◌&&◌, ◌==◌, nat_le, bytes_eq, codes, Ok}
 use Rattle.std.specs.List.{list_all, flat_map, AllByRecursion}
 use Rattle.std.specs.Fmt.{decimal, digits, digits_onto, digit_glyph}
@@ -16,12 +16,12 @@ use Rattle.lexer.specs.declared.token.Token.{Token}
 use Rattle.lexer.specs.Lexemes.{is_letter, is_digit, is_word_part, is_system_part, size_tail, base_tail, one_symbol, two_symbol, three_symbol, symbol_shape, symbol_of, when, shape_of}
 use Rattle.lexer.specs.Numbers.{number_of}
 use Rattle.lexer.specs.Cutting.{Cut, cut_of, number_kind, kind_of, tokens_of}
-use Rattle.lexer.specs.Covering.{shape_of_text, IsLongest, IsCut, at_end, over_gap, over_token}
+use Rattle.lexer.specs.Covering.{shape_of_text, IsCut, at_end, over_gap, over_token}
 use Rattle.lexer.proofs.LongestLaws.{tells}
 use Rattle.lexer.proofs.CoveringLaws.{tokens_of-covered}
 use Rattle.grammar.specs.declared.terminal.Terminal.{Terminal}
 use Rattle.grammar.specs.declared.terminal.Terminal.TheVariants as terminals
-use Rattle.grammar.specs.Terminals.{kind_terminal, symbol_terminal, system_terminal, terminal, names, is_name, is_word_kind, is_word}
+use Rattle.grammar.specs.Terminals.{kind_terminal, symbol_terminal, system_terminal, names, is_name, is_word_kind, is_word}
 use Rattle.types_expressions.specs.Scopes.{path_text}
 use Rattle.bytecode.specs.Texts as texts
 use Rattle.bytecode.specs.Texts.{is_first, is_later, goes_on, begins}
