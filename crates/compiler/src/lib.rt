@@ -13,5 +13,5 @@
 //! The definitions: `specs/Conditions.antt`; how deep brackets nest is `depth` of
 //! `expression_code`, which bounds the stack and the history of a program.
 //!
-//! Not promised: that a suite of a text keeps to this, which is to be proved in a crate above.
+//! Not promised: that a suite of a text keeps to this, which `suite_facts` proves above.
 #![tactic(auto)]

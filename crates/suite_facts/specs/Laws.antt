@@ -19,8 +19,8 @@ Paths = List ℕ → Option ℕ
 abbrev pub scope_with : Paths → List ItemForm → Scope
 scope_with dump items = record { own = look_up (owns items); dump = dump }
 
--- The text's bytes are cut into tokens, these spell items in which no fault of types stands over the
--- dump's paths, and the suite says what the items say.
+-- The text's bytes are cut into tokens, these spell items in which no fault of types stands over
+-- the dump's paths, and the suite says what the items say.
 pub record SaysOver (dump : Paths) (text : List ℕ) (suite : Suite) : Type 0 where
   pub tokens : List Token
   pub items : List ItemForm
