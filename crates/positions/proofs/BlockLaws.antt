@@ -1,6 +1,6 @@
 -- Loops that write blocks, and how long these are.
-use Rattle.std.proofs.Common.{◌≡◌, ◌∙◌, ℕ, suc, ◌+◌, ◌*◌, ◌^◌, ◌%◌, ◌<◌, ◌≤◌, refl, sym, ap, subst, arith}
-use Rattle.std.proofs.Common.{List, [], ◌∷◌, ◌++◌, length, map, drop, get_or, Vec, length-append, drop-cons, append_assoc, append-nil, drop_of_length-le}
+use Rattle.std.proofs.Common.{◌≡◌, ◌∙◌, ℕ, suc, ◌+◌, ◌*◌, ◌^◌, ◌%◌, ◌<◌, refl, sym, ap, subst, arith}
+use Rattle.std.proofs.Common.{List, [], ◌∷◌, ◌++◌, length, map, drop, get_or, Vec, length-append, drop-cons, append_assoc}
 use Rattle.std.specs.Prelude.{bit_or}
 use Rattle.std.specs.Global.{Global}
 use Rattle.std.proofs.lemmas.List.{map-append}
@@ -8,9 +8,8 @@ use Rattle.std.proofs.lemmas.List.Sums.{sum_by-cons}
 use Rattle.std.proofs.Math.Pow.{pow-lt}
 use Rattle.std.proofs.Math.Nat.{mod-eq_of_lt}
 use Rattle.std.proofs.lemmas.Nat.Bits.{bit_at_or, same_from_bits}
-use Rattle.std.specs.Int.Bits.{or_zero_l}
 use Rattle.bytecode.specs.declared.block_instr.BlockInstr.{BlockInstr}
-use Rattle.bytecode.specs.declared.block_instr.BlockInstr.TheVariants.{Unless, Enter, Stop}
+use Rattle.bytecode.specs.declared.block_instr.BlockInstr.TheVariants.{Unless, Enter}
 use Rattle.inference.specs.Sections.{size_of}
 use Rattle.positions.specs.declared.edge.Edge as code
 use Rattle.positions.specs.Tables.{Edge}
@@ -54,11 +53,6 @@ pub record IsBegun (base : ℕ) (row left : List (Edge ℕ)) (made : List BlockI
   pub code : block_of base row ≡ made ++ block_of (base + length made) left
   pub room : length made + edges_size left ≡ edges_size row
 
-pub begun : (base : ℕ) (row : List (Edge ℕ)) → IsBegun base row row []
-begun base row =
-    let here : base ≡ base + 0 = omega arith in
-    record { code = ap (λ n. block_of n row) here; room = omega arith }
-
 begun-more : (base : ℕ) (row left : List (Edge ℕ)) (e : Edge ℕ) (made new : List BlockInstr) → IsBegun base row (e ∷ left) made →
     new ≡ made ++ edge_code (base + length made) e → IsBegun base row left new
 begun-more base row left e made new so_far is =
@@ -84,20 +78,6 @@ begun-next base xs i item made new below at so_far is =
     begun-more base (map edge_data xs) (map edge_data (drop (i + 1) xs)) (edge_data item) made new
     (subst (λ left. IsBegun base (map edge_data xs) (map edge_data left) made) split so_far) is
 
--- the edge that is next has room
-pub begun-room : (base : ℕ) (xs : List code.Edge) (i : ℕ) (item : code.Edge) (made : List BlockInstr) →
-    i < length xs → item ≡ get_or xs i item → IsBegun base (map edge_data xs) (map edge_data (drop i xs)) made →
-    length made + edge_size (edge_data item) ≤ edges_size (map edge_data xs)
-begun-room base xs i item made below at so_far =
-    let split : drop i xs ≡ item ∷ drop (suc i) xs = drop-cons xs i item below ∙ ap (λ x. x ∷ drop (suc i) xs) (sym at) in
-    let left : edges_size (map edge_data (drop i xs)) ≡ edges_size (map edge_data (item ∷ drop (suc i) xs)) = ap (λ es. edges_size (map edge_data es)) split in
-    omega (arith, left, so_far.room, sum_by-cons edge_size (edge_data item) (map edge_data (drop (suc i) xs)))
-
-pub begun-all : (base : ℕ) (xs : List code.Edge) (i : ℕ) (made new : List BlockInstr) → length xs ≤ i →
-    IsBegun base (map edge_data xs) (map edge_data (drop i xs)) made → new ≡ made ++ Stop ∷ [] → new ≡ block_of base (map edge_data xs)
-begun-all base xs i made new past so_far is =
-    is ∙ sym (so_far.code ∙ ap (λ left. made ++ block_of (base + length made) (map edge_data left)) (drop_of_length-le xs past))
-
 -- the blocks
 
 pub blocks-size : (base : ℕ) (rows : List (List (Edge ℕ))) → size_of (blocks_of base rows) ≡ rows_size rows
@@ -109,9 +89,6 @@ blocks-size base (row ∷ rows) =
 pub record AreBegun (rows left : List (List (Edge ℕ))) (base : ℕ) (made : List (List BlockInstr)) : Type 0 where
   pub code : blocks_of 0 rows ≡ made ++ blocks_of base left
   pub room : base + rows_size left ≡ rows_size rows
-
-pub are-begun : (rows : List (List (Edge ℕ))) → AreBegun rows rows 0 []
-are-begun rows = record { code = refl; room = omega arith }
 
 are-more : (rows left : List (List (Edge ℕ))) (row : List (Edge ℕ)) (base next : ℕ) (made new : List (List BlockInstr)) →
     AreBegun rows (row ∷ left) base made → new ≡ made ++ block_of base row ∷ [] → next ≡ base + length (block_of base row) →
@@ -142,20 +119,6 @@ are-next xs i item base next made new block es below at so_far of here grown put
     (ap (map (λ (b : Vec BlockInstr Global). b.items)) put ∙ map-append (λ (b : Vec BlockInstr Global). b.items) made (block ∷ []) ∙ ap (λ b. map (λ (b : Vec BlockInstr Global). b.items) made ++ b ∷ []) is)
     (grown ∙ ap (λ b. base + length b) is)
 
--- the row that is next has room
-pub are-room : (xs : List Row) (i : ℕ) (item : Row) (base : ℕ) (made : List (List BlockInstr)) →
-    i < length xs → item ≡ get_or xs i item → AreBegun (rows_data xs) (rows_data (drop i xs)) base made →
-    base + row_size (row_data item) ≤ rows_size (rows_data xs)
-are-room xs i item base made below at so_far =
-    let split : drop i xs ≡ item ∷ drop (suc i) xs = drop-cons xs i item below ∙ ap (λ x. x ∷ drop (suc i) xs) (sym at) in
-    let left : rows_size (rows_data (drop i xs)) ≡ rows_size (rows_data (item ∷ drop (suc i) xs)) = ap (λ rows. rows_size (rows_data rows)) split in
-    omega (arith, left, so_far.room, sum_by-cons row_size (row_data item) (rows_data (drop (suc i) xs)))
-
-pub are-all : (xs : List Row) (i base : ℕ) (made : List (List BlockInstr)) → length xs ≤ i →
-    AreBegun (rows_data xs) (rows_data (drop i xs)) base made → made ≡ blocks_of 0 (rows_data xs)
-are-all xs i base made past so_far =
-    sym (so_far.code ∙ ap (λ left. made ++ blocks_of base (rows_data left)) (drop_of_length-le xs past) ∙ append-nil made)
-
 -- sets
 
 or-swap : (a b c : ℕ) → bit_or (bit_or a b) c ≡ bit_or a (bit_or c b)
@@ -175,7 +138,3 @@ bits-next qs i set below small so_far =
     ∙ sym (or-swap (bits (drop (i + 1) qs)) (2 ^ item) set)
     ∙ ap (λ left. bit_or (bits left) set) (sym split)
     ∙ so_far
-
-pub bits-all : (qs : List ℕ) (i set : ℕ) → length qs ≤ i → bit_or (bits (drop i qs)) set ≡ bits qs → set ≡ bits qs
-bits-all qs i set past so_far =
-    sym (or_zero_l set) ∙ ap (λ left. bit_or (bits left) set) (sym (drop_of_length-le qs past)) ∙ so_far

@@ -57,7 +57,8 @@ plan true_one (repeat r least most) =
 plan true_one (or r s) =
     moving (takes_ticks (or r s)) (admits_empty (or r s)) (any (plan true_one r) (plan true_one s))
 plan true_one (and r s) =
-    moving (takes_ticks (and r s)) (admits_empty (and r s)) (all (plan true_one r) (plan true_one s))
+    moving (takes_ticks (and r s)) (admits_empty (and r s))
+    (all (plan true_one r) (plan true_one s))
 plan true_one (throughout b r) =
     moving (takes_ticks (throughout b r)) (admits_empty (throughout b r))
     (under b (plan true_one r))

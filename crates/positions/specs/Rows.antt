@@ -1,5 +1,6 @@
 -- Tables as lists: for each position a list of edges, each made from another.
-use Rattle.std.specs.Prelude.{ℕ, ◌+◌, ◌*◌, ◌-◌, ◌<◌, ◌≤◌, Bool, true, false, ◌&&◌, ◌||◌, ◌==◌, nat_le, List}
+use Rattle.std.specs.Prelude.{ℕ, ◌+◌, ◌*◌, ◌-◌, ◌<◌, ◌≤◌, ◌==◌, nat_le}
+use Rattle.std.specs.Prelude.{Bool, true, false, ◌&&◌, ◌||◌, List}
 use Rattle.std.specs.Prelude.{[], ◌∷◌, ◌++◌, length, map, Option, None, sum_by}
 use Rattle.std.specs.Prelude.{slice_get, unwrap_or, min, if◌then◌else◌}
 use Rattle.std.specs.List.{flat_map}
@@ -137,7 +138,9 @@ lead_data fuses c by u e = changed c e ∷ picked (e.accepts && fuses) (fused_da
 abbrev pub link_data : Bool → Bool → TableData → TableData → TableData → TableData
 link_data fuses follows t g u = record {
   rows =
-      map (flat_map (lead_data fuses (leading_data follows t g u) (length t.rows + length g.rows) u)) t.rows
+      map
+      (flat_map (lead_data fuses (leading_data follows t g u) (length t.rows + length g.rows) u))
+      t.rows
       ++ change_all (crossing_data t g u) g.rows
       ++ change_all (moved (length t.rows + length g.rows)) u.rows;
   starts = t.starts ++ picked (follows && t.empty) (onward_data t g u);
@@ -176,7 +179,8 @@ paired_data n m e f = record {
   wanted = e.wanted ++ f.wanted;
   enters =
       pairs_data m e.enters f.enters
-      ++ (picked f.accepts (shift (n * m) e.enters) ++ picked e.accepts (shift (n * m + n) f.enters));
+      ++ (picked f.accepts (shift (n * m) e.enters)
+      ++ picked e.accepts (shift (n * m + n) f.enters));
   accepts = e.accepts && f.accepts;
 }
 
@@ -194,7 +198,8 @@ both_data t u =
           ++ change_all (moved (n * m + n)) u.rows;
       starts =
           pairs_data m t.starts u.starts
-          ++ (picked u.empty (shift (n * m) t.starts) ++ picked t.empty (shift (n * m + n) u.starts));
+          ++ (picked u.empty (shift (n * m) t.starts)
+          ++ picked t.empty (shift (n * m + n) u.starts));
       empty = t.empty && u.empty;
     }
 
@@ -202,7 +207,9 @@ both_data t u =
 pub record IsPlaced (d : TableData) : Type 0 where
   pub few : length d.rows ≤ 127
   pub starts : EachOf (λ q. q < length d.rows) d.starts
-  pub enters : EachOf (λ row. EachOf (λ (e : Edge ℕ). EachOf (λ q. q < length d.rows) e.enters) row) d.rows
+  pub enters :
+      EachOf (λ row. EachOf (λ (e : Edge ℕ). EachOf (λ q. q < length d.rows) e.enters) row)
+      d.rows
 
 -- what lies between the two parts of a delay of one tick or more
 abbrev pub gap_data : ℕ → ℕ → TableData

@@ -26,7 +26,8 @@ accept_if false = []
 
 -- the code of an edge at base
 abbrev pub edge_code : ℕ → Edge ℕ → List BlockInstr
-edge_code base e = guards (base + edge_size e) e.wanted ++ (enter_all e.enters ++ accept_if e.accepts)
+edge_code base e =
+    guards (base + edge_size e) e.wanted ++ (enter_all e.enters ++ accept_if e.accepts)
 
 -- the block of a position, at base
 abbrev pub block_of : ℕ → List (Edge ℕ) → List BlockInstr

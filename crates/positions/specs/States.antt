@@ -37,7 +37,8 @@ First (under b r) p = First r p
 First (loop r least most) t = (t.0 < most) × ((t.0 ≡ 0) ⊎ Nullable r) × First r t.1
 First (link fuses follows r g s) (inl p) = First r p
 First (link fuses follows r g s) (inr (inl q)) = IsTrue follows × Nullable r × First g q
-First (link fuses follows r g s) (inr (inr t)) = IsTrue follows × Nullable r × Nullable g × First s t
+First (link fuses follows r g s) (inr (inr t)) =
+    IsTrue follows × Nullable r × Nullable g × First s t
 
 -- at tick i the state ends a match
 abbrev pub Ends : {B : Type 0} → (B → ℕ → Bool) → (r : Plan B) → State r → ℕ → Type 0
@@ -49,9 +50,12 @@ Ends holds (all r s) (inl t) i = Ends holds r t.0 i × Ends holds s t.1 i
 Ends holds (all r s) (inr (inl p)) i = Ends holds r p i
 Ends holds (all r s) (inr (inr q)) i = Ends holds s q i
 Ends holds (under b r) p i = Ends holds r p i × IsTrue (holds b i)
-Ends holds (loop r least most) t i = Ends holds r t.1 i × (t.0 < most) × (least ≤ most) × ((least ≤ t.0 + 1) ⊎ Nullable r)
+Ends holds (loop r least most) t i =
+    Ends holds r t.1 i × (t.0 < most) × (least ≤ most) × ((least ≤ t.0 + 1) ⊎ Nullable r)
 Ends holds (link fuses follows r g s) (inl p) i =
-    Ends holds r p i × ((IsTrue follows × Nullable g × Nullable s) ⊎ (IsTrue fuses × (q : State s) × First s q × Ends holds s q i))
+    Ends holds r p i
+    × ((IsTrue follows × Nullable g × Nullable s)
+    ⊎ (IsTrue fuses × (q : State s) × First s q × Ends holds s q i))
 Ends holds (link fuses follows r g s) (inr (inl q)) i = Ends holds g q i × Nullable s
 Ends holds (link fuses follows r g s) (inr (inr t)) i = Ends holds s t i
 
@@ -75,15 +79,19 @@ Steps holds (all r s) (inr (inr q)) i (inr (inr q')) = Steps holds s q i q'
 Steps holds (under b r) p i p' = Steps holds r p i p' × IsTrue (holds b i)
 Steps holds (loop r least most) t i u =
     ((t.0 ≡ u.0) × Steps holds r t.1 i u.1)
-    ⊎ (Ends holds r t.1 i × (t.0 < u.0) × (u.0 < most) × ((u.0 ≡ t.0 + 1) ⊎ Nullable r) × First r u.1)
+    ⊎ (Ends holds r t.1 i × (t.0 < u.0) × (u.0 < most) × ((u.0 ≡ t.0 + 1) ⊎ Nullable r)
+    × First r u.1)
 Steps holds (link fuses follows r g s) (inl p) i (inl p') = Steps holds r p i p'
-Steps holds (link fuses follows r g s) (inl p) i (inr (inl q')) = Ends holds r p i × IsTrue follows × First g q'
+Steps holds (link fuses follows r g s) (inl p) i (inr (inl q')) =
+    Ends holds r p i × IsTrue follows × First g q'
 Steps holds (link fuses follows r g s) (inl p) i (inr (inr t')) =
     Ends holds r p i
-    × ((IsTrue follows × Nullable g × First s t') ⊎ (IsTrue fuses × (q : State s) × First s q × Steps holds s q i t'))
+    × ((IsTrue follows × Nullable g × First s t')
+    ⊎ (IsTrue fuses × (q : State s) × First s q × Steps holds s q i t'))
 Steps holds (link fuses follows r g s) (inr (inl q)) i (inl p') = ⊥
 Steps holds (link fuses follows r g s) (inr (inl q)) i (inr (inl q')) = Steps holds g q i q'
-Steps holds (link fuses follows r g s) (inr (inl q)) i (inr (inr t')) = Ends holds g q i × First s t'
+Steps holds (link fuses follows r g s) (inr (inl q)) i (inr (inr t')) =
+    Ends holds g q i × First s t'
 Steps holds (link fuses follows r g s) (inr (inr t)) i (inl p') = ⊥
 Steps holds (link fuses follows r g s) (inr (inr t)) i (inr (inl q')) = ⊥
 Steps holds (link fuses follows r g s) (inr (inr t)) i (inr (inr t')) = Steps holds s t i t'
@@ -94,16 +102,22 @@ Left holds (tick b) t i j = (j ≡ i + 1) × IsTrue (holds b i)
 Left holds skip t i j = ⊥
 Left holds (any r s) (inl p) i j = Left holds r p i j
 Left holds (any r s) (inr q) i j = Left holds s q i j
-Left holds (all r s) (inl t) i j = (k : ℕ) × (l : ℕ) × Left holds r t.0 i k × Left holds s t.1 i l × (j ≡ max k l)
+Left holds (all r s) (inl t) i j =
+    (k : ℕ) × (l : ℕ) × Left holds r t.0 i k × Left holds s t.1 i l × (j ≡ max k l)
 Left holds (all r s) (inr (inl p)) i j = Left holds r p i j
 Left holds (all r s) (inr (inr q)) i j = Left holds s q i j
 Left holds (under b r) p i j = Left holds r p i j × ((k : ℕ) → i ≤ k → k < j → IsTrue (holds b k))
 Left holds (loop r least most) t i j =
-    (m : ℕ) × Left holds r t.1 i m × ((k : ℕ) × (least ≤ t.0 + 1 + k) × (t.0 + 1 + k ≤ most) × Chain (Matches holds (shape r)) k m j)
+    (m : ℕ) × Left holds r t.1 i m
+    × ((k : ℕ) × (least ≤ t.0 + 1 + k) × (t.0 + 1 + k ≤ most)
+    × Chain (Matches holds (shape r)) k m j)
 Left holds (link fuses follows r g s) (inl p) i j =
-    (IsTrue fuses × (e : ℕ) × (i ≤ e) × (e < j) × Left holds r p i (e + 1) × Matches holds (shape s) e j)
-    ⊎ (IsTrue follows × (m : ℕ) × (k : ℕ) × Left holds r p i m × Matches holds (shape g) m k × Matches holds (shape s) k j)
-Left holds (link fuses follows r g s) (inr (inl q)) i j = (m : ℕ) × Left holds g q i m × Matches holds (shape s) m j
+    (IsTrue fuses × (e : ℕ) × (i ≤ e) × (e < j) × Left holds r p i (e + 1)
+    × Matches holds (shape s) e j)
+    ⊎ (IsTrue follows × (m : ℕ) × (k : ℕ) × Left holds r p i m × Matches holds (shape g) m k
+    × Matches holds (shape s) k j)
+Left holds (link fuses follows r g s) (inr (inl q)) i j =
+    (m : ℕ) × Left holds g q i m × Matches holds (shape s) m j
 Left holds (link fuses follows r g s) (inr (inr t)) i j = Left holds s t i j
 
 -- the state is one after n ticks from c

@@ -42,8 +42,8 @@ fn admits_empty(first: &Table, second: &Table) -> bool
     first.admits_empty() && second.admits_empty()
 }
 
-/// Both of two, from the same tick: the pairs of their positions, and each alone where the other has
-/// ended.
+/// Both of two, from the same tick: the pairs of their positions, and each alone where the other
+/// has ended.
 pub(crate) fn both(alloc: Global, first: &Table, second: &Table) -> Result<Table, SectionFault>
     requires first_placed { IsPlaced first.now }
     requires second_placed { IsPlaced second.now }

@@ -31,10 +31,12 @@ pub(crate) struct Draft {
 impl Model for Draft {
     ghost Value = { DraftData };
 
-    ghost view = { λ d. record { rows = rows_data d.rows.items; begun = map edge_data d.begun.items } };
+    ghost view = { λ d.
+        record { rows = rows_data d.rows.items; begun = map edge_data d.begun.items } };
 
     ghost invariant = { λ d.
-        d.room + (rows_size (rows_data d.rows.items) + edges_size (map edge_data d.begun.items)) ≡ 4096 };
+        d.room + (rows_size (rows_data d.rows.items) + edges_size (map edge_data d.begun.items))
+        ≡ 4096 };
 }
 
 impl Draft {
@@ -93,7 +95,8 @@ impl Draft {
     ) -> Result<(), SectionFault>
         requires { AreNear change.now.by row.now }
         ensures ok { OnOk result (self.new
-            ≡ with_edges self.old (map (changed (change_data change.now)) (map edge_data row.now))) }
+            ≡ with_edges self.old
+            (map (changed (change_data change.now)) (map edge_data row.now))) }
         ensures err { IfErr result (IsLong (draft_size self.old
             + edges_size (map (changed (change_data change.now)) (map edge_data row.now)))) }
     {
@@ -113,9 +116,11 @@ impl Draft {
         requires near { All (λ row. AreNear change.now.by row.items) rows.now }
         requires begun { self.old.begun ≡ [] }
         ensures ok { OnOk result
-            (self.new ≡ with_rows self.old (change_all (change_data change.now) (rows_data rows.now))) }
+            (self.new
+            ≡ with_rows self.old (change_all (change_data change.now) (rows_data rows.now))) }
         ensures err { IfErr result (IsLong
-            (draft_size self.old + rows_size (change_all (change_data change.now) (rows_data rows.now)))) }
+            (draft_size self.old
+            + rows_size (change_all (change_data change.now) (rows_data rows.now)))) }
     {
         for row in rows {
             self.put_changed(alloc, row, change)?;

@@ -30,7 +30,8 @@ impl Edge {
     /// What becomes of it.
     pub fn changed(&self, alloc: Global, change: &Change) -> Result<Edge, AllocError>
         requires { IsNear change.now.by self.now }
-        ensures { IfOk result (λ e. edge_data e ≡ changed (change_data change.now) (edge_data self.now)) }
+        ensures { IfOk result
+            (λ e. edge_data e ≡ changed (change_data change.now) (edge_data self.now)) }
     {
         let mut wanted = Vec::new(alloc);
         if let Some(atom) = change.wanted {
@@ -52,7 +53,8 @@ impl Edge {
     /// It does at its tick what another does, whose positions are so much further on.
     pub fn joined(&self, alloc: Global, other: &Edge, by: usize) -> Result<Edge, AllocError>
         requires { IsNear by other.now }
-        ensures { IfOk result (λ e. edge_data e ≡ joined_data by (edge_data self.now) (edge_data other.now)) }
+        ensures { IfOk result
+            (λ e. edge_data e ≡ joined_data by (edge_data self.now) (edge_data other.now)) }
     {
         let mut wanted = Vec::from_slice(alloc, &self.wanted)?;
         wanted.extend_from_slice(&other.wanted)?;

@@ -3,7 +3,8 @@
 ghost use Rattle.std.specs.Prelude.{◌≡◌, ◌+◌, ◌≤◌, ◌&&◌, [], length, map, All, OnOk, IfErr};
 ghost use Rattle.std.specs.List.{flat_map};
 ghost use Rattle.positions.specs.Rows.{fused_data, lead_data, joined_data};
-ghost use Rattle.positions.specs.Rows.{edges_size, rows_size, draft_size, with_edges, with_rows, IsPlaced};
+ghost use Rattle.positions.specs.Rows.{edges_size, rows_size, draft_size};
+ghost use Rattle.positions.specs.Rows.{with_edges, with_rows, IsPlaced};
 ghost use Rattle.positions.specs.Views.{edge_data, change_data, rows_data, AreNear, IsNear};
 ghost use Rattle.positions.specs.Faults.{IsLong};
 
@@ -14,9 +15,9 @@ use crate::fault::SectionFault;
 use crate::table::Table;
 use std::alloc::Global;
 
-/// What becomes of the edges of a first part: they are changed, and where they accept and the second
-/// part may begin with the same tick, they do what its first positions do, which lie so much further
-/// on.
+/// What becomes of the edges of a first part: they are changed, and where they accept and the
+/// second part may begin with the same tick, they do what its first positions do, which lie so much
+/// further on.
 #[derive(Drop)]
 pub(crate) struct Lead {
     pub change: Change,
@@ -34,7 +35,8 @@ fn put_joined(
 ) -> Result<(), SectionFault>
     requires { AreNear by row.now }
     ensures ok { OnOk result (draft.new
-        ≡ with_edges draft.old (map (joined_data by (edge_data edge.now)) (map edge_data row.now))) }
+        ≡ with_edges draft.old
+        (map (joined_data by (edge_data edge.now)) (map edge_data row.now))) }
     ensures err { IfErr result (IsLong (draft_size draft.old
         + edges_size (map (joined_data by (edge_data edge.now)) (map edge_data row.now)))) }
 {
@@ -54,7 +56,8 @@ fn put_fused(
 ) -> Result<(), SectionFault>
     requires placed { IsPlaced second.now }
     requires few { by + length second.now.rows ≤ 127 }
-    ensures ok { OnOk result (draft.new ≡ with_edges draft.old (fused_data by second.now (edge_data edge.now))) }
+    ensures ok { OnOk result
+        (draft.new ≡ with_edges draft.old (fused_data by second.now (edge_data edge.now))) }
     ensures err { IfErr result (IsLong
         (draft_size draft.old + edges_size (fused_data by second.now (edge_data edge.now)))) }
 {
@@ -77,9 +80,11 @@ impl Lead {
         requires placed { IsPlaced second.now }
         requires few { self.now.by + length second.now.rows ≤ 127 }
         ensures ok { OnOk result (draft.new ≡ with_edges draft.old
-            (lead_data self.now.fuses (change_data self.now.change) self.now.by second.now (edge_data edge.now))) }
+            (lead_data self.now.fuses (change_data self.now.change) self.now.by second.now
+            (edge_data edge.now))) }
         ensures err { IfErr result (IsLong (draft_size draft.old + edges_size
-            (lead_data self.now.fuses (change_data self.now.change) self.now.by second.now (edge_data edge.now)))) }
+            (lead_data self.now.fuses (change_data self.now.change) self.now.by second.now
+            (edge_data edge.now)))) }
     {
         draft.put(edge.changed(alloc, &self.change)?)?;
         if edge.accepts && self.fuses {
@@ -100,9 +105,11 @@ impl Lead {
         requires placed { IsPlaced second.now }
         requires few { self.now.by + length second.now.rows ≤ 127 }
         ensures ok { OnOk result (draft.new ≡ with_edges draft.old (flat_map
-            (lead_data self.now.fuses (change_data self.now.change) self.now.by second.now) (map edge_data row.now))) }
+            (lead_data self.now.fuses (change_data self.now.change) self.now.by second.now)
+            (map edge_data row.now))) }
         ensures err { IfErr result (IsLong (draft_size draft.old + edges_size (flat_map
-            (lead_data self.now.fuses (change_data self.now.change) self.now.by second.now) (map edge_data row.now)))) }
+            (lead_data self.now.fuses (change_data self.now.change) self.now.by second.now)
+            (map edge_data row.now)))) }
     {
         for edge in row {
             self.put(alloc, draft, edge, second)?;
@@ -123,9 +130,11 @@ impl Lead {
         requires few { self.now.by + length second.now.rows ≤ 127 }
         requires begun { draft.old.begun ≡ [] }
         ensures ok { OnOk result (draft.new ≡ with_rows draft.old (map (flat_map
-            (lead_data self.now.fuses (change_data self.now.change) self.now.by second.now)) (rows_data rows.now))) }
+            (lead_data self.now.fuses (change_data self.now.change) self.now.by second.now))
+            (rows_data rows.now))) }
         ensures err { IfErr result (IsLong (draft_size draft.old + rows_size (map (flat_map
-            (lead_data self.now.fuses (change_data self.now.change) self.now.by second.now)) (rows_data rows.now)))) }
+            (lead_data self.now.fuses (change_data self.now.change) self.now.by second.now))
+            (rows_data rows.now)))) }
     {
         for row in rows {
             self.put_row(alloc, draft, row, second)?;

@@ -15,8 +15,8 @@ use crate::list::put_moved;
 use crate::table::Table;
 use std::alloc::{AllocError, Global};
 
-/// What comes after a match of the first part: the first positions of what lies between, and past it
-/// where it may be empty those of the second part.
+/// What comes after a match of the first part: the first positions of what lies between, and past
+/// it where it may be empty those of the second part.
 fn onward(
     alloc: Global,
     first: &Table,
@@ -47,7 +47,8 @@ fn leading(
     requires between_placed { IsPlaced between.now }
     requires second_placed { IsPlaced second.now }
     requires few { length first.now.rows + length between.now.rows + length second.now.rows ≤ 127 }
-    ensures { IfOk result (λ c. change_data c ≡ leading_data follows first.now between.now second.now) }
+    ensures { IfOk result
+        (λ c. change_data c ≡ leading_data follows first.now between.now second.now) }
 {
     let onward = if follows {
         onward(alloc, first, between, second)?
@@ -94,7 +95,8 @@ fn starts(
     requires between_placed { IsPlaced between.now }
     requires second_placed { IsPlaced second.now }
     requires few { length first.now.rows + length between.now.rows + length second.now.rows ≤ 127 }
-    ensures { IfOk result (λ v. v.items ≡ (link_data follows follows first.now between.now second.now).starts) }
+    ensures { IfOk result
+        (λ v. v.items ≡ (link_data follows follows first.now between.now second.now).starts) }
 {
     let mut list = Vec::from_slice(alloc, first.starts())?;
     if follows && first.admits_empty() {

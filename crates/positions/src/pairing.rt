@@ -13,8 +13,9 @@ use crate::fault::SectionFault;
 use crate::list::put_moved;
 use std::alloc::{AllocError, Global};
 
-/// The pairs of the positions of two tables, by how many positions each has: the pairs first, by the
-/// first table's position; then the positions of the first table alone; then those of the second.
+/// The pairs of the positions of two tables, by how many positions each has: the pairs first, by
+/// the first table's position; then the positions of the first table alone; then those of the
+/// second.
 #[derive(Clone, Copy)]
 pub(crate) struct Pairing {
     pub first: usize,
@@ -55,7 +56,8 @@ impl Pairing {
         requires first { IsBelow self.now.first edge.now }
         requires second { IsBelow self.now.second other.now }
         ensures { IfOk result (λ e. edge_data e
-            ≡ paired_data self.now.first self.now.second (edge_data edge.now) (edge_data other.now)) }
+            ≡ paired_data self.now.first self.now.second
+            (edge_data edge.now) (edge_data other.now)) }
     {
         let mut wanted = Vec::from_slice(alloc, &edge.wanted)?;
         wanted.extend_from_slice(&other.wanted)?;
@@ -84,9 +86,11 @@ impl Pairing {
         requires first { IsBelow self.now.first edge.now }
         requires second { AreBelow self.now.second row.now }
         ensures ok { OnOk result (draft.new ≡ with_edges draft.old
-            (map (paired_data self.now.first self.now.second (edge_data edge.now)) (map edge_data row.now))) }
+            (map (paired_data self.now.first self.now.second (edge_data edge.now))
+            (map edge_data row.now))) }
         ensures err { IfErr result (IsLong (draft_size draft.old + edges_size
-            (map (paired_data self.now.first self.now.second (edge_data edge.now)) (map edge_data row.now)))) }
+            (map (paired_data self.now.first self.now.second (edge_data edge.now))
+            (map edge_data row.now)))) }
     {
         for other in row {
             draft.put(self.paired(alloc, edge, other)?)?;
@@ -105,9 +109,11 @@ impl Pairing {
         requires first { AreBelow self.now.first edges.now }
         requires second { AreBelow self.now.second row.now }
         ensures ok { OnOk result (draft.new ≡ with_edges draft.old
-            (pair_row self.now.first self.now.second (map edge_data edges.now) (map edge_data row.now))) }
+            (pair_row self.now.first self.now.second
+            (map edge_data edges.now) (map edge_data row.now))) }
         ensures err { IfErr result (IsLong (draft_size draft.old + edges_size
-            (pair_row self.now.first self.now.second (map edge_data edges.now) (map edge_data row.now)))) }
+            (pair_row self.now.first self.now.second
+            (map edge_data edges.now) (map edge_data row.now)))) }
     {
         for edge in edges {
             self.put_edge(alloc, draft, edge, row)?;
@@ -127,9 +133,11 @@ impl Pairing {
         requires second { All (λ row. AreBelow self.now.second row.items) rows.now }
         requires begun { draft.old.begun ≡ [] }
         ensures ok { OnOk result (draft.new ≡ with_rows draft.old
-            (map (pair_row self.now.first self.now.second (map edge_data edges.now)) (rows_data rows.now))) }
+            (map (pair_row self.now.first self.now.second (map edge_data edges.now))
+            (rows_data rows.now))) }
         ensures err { IfErr result (IsLong (draft_size draft.old + rows_size
-            (map (pair_row self.now.first self.now.second (map edge_data edges.now)) (rows_data rows.now)))) }
+            (map (pair_row self.now.first self.now.second (map edge_data edges.now))
+            (rows_data rows.now)))) }
     {
         for row in rows {
             self.put_row(alloc, draft, edges, row)?;
@@ -150,9 +158,13 @@ impl Pairing {
         requires second { All (λ row. AreBelow self.now.second row.items) seconds.now }
         requires begun { draft.old.begun ≡ [] }
         ensures ok { OnOk result (draft.new ≡ with_rows draft.old
-            (flat_map (λ es. map (pair_row self.now.first self.now.second es) (rows_data seconds.now)) (rows_data firsts.now))) }
+            (flat_map
+            (λ es. map (pair_row self.now.first self.now.second es) (rows_data seconds.now))
+            (rows_data firsts.now))) }
         ensures err { IfErr result (IsLong (draft_size draft.old + rows_size
-            (flat_map (λ es. map (pair_row self.now.first self.now.second es) (rows_data seconds.now)) (rows_data firsts.now)))) }
+            (flat_map
+            (λ es. map (pair_row self.now.first self.now.second es) (rows_data seconds.now))
+            (rows_data firsts.now)))) }
     {
         for edges in firsts {
             self.put_rows(alloc, draft, edges, seconds)?;

@@ -22,7 +22,8 @@ pub(crate) struct Table {
 impl Model for Table {
     ghost Value = { TableData };
 
-    ghost view = { λ t. record { rows = rows_data t.rows.items; starts = t.starts.items; empty = t.empty } };
+    ghost view = { λ t.
+        record { rows = rows_data t.rows.items; starts = t.starts.items; empty = t.empty } };
 
     ghost invariant = { λ t. rows_size (rows_data t.rows.items) ≤ 4096 };
 }
@@ -31,7 +32,8 @@ impl Table {
     /// These rows.
     pub fn new(rows: Vec<Vec<Edge>>, starts: Vec<u8>, empty: bool) -> Table
         requires { rows_size (rows_data rows.items) ≤ 4096 }
-        ensures { result ≡ record { rows = rows_data rows.items; starts = starts.items; empty = empty } }
+        ensures { result
+            ≡ record { rows = rows_data rows.items; starts = starts.items; empty = empty } }
     {
         Table {
             rows,

@@ -1,5 +1,5 @@
 -- What is meant by a part of a text is no deeper than the part.
-use Rattle.std.proofs.Common.{◌≡◌, ◌∙◌, ◌⊎◌, inl, inr, ℕ, zero, suc, ◌+◌, ◌-◌, ◌<◌, ◌≤◌, max, Bool, true, false, if◌then◌else◌, ◌&&◌}
+use Rattle.std.proofs.Common.{◌≡◌, ◌⊎◌, inl, inr, ℕ, suc, ◌+◌, ◌-◌, ◌<◌, ◌≤◌, max, Bool, true, false, if◌then◌else◌, ◌&&◌}
 use Rattle.std.proofs.Common.{List, Option, Some, None, refl, sym, ap, subst, arith}
 use Rattle.std.specs.Prelude.{nat_le}
 use Rattle.std.proofs.lemmas.Bool.{cases_lt, le-leb, lt-leb, leb-true, and_parts}
@@ -12,7 +12,7 @@ use Rattle.grammar.specs.declared.bound.Select.{Select}
 use Rattle.grammar.specs.declared.mark.Function.{Function}
 use Rattle.grammar.specs.declared.mark.Function.TheVariants.{Rose, Fell, Stable, Changed, OneHot, OneHot0}
 use Rattle.grammar.specs.Bounds.{bound_within, bound_of_kind, plain_within}
-use Rattle.grammar.specs.Trees.{Tree, Links, end, link, Parts, no_part, part}
+use Rattle.grammar.specs.Trees.{Tree, Links, Parts}
 use Rattle.grammar.specs.Expressions.{Operand, is_number, is_path, is_concatenation, in_brackets, is_past, is_call, is_unary, is_tighter, is_chain}
 use Rattle.grammar.specs.Expressions.{Follows, no_more, one_more, AreParts, no_parts, one_part, Spells, is_operand, is_choice}
 use Rattle.grammar.specs.Expressions.{IsSelected, whole, bit, bits, IsTicks, one_tick, some_ticks}
@@ -34,13 +34,13 @@ use Rattle.expression_code.specs.Depths.{depth, level, bracketed, braced, reduct
 use Rattle.text_depths.proofs.LevelLaws.{binary_level, level-token}
 
 -- so many are open in it
-pub record Shallow (open : ℕ) (e : Term) : Type 0 where
-  pub within : depth e ≤ open
+pub record Shallow (deep : ℕ) (e : Term) : Type 0 where
+  pub within : depth e ≤ deep
   pub near : Each IsShortPast e
 
 -- so many are open in it where it is an operand, with brackets round what is looser than the level
-pub record Fits (most open : ℕ) (e : Term) : Type 0 where
-  pub within : bracketed most (level e) (depth e) ≤ open
+pub record Fits (most deep : ℕ) (e : Term) : Type 0 where
+  pub within : bracketed most (level e) (depth e) ≤ deep
   pub near : Each IsShortPast e
 
 -- brackets
@@ -51,26 +51,26 @@ bracketed-either m l d = elim (cases_lt m l) [
   | inr tight ↦ inl (tight, ap (λ b. if b then d else 1 + d) (le-leb l m tight))
 ]
 
-fits-open : (m open : ℕ) (e : Term) → Fits m open e → Shallow open e
-fits-open m open e fits = record {
+fits-open : (m deep : ℕ) (e : Term) → Fits m deep e → Shallow deep e
+fits-open m deep e fits = record {
   within = elim (bracketed-either m (level e) (depth e)) [ inl a ↦ omega (arith, a.1, fits.within) | inr b ↦ omega (arith, b.1, fits.within) ];
   near = fits.near;
 }
 
-in-place : (m open : ℕ) (e : Term) → level e ≤ m → Shallow open e → Fits m open e
-in-place m open e tight shallow = record {
+in-place : (m deep : ℕ) (e : Term) → level e ≤ m → Shallow deep e → Fits m deep e
+in-place m deep e tight shallow = record {
   within = elim (bracketed-either m (level e) (depth e)) [ inl a ↦ omega (arith, a.1, shallow.within) | inr b ↦ absurd (omega (arith, b.0)) ];
   near = shallow.near;
 }
 
-in-round : (m open : ℕ) (e : Term) → Shallow open e → Fits m (suc open) e
-in-round m open e shallow = record {
+in-round : (m deep : ℕ) (e : Term) → Shallow deep e → Fits m (suc deep) e
+in-round m deep e shallow = record {
   within = elim (bracketed-either m (level e) (depth e)) [ inl a ↦ omega (arith, a.1, shallow.within) | inr b ↦ omega (arith, b.1, shallow.within) ];
   near = shallow.near;
 }
 
-looser : (m open : ℕ) (e : Term) → Fits m open e → Fits (suc m) open e
-looser m open e fits = record {
+looser : (m deep : ℕ) (e : Term) → Fits m deep e → Fits (suc m) deep e
+looser m deep e fits = record {
   within = elim (bracketed-either m (level e) (depth e)) [
     | inl a ↦ elim (bracketed-either (suc m) (level e) (depth e)) [ inl x ↦ omega (arith, a.1, x.1, fits.within) | inr y ↦ absurd (omega (arith, a.0, y.0)) ]
     | inr b ↦ elim (bracketed-either (suc m) (level e) (depth e)) [ inl x ↦ omega (arith, b.1, x.1, fits.within) | inr y ↦ omega (arith, b.1, y.1, fits.within) ]
@@ -92,15 +92,15 @@ binary-near (Shift op) a b x y = (tt, x, y)
 binary-near (Comparison op) a b x y = (tt, x, y)
 binary-near (Connective op) a b x y = (tt, x, y)
 
-binary-fits : (op : Binary) (m open : ℕ) (a b : Term) → binary_level op ≡ suc m → Fits (suc m) open a → Fits m open b → Fits (suc m) open (binary_term op a b)
-binary-fits op m open a b is first second =
+binary-fits : (op : Binary) (m deep : ℕ) (a b : Term) → binary_level op ≡ suc m → Fits (suc m) deep a → Fits m deep b → Fits (suc m) deep (binary_term op a b)
+binary-fits op m deep a b is first second =
     let shape = binary-left op a b in
     let less : suc m - 1 ≡ m = omega arith in
     let own : left_depth (binary_level op) (level a) (depth a) (level b) (depth b) ≡ left_depth (suc m) (level a) (depth a) (level b) (depth b) =
     ap (λ n. left_depth n (level a) (depth a) (level b) (depth b)) is in
     let right : bracketed (suc m - 1) (level b) (depth b) ≡ bracketed m (level b) (depth b) = ap (λ n. bracketed n (level b) (depth b)) less in
-    let sides : left_depth (suc m) (level a) (depth a) (level b) (depth b) ≤ open = max_le (bracketed (suc m) (level a) (depth a)) (bracketed (suc m - 1) (level b) (depth b)) open first.within (omega (arith, right, second.within)) in
-    in-place (suc m) open (binary_term op a b) (omega (arith, shape.0, is))
+    let sides : left_depth (suc m) (level a) (depth a) (level b) (depth b) ≤ deep = max_le (bracketed (suc m) (level a) (depth a)) (bracketed (suc m - 1) (level b) (depth b)) deep first.within (omega (arith, right, second.within)) in
+    in-place (suc m) deep (binary_term op a b) (omega (arith, shape.0, is))
     (record { within = omega (arith, shape.1, own, sides); near = binary-near op a b first.near second.near })
   where
     max_le : (x y n : ℕ) → x ≤ n → y ≤ n → max x y ≤ n
@@ -116,18 +116,18 @@ reduction-within reductions.Even l d = omega arith
 reduction-within reductions.OneHot l d = elim (bracketed-either 0 l d) [ inl a ↦ omega (arith, a.1) | inr b ↦ omega (arith, b.1) ]
 reduction-within reductions.OneHotOrZero l d = elim (bracketed-either 0 l d) [ inl a ↦ omega (arith, a.1) | inr b ↦ omega (arith, b.1) ]
 
-unary-fits : (u : Unary) (open : ℕ) (a : Term) → Fits 0 open a → Fits 0 (suc open) (unary_term u a)
-unary-fits unaries.Complement open a fits = in-place 0 (suc open) (terms.inverse a) (omega arith) (record { within = omega (arith, fits.within); near = (tt, fits.near) })
-unary-fits (unaries.Reduce op) open a fits =
-    in-place 0 (suc open) (terms.reduce op a) (omega arith) (record { within = omega (arith, fits.within, reduction-within op (level a) (depth a)); near = (tt, fits.near) })
+unary-fits : (u : Unary) (deep : ℕ) (a : Term) → Fits 0 deep a → Fits 0 (suc deep) (unary_term u a)
+unary-fits unaries.Complement deep a fits = in-place 0 (suc deep) (terms.inverse a) (omega arith) (record { within = omega (arith, fits.within); near = (tt, fits.near) })
+unary-fits (unaries.Reduce op) deep a fits =
+    in-place 0 (suc deep) (terms.reduce op a) (omega arith) (record { within = omega (arith, fits.within, reduction-within op (level a) (depth a)); near = (tt, fits.near) })
 
-call-fits : (f : Function) (open : ℕ) (a : Term) → Shallow open a → Fits 0 (suc open) (call_term (call_of f) a)
-call-fits Rose open a shallow = in-place 0 (suc open) _ (omega arith) (record { within = omega (arith, shallow.within); near = (tt, shallow.near) })
-call-fits Fell open a shallow = in-place 0 (suc open) _ (omega arith) (record { within = omega (arith, shallow.within); near = (tt, shallow.near) })
-call-fits Stable open a shallow = in-place 0 (suc open) _ (omega arith) (record { within = omega (arith, shallow.within); near = (tt, shallow.near) })
-call-fits Changed open a shallow = in-place 0 (suc open) _ (omega arith) (record { within = omega (arith, shallow.within); near = (tt, shallow.near) })
-call-fits OneHot open a shallow = in-place 0 (suc open) _ (omega arith) (record { within = omega (arith, shallow.within); near = (tt, shallow.near) })
-call-fits OneHot0 open a shallow = in-place 0 (suc open) _ (omega arith) (record { within = omega (arith, shallow.within); near = (tt, shallow.near) })
+call-fits : (f : Function) (deep : ℕ) (a : Term) → Shallow deep a → Fits 0 (suc deep) (call_term (call_of f) a)
+call-fits Rose deep a shallow = in-place 0 (suc deep) _ (omega arith) (record { within = omega (arith, shallow.within); near = (tt, shallow.near) })
+call-fits Fell deep a shallow = in-place 0 (suc deep) _ (omega arith) (record { within = omega (arith, shallow.within); near = (tt, shallow.near) })
+call-fits Stable deep a shallow = in-place 0 (suc deep) _ (omega arith) (record { within = omega (arith, shallow.within); near = (tt, shallow.near) })
+call-fits Changed deep a shallow = in-place 0 (suc deep) _ (omega arith) (record { within = omega (arith, shallow.within); near = (tt, shallow.near) })
+call-fits OneHot deep a shallow = in-place 0 (suc deep) _ (omega arith) (record { within = omega (arith, shallow.within); near = (tt, shallow.near) })
+call-fits OneHot0 deep a shallow = in-place 0 (suc deep) _ (omega arith) (record { within = omega (arith, shallow.within); near = (tt, shallow.near) })
 
 -- $past
 
@@ -162,13 +162,13 @@ ticks-most : {n : Option Bound} {ts rest : List Token} → IsTicks n ts rest →
 ticks-most one_tick = omega arith
 ticks-most (some_ticks {n = n} {b = b} k h) = bound-most 64 n b h
 
-past-fits : (open ticks : ℕ) (a : Term) → ticks ≤ 64 → Shallow open a → Fits 0 (suc open) (terms.past a ticks)
-past-fits open ticks a short shallow = in-place 0 (suc open) (terms.past a ticks) (omega arith) (record { within = omega (arith, shallow.within); near = (short, shallow.near) })
+past-fits : (deep ticks : ℕ) (a : Term) → ticks ≤ 64 → Shallow deep a → Fits 0 (suc deep) (terms.past a ticks)
+past-fits deep ticks a short shallow = in-place 0 (suc deep) (terms.past a ticks) (omega arith) (record { within = omega (arith, shallow.within); near = (short, shallow.near) })
 
 -- names and selects
 
-fits-as : (m open : ℕ) (e f : Term) → e ≡ f → Fits m open f → Fits m open e
-fits-as m open e f is fits = subst (Fits m open) (sym is) fits
+fits-as : (m deep : ℕ) (e f : Term) → e ≡ f → Fits m deep f → Fits m deep e
+fits-as m deep e f is fits = subst (Fits m deep) (sym is) fits
 
 path-fits : {d : ℕ} {x : Option Select} {ts rest : List Token} (means : Option Meaning) (column : Option ℕ) (e : Term) → IsSelected d x ts rest → IsRead means column x e → Fits 0 d e
 path-fits {d = d} means column e whole is = fits-as 0 d e (terms.named is.name) is.is (in-place 0 d (terms.named is.name) (omega arith) (record { within = omega arith; near = tt }))
@@ -194,24 +194,24 @@ braced-most (terms.past x y) d = omega arith
 braced-most (terms.change x y) d = omega arith
 
 -- so many are open in what is joined so far
-pub record Joined (open : ℕ) (e : Term) : Type 0 where
-  pub within : braced e (depth e) ≤ open
+pub record Joined (deep : ℕ) (e : Term) : Type 0 where
+  pub within : braced e (depth e) ≤ deep
   pub near : Each IsShortPast e
 
-joined-first : (open : ℕ) (e : Term) → Shallow open e → Joined (suc open) e
-joined-first open e shallow = record { within = omega (arith, braced-most e (depth e), shallow.within); near = shallow.near }
+joined-first : (deep : ℕ) (e : Term) → Shallow deep e → Joined (suc deep) e
+joined-first deep e shallow = record { within = omega (arith, braced-most e (depth e), shallow.within); near = shallow.near }
 
-joined-more : (open : ℕ) (a b : Term) → Joined (suc open) a → Shallow open b → Shallow (suc open) (terms.concat a b)
-joined-more open a b first second = record { within = omega (arith, first.within, second.within); near = (tt, first.near, second.near) }
+joined-more : (deep : ℕ) (a b : Term) → Joined (suc deep) a → Shallow deep b → Shallow (suc deep) (terms.concat a b)
+joined-more deep a b first second = record { within = omega (arith, first.within, second.within); near = (tt, first.near, second.near) }
 
-joined-again : (open : ℕ) (a b : Term) → Shallow open (terms.concat a b) → Joined open (terms.concat a b)
-joined-again open a b shallow = record { within = shallow.within; near = shallow.near }
+joined-again : (deep : ℕ) (a b : Term) → Shallow deep (terms.concat a b) → Joined deep (terms.concat a b)
+joined-again deep a b shallow = record { within = shallow.within; near = shallow.near }
 
-group-fits : (open : ℕ) (a : Term) → Shallow open a → Fits 0 (suc open) (terms.group a)
-group-fits open a shallow = in-place 0 (suc open) (terms.group a) (omega arith) (record { within = omega (arith, shallow.within); near = (tt, shallow.near) })
+group-fits : (deep : ℕ) (a : Term) → Shallow deep a → Fits 0 (suc deep) (terms.group a)
+group-fits deep a shallow = in-place 0 (suc deep) (terms.group a) (omega arith) (record { within = omega (arith, shallow.within); near = (tt, shallow.near) })
 
-choice-open : (open : ℕ) (c a b : Term) → Fits 9 (suc open) c → Shallow open a → Shallow open b → Shallow (suc open) (terms.choose c a b)
-choice-open open c a b first second third = record { within = omega (arith, first.within, second.within, third.within); near = (tt, first.near, second.near, third.near) }
+choice-open : (deep : ℕ) (c a b : Term) → Fits 9 (suc deep) c → Shallow deep a → Shallow deep b → Shallow (suc deep) (terms.choose c a b)
+choice-open deep c a b first second third = record { within = omega (arith, first.within, second.within, third.within); near = (tt, first.near, second.near, third.near) }
 
 -- the grammar
 

@@ -1,32 +1,31 @@
 -- Each expression of a file is spelled with at most 64 open.
-use Rattle.std.proofs.Common.{◌≡◌, ℕ, zero, suc, ◌+◌, ◌≤◌, List, [], ◌∷◌, Option, Some, None, arith}
-use Rattle.std.specs.List.{AllByRecursion}
+use Rattle.std.proofs.Common.{ℕ, ◌≤◌, List, Option, arith}
 use Rattle.lexer.specs.declared.token.Token.{Token}
 use Rattle.grammar.specs.declared.terminal.Terminal.{Terminal}
-use Rattle.grammar.specs.Trees.{Tree, SequenceForm, Steps, Others, PropertyForm, CounterForm, AssertionForm, DeclarationForm, ItemForm}
+use Rattle.grammar.specs.Trees.{Tree, SequenceForm, Steps, Others, PropertyForm, ItemForm}
 use Rattle.grammar.specs.Expressions.{Spells}
 use Rattle.grammar.specs.Sequences.{IsBody, is_boolean, in_brackets, IsRepetition, is_once, is_repeated, IsHead, is_prompt, is_late}
 use Rattle.grammar.specs.Sequences.{AreSteps, no_steps, one_step, IsDelayed, is_head, is_delayed, IsDuring, is_cat, is_throughout}
 use Rattle.grammar.specs.Sequences.{AreConjuncts, no_conjunct, one_conjunct, IsConjunction, is_during, is_all}
 use Rattle.grammar.specs.Sequences.{AreAlternatives, no_alternative, one_alternative, IsSequence, is_conjunction, is_either}
 use Rattle.grammar.specs.Sequences.{IsProperty, is_plain, is_implication, bracketed}
-use Rattle.grammar.specs.Files.{IsClear, no_clear, clear, IsClause, no_clause, clause, SpellsCounter, is_counter, SpellsDeclaration, is_declaration}
-use Rattle.grammar.specs.Files.{IsDisable, no_disable, disable, SpellsAssertion, is_assertion, SpellsItem, a_counter, a_declaration, an_assertion}
-use Rattle.grammar.specs.Files.{AreItems, no_item, one_item, IsFile, most_open}
-use Rattle.text_depths.specs.Trees.{OfOne, OfTwo, OfSequence, OfSteps, OfOthers, OfProperty, OfCounter, OfAssertion, OfItem, EachTree}
+use Rattle.grammar.specs.Files.{IsClear, no_clear, clear, IsClause, no_clause, clause, is_counter, is_declaration}
+use Rattle.grammar.specs.Files.{IsDisable, no_disable, disable, is_assertion, SpellsItem, a_counter, a_declaration, an_assertion}
+use Rattle.grammar.specs.Files.{AreItems, no_item, one_item, most_open}
+use Rattle.text_depths.specs.Trees.{OfOne, OfTwo, OfSequence, OfSteps, OfOthers, OfProperty, OfItem, EachTree}
 
 -- P holds of what is spelled with at most 64 open
-module _ (P : Tree → Type 0) (each : {d : ℕ} {t : Tree} {ts rest : List Token} → Spells d t ts rest → d ≤ most_open → P t) where
+module _ (P : Tree → Type 0) (each : (d : ℕ) (t : Tree) (ts rest : List Token) → Spells d t ts rest → d ≤ most_open → P t) where
   mutual
     unfolding OfSequence OfSteps OfOthers
 
     of-body : {d : ℕ} {s : SequenceForm} {ts rest : List Token} → IsBody d s ts rest → d ≤ most_open → OfSequence P s
-    of-body (is_boolean spelled) low = each spelled low
+    of-body (is_boolean spelled) low = each _ _ _ _ spelled low
     of-body (in_brackets l r n inner) low = of-sequence inner (omega arith)
 
     of-repetition : {d : ℕ} {s : SequenceForm} {ts rest : List Token} → IsRepetition d s ts rest → d ≤ most_open → OfSequence P s
     of-repetition (is_once inner) low = of-body inner low
-    of-repetition (is_repeated inner times) low = of-body inner low
+    of-repetition (is_repeated inner counts) low = of-body inner low
 
     of-head : {d : ℕ} {s : SequenceForm} {ts rest : List Token} → IsHead d s ts rest → d ≤ most_open → OfSequence P s
     of-head (is_prompt inner) low = of-repetition inner low
@@ -42,7 +41,7 @@ module _ (P : Tree → Type 0) (each : {d : ℕ} {t : Tree} {ts rest : List Toke
 
     of-during : {d : ℕ} {s : SequenceForm} {ts rest : List Token} → IsDuring d s ts rest → d ≤ most_open → OfSequence P s
     of-during (is_cat inner) low = of-delayed inner low
-    of-during (is_throughout h spelled inner) low = (each spelled low, of-during inner (omega arith))
+    of-during (is_throughout h spelled inner) low = (each _ _ _ _ spelled low, of-during inner (omega arith))
 
     of-conjuncts : {d : ℕ} {others : Others} {ts rest : List Token} → AreConjuncts d others ts rest → d ≤ most_open → OfOthers P others
     of-conjuncts no_conjunct low = tt
@@ -67,20 +66,20 @@ module _ (P : Tree → Type 0) (each : {d : ℕ} {t : Tree} {ts rest : List Toke
 
   of-clear : {t : Option Tree} {ts rest : List Token} → IsClear t ts rest → OfOne P t
   of-clear no_clear = tt
-  of-clear (clear w l spelled r) = each spelled (omega arith)
+  of-clear (clear w l spelled r) = each _ _ _ _ spelled (omega arith)
 
   of-clause : {which : Terminal} {pair : Option (Tree × Tree)} {ts rest : List Token} → IsClause which pair ts rest → OfTwo P pair
   of-clause no_clause = tt
-  of-clause (clause w l first k second r) = (each first (omega arith), each second (omega arith))
+  of-clause (clause w l first k second r) = (each _ _ _ _ first (omega arith), each _ _ _ _ second (omega arith))
 
   of-disable : {t : Option Tree} {ts rest : List Token} → IsDisable t ts rest → OfOne P t
   of-disable no_disable = tt
-  of-disable (disable w i l spelled r) = each spelled (omega arith)
+  of-disable (disable w i l spelled r) = each _ _ _ _ spelled (omega arith)
 
   of-item : {i : ItemForm} {ts rest : List Token} → SpellsItem i ts rest → OfItem P i
   of-item (a_counter (is_counter w n l b r c load add sub e)) = record { clear = of-clear c; load = of-clause load; add = of-clause add; sub = of-clause sub }
   of-item (a_declaration (is_declaration w n k body e)) = of-sequence body (omega arith)
-  of-item (an_assertion (is_assertion label verb property left at_sign round posedge clock right d p last semicolon)) =
+  of-item (an_assertion (is_assertion named verb property left at_sign round posedge clock right d p last semicolon)) =
       record { disable = of-disable d; property = of-property p (omega arith) }
 
   pub of-items : {items : List ItemForm} {ts rest : List Token} → AreItems items ts rest → EachTree P items

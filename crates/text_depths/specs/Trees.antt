@@ -1,7 +1,8 @@
 -- The expressions of a text.
 use Rattle.std.specs.Prelude.{List, Option, Some, None}
 use Rattle.std.specs.List.{AllByRecursion}
-use Rattle.grammar.specs.Trees.{Tree, SequenceForm, boolean, repeated, late, delayed, throughout, all, either}
+use Rattle.grammar.specs.Trees.{Tree, SequenceForm, boolean, repeated, late, delayed}
+use Rattle.grammar.specs.Trees.{throughout, all, either}
 use Rattle.grammar.specs.Trees.{Steps, no_step, step, Others, no_other, other}
 use Rattle.grammar.specs.Trees.{PropertyForm, plain, implication, CounterForm, AssertionForm}
 use Rattle.grammar.specs.Trees.{ItemForm, counter, declaration, assertion}
