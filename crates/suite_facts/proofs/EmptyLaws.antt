@@ -1,23 +1,27 @@
 -- The consequent of an assertion of a text without faults has no empty match.
-use Rattle.std.proofs.Common.{◌≡◌, inl, inr, ℕ, ◌-◌, List, [], ◌∷◌, ◌++◌, ◌||◌, map, Bool, true, false, IsTrue, refl, sym, subst, arith}
+use Rattle.std.proofs.Common.{◌≡◌, inl, inr, ℕ, ◌-◌, List, [], ◌∷◌, ◌++◌, ◌||◌, map, Bool, true}
+use Rattle.std.proofs.Common.{false, IsTrue, refl, sym, subst, arith}
 use Rattle.std.specs.Prelude.{nat_le}
 use Rattle.std.proofs.lemmas.Bool.{le-leb}
 use Rattle.grammar.specs.Trees as trees
-use Rattle.grammar.specs.Trees.{PropertyForm, plain, implication, ItemForm, counter, declaration, assertion}
+use Rattle.grammar.specs.Trees.{PropertyForm, plain, implication, ItemForm, counter, declaration}
+use Rattle.grammar.specs.Trees.{assertion}
 use Rattle.expressions.specs.declared.expr.Expr.{Expr}
 use Rattle.expressions.specs.Terms.{Samples}
 use Rattle.assertions.specs.declared.sequence.Boolean.{Boolean}
 use Rattle.assertions.specs.declared.sequence.Boolean.TheVariants.{One}
 use Rattle.assertions.specs.declared.assertion.Assertion.{Assertion}
 use Rattle.assertions.specs.Segments.{Matches, sat, always, AdmitsEmpty}
-use Rattle.assertions.specs.Written.{Written, boolean, delay, lead, repeat, or, and, throughout, kernel, after, later}
+use Rattle.assertions.specs.Written.{Written, boolean, delay, lead, repeat, or, and, throughout}
+use Rattle.assertions.specs.Written.{kernel, after, later}
 use Rattle.assertions.specs.Shapes.{written_form, shape, value_in}
 use Rattle.assertions.proofs.Segments.{Matches-mono}
 use Rattle.types_sequences.specs.Drafts.{Draft, Spells}
 use Rattle.types_sequences.specs.Outlines.{map_written}
 use Rattle.types_sequences.specs.Entries.{Alike}
 use Rattle.types_sequences.specs.Placed.{atom_true, IsPlaced}
-use Rattle.types_sequences.proofs.AlikeLaws.{alike_one, alike_one_of, alike_after, alike_later, alike_times, alike_either, alike_both, alike_during}
+use Rattle.types_sequences.proofs.AlikeLaws.{alike_one, alike_one_of, alike_after, alike_later}
+use Rattle.types_sequences.proofs.AlikeLaws.{alike_times, alike_either, alike_both, alike_during}
 use Rattle.types_sequences.proofs.MapLaws.{spells_map}
 use Rattle.types_expressions.specs.Scopes.{Scope}
 use Rattle.types_suites.specs.Texts.{declarations_of, assertions_of}
@@ -100,14 +104,16 @@ module _ (s : Scope) (cs : List (List ℕ)) (e : List Expr) where
       let f = λ (b : Boolean). dot in
       let side = consequent_in s a.property in
       let w = meant.meant in
-      let here = subst (λ (xs : List trees.AssertionForm). IsSide side (consequents_of s xs)) (sym is)
+      let here =
+      subst (λ (xs : List trees.AssertionForm). IsSide side (consequents_of s xs)) (sym is)
       (consequent_there s before a more) in
       let spelled =
       subst (λ (bs : List (Draft Dot)). Spells bs side.outline (map_written f w))
       (outlined s cs e items bodies read)
       (subst (λ (z : Draft Dot). Spells (map dotted bodies) z (map_written f w))
       (consequent_outline a.property d reads) (spells_map f bodies d w meant.spells)) in
-      let none = empty_meant e made.booleans.items w (written_form made.consequent) meant.placed empty in
+      let none =
+      empty_meant e made.booleans.items w (written_form made.consequent) meant.placed empty in
       faultless (Empty side.byte)
       (record {
         side = side;

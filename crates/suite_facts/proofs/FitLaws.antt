@@ -1,5 +1,7 @@
 -- Each assertion of a suite of a text keeps to what the compiler takes for granted.
-use Rattle.std.proofs.Common.{◌≡◌, inl, inr, ℕ, ◌+◌, List, [], ◌∷◌, ◌++◌, map, Option, Some, None, Bool, true, false, IsTrue, if◌then◌else◌, length, refl, sym, ◌∙◌, subst, string_bytes}
+use Rattle.std.proofs.Common.{◌≡◌, inl, inr, ℕ, ◌+◌, List, [], ◌∷◌, ◌++◌, map, Option, Some, None}
+use Rattle.std.proofs.Common.{Bool, true, false, IsTrue, if◌then◌else◌, length, refl, sym, ◌∙◌}
+use Rattle.std.proofs.Common.{subst, string_bytes}
 use Rattle.std.specs.List.{AllByRecursion}
 use Rattle.std.proofs.lemmas.List.{append_assoc}
 use Rattle.lexer.specs.declared.token.Token.{Token}
@@ -24,18 +26,23 @@ use Rattle.types_sequences.specs.Drafts.{Draft, IsIn}
 use Rattle.types_sequences.proofs.UsedLaws.{each_used}
 use Rattle.types_expressions.specs.declared.own.Own.TheVariants as own
 use Rattle.types_expressions.specs.Scopes.{Scope}
-use Rattle.types_expressions.specs.Columns.{is_listed, with_path, with_paths, columns_of, file_signals}
+use Rattle.types_expressions.specs.Columns.{is_listed, with_path, with_paths, columns_of}
+use Rattle.types_expressions.specs.Columns.{file_signals}
 use Rattle.types_expressions.specs.Meanings.{Means}
-use Rattle.types_suites.specs.Texts.{declarations_of, counters_of, assertions_of, clock_of, label_text}
+use Rattle.types_suites.specs.Texts.{declarations_of, counters_of, assertions_of, clock_of}
+use Rattle.types_suites.specs.Texts.{label_text}
 use Rattle.types_suites.specs.Readings.{IsAtom, AllRead}
-use Rattle.types_suites.specs.Suites.{AreSignals, IsCondition, IsRule, AreCounters, IsDisabling, IsDisablingPlace, IsAssertion, AreAssertions}
+use Rattle.types_suites.specs.Suites.{AreSignals, IsCondition, IsRule, AreCounters, IsDisabling}
+use Rattle.types_suites.specs.Suites.{IsDisablingPlace, IsAssertion, AreAssertions}
 use Rattle.types.specs.Faults.{IsFaultless}
-use Rattle.compiler.specs.Conditions.{IsKnown, IsKnownAt, CountsByKnown, IsSound, IsPlaced, IsProper, IsFit}
+use Rattle.compiler.specs.Conditions.{IsKnown, IsKnownAt, CountsByKnown, IsSound, IsPlaced}
+use Rattle.compiler.specs.Conditions.{IsProper, IsFit}
 use Rattle.text_depths.specs.Trees.{OfOne, OfTwo, OfAssertion, EachTree}
 use Rattle.text_depths.specs.Laws.{MeansShallow, TextsAreShallow}
 use Rattle.suite_facts.specs.Laws.{SuitesFit, scope_with}
 use Rattle.suite_facts.proofs.WordLaws.{made_word, tokens_worded}
-use Rattle.suite_facts.proofs.PathLaws.{IsPathText, ArePaths, both, IsLabelWord, IsSpoken, file_paths}
+use Rattle.suite_facts.proofs.PathLaws.{IsPathText, ArePaths, both, IsLabelWord, IsSpoken}
+use Rattle.suite_facts.proofs.PathLaws.{file_paths}
 use Rattle.suite_facts.proofs.NameLaws.{DeclaredCounter, declared_counter, means_named}
 use Rattle.suite_facts.proofs.KnownLaws.{spells_each, bodies_each, antecedent_each, consequent_each}
 use Rattle.suite_facts.proofs.EmptyLaws.{never_empty}
@@ -174,7 +181,8 @@ module _
       (items : List ItemForm)
       (bodies : List (Draft Boolean))
       (shallow : EachTree Shallow items)
-      (read : AllRead s cs suite.booleans.items (map (λ d. d.body) (declarations_of items)) bodies) where
+      (read :
+      AllRead s cs suite.booleans.items (map (λ d. d.body) (declarations_of items)) bodies) where
     place_known : (n : ℕ) (a : trees.AssertionForm) (made : Assertion) → OfAssertion Shallow a →
         IsAssertion s cs suite.booleans.items bodies n a made → (p : ℕ) →
         IsIn p made.booleans.items → IsKnownAt suite p
@@ -189,10 +197,12 @@ module _
         let w = h.consequent_meant.meant in
         elim (h.used p i) [
           | inl u ↦ each_used IsKnownBoolean (Listed p) v
-              (spells_each IsKnownBoolean bodies all h.antecedent v first h.antecedent_meant.spells) u
+              (spells_each IsKnownBoolean bodies all h.antecedent v first
+              h.antecedent_meant.spells) u
           | inr x ↦ elim x [
             | inl u ↦ each_used IsKnownBoolean (Listed p) w
-                (spells_each IsKnownBoolean bodies all h.consequent w second h.consequent_meant.spells) u
+                (spells_each IsKnownBoolean bodies all h.consequent w second
+                h.consequent_meant.spells) u
             | inr off ↦ disabling_known a.disable p q.disable off
           ]
         ]
@@ -216,7 +226,9 @@ module _
         } in
         let proper : IsProper m =
         record {
-          name = subst (λ (t : List ℕ). IsTrue (texts.is_word t)) (sym one.name) (label_named n a.label spoken.0.label);
+          name =
+              subst (λ (t : List ℕ). IsTrue (texts.is_word t)) (sym one.name)
+              (label_named n a.label spoken.0.label);
           filled = never_empty s cs suite.booleans.items items bodies before a more m one.consequent
               faultless is read one.reads_consequent one.consequent_meant;
         } in (
@@ -236,12 +248,17 @@ suites-fit law dump text suite x =
     let shallow = law s cs items x.tokens x.spelled in
     let owned : (p : List ℕ) (place width : ℕ) → s.own p ≡ Some (own.Counter place width) →
     DeclaredCounter suite.counters.items 0 place width =
-    λ p place width is. declared_counter s cs items suite.counters.items p 0 0 place width h.counters is in
+    λ p place width is.
+    declared_counter s cs items suite.counters.items p 0 0 place width h.counters is in
     let sound : IsSound suite =
     record {
       clock = subst IsPathText (sym h.clock) (clock_path items x.spelled.asserts spoken.1);
-      signals = signal_paths s cs suite.names.items (paths_kept [] (file_signals s items) tt spoken.0) h.signals;
-      counters = counters_known suite s cs h.signals owned items suite.counters.items shallow h.counters;
+      signals =
+          signal_paths s cs suite.names.items
+          (paths_kept [] (file_signals s items) tt spoken.0) h.signals;
+      counters =
+          counters_known suite s cs h.signals owned items suite.counters.items shallow
+          h.counters;
     } in
     assertions_fit suite s cs h.signals owned items h.bodies shallow h.read x.faultless sound []
     0 (assertions_of items) suite.assertions.items refl

@@ -1,8 +1,12 @@
 -- What a text's sequences say is over known expressions.
-use Rattle.std.proofs.Common.{◌≡◌, ℕ, zero, suc, ◌+◌, List, [], ◌∷◌, map, Option, Some, None, slice_get, sym, subst}
+use Rattle.std.proofs.Common.{◌≡◌, ℕ, zero, suc, ◌+◌, List, [], ◌∷◌, map, Option, Some, None}
+use Rattle.std.proofs.Common.{slice_get, sym, subst}
 use Rattle.std.specs.Prelude.{option_map, option_and_then}
 use Rattle.std.specs.List.{AllByRecursion}
-use Rattle.grammar.specs.Trees.{Tree, SequenceForm, boolean, repeated, late, delayed, throughout, all, either, Steps, no_step, step, Others, no_other, other, PropertyForm, plain, implication, ItemForm, counter, declaration, assertion}
+use Rattle.grammar.specs.Trees.{Tree, SequenceForm, boolean, repeated, late, delayed, throughout}
+use Rattle.grammar.specs.Trees.{all, either, Steps, no_step, step, Others, no_other, other}
+use Rattle.grammar.specs.Trees.{PropertyForm, plain, implication, ItemForm, counter, declaration}
+use Rattle.grammar.specs.Trees.{assertion}
 use Rattle.expressions.specs.declared.expr.Expr.{Expr}
 use Rattle.assertions.specs.declared.sequence.Boolean.{Boolean}
 use Rattle.assertions.specs.declared.sequence.Boolean.TheVariants.{One}
@@ -10,12 +14,14 @@ use Rattle.assertions.specs.Written as written
 use Rattle.assertions.specs.Written.{Written}
 use Rattle.assertions.specs.Listed.{EachBoolean}
 use Rattle.types_sequences.specs.declared.implication.Implication.{Implication}
-use Rattle.types_sequences.specs.declared.implication.Implication.TheVariants.{Overlapped, NonOverlapped}
+use Rattle.types_sequences.specs.declared.implication.Implication.TheVariants.{Overlapped}
+use Rattle.types_sequences.specs.declared.implication.Implication.TheVariants.{NonOverlapped}
 use Rattle.types_sequences.specs.Drafts as drafts
 use Rattle.types_sequences.specs.Drafts.{Draft, IsIn, both_there, spelling_of, named_within, Spells}
 use Rattle.types_expressions.specs.Scopes.{Scope, sequence_named}
 use Rattle.types_suites.specs.Texts.{declarations_of, implication_by}
-use Rattle.types_suites.specs.Readings.{least_of, extra_of, IsAtom, ReadsBoolean, Reads, ReadsSteps, ReadsAll, ReadsAny, AllRead}
+use Rattle.types_suites.specs.Readings.{least_of, extra_of, IsAtom, ReadsBoolean, Reads, ReadsSteps}
+use Rattle.types_suites.specs.Readings.{ReadsAll, ReadsAny, AllRead}
 use Rattle.types_suites.specs.Suites.{before_by, ReadsAntecedent, ReadsConsequent}
 use Rattle.text_depths.specs.Trees.{OfSequence, OfSteps, OfOthers, OfProperty, EachTree}
 

@@ -1,9 +1,13 @@
 -- The names of what a text's expressions mean are signals and counters of its suite.
-use Rattle.std.proofs.Common.{◌≡◌, ℕ, zero, suc, ◌+◌, ◌<◌, List, [], ◌∷◌, length, Option, Some, None, Bool, true, false, slice_get, get_or, refl, sym, ◌∙◌, subst, arith}
+use Rattle.std.proofs.Common.{◌≡◌, ℕ, zero, suc, ◌+◌, ◌<◌, List, [], ◌∷◌, length, Option, Some}
+use Rattle.std.proofs.Common.{None, Bool, true, false, slice_get, get_or, refl, sym, ◌∙◌, subst}
+use Rattle.std.proofs.Common.{arith}
 use Rattle.std.specs.Prelude.{bytes_eq, cond}
 use Rattle.std.specs.Cmp.Lexicographic.{bytes_decides}
 use Rattle.std.proofs.lemmas.List.Quantifiers.{position-Some}
-use Rattle.grammar.specs.Trees.{Tree, number, path, concatenation, past, call, unary, chain, choice, Links, end, link, Parts, no_part, part, ItemForm, counter, declaration, assertion}
+use Rattle.grammar.specs.Trees.{Tree, number, path, concatenation, past, call, unary, chain, choice}
+use Rattle.grammar.specs.Trees.{Links, end, link, Parts, no_part, part, ItemForm, counter}
+use Rattle.grammar.specs.Trees.{declaration, assertion}
 use Rattle.grammar.specs.declared.bound.Select.{Select}
 use Rattle.lexer.specs.declared.token.Token.{Token}
 use Rattle.expressions.specs.declared.counter.Counter as counters
@@ -17,15 +21,18 @@ use Rattle.assertions.specs.declared.suite.Suite.{Suite}
 use Rattle.types_expressions.specs.declared.own.Own.{Own}
 use Rattle.types_expressions.specs.declared.own.Own.TheVariants as own
 use Rattle.types_expressions.specs.declared.operator.Binary.{Binary}
-use Rattle.types_expressions.specs.declared.operator.Binary.TheVariants.{Arithmetic, Shift, Comparison, Connective}
+use Rattle.types_expressions.specs.declared.operator.Binary.TheVariants.{Arithmetic, Shift}
+use Rattle.types_expressions.specs.declared.operator.Binary.TheVariants.{Comparison, Connective}
 use Rattle.types_expressions.specs.declared.operator.Unary.{Unary}
 use Rattle.types_expressions.specs.declared.operator.Unary.TheVariants as unaries
 use Rattle.types_expressions.specs.declared.operator.Call.{Call}
 use Rattle.types_expressions.specs.declared.operator.Call.TheVariants as calls
-use Rattle.types_expressions.specs.Scopes.{Scope, path_text, meaning, meaning_by, look_up, owns_from, width_in}
+use Rattle.types_expressions.specs.Scopes.{Scope, path_text, meaning, meaning_by, look_up}
+use Rattle.types_expressions.specs.Scopes.{owns_from, width_in}
 use Rattle.types_expressions.specs.Columns.{column_of}
 use Rattle.types_expressions.specs.Widths.{binary_of, unary_of, call_of, ticks_of}
-use Rattle.types_expressions.specs.Meanings.{binary_term, unary_term, call_term, IsName, IsNameOf, IsRead, Means, Chains, Joins, JoinsMore}
+use Rattle.types_expressions.specs.Meanings.{binary_term, unary_term, call_term, IsName, IsNameOf}
+use Rattle.types_expressions.specs.Meanings.{IsRead, Means, Chains, Joins, JoinsMore}
 use Rattle.types_suites.specs.Texts.{counters_of}
 use Rattle.types_suites.specs.Suites.{AreSignals, AreCounters}
 use Rattle.expression_code.specs.Laws.{Each, OfName}
@@ -75,7 +82,8 @@ module _ (s : Scope) (cs : List (List ℕ)) where
   declared_counter [] ms name c n place width h is = absurd cc
   declared_counter (counter x ∷ items) [] name c n place width h is = elim h [ ]
   declared_counter (counter x ∷ items) (m ∷ ms) name c n place width h is =
-      first (bytes_eq name x.name.text.now) is (λ e. declared_counter items ms name (c + 1) n place width h.1 e)
+      first (bytes_eq name x.name.text.now) is
+      (λ e. declared_counter items ms name (c + 1) n place width h.1 e)
     where
       first : (b : Bool) →
           cond b (Some (own.Counter c (width_in x.width.value)))
@@ -102,7 +110,8 @@ module _ (s : Scope) (cs : List (List ℕ)) where
             wide = r.wide;
           }
   declared_counter (declaration x ∷ items) ms name c n place width h is =
-      first (bytes_eq name x.name.text.now) is (λ e. declared_counter items ms name c (n + 1) place width h e)
+      first (bytes_eq name x.name.text.now) is
+      (λ e. declared_counter items ms name c (n + 1) place width h e)
     where
       first : (b : Bool) →
           cond b (Some (own.Sequence n)) (look_up (owns_from c (n + 1) items) name)
@@ -196,11 +205,13 @@ module _ (s : Scope) (cs : List (List ℕ)) where
       pub means_named : (t : Tree) (e : Term) → Means s cs t e → AreNamed e
       means_named (number t) e h = moved (terms.constant h.bits) e h.is tt
       means_named (path words x) e h = read_named words x e h
-      means_named (concatenation t d parts) e h = joins_named h.0 parts e (means_named d h.0 h.1) h.2
+      means_named (concatenation t d parts) e h =
+          joins_named h.0 parts e (means_named d h.0 h.1) h.2
       means_named (past t d n) e h =
           moved (terms.past h.0 (ticks_of n)) e h.2 (tt, means_named d h.0 h.1)
       means_named (call f t d) e h =
-          moved (call_term (call_of f) h.0) e h.2 (call_named (call_of f) h.0 (means_named d h.0 h.1))
+          moved (call_term (call_of f) h.0) e h.2
+          (call_named (call_of f) h.0 (means_named d h.0 h.1))
       means_named (unary t d) e h =
           moved (unary_term (unary_of t) h.0) e h.2
           (unary_named (unary_of t) h.0 (means_named d h.0 h.1))

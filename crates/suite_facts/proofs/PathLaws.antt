@@ -289,7 +289,8 @@ module _ (s : Scope) where
       let o = clause_paths j n.1 in
       let p = clause_paths k o.1 in
       let two = both (clause_signals s add) (clause_signals s sub) o.0 p.0 in
-      let three = both (clause_signals s load) (clause_signals s add ++ clause_signals s sub) n.0 two in (
+      let three =
+      both (clause_signals s load) (clause_signals s add ++ clause_signals s sub) n.0 two in (
         both (optional_signals s cleared)
             (clause_signals s load ++ (clause_signals s add ++ clause_signals s sub)) m.0 three,
         p.1.1,

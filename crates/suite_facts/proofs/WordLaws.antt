@@ -1,5 +1,7 @@
 -- Texts that are words, and paths of them.
-use Rattle.std.proofs.Common.{◌≡◌, ◌⊎◌, inl, inr, ℕ, zero, suc, ◌/◌, ◌%◌, ◌<◌, Bool, true, false, List, [], ◌∷◌, ◌++◌, map, Option, Some, None, refl, ap, ◌∙◌, arith, IsTrue, take, if◌then◌else◌}
+use Rattle.std.proofs.Common.{◌≡◌, ◌⊎◌, inl, inr, ℕ, zero, suc, ◌/◌, ◌%◌, ◌<◌, Bool, true, false}
+use Rattle.std.proofs.Common.{List, [], ◌∷◌, ◌++◌, map, Option, Some, None, refl, ap, ◌∙◌, arith}
+use Rattle.std.proofs.Common.{IsTrue, take, if◌then◌else◌}
 use Rattle.std.specs.Prelude.{◌||◌, ◌&&◌, ◌==◌, nat_le, bytes_eq, codes, Ok}
 use Rattle.std.specs.List.{list_all, flat_map, AllByRecursion}
 use Rattle.std.specs.Fmt.{decimal, digits, digits_onto, digit_glyph}
@@ -13,7 +15,9 @@ use Rattle.lexer.specs.declared.token.Number.{Number}
 use Rattle.lexer.specs.declared.token.Kind.{Kind}
 use Rattle.lexer.specs.declared.token.Kind.TheVariants as kinds
 use Rattle.lexer.specs.declared.token.Token.{Token}
-use Rattle.lexer.specs.Lexemes.{is_letter, is_digit, is_word_part, is_system_part, size_tail, base_tail, one_symbol, two_symbol, three_symbol, symbol_shape, symbol_of, when, shape_of}
+use Rattle.lexer.specs.Lexemes.{is_letter, is_digit, is_word_part, is_system_part, size_tail}
+use Rattle.lexer.specs.Lexemes.{base_tail, one_symbol, two_symbol, three_symbol, symbol_shape}
+use Rattle.lexer.specs.Lexemes.{symbol_of, when, shape_of}
 use Rattle.lexer.specs.Numbers.{number_of}
 use Rattle.lexer.specs.Cutting.{Cut, cut_of, number_kind, kind_of, tokens_of}
 use Rattle.lexer.specs.Covering.{shape_of_text, IsCut, at_end, over_gap, over_token}
@@ -21,7 +25,8 @@ use Rattle.lexer.proofs.LongestLaws.{tells}
 use Rattle.lexer.proofs.CoveringLaws.{tokens_of-covered}
 use Rattle.grammar.specs.declared.terminal.Terminal.{Terminal}
 use Rattle.grammar.specs.declared.terminal.Terminal.TheVariants as terminals
-use Rattle.grammar.specs.Terminals.{kind_terminal, symbol_terminal, system_terminal, names, is_name, is_word_kind, is_word}
+use Rattle.grammar.specs.Terminals.{kind_terminal, symbol_terminal, system_terminal, names, is_name}
+use Rattle.grammar.specs.Terminals.{is_word_kind, is_word}
 use Rattle.types_expressions.specs.Scopes.{path_text}
 use Rattle.bytecode.specs.Texts as texts
 use Rattle.bytecode.specs.Texts.{is_first, is_later, goes_on, begins}
@@ -45,7 +50,8 @@ first_byte b h =
 
 later_byte : (b : ℕ) → IsTrue (is_word_part b) → IsTrue (is_later b)
 later_byte b h =
-    later_in (nat_le 97 b && nat_le b 122) (nat_le 65 b && nat_le b 90) (b == 95) (is_digit b) (b == 36) h
+    later_in (nat_le 97 b && nat_le b 122) (nat_le 65 b && nat_le b 90) (b == 95)
+    (is_digit b) (b == 36) h
 
 no_dot : (b : ℕ) → IsTrue (is_word_part b) → (b == 46) ≡ false
 no_dot b h = grind (arith, nat_tests)
@@ -74,7 +80,8 @@ letter_or_not b bs (inl is) h =
     when_word true h = refl
     when_word false h = absurd cc
 letter_or_not b bs (inr isnt) h =
-    absurd (no_word (b == 36) (is_digit b) (b == 39) (list_all is_system_part bs) (size_tail bs) (base_tail bs) (rw isnt at h))
+    absurd (no_word (b == 36) (is_digit b) (b == 39) (list_all is_system_part bs)
+    (size_tail bs) (base_tail bs) (rw isnt at h))
   where
     no_symbol : (o : Option Symbol) → symbol_shape o ≡ Some shape.Word → ⊥
     no_symbol None h = absurd cc
@@ -99,7 +106,8 @@ letter_or_not b bs (inr isnt) h =
     no_word false false true all sized false h = absurd cc
     no_word false false false all sized based h = not_symbol b bs h
 
-pub shape_word : (text : List ℕ) → shape_of_text text ≡ Some shape.Word → IsTrue (texts.is_word text)
+pub shape_word : (text : List ℕ) → shape_of_text text ≡ Some shape.Word →
+    IsTrue (texts.is_word text)
 shape_word [] h = absurd cc
 shape_word (b ∷ bs) h = letter_or_not b bs (tells (is_letter b)) h
 
@@ -139,15 +147,17 @@ all_worded (over_token {n = n} {shape = s} {kind = k} {bytes = bytes} gap longes
 
 -- The tokens of a text that are words have texts that are words.
 abbrev pub AreWorded : List Token → Type 0
-AreWorded tokens = AllByRecursion (λ t. IsTrue (is_word t) → IsTrue (texts.is_word t.text.now)) tokens
+AreWorded tokens =
+    AllByRecursion (λ t. IsTrue (is_word t) → IsTrue (texts.is_word t.text.now)) tokens
 
-worded_tokens : (tokens : List Token) → AllByRecursion IsWorded (map cut_of tokens) → AreWorded tokens
+worded_tokens : (tokens : List Token) → AllByRecursion IsWorded (map cut_of tokens) →
+    AreWorded tokens
 unfolding is_word
 worded_tokens [] h = tt
 worded_tokens (t ∷ ts) h = (h.0, worded_tokens ts h.1)
 
-pub tokens_worded : (text : List ℕ) (tokens : List Token) → tokens_of text ≡ Ok (map cut_of tokens) →
-    AreWorded tokens
+pub tokens_worded : (text : List ℕ) (tokens : List Token) →
+    tokens_of text ≡ Ok (map cut_of tokens) → AreWorded tokens
 tokens_worded text tokens h =
     worded_tokens tokens (all_worded (tokens_of-covered text (map cut_of tokens) h))
 
@@ -166,7 +176,8 @@ system_no_name text =
     (neither_names (bytes_eq text (codes "$stable")) terminals.Stable _ refl
     (neither_names (bytes_eq text (codes "$changed")) terminals.Changed _ refl
     (neither_names (bytes_eq text (codes "$onehot")) terminals.OneHot _ refl
-    (neither_names (bytes_eq text (codes "$onehot0")) terminals.OneHot0 terminals.ForeignSystem refl refl))))))
+    (neither_names (bytes_eq text (codes "$onehot0")) terminals.OneHot0 terminals.ForeignSystem
+    refl refl))))))
 
 symbol_no_name : (s : Symbol) → names (symbol_terminal s) ≡ false
 symbol_no_name symbol.OpenRound = refl
@@ -242,7 +253,8 @@ unfolding goes_on
 with_digit n more h =
     let low : n % 10 < 10 = omega arith in
     rw (glyph_no_dot (n % 10) low)
-    (both_true (is_later (digit_glyph false (n % 10))) (goes_on false more) (glyph_later (n % 10) low) h)
+    (both_true (is_later (digit_glyph false (n % 10))) (goes_on false more)
+    (glyph_later (n % 10) low) h)
 
 either_goes : (last : Bool) (one more : List ℕ) → IsTrue (goes_on false one) →
     IsTrue (goes_on false more) → IsTrue (goes_on false (if last then one else more))
