@@ -1,5 +1,5 @@
 -- A suite of a text is one of the text with moved tokens.
-use Rattle.std.proofs.Common.{◌≡◌, ℕ, ◌+◌, List, [], ◌∷◌, ◌++◌, map, Option, Some, None, refl, sym, ap, ◌∙◌, subst}
+use Rattle.std.proofs.Common.{◌≡◌, inl, inr, ℕ, ◌+◌, List, [], ◌∷◌, ◌++◌, map, Option, Some, None, refl, sym, ap, ◌∙◌, subst}
 use Rattle.lexer.specs.declared.token.Token.{Token}
 use Rattle.grammar.specs.Trees as trees
 use Rattle.grammar.specs.Trees.{Tree, PropertyForm, plain, implication, ItemForm, counter, declaration, assertion}
@@ -8,6 +8,8 @@ use Rattle.expressions.specs.declared.rule.Rule.{Rule}
 use Rattle.expressions.specs.declared.counter.Counter.{Counter}
 use Rattle.expressions.specs.Expressions.{term_of}
 use Rattle.assertions.specs.declared.sequence.Boolean.{Boolean}
+use Rattle.assertions.specs.declared.sequence.Boolean.TheVariants.{Listed}
+use Rattle.assertions.specs.Written.{Written}
 use Rattle.assertions.specs.declared.assertion.Assertion.{Assertion}
 use Rattle.assertions.specs.declared.suite.Suite.{Suite}
 use Rattle.types_sequences.specs.Drafts.{Draft}
@@ -17,7 +19,7 @@ use Rattle.types_expressions.specs.Scopes.{Scope, width_in, owns_from}
 use Rattle.types_expressions.specs.Columns.{signals, sequence_signals, property_signals, optional_signals, clause_signals, item_signals, file_signals, with_paths, columns_of}
 use Rattle.types_suites.specs.Texts.{label_text, declarations_of, counters_of, assertions_of, clock_of}
 use Rattle.types_suites.specs.Readings.{AllRead}
-use Rattle.types_suites.specs.Suites.{AreSignals, IsCondition, IsRule, IsCounter, AreCounters, ReadsAntecedent, ReadsConsequent, IsDisabling, IsAssertion, AreAssertions, IsSuite}
+use Rattle.types_suites.specs.Suites.{AreSignals, IsCondition, IsRule, IsCounter, AreCounters, ReadsAntecedent, ReadsConsequent, IsDisabling, IsDisablingPlace, IsUsedPlace, IsAssertion, AreAssertions, IsSuite}
 use Rattle.types_laws.proofs.MovedTrees.{moved_option, moved_tree, moved_sequence, moved_property, moved_condition, moved_rule, moved_counter, moved_assertion, moved_item}
 use Rattle.types_laws.proofs.MovedReadings.{path_text-moved, both_same, signals-moved, sequence_signals-moved, means-moved, atom-moved, reads-moved}
 
@@ -121,7 +123,19 @@ module _ (lies : ℕ → ℕ × ℕ) where
         disabling-moved places None None h = h
         disabling-moved places None (Some b) h = h
         disabling-moved places (Some t) None h = h
-        disabling-moved places (Some t) (Some b) h = (h.0, atom-moved lies s cs bs t h.0 h.1, h.2)
+        disabling-moved places (Some t) (Some b) h =
+            (h.0, atom-moved lies s cs bs t h.0 h.1, h.2, h.3)
+
+        place-moved : (o : Option Tree) (p : ℕ) → IsDisablingPlace s cs bs o p →
+            IsDisablingPlace s cs bs (moved_condition lies o) p
+        place-moved None p h = h
+        place-moved (Some t) p h = atom-moved lies s cs bs t (Listed p) h
+
+        used-moved : (o : Option Tree) (v w : Written Boolean) (p : ℕ) →
+            IsUsedPlace s cs bs o v w p → IsUsedPlace s cs bs (moved_condition lies o) v w p
+        used-moved o v w p (inl u) = inl u
+        used-moved o v w p (inr (inl u)) = inr (inl u)
+        used-moved o v w p (inr (inr h)) = inr (inr (place-moved o p h))
 
         assertion-moved : (bodies : List (Draft Boolean)) (n : ℕ) (a : trees.AssertionForm) (m : Assertion) → IsAssertion s cs bs bodies n a m → IsAssertion s cs bs bodies n (moved_assertion lies a) m
         assertion-moved bodies n a m h = record {
@@ -133,6 +147,8 @@ module _ (lies : ℕ → ℕ × ℕ) where
           antecedent_meant = h.antecedent_meant;
           consequent_meant = h.consequent_meant;
           disabling = disabling-moved m.booleans.items a.disable m.disabling h.disabling;
+          used = λ p i.
+              used-moved a.disable h.antecedent_meant.meant h.consequent_meant.meant p (h.used p i);
         }
 
         assertions-moved : (bodies : List (Draft Boolean)) (n : ℕ) (items : List ItemForm) (ms : List Assertion) → AreAssertions s cs bs bodies n (assertions_of items) ms → AreAssertions s cs bs bodies n (assertions_of (map (moved_item lies) items)) ms

@@ -3,6 +3,7 @@ pub mod SweepLaws
 pub mod CyclicLaws
 pub mod AlikeLaws
 pub mod ConstantLaws
+pub mod UsedLaws
 pub mod SameLaws
 pub mod EntryLaws
 pub mod SpellLaws

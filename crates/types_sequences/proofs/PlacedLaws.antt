@@ -1,13 +1,17 @@
 -- Sequences of parts that are placed are placed.
-use Rattle.std.proofs.Common.{ℕ, ◌-◌, ◌++◌, ◌||◌, List, Bool, nat_le, refl, sym, ap, ◌∙◌, subst}
-use Rattle.std.proofs.lemmas.List.{append_assoc}
+use Rattle.std.proofs.Common.{◌≡◌, ◌⊎◌, inl, inr, ℕ, ◌+◌, ◌-◌, ◌≤◌, ◌++◌, ◌||◌, List, [], ◌∷◌, length, Bool, nat_le, refl, sym, ap, ◌∙◌, subst, arith}
+use Rattle.std.proofs.lemmas.List.{append_assoc, length-append}
 use Rattle.expressions.specs.declared.expr.Expr.{Expr}
 use Rattle.assertions.specs.declared.sequence.Boolean.{Boolean}
-use Rattle.assertions.specs.declared.sequence.Boolean.TheVariants.{One}
+use Rattle.assertions.specs.declared.sequence.Boolean.TheVariants.{One, Listed}
 use Rattle.assertions.specs.Segments.{sat}
 use Rattle.assertions.specs.Shapes.{value_in}
 use Rattle.assertions.specs.Written.{Written, boolean, delay, lead, repeat, or, and, throughout, kernel, after, later}
-use Rattle.types_sequences.specs.Placed.{atom_true, IsPlaced, IsPlacedBoolean, Extends}
+use Rattle.assertions.specs.Listed.{EachBoolean, IsUsed, IsListed}
+use Rattle.types_sequences.specs.Drafts.{IsIn}
+use Rattle.types_sequences.specs.Placed.{atom_true, IsPlaced, IsPlacedBoolean, Extends, Adds}
+use Rattle.types_sequences.proofs.InLaws.{in_last}
+use Rattle.types_sequences.proofs.UsedLaws.{each_listed}
 use Rattle.types_sequences.proofs.AlikeLaws.{alike_one, alike_one_of, alike_after, alike_later, alike_times, alike_either, alike_both, alike_during}
 
 pub placed_more : (e : List Expr) (before after more : List ℕ) (x : Extends before after) (w u : Written Boolean) → IsPlaced e (before ++ (x.added ++ more)) w u → IsPlaced e (after ++ more) w u
@@ -43,3 +47,30 @@ module _ (e : List Expr) (ps : List ℕ) where
 
   pub placed_throughout : (a b : Boolean) (v x : Written Boolean) → IsPlacedBoolean e ps a b → IsPlaced e ps v x → IsPlaced e ps (throughout a v) (throughout b x)
   placed_throughout a b v x h s t n = alike_during (sat (atom_true e t) n) (sat (value_in e ps t) n) a b (kernel One v) (kernel One x) (λ k. ap (λ (y : Bool). nat_le n k || y) (h t k)) (s t n)
+
+-- more places
+pub longer : (before after : List ℕ) → Extends before after → length before ≤ length after
+longer before after x =
+    let long : length after ≡ length before + length x.added =
+    ap length x.is ∙ length-append before x.added in
+    omega (arith, long)
+
+pub listed_on : (before after : List ℕ) (w : Written Boolean) → Extends before after →
+    EachBoolean (IsListed (length before)) w → EachBoolean (IsListed (length after)) w
+listed_on before after w x h = each_listed (length before) (length after) w (longer before after x) h
+
+-- the places of a boolean alone, and of two parts
+pub of_pushed : (before after : List ℕ) (place : ℕ) (b : Boolean) → b ≡ Listed place →
+    after ≡ before ++ place ∷ [] → Adds (boolean b) before after
+of_pushed before after place b is pushed p h =
+    elim (in_last p place before (subst (λ (ps : List ℕ). IsIn p ps) pushed h))
+    [ inl x ↦ inl x | inr e ↦ inr (ap Listed e ∙ sym is) ]
+
+pub of_two : (before between after : List ℕ) (v w : Written Boolean) → Adds v before between →
+    Adds w between after → (p : ℕ) → IsIn p after →
+    IsIn p before ⊎ (IsUsed (Listed p) v ⊎ IsUsed (Listed p) w)
+of_two before between after v w f g p h =
+    elim (g p h) [
+      | inl there ↦ elim (f p there) [ inl i ↦ inl i | inr u ↦ inr (inl u) ]
+      | inr u ↦ inr (inr u)
+    ]

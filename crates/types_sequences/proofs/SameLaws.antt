@@ -1,22 +1,29 @@
 -- What is made of parts that say the same says the same.
-use Rattle.std.proofs.Common.{◌≡◌, ℕ, ◌+◌, ◌-◌, ◌*◌, ◌≤◌, true, false, refl, arith}
+use Rattle.std.proofs.Common.{◌≡◌, inl, inr, ℕ, ◌+◌, ◌-◌, ◌*◌, ◌≤◌, true, false, refl, arith}
 use Rattle.std.proofs.Math.Nat.{mul-le-mul_left, mul-le-mul}
 use Rattle.assertions.specs.declared.sequence.Boolean.{Boolean}
 use Rattle.assertions.specs.declared.sequence.Boolean.TheVariants.{One}
 use Rattle.assertions.specs.Written.{Written, boolean, delay, lead, repeat, or, and, throughout, kernel, weight, after, later, IsOrdered}
 use Rattle.assertions.specs.Emptiness.{admits_empty}
 use Rattle.types_sequences.specs.Entries.{SaysSame}
+use Rattle.types_sequences.proofs.UsedLaws.{used_on}
 use Rattle.types_sequences.proofs.AlikeLaws.{alike_same, alike_one_of, alike_after, alike_later, alike_times, alike_either, alike_both, alike_during}
 use Rattle.types_sequences.proofs.ConstantLaws.{alike_empty, alike_never}
 
 pub says_boolean : (b : Boolean) → SaysSame (boolean b) (boolean b)
-says_boolean b = record { ordered = tt; light = omega arith; alike = λ holds. alike_same holds (kernel One (boolean b)) }
+says_boolean b = record {
+  ordered = tt;
+  light = omega arith;
+  known = inl refl;
+  alike = λ holds. alike_same holds (kernel One (boolean b));
+}
 
 pub says_delay : (v w a b : Written Boolean) (least most : ℕ) → least ≤ most → SaysSame v a → SaysSame w b → SaysSame (delay v least most w) (delay a least most b)
 says_delay v w a b least most le x y =
     record {
       ordered = (le, x.ordered, y.ordered);
       light = omega (arith, x.light, y.light);
+      known = (used_on v (delay v least most w) a (λ c u. inl u) x.known, used_on w (delay v least most w) b (λ c u. inr u) y.known);
       alike = λ holds. alike_one_of holds holds least (most - least) (after One (kernel One v) (kernel One w)) (after One (kernel One a) (kernel One b)) (alike_after holds holds One One (kernel One v) (kernel One w) (kernel One a) (kernel One b) (λ k. refl) (x.alike holds) (y.alike holds));
     }
 
@@ -25,6 +32,7 @@ says_lead w b least most le y =
     record {
       ordered = (le, y.ordered);
       light = omega (arith, y.light);
+      known = used_on w (lead least most w) b (λ c u. u) y.known;
       alike = λ holds. alike_one_of holds holds least (most - least) (later One (kernel One w)) (later One (kernel One b)) (alike_later holds holds One One (kernel One w) (kernel One b) (λ k. refl) (y.alike holds));
     }
 
@@ -33,6 +41,7 @@ says_repeat w b least most le y =
     record {
       ordered = (le, y.ordered);
       light = mul-le-mul_left most y.light;
+      known = used_on w (repeat w least most) b (λ c u. u) y.known;
       alike = λ holds. alike_times holds holds (kernel One w) (kernel One b) least most (y.alike holds);
     }
 
@@ -41,6 +50,7 @@ says_or v w a b x y =
     record {
       ordered = (x.ordered, y.ordered);
       light = omega (arith, x.light, y.light);
+      known = (used_on v (or v w) a (λ c u. inl u) x.known, used_on w (or v w) b (λ c u. inr u) y.known);
       alike = λ holds. alike_either holds holds (kernel One v) (kernel One w) (kernel One a) (kernel One b) (x.alike holds) (y.alike holds);
     }
 
@@ -52,6 +62,7 @@ says_and v w a b x y =
     record {
       ordered = (x.ordered, y.ordered);
       light = lighter_product (weight a) (weight b) (weight v) (weight w) x.light y.light;
+      known = (used_on v (and v w) a (λ c u. inl u) x.known, used_on w (and v w) b (λ c u. inr u) y.known);
       alike = λ holds. alike_both holds holds (kernel One v) (kernel One w) (kernel One a) (kernel One b) (x.alike holds) (y.alike holds);
     }
 
@@ -60,11 +71,22 @@ says_throughout b v a x =
     record {
       ordered = x.ordered;
       light = x.light;
+      known = (inl (inl refl), used_on v (throughout b v) a (λ c u. inr u) x.known);
       alike = λ holds. alike_during holds holds b b (kernel One v) (kernel One a) (λ k. refl) (x.alike holds);
     }
 
 pub says_empty : (w : Written Boolean) → IsOrdered w → weight w ≡ 0 → admits_empty w ≡ true → SaysSame w (repeat (boolean One) 0 0)
-says_empty w o z e = record { ordered = (omega arith, tt); light = omega arith; alike = λ holds. alike_empty holds w o z e }
+says_empty w o z e = record {
+  ordered = (omega arith, tt);
+  light = omega arith;
+  known = inr refl;
+  alike = λ holds. alike_empty holds w o z e;
+}
 
 pub says_never : (w : Written Boolean) → IsOrdered w → weight w ≡ 0 → admits_empty w ≡ false → SaysSame w (delay (repeat (boolean One) 0 0) 0 0 (repeat (boolean One) 0 0))
-says_never w o z e = record { ordered = (omega arith, (omega arith, tt), (omega arith, tt)); light = omega arith; alike = λ holds. alike_never holds w o z e }
+says_never w o z e = record {
+  ordered = (omega arith, (omega arith, tt), (omega arith, tt));
+  light = omega arith;
+  known = (inr refl, inr refl);
+  alike = λ holds. alike_never holds w o z e;
+}

@@ -8,6 +8,7 @@ use Rattle.assertions.specs.Segments.{Seq, Matches}
 use Rattle.assertions.specs.Written.{Written, kernel, weight, IsOrdered}
 use Rattle.assertions.specs.Emptiness.{admits_empty, takes_ticks}
 use Rattle.assertions.specs.Shapes.{written_form}
+use Rattle.assertions.specs.Listed.{EachBoolean, IsUsed}
 use Rattle.types_sequences.specs.declared.facts.Facts.{Facts}
 use Rattle.types_sequences.specs.declared.entry.Entry.{Entry}
 use Rattle.types_sequences.specs.Drafts.{Draft, IsIn, named_within, Spells, uses_at}
@@ -26,10 +27,15 @@ pub record IsFacts (w : Written Boolean) (f : Facts) : Type 0 where
   pub empty : f.empty ≡ admits_empty w
   pub ticks : f.ticks ≡ takes_ticks w
 
--- What is written second says the same as the first, and weighs no more.
+-- It is one of the sequence's booleans, or the constant 1.
+abbrev pub IsUsedOrOne : Written Boolean → Boolean → Type 0
+IsUsedOrOne w b = IsUsed b w ⊎ (b ≡ One)
+
+-- What is written second says the same as the first, by its booleans, and weighs no more.
 pub record SaysSame (w u : Written Boolean) : Type 0 where
   pub ordered : IsOrdered u
   pub light : weight u ≤ weight w
+  pub known : EachBoolean (IsUsedOrOne w) u
   pub alike : (holds : Boolean → ℕ → Bool) → Alike holds holds (kernel One w) (kernel One u)
 
 -- There is a sequence, and it says the same.

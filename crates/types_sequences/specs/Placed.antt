@@ -1,5 +1,5 @@
 -- Sequences whose booleans are numbered for one assertion.
-use Rattle.std.specs.Prelude.{◌≡◌, ℕ, ◌++◌, List, Bool, true, slice_get}
+use Rattle.std.specs.Prelude.{◌≡◌, ◌⊎◌, ℕ, ◌++◌, List, length, Bool, true, slice_get}
 use Rattle.expressions.specs.declared.expr.Expr.{Expr}
 use Rattle.expressions.specs.Terms.{Samples}
 use Rattle.assertions.specs.declared.sequence.Boolean.{Boolean}
@@ -7,6 +7,8 @@ use Rattle.assertions.specs.declared.sequence.Boolean.TheVariants.{One, Listed}
 use Rattle.assertions.specs.Segments.{sat}
 use Rattle.assertions.specs.Written.{Written, kernel}
 use Rattle.assertions.specs.Shapes.{is_true_at, value_in}
+use Rattle.assertions.specs.Listed.{EachBoolean, IsUsed, IsListed}
+use Rattle.types_sequences.specs.Drafts.{IsIn}
 use Rattle.types_sequences.specs.Entries.{Alike}
 
 -- whether a boolean that has its place among a suite's expressions is true at a tick
@@ -26,3 +28,11 @@ IsPlacedBoolean booleans places a b = (t : Samples) (k : ℕ) → atom_true bool
 pub record Extends {A : Type 0} (before after : List A) : Type 0 where
   pub added : List A
   pub is : after ≡ before ++ added
+
+-- Each boolean of the sequence is the constant 1 or has its place in the list.
+abbrev pub AllListed : List ℕ → Written Boolean → Type 0
+AllListed places w = EachBoolean (IsListed (length places)) w
+
+-- Each place behind was there before, or one of the sequence's booleans stands at it.
+abbrev pub Adds : Written Boolean → List ℕ → List ℕ → Type 0
+Adds w before after = (p : ℕ) → IsIn p after → IsIn p before ⊎ IsUsed (Listed p) w

@@ -141,7 +141,6 @@ pub(crate) fn either(
 }
 
 /// Both of the two, where both are there.
-#[tactic(auto, using(crate::proofs::SameLaws::says_and))]
 pub(crate) fn both(
     alloc: Global,
     first: Option<Box<Sequence>>,

@@ -1,10 +1,12 @@
 //! Booleans numbered for one assertion.
 
-ghost use Rattle.std.specs.Prelude.{◌≡◌, ◌++◌, ℕ, List, IfOk, OnOk};
+ghost use Rattle.std.specs.Prelude.{◌≡◌, ◌++◌, ℕ, List, length, IfOk, OnOk};
 ghost use Rattle.expressions.specs.declared.expr.Expr.{Expr};
 ghost use Rattle.assertions.specs.Shapes.{written_form};
+ghost use Rattle.assertions.specs.Listed.{IsListed};
+ghost use Rattle.assertions.specs.Written as written;
 ghost use Rattle.assertions.specs.Written.{weight, IsOrdered};
-ghost use Rattle.types_sequences.specs.Placed.{IsPlaced, IsPlacedBoolean, Extends};
+ghost use Rattle.types_sequences.specs.Placed.{IsPlaced, IsPlacedBoolean, Extends, AllListed, Adds};
 
 use assertions::{Boolean, Sequence};
 use std::alloc::{AllocError, Global};
@@ -13,6 +15,8 @@ use std::alloc::{AllocError, Global};
 pub fn place_boolean(boolean: Boolean, places: &mut Vec<usize>) -> Result<Boolean, AllocError>
     ensures grows { OnOk result (Extends places.old.items places.new.items) }
     ensures placed { (booleans : List Expr) (more : List ℕ) → IfOk result (λ b. IsPlacedBoolean booleans (places.new.items ++ more) boolean b) }
+    ensures listed { IfOk result (IsListed (length places.new.items)) }
+    ensures own { OnOk result (Adds (written.boolean boolean) places.old.items places.new.items) }
 {
     match boolean {
         Boolean::One => Ok(Boolean::One),
@@ -34,6 +38,8 @@ pub fn place_sequence(
     ensures placed { (booleans : List Expr) (more : List ℕ) → IfOk result (λ b. IsPlaced booleans (places.new.items ++ more) (written_form sequence.now) (written_form b.value)) }
     ensures weighs { IfOk result (λ b. weight (written_form b.value) ≡ weight (written_form sequence.now)) }
     ensures ordered { IfOk result (λ b. IsOrdered (written_form sequence.now) → IsOrdered (written_form b.value)) }
+    ensures listed { IfOk result (λ b. AllListed places.new.items (written_form b.value)) }
+    ensures own { OnOk result (Adds (written_form sequence.now) places.old.items places.new.items) }
 {
     match sequence {
         Sequence::Boolean(boolean) => {

@@ -1,27 +1,42 @@
 -- Assertions made of what is resolved.
-use Rattle.std.proofs.Common.{◌≡◌, ℕ, ◌+◌, ◌≤◌, ◌<◌, List, [], ◌∷◌, ◌++◌, length, Option, Some, None, Box, refl, sym, ap, ◌∙◌, subst, arith, string_bytes, drop, get_or, drop-cons, add-one}
+use Rattle.std.proofs.Common.{◌≡◌, ◌⊎◌, inl, inr, ℕ, ◌+◌, ◌≤◌, ◌<◌, List, [], ◌∷◌, ◌++◌, length, Option, Some, None, Box, refl, sym, ap, ◌∙◌, subst, arith, string_bytes, drop, get_or, drop-cons, add-one}
+use Rattle.std.specs.Prelude.{true, false, Result, Ok, Err, IfOk, OnOk}
 use Rattle.std.proofs.lemmas.List.{append-nil, append_assoc, length-append}
 use Rattle.std.specs.declared.alloc.Global.{Global}
 use Rattle.grammar.specs.Trees as trees
 use Rattle.grammar.specs.Trees.{Tree}
 use Rattle.expressions.specs.declared.expr.Expr.{Expr}
 use Rattle.assertions.specs.declared.sequence.Boolean.{Boolean}
-use Rattle.assertions.specs.declared.sequence.Boolean.TheVariants.{Listed}
+use Rattle.assertions.specs.declared.sequence.Boolean.TheVariants.{One, Listed}
 use Rattle.assertions.specs.declared.sequence.Sequence.{Sequence}
 use Rattle.assertions.specs.declared.assertion.Assertion.{Assertion}
 use Rattle.assertions.specs.Segments.{sat}
-use Rattle.assertions.specs.Written.{Written, weight, IsOrdered}
+use Rattle.expressions.specs.Terms.{Samples}
+use Rattle.assertions.specs.Written.{Written, boolean, weight, IsOrdered}
 use Rattle.assertions.specs.Shapes.{written_form}
 use Rattle.types_sequences.specs.declared.entry.Entry.{Entry}
-use Rattle.types_sequences.specs.Drafts.{Draft}
-use Rattle.types_sequences.specs.Entries.{HasEntry, HasSame, SaysSame, IsEntry}
-use Rattle.types_sequences.specs.Placed.{IsPlaced, atom_true, Extends}
+use Rattle.assertions.specs.Listed.{IsUsed, IsListed, IsListedOption}
+use Rattle.types_sequences.specs.Drafts.{Draft, IsIn}
+use Rattle.types_sequences.specs.Entries.{HasEntry, HasSame, SaysSame, IsUsedOrOne, IsEntry}
+use Rattle.types_sequences.specs.Placed.{IsPlaced, IsPlacedBoolean, atom_true, Extends, AllListed, Adds}
+use Rattle.types_sequences.proofs.UsedLaws.{each_used}
+use Rattle.types_sequences.proofs.PlacedLaws.{listed_on}
 use Rattle.types_expressions.specs.Scopes.{Scope}
 use Rattle.types_suites.specs.declared.resolved.Resolved.{Resolved}
-use Rattle.types_suites.specs.Suites.{IsMeant, IsDisabling, IsAssertion, AreAssertions}
+use Rattle.types_suites.specs.Suites.{IsMeant, IsDisabling, IsDisablingPlace, IsAssertion, AreAssertions}
 use Rattle.types_suites.specs.Drawn.{IsDisabledBy}
 use Rattle.types_suites.specs.Resolved.{IsResolved, AreResolved}
-use Rattle.types_suites.specs.Made.{IsFitting, IsPlacedAt}
+use Rattle.types_suites.specs.Made.{IsFitting, IsSide, IsPlacedAt, AreAt}
+
+-- two things of what a call gives, and what follows from one that isn't of it
+pub ok_both : {X E : Type 0} (P Q : X → Type 0) (r : Result X E) → IfOk r P → IfOk r Q →
+    IfOk r (λ x. P x × Q x)
+ok_both P Q (Ok x) f g = (f, g)
+ok_both P Q (Err e) f g = tt
+
+pub on_ok_map : {X E A B : Type 0} (r : Result X E) → (A → B) → OnOk r A → OnOk r B
+on_ok_map (Ok x) f h = f h
+on_ok_map (Err e) f h = tt
 
 -- An entry that fits has a sequence.
 pub fits_none : (e : Entry) → IsFitting e → e.sequence ≡ None → ⊥
@@ -40,30 +55,81 @@ fits_light e x f is =
     let says = fits_says e x f.meant f.light f.entry is in
     (omega (arith, says.light, f.entry.facts.weighs, f.light), says.ordered)
 
--- What is placed of what an entry says is what is meant.
-pub meant_of : (bodies : List (Draft Boolean)) (d : Draft Boolean) (booleans : List Expr) (places : List ℕ) (e : Entry) (x : Box Sequence Global) (made : Written Boolean) → e.facts.weight ≤ 127 → e.sequence ≡ Some x →
-    HasEntry bodies d e → IsPlaced booleans places (written_form x.value) made → IsMeant bodies booleans places d made
-meant_of bodies d booleans places e x made low is h p =
-    let says = fits_says e x h.meant low h.entry is in
+-- What is placed of what an entry says is what is meant, by booleans of the list.
+pub side_of : (booleans : List Expr) (places more : List ℕ) (e : Entry) (x : Box Sequence Global)
+    (w made : Written Boolean) → e.facts.weight ≤ 127 → e.sequence ≡ Some x → IsEntry w e →
+    IsPlaced booleans (places ++ more) (written_form x.value) made →
+    AllListed places made → IsSide booleans (places ++ more) w made
+side_of booleans places more e x w made low is h p listed =
+    let says = fits_says e x w low h is in
     record {
-      meant = h.meant;
-      spells = h.spells;
       placed = λ t n i j.
           let first = says.alike (sat (atom_true booleans t) n) i j in
           let second = p t n i j in
           (λ m. second.0 (first.0 m), λ m. first.1 (second.1 m));
+      listed = listed_on places (places ++ more) made (record { added = more; is = refl }) listed;
     }
 
--- It stays so behind more places.
-pub meant_on : (bodies : List (Draft Boolean)) (e : List Expr) (d : Draft Boolean) (w : Written Boolean) (first second third : List ℕ) → Extends first second → Extends second third →
-    ((more : List ℕ) → IsMeant bodies e (first ++ more) d w) → IsMeant bodies e third d w
-meant_on bodies e d w first second third x y f =
-    let is : first ++ (x.added ++ y.added) ≡ third = sym (append_assoc first x.added y.added) ∙ sym (ap (λ (ps : List ℕ). ps ++ y.added) x.is) ∙ sym y.is in
-    subst (λ (ps : List ℕ). IsMeant bodies e ps d w) is (f (x.added ++ y.added))
+-- Only its booleans have places.
+meant_too : (w : Written Boolean) (p : ℕ) → IsUsedOrOne w (Listed p) → IsUsed (Listed p) w
+meant_too w p (inl u) = u
+meant_too w p (inr is) = absurd cc
 
-pub meant_here : (bodies : List (Draft Boolean)) (e : List Expr) (d : Draft Boolean) (w : Written Boolean) (first second : List ℕ) → Extends first second →
-    ((more : List ℕ) → IsMeant bodies e (first ++ more) d w) → IsMeant bodies e second d w
-meant_here bodies e d w first second x f = subst (λ (ps : List ℕ). IsMeant bodies e ps d w) (sym x.is) (f x.added)
+pub used_by : (before after : List ℕ) (e : Entry) (x : Box Sequence Global) (w : Written Boolean) →
+    e.facts.weight ≤ 127 → e.sequence ≡ Some x → IsEntry w e →
+    Adds (written_form x.value) before after → Adds w before after
+used_by before after e x w low is h f p i =
+    let says = fits_says e x w low h is in
+    elim (f p i) [
+      | inl there ↦ inl there
+      | inr u ↦ inr (meant_too w p (each_used (IsUsedOrOne w) (Listed p) (written_form x.value) says.known u))
+    ]
+
+-- It stays so behind more places.
+pub side_here : (e : List Expr) (w made : Written Boolean) (first second : List ℕ) →
+    Extends first second → ((more : List ℕ) → IsSide e (first ++ more) w made) →
+    IsSide e second w made
+side_here e w made first second x f =
+    subst (λ (ps : List ℕ). IsSide e ps w made) (sym x.is) (f x.added)
+
+pub side_on : (e : List Expr) (w made : Written Boolean) (first second third : List ℕ) →
+    Extends first second → Extends second third →
+    ((more : List ℕ) → IsSide e (first ++ more) w made) → IsSide e third w made
+side_on e w made first second third x y f =
+    let is : first ++ (x.added ++ y.added) ≡ third =
+    sym (append_assoc first x.added y.added)
+    ∙ sym (ap (λ (ps : List ℕ). ps ++ y.added) x.is) ∙ sym y.is in
+    subst (λ (ps : List ℕ). IsSide e ps w made) is (f (x.added ++ y.added))
+
+-- A boolean that stands for one at a place, whatever is there, is listed.
+pub listed_too : (places : List ℕ) (place n : ℕ) (b : Boolean) →
+    IsPlacedBoolean [] places (Listed place) b → IsListed n b → IsListedOption n (Some b)
+listed_too places place n One same h =
+    let t : Samples = record { signal_at = λ p k. 0; counter_at = λ p k. 0 } in
+    let is : false ≡ true = same t 0 in
+    absurd cc
+listed_too places place n (Listed i) same h = h
+
+pub at_own : (place : ℕ) (before after : List ℕ) → Adds (boolean (Listed place)) before after →
+    AreAt (Some place) before after
+at_own place before after f p i =
+    elim (f p i) [ inl there ↦ inl there | inr is ↦ inr (let e : p ≡ place = cc in ap Some (sym e)) ]
+
+-- Each place is one of the two sides' or the disabling one, where none was there at first.
+pub places_used : (start first second third : List ℕ) (v w : Written Boolean) (o : Option ℕ) →
+    start ≡ [] → Adds v start first → Adds w first second → AreAt o second third →
+    (p : ℕ) → IsIn p third → IsUsed (Listed p) v ⊎ (IsUsed (Listed p) w ⊎ (o ≡ Some p))
+places_used start first second third v w o none f g h p i =
+    elim (h p i) [
+      | inr off ↦ inr (inr off)
+      | inl j ↦ elim (g p j) [
+        | inr u ↦ inr (inl u)
+        | inl k ↦ elim (f p k) [
+          | inr u ↦ inl u
+          | inl l ↦ absurd (subst (λ (ps : List ℕ). IsIn p ps) none l)
+        ]
+      ]
+    ]
 
 module _ (s : Scope) (cs : List (List ℕ)) (e : List Expr) where
   disabling_made : (places : List ℕ) (t : Option Tree) (p : Option ℕ) (b : Option Boolean) → IsDisabledBy s cs e t p → IsPlacedAt e places p b → IsDisabling s cs e places t b
@@ -72,14 +138,41 @@ module _ (s : Scope) (cs : List (List ℕ)) (e : List Expr) where
   disabling_made places None (Some p) b h i = elim h [ ]
   disabling_made places (Some t) None b h i = elim h [ ]
   disabling_made places (Some t) (Some p) None h i = elim i [ ]
-  disabling_made places (Some t) (Some p) (Some b) h i = (Listed p, h, i)
+  disabling_made places (Some t) (Some p) (Some b) h i = (Listed p, h, i.0, i.1)
+
+  disabling_place : (t : Option Tree) (o : Option ℕ) (p : ℕ) → IsDisabledBy s cs e t o → o ≡ Some p →
+      IsDisablingPlace s cs e t p
+  disabling_place None None p h is = absurd cc
+  disabling_place None (Some q) p h is = elim h [ ]
+  disabling_place (Some t) None p h is = absurd cc
+  disabling_place (Some t) (Some q) p h is =
+      subst (λ (o : Option ℕ). IsDisabledBy s cs e (Some t) o) is h
 
   module _ (bodies : List (Draft Boolean)) where
+    meant_of : (d : Draft Boolean) (m : Entry) (h : HasEntry bodies d m)
+        (places spots : List ℕ) (w made : Written Boolean) → spots ≡ places → made ≡ w →
+        IsSide e places h.meant w → IsMeant bodies e spots d made
+    meant_of d m h places spots w made list is side =
+        record {
+          meant = h.meant;
+          spells = h.spells;
+          placed =
+              subst (λ (u : Written Boolean). IsPlaced e spots h.meant u) (sym is)
+              (subst (λ (ps : List ℕ). IsPlaced e ps h.meant w) (sym list) side.placed);
+          listed =
+              subst (λ (u : Written Boolean). AllListed spots u) (sym is)
+              (subst (λ (ps : List ℕ). AllListed ps w) (sym list) side.listed);
+        }
+
     -- An assertion with these parts is that of the text.
     pub assertion_made : (before : ℕ) (a : trees.AssertionForm) (m : Resolved) (r : IsResolved s cs e bodies before a m) (made : Assertion) (first second : Written Boolean) (b : Option Boolean) (places : List ℕ) →
         string_bytes made.name ≡ string_bytes m.name → written_form made.antecedent ≡ first → written_form made.consequent ≡ second → made.disabling ≡ b → made.booleans.items ≡ places →
-        IsMeant bodies e places r.antecedent first → IsMeant bodies e places r.consequent second → IsPlacedAt e places m.disabling b → IsAssertion s cs e bodies before a made
-    assertion_made before a m r made first second b places name one two off list h g d =
+        IsSide e places r.antecedent_entry.meant first → IsSide e places r.consequent_entry.meant second →
+        IsPlacedAt e places m.disabling b →
+        ((p : ℕ) → IsIn p places → IsUsed (Listed p) r.antecedent_entry.meant ⊎ (IsUsed (Listed p) r.consequent_entry.meant ⊎ (m.disabling ≡ Some p))) →
+        IsAssertion s cs e bodies before a made
+    unfolding meant_of
+    assertion_made before a m r made first second b places name one two off list h g d used =
         let ps = made.booleans.items in
         record {
           antecedent = r.antecedent;
@@ -87,10 +180,18 @@ module _ (s : Scope) (cs : List (List ℕ)) (e : List Expr) where
           name = name ∙ r.name;
           reads_antecedent = r.reads_antecedent;
           reads_consequent = r.reads_consequent;
-          antecedent_meant = subst (λ (w : Written Boolean). IsMeant bodies e ps r.antecedent w) (sym one) (subst (λ (qs : List ℕ). IsMeant bodies e qs r.antecedent first) (sym list) h);
-          consequent_meant = subst (λ (w : Written Boolean). IsMeant bodies e ps r.consequent w) (sym two) (subst (λ (qs : List ℕ). IsMeant bodies e qs r.consequent second) (sym list) g);
+          antecedent_meant = meant_of r.antecedent m.antecedent r.antecedent_entry places ps first (written_form made.antecedent) list one h;
+          consequent_meant = meant_of r.consequent m.consequent r.consequent_entry places ps second (written_form made.consequent) list two g;
           disabling = subst (λ (x : Option Boolean). IsDisabling s cs e ps a.disable x) (sym off)
               (subst (λ (qs : List ℕ). IsDisabling s cs e qs a.disable b) (sym list) (disabling_made places a.disable m.disabling b r.disabling d));
+          used = λ p i.
+              elim (used p (subst (λ (qs : List ℕ). IsIn p qs) list i)) [
+                | inl u ↦ inl u
+                | inr x ↦ elim x [
+                  | inl u ↦ inr (inl u)
+                  | inr is ↦ inr (inr (disabling_place a.disable m.disabling p r.disabling is))
+                ]
+              ];
         }
 
     assertion_more : (us : List trees.AssertionForm) (made : List Assertion) (before : ℕ) (a : trees.AssertionForm) (x : Assertion) → AreAssertions s cs e bodies before us made →

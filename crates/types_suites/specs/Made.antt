@@ -1,22 +1,26 @@
 -- Assertions that are made of what is resolved.
-use Rattle.std.specs.Prelude.{ℕ, ◌≤◌, List, [], ◌∷◌, Option, Some, None}
+use Rattle.std.specs.Prelude.{◌≡◌, ◌⊎◌, ℕ, ◌≤◌, List, [], ◌∷◌, length, Option, Some, None}
 use Rattle.grammar.specs.Trees as trees
 use Rattle.expressions.specs.declared.expr.Expr.{Expr}
 use Rattle.assertions.specs.declared.sequence.Boolean.{Boolean}
 use Rattle.assertions.specs.declared.sequence.Boolean.TheVariants.{Listed}
 use Rattle.assertions.specs.Written.{Written}
+use Rattle.assertions.specs.Listed.{IsListedOption}
 use Rattle.types_sequences.specs.declared.entry.Entry.{Entry}
-use Rattle.types_sequences.specs.Drafts.{Draft}
+use Rattle.types_sequences.specs.Drafts.{Draft, IsIn}
 use Rattle.types_sequences.specs.Entries.{IsEntry}
-use Rattle.types_sequences.specs.Placed.{IsPlacedBoolean}
+use Rattle.types_sequences.specs.Placed.{IsPlaced, IsPlacedBoolean, AllListed}
 use Rattle.types_suites.specs.declared.resolved.Resolved.{Resolved}
 
--- the expressions of a suite, what a side says, assertions of a text
+-- the expressions of a suite, what a side says, with names and without, assertions of a text
 abbrev pub Expressions : Type 0
 Expressions = List Expr
 
 abbrev pub SideDraft : Type 0
 SideDraft = Draft Boolean
+
+abbrev pub Side : Type 0
+Side = Written Boolean
 
 abbrev pub Statement : Type 0
 Statement = trees.AssertionForm
@@ -39,9 +43,20 @@ abbrev pub AreFitting : List Resolved → Type 0
 AreFitting [] = Unit {0}
 AreFitting (m ∷ ms) = SidesFit m × AreFitting ms
 
+-- A side matches by an assertion's list of places what is meant by the places among the suite's.
+pub record IsSide (booleans : List Expr) (places : List ℕ) (meant made : Written Boolean) :
+    Type 0 where
+  pub placed : IsPlaced booleans places meant made
+  pub listed : AllListed places made
+
+-- Each place behind was there before, or it is that of the disabling expression.
+abbrev pub AreAt : Option ℕ → List ℕ → List ℕ → Type 0
+AreAt place before after = (p : ℕ) → IsIn p after → IsIn p before ⊎ (place ≡ Some p)
+
 -- a boolean in an assertion's list, for one at a place of the suite's, if there is one
 abbrev pub IsPlacedAt : List Expr → List ℕ → Option ℕ → Option Boolean → Type 0
 IsPlacedAt booleans places None None = Unit {0}
 IsPlacedAt booleans places None (Some b) = ⊥
 IsPlacedAt booleans places (Some p) None = ⊥
-IsPlacedAt booleans places (Some p) (Some b) = IsPlacedBoolean booleans places (Listed p) b
+IsPlacedAt booleans places (Some p) (Some b) =
+    IsPlacedBoolean booleans places (Listed p) b × IsListedOption (length places) (Some b)

@@ -1,5 +1,6 @@
 -- The suite of a text.
-use Rattle.std.specs.Prelude.{◌≡◌, ℕ, ◌+◌, List, [], ◌∷◌, map, Option, Some, None, string_bytes}
+use Rattle.std.specs.Prelude.{◌≡◌, ◌⊎◌, ℕ, ◌+◌, List, [], ◌∷◌, map, length, Option, Some, None}
+use Rattle.std.specs.Prelude.{string_bytes}
 use Rattle.grammar.specs.Trees as trees
 use Rattle.grammar.specs.Trees.{Tree, SequenceForm, PropertyForm, plain, implication, ItemForm}
 use Rattle.expressions.specs.declared.expr.Expr.{Expr}
@@ -8,16 +9,17 @@ use Rattle.expressions.specs.declared.counter.Counter.{Counter}
 use Rattle.expressions.specs.Expressions.{term_of}
 use Rattle.types_sequences.specs.declared.implication.Implication.{Implication}
 use Rattle.assertions.specs.declared.sequence.Boolean.{Boolean}
-use Rattle.assertions.specs.declared.sequence.Boolean.TheVariants.{One}
+use Rattle.assertions.specs.declared.sequence.Boolean.TheVariants.{One, Listed}
 use Rattle.assertions.specs.declared.assertion.Assertion.{Assertion}
 use Rattle.assertions.specs.declared.signal.Signal.{Signal}
 use Rattle.assertions.specs.declared.suite.Suite.{Suite}
 use Rattle.assertions.specs.Written.{Written}
 use Rattle.assertions.specs.Shapes.{written_form}
+use Rattle.assertions.specs.Listed.{IsUsed, IsListedOption}
 use Rattle.types_sequences.specs.Drafts as drafts
 use Rattle.types_sequences.specs.Implications.{rewritten_antecedent}
-use Rattle.types_sequences.specs.Drafts.{Draft, Spells}
-use Rattle.types_sequences.specs.Placed.{IsPlaced, IsPlacedBoolean}
+use Rattle.types_sequences.specs.Drafts.{Draft, Spells, IsIn}
+use Rattle.types_sequences.specs.Placed.{IsPlaced, IsPlacedBoolean, AllListed}
 use Rattle.types_expressions.specs.Scopes.{Scope, width_in}
 use Rattle.types_expressions.specs.Columns.{columns_of}
 use Rattle.types_expressions.specs.Meanings.{Means}
@@ -70,17 +72,32 @@ abbrev pub ReadsConsequent : Scope → List (List ℕ) → List Expr → Propert
 ReadsConsequent s columns booleans (plain q) d = Reads s columns booleans q d
 ReadsConsequent s columns booleans (implication a t c) d = Reads s columns booleans c d
 
--- What a side says with the names written out, and that an assertion's sequence matches the same.
+-- What a side says with the names written out, and that an assertion's sequence matches the same,
+-- by booleans of the assertion's list.
 pub record IsMeant (bodies : List (Draft Boolean)) (booleans : List Expr) (places : List ℕ) (d : Draft Boolean) (made : Written Boolean) : Type 0 where
   pub meant : Written Boolean
   pub spells : Spells bodies d meant
   pub placed : IsPlaced booleans places meant made
+  pub listed : AllListed places made
 
 abbrev pub IsDisabling : Scope → List (List ℕ) → List Expr → List ℕ → Option Tree → Option Boolean → Type 0
 IsDisabling s columns booleans places None None = Unit {0}
 IsDisabling s columns booleans places None (Some b) = ⊥
 IsDisabling s columns booleans places (Some t) None = ⊥
-IsDisabling s columns booleans places (Some t) (Some b) = (a : Boolean) × IsAtom s columns booleans t a × IsPlacedBoolean booleans places a b
+IsDisabling s columns booleans places (Some t) (Some b) =
+    (a : Boolean) × IsAtom s columns booleans t a × IsPlacedBoolean booleans places a b
+    × IsListedOption (length places) (Some b)
+
+-- The disabling expression stands at the place among the suite's.
+abbrev pub IsDisablingPlace : Scope → List (List ℕ) → List Expr → Option Tree → ℕ → Type 0
+IsDisablingPlace s columns booleans None p = ⊥
+IsDisablingPlace s columns booleans (Some t) p = IsAtom s columns booleans t (Listed p)
+
+-- A boolean of one of the two sides stands at the place, or the disabling expression does.
+abbrev pub IsUsedPlace :
+    Scope → List (List ℕ) → List Expr → Option Tree → Written Boolean → Written Boolean → ℕ → Type 0
+IsUsedPlace s columns booleans disable v w p =
+    IsUsed (Listed p) v ⊎ (IsUsed (Listed p) w ⊎ IsDisablingPlace s columns booleans disable p)
 
 -- An assertion of the text, before which so many stand.
 pub record IsAssertion (s : Scope) (columns : List (List ℕ)) (booleans : List Expr) (bodies : List (Draft Boolean)) (before : ℕ) (a : trees.AssertionForm) (made : Assertion) : Type 0 where
@@ -92,6 +109,9 @@ pub record IsAssertion (s : Scope) (columns : List (List ℕ)) (booleans : List 
   pub antecedent_meant : IsMeant bodies booleans made.booleans.items antecedent (written_form made.antecedent)
   pub consequent_meant : IsMeant bodies booleans made.booleans.items consequent (written_form made.consequent)
   pub disabling : IsDisabling s columns booleans made.booleans.items a.disable made.disabling
+  pub used :
+      (p : ℕ) → IsIn p made.booleans.items →
+      IsUsedPlace s columns booleans a.disable antecedent_meant.meant consequent_meant.meant p
 
 abbrev pub AreAssertions : Scope → List (List ℕ) → List Expr → List (Draft Boolean) → ℕ → List trees.AssertionForm → List Assertion → Type 0
 AreAssertions s columns booleans bodies before [] [] = Unit {0}

@@ -3,12 +3,13 @@
 ghost use Rattle.std.specs.Prelude.{◌≤◌, ℕ, List, ◌++◌, IfOk, OnOk};
 ghost use Rattle.assertions.specs.Shapes.{written_form};
 ghost use Rattle.assertions.specs.Written.{weight, IsOrdered};
-ghost use Rattle.types_sequences.specs.Entries.{Bodies, HasEntry};
-ghost use Rattle.types_sequences.specs.Placed.{Extends};
+ghost use Rattle.types_sequences.specs.Entries.{Bodies, IsEntry};
+ghost use Rattle.types_sequences.specs.Placed.{Extends, Adds};
 ghost use Rattle.types_suites.specs.Readings.{Where};
-ghost use Rattle.types_suites.specs.Suites.{IsMeant, IsAssertion, AreAssertions};
+ghost use Rattle.types_suites.specs.Suites.{IsAssertion, AreAssertions};
 ghost use Rattle.types_suites.specs.Resolved.{IsResolved, AreResolved};
-ghost use Rattle.types_suites.specs.Made.{Expressions, SideDraft, Statement, Statements, IsFitting, AreFitting, IsPlacedAt};
+ghost use Rattle.types_suites.specs.Made.{Expressions, Side, Statement, Statements, IsSide};
+ghost use Rattle.types_suites.specs.Made.{IsFitting, AreFitting, IsPlacedAt, AreAt};
 
 use crate::resolved::Resolved;
 use assertions::{Assertion, Boolean, Sequence};
@@ -25,7 +26,10 @@ fn side_of(
     ensures grows { OnOk result (Extends places.old.items places.new.items) }
     ensures light { IfOk result (λ b. weight (written_form b.value) ≤ 127) }
     ensures ordered { IfOk result (λ b. IsOrdered (written_form b.value)) }
-    ensures meant { (bodies : Bodies) (d : SideDraft) (booleans : Expressions) (more : List ℕ) → HasEntry bodies d entry.now → IfOk result (λ b. IsMeant bodies booleans (places.new.items ++ more) d (written_form b.value)) }
+    ensures meant { (booleans : Expressions) (more : List ℕ) (w : Side) → IsEntry w entry.now →
+        IfOk result (λ b. IsSide booleans (places.new.items ++ more) w (written_form b.value)) }
+    ensures used { (w : Side) → IsEntry w entry.now →
+        OnOk result (Adds w places.old.items places.new.items) }
 {
     match &entry.sequence {
         Some(sequence) => place_sequence(alloc, sequence, places),
@@ -40,6 +44,7 @@ fn disabling_of(
 ) -> Result<Option<Boolean>, AllocError>
     ensures grows { OnOk result (Extends places.old.items places.new.items) }
     ensures placed { (booleans : Expressions) → IfOk result (IsPlacedAt booleans places.new.items place) }
+    ensures used { OnOk result (AreAt place places.old.items places.new.items) }
 {
     match place {
         Some(place) => Ok(Some(place_boolean(Boolean::Listed(place), places)?)),

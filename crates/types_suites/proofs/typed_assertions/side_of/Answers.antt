@@ -1,9 +1,21 @@
-use Rattle.std.proofs.Common.{◌++◌}
 use Rattle.assertions.specs.Shapes.{written_form}
 use Rattle.types_expressions.proofs.Lists.{when_ok}
-use Rattle.types_suites.proofs.MadeLaws.{meant_of}
+use Rattle.types_suites.proofs.MadeLaws.{ok_both, on_ok_map, side_of, used_by}
 use Rattle.types_suites.proofs.typed_assertions.side_of.Goals as goal
 
 pub returns-clause-meant : goal.returns-clause-meant
-returns-clause-meant c = λ bodies d booleans more h.
-    when_ok c.place_sequence.result (λ b p. meant_of bodies d booleans (c.place_sequence.new.places.items ++ more) c.args.entry.now c.in-Some.sequence (written_form b.value) c.requires.light c.in-Some.is h (rw c.deref.ensures at p)) (c.place_sequence.ensures.placed booleans more)
+returns-clause-meant c = λ booleans more w h.
+    when_ok c.place_sequence.result
+    (λ b p.
+    side_of booleans c.place_sequence.new.places.items more c.args.entry.now c.in-Some.sequence w
+    (written_form b.value) c.requires.light c.in-Some.is h
+    (rw c.deref.ensures at p.0) p.1)
+    (ok_both _ _ c.place_sequence.result (c.place_sequence.ensures.placed booleans more) c.place_sequence.ensures.listed)
+
+pub returns-clause-used : goal.returns-clause-used
+returns-clause-used c = λ w h.
+    on_ok_map c.place_sequence.result
+    (λ f.
+    used_by c.args.places.now.items c.place_sequence.new.places.items c.args.entry.now
+    c.in-Some.sequence w c.requires.light c.in-Some.is h (rw c.deref.ensures at f))
+    c.place_sequence.ensures.own

@@ -1,0 +1,25 @@
+//! What each assertion of a suite of a text keeps to: a call that does nothing, and whose contract
+//! is a theorem.
+//!
+//! The compiler takes for granted that an assertion is of its suite (`IsFit`). The law here shows
+//! that it is, for each assertion of a suite that a text says over the paths of a dump. The clock,
+//! the signals and the assertions have names that are words, or words that are joined by dots. Each
+//! boolean is the constant 1 or in the assertion's list, and each place in the list is that of an
+//! expression of the text. Each name in an expression is a signal or a counter of the suite. No
+//! part of one has over 128 bits, no `$past` looks back over 64 ticks, and at most 64 brackets and
+//! operators are open at once. A consequent takes at least a tick.
+//!
+//! ```text
+//! suite_facts::suite_law();
+//! ```
+//!
+//! The definitions: the theorem in `specs/Laws.antt`, what the compiler asks in
+//! `compiler/specs/Conditions.antt`, what a text says in `types_suites/specs/Suites.antt`, where
+//! its faults stand in `types/specs/Faults.antt`.
+//!
+//! Not promised: anything of a suite that no text says, as one that a program makes by itself.
+#![tactic(auto)]
+
+mod laws;
+
+pub use laws::suite_law;
