@@ -1,0 +1,6 @@
+pub mod Texts
+pub mod Lines
+pub mod Names
+pub mod Ports
+pub mod Rules
+pub mod Seen

@@ -1,0 +1,12 @@
+//! The rules of AXI4 for named ports.
+#![tactic(auto)]
+
+mod case;
+mod fault;
+mod mode;
+mod port;
+
+pub use case::Case;
+pub use fault::PortFault;
+pub use mode::Mode;
+pub use port::Port;
