@@ -4,3 +4,4 @@ pub mod Names
 pub mod Ports
 pub mod Rules
 pub mod Seen
+pub mod Rows

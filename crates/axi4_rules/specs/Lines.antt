@@ -1,6 +1,6 @@
 -- What a line of a port file spells.
 use Rattle.std.specs.Prelude.{ℕ, ◌+◌, ◌-◌, ◌*◌, ◌==◌, ◌||◌, ◌&&◌, min, nat_eq, List, [], ◌∷◌, ◌++◌, map, length, drop, Bool, true, false, not, Option, Some, None, codes, if◌then◌else◌}
-use Rattle.std.specs.List.{list_all, list_any, starts_with}
+use Rattle.std.specs.List.{list_all, list_any, filter_map, starts_with}
 use Rattle.std.specs.Char.{is_ascii_digit}
 use Rattle.std.specs.Str.{bytes_eq}
 use Rattle.axi4_rules.specs.declared.case.Case.{Case}
@@ -14,10 +14,13 @@ abbrev pub ◌>>=◌ : {A B : Type 0} → Option A → (A → Option B) → Opti
 (Some x) >>= f = f x
 None >>= f = None
 
--- what stands behind the key in the fields that begin with it
+-- what stands behind the key, in a field that begins with it
+abbrev pub value_in : List ℕ → List ℕ → Option (List ℕ)
+value_in key field = if starts_with nat_eq field key then Some (drop (length key) field) else None
+
+-- and in all fields that do
 abbrev pub values : List ℕ → List (List ℕ) → List (List ℕ)
-values key [] = []
-values key (f ∷ fs) = if starts_with nat_eq f key then drop (length key) f ∷ values key fs else values key fs
+values key fs = filter_map (value_in key) fs
 
 -- a list of at most one; `None` where there are more
 abbrev pub at_most_one : {A : Type 0} → List A → Option (Option A)

@@ -1,10 +1,9 @@
 -- Texts, as lists of bytes, cut into parts.
-use Rattle.std.specs.Prelude.{ℕ, ◌==◌, ◌||◌, ◌&&◌, List, [], ◌∷◌, Bool, true, false, not, if◌then◌else◌}
+use Rattle.std.specs.Prelude.{ℕ, ◌==◌, ◌||◌, ◌&&◌, List, [], ◌∷◌, Bool, true, false, not, length, if◌then◌else◌}
 use Rattle.std.specs.List.{slice_split, filter}
 
 abbrev pub is_empty : {A : Type 0} → List A → Bool
-is_empty [] = true
-is_empty (x ∷ xs) = false
+is_empty xs = length xs == 0
 
 abbrev pub begins_with : ℕ → List ℕ → Bool
 begins_with byte [] = false

@@ -4,7 +4,12 @@
 mod case;
 mod fault;
 mod mode;
+mod names;
 mod port;
+mod row;
+mod tables;
+mod text;
+mod values;
 
 pub use case::Case;
 pub use fault::PortFault;
