@@ -5,6 +5,7 @@ use Rattle.std.specs.Option.{option_map}
 use Rattle.std.specs.List.{list_all, list_any, filter, filter_map, starts_with}
 use Rattle.std.specs.Str.Pattern.{FindsTextPrefix, StripsPrefix}
 use Rattle.std.proofs.Math.Seq.{drop-cons}
+use Rattle.std.proofs.lemmas.List.{drop_all}
 use Rattle.std.proofs.lemmas.Str.Pattern.{starts_text}
 use Rattle.axi4_rules.specs.Lines.{value_in, values, number, all_numbers}
 
@@ -27,3 +28,6 @@ any_passes p xs i d below h = rw (drop-next xs i d below, h) refl
 abbrev pub with_front : {A : Type 0} → List A → Option (List A) → Option (List A)
 with_front xs None = None
 with_front xs (Some ys) = Some (xs ++ ys)
+
+pub drop-end : {X : Type 0} (xs : List X) (i : ℕ) → length xs ≤ i → drop i xs ≡ []
+drop-end xs i over = drop_all i xs over

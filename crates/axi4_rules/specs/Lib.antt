@@ -5,3 +5,4 @@ pub mod Ports
 pub mod Rules
 pub mod Seen
 pub mod Rows
+pub mod Drafts

@@ -2,11 +2,14 @@
 #![tactic(auto)]
 
 mod case;
+mod draft;
 mod fault;
 mod mode;
 mod names;
+mod paths;
 mod port;
 mod row;
+mod sizes;
 mod tables;
 mod text;
 mod values;

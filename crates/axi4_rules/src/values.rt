@@ -18,17 +18,19 @@ pub(crate) fn optional<'t>(fields: &[&'t str], key: &str) -> Option<Option<&'t s
 {
     let mut found = None;
     for field in fields {
-        if let Some(value) = field.strip_prefix(key) {
-            if found.is_some() {
-                return None;
-            }
-            found = Some(value);
+        let Some(value) = field.strip_prefix(key) else {
+            continue;
+        };
+        if found.is_some() {
+            return None;
         }
+        found = Some(value);
     }
     Some(found)
 }
 
 /// What stands behind the key, which stands once.
+#[tactic(auto, unfolding(crate::specs::Lines::required))]
 pub(crate) fn required<'t>(fields: &[&'t str], key: &str) -> Option<&'t str>
     ensures { option_map (λ t. t.now) result ≡ required key.now (map (λ f. f.now) fields.now) }
 {
@@ -116,6 +118,7 @@ fn numbers(alloc: Global, texts: &[&str]) -> Result<Option<Vec<u32>>, AllocError
 }
 
 /// The numbers between commas, or `None` where one is none.
+#[tactic(auto, unfolding(crate::specs::Lines::watched))]
 pub(crate) fn watched(alloc: Global, text: Option<&str>) -> Result<Option<Vec<u32>>, AllocError>
     ensures { IfOk result (λ o. option_map (λ v. v.items) o ≡ watched (option_map (λ t. t.now) text.entry)) }
 {
