@@ -1,3 +1,4 @@
 pub mod Lists
 pub mod Fields
 pub mod Numbers
+pub mod Lines

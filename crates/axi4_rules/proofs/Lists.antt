@@ -31,3 +31,10 @@ with_front xs (Some ys) = Some (xs ++ ys)
 
 pub drop-end : {X : Type 0} (xs : List X) (i : ℕ) → length xs ≤ i → drop i xs ≡ []
 drop-end xs i over = drop_all i xs over
+
+-- the same behind a view
+pub any_seen_fails : {X Y : Type 0} (p : Y → Bool) (v : X → Y) (xs : List X) (i : ℕ) (d : X) → i < length xs → p (v (get_or xs i d)) ≡ false → list_any p (map v (drop i xs)) ≡ list_any p (map v (drop (i + 1) xs))
+any_seen_fails p v xs i d below h = rw (drop-next xs i d below, h) refl
+
+pub any_seen_passes : {X Y : Type 0} (p : Y → Bool) (v : X → Y) (xs : List X) (i : ℕ) (d : X) → i < length xs → p (v (get_or xs i d)) ≡ true → list_any p (map v (drop i xs)) ≡ true
+any_seen_passes p v xs i d below h = rw (drop-next xs i d below, h) refl

@@ -79,6 +79,21 @@ paths_in fs =
     required (codes "prefix=") fs >>= (λ p.
     Some (record { clock = c; reset = r; prefix = p }))))
 
+abbrev pub required_number : List ℕ → List (List ℕ) → Option ℕ
+required_number key fs = required key fs >>= number
+
+abbrev pub optional_number : ℕ → List ℕ → List (List ℕ) → Option ℕ
+optional_number other key fs = optional key fs >>= number_or other
+
+abbrev pub mode_in : List (List ℕ) → Option Mode
+mode_in fs = optional (codes "mode=") fs >>= mode_named
+
+abbrev pub case_in : List (List ℕ) → Option Case
+case_in fs = optional (codes "case=") fs >>= case_named
+
+abbrev pub watched_in : List (List ℕ) → Option (List ℕ)
+watched_in fs = optional (codes "watch=") fs >>= watched
+
 -- the numbers of a port
 pub record SizeData : Type 0 where
   pub addr : ℕ
@@ -88,10 +103,10 @@ pub record SizeData : Type 0 where
 
 unfoldable pub sizes_in : List (List ℕ) → Option SizeData
 sizes_in fs =
-    (required (codes "addr=") fs >>= number) >>= (λ a.
-    (required (codes "data=") fs >>= number) >>= (λ d.
-    (required (codes "id=") fs >>= number) >>= (λ i.
-    (optional (codes "wait=") fs >>= number_or 16) >>= (λ w.
+    required_number (codes "addr=") fs >>= (λ a.
+    required_number (codes "data=") fs >>= (λ d.
+    required_number (codes "id=") fs >>= (λ i.
+    optional_number 16 (codes "wait=") fs >>= (λ w.
     Some (record { addr = a; data_width = d; id = i; wait = w })))))
 
 unfoldable pub keys : List (List ℕ)
@@ -120,9 +135,9 @@ unfoldable pub said_by : List ℕ → List (List ℕ) → Option LineData
 said_by name fs =
     paths_in fs >>= (λ p.
     sizes_in fs >>= (λ s.
-    (optional (codes "mode=") fs >>= mode_named) >>= (λ m.
-    (optional (codes "case=") fs >>= case_named) >>= (λ c.
-    (optional (codes "watch=") fs >>= watched) >>= (λ w.
+    mode_in fs >>= (λ m.
+    case_in fs >>= (λ c.
+    watched_in fs >>= (λ w.
     Some (record {
       port = record { name = name; paths = p; sizes = s; case = c; watch = w };
       mode = m;

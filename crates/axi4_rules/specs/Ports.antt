@@ -41,6 +41,14 @@ abbrev pub checked_line : ℕ → Option LineData → Result LineData PortFault
 checked_line number None = Err (BadLine number)
 checked_line number (Some d) = checked d
 
+-- blank lines, and lines that begin with #
+unfoldable pub is_skipped : List ℕ → Bool
+is_skipped line = begins_with 35 line || is_empty (fields line)
+
+-- what the line of that number says
+unfoldable pub port_in : ℕ → List ℕ → Result LineData PortFault
+port_in number line = checked_line number (line_said (fields line))
+
 -- a line with its number
 pub record Numbered : Type 0 where
   pub number : ℕ
@@ -50,23 +58,21 @@ abbrev pub numbered : ℕ → List (List ℕ) → List Numbered
 numbered n [] = []
 numbered n (l ∷ ls) = record { number = n; text = l } ∷ numbered (suc n) ls
 
--- blank lines, and lines that begin with #
-unfoldable pub is_skipped : List ℕ → Bool
-is_skipped line = begins_with 35 line || is_empty (fields line)
-
-unfoldable pub port_in : Numbered → Result LineData PortFault
-port_in l = checked_line l.number (line_said (fields l.text))
-
 abbrev pub onto_ok : {A E : Type 0} → A → Result (List A) E → Result (List A) E
 onto_ok x (Ok xs) = Ok (x ∷ xs)
 onto_ok x (Err e) = Err e
 
 -- what all give, or the first fault
-unfoldable pub all_or_first : {A E : Type 0} → List (Result A E) → Result (List A) E
+abbrev pub all_or_first : {A E : Type 0} → List (Result A E) → Result (List A) E
 all_or_first [] = Ok []
 all_or_first (Ok x ∷ rs) = onto_ok x (all_or_first rs)
 all_or_first (Err e ∷ rs) = Err e
 
--- The ports of a text, one a line, in order; or the fault of the first faulty line.
+-- The ports of lines that are numbered from n, one a line, in order; or the fault of the first faulty line.
+unfoldable pub ports_in : ℕ → List (List ℕ) → Result (List LineData) PortFault
+ports_in n ls =
+    all_or_first (map (λ l. port_in l.number l.text) (filter (λ l. not (is_skipped l.text)) (numbered n ls)))
+
+-- The ports of a text.
 unfoldable pub port_file : List ℕ → Result (List LineData) PortFault
-port_file text = all_or_first (map port_in (filter (λ l. not (is_skipped l.text)) (numbered 1 (lines text))))
+port_file text = ports_in 1 (lines text)

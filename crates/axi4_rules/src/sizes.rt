@@ -2,7 +2,7 @@
 
 ghost use Rattle.std.specs.Prelude.{◌≡◌, map};
 ghost use Rattle.std.specs.Option.{option_map};
-ghost use Rattle.axi4_rules.specs.Lines.{◌>>=◌, required, optional, number, number_or, sizes_in};
+ghost use Rattle.axi4_rules.specs.Lines.{required_number, optional_number, sizes_in};
 ghost use Rattle.axi4_rules.specs.Drafts.{size_data};
 
 use crate::values::{number, number_or, optional, required};
@@ -18,14 +18,14 @@ pub(crate) struct Sizes {
 
 /// The number behind the key, which stands once.
 fn required_number(fields: &[&str], key: &str) -> Option<u32>
-    ensures { result ≡ (required key.now (map (λ f. f.now) fields.now) >>= number) }
+    ensures { result ≡ required_number key.now (map (λ f. f.now) fields.now) }
 {
     number(required(fields, key)?)
 }
 
 /// The number behind the key, or another.
 fn optional_number(fields: &[&str], key: &str, other: u32) -> Option<u32>
-    ensures { result ≡ (optional key.now (map (λ f. f.now) fields.now) >>= number_or other) }
+    ensures { result ≡ optional_number other key.now (map (λ f. f.now) fields.now) }
 {
     number_or(other, optional(fields, key)?)
 }
