@@ -1,4 +1,5 @@
-pub mod Lists
-pub mod Fields
-pub mod Numbers
-pub mod Lines
+pub mod ListLaws
+pub mod FieldLaws
+pub mod NumberLaws
+pub mod LineLaws
+pub mod RangeLaws

@@ -19,7 +19,7 @@ use std::alloc::{AllocError, Global};
 /// Whether the name is a word, and the clock, the reset and the signals are paths.
 #[tactic(auto, unfolding(crate::specs::Ports::are_names))]
 fn are_names(alloc: Global, name: &str, paths: Paths) -> Result<bool, AllocError>
-    ensures { IfOk result (λ r. r ≡ are_names name.now (path_data paths)) }
+    ensures { IfOk result (λ r. r ≡ are_names name.now (path_data paths.entry)) }
 {
     let mut signal = String::from_str(alloc, paths.prefix)?;
     signal.push_str("awvalid")?;

@@ -2,7 +2,7 @@ use Rattle.std.proofs.Common.{◌≡◌, ◌∙◌, sym}
 use Rattle.std.specs.Prelude.{nat_eq}
 use Rattle.std.specs.List.{starts_with}
 use Rattle.std.proofs.lemmas.Str.Pattern.{starts_text}
-use Rattle.axi4_rules.proofs.Lists.{any_seen_fails, any_seen_passes}
+use Rattle.axi4_rules.proofs.ListLaws.{any_seen_fails, any_seen_passes}
 use Rattle.axi4_rules.proofs.draft.begins_with_any.Goals as goal
 
 pub returns-then-starts_with : goal.returns-then-starts_with

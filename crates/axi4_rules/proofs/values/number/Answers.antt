@@ -1,8 +1,8 @@
 use Rattle.std.proofs.Common.{◌≡◌, ◌∙◌, sym, ap, length, ◌≤◌, ◌<◌, arith, drop, get_or}
 use Rattle.std.specs.Char.{is_ascii_digit}
 use Rattle.std.specs.List.{list_all}
-use Rattle.axi4_rules.proofs.Lists.{all_fails, all_passes, drop-end}
-use Rattle.axi4_rules.proofs.Numbers.{no_number, not_digits, is_number, digit_more, no_digit_left}
+use Rattle.axi4_rules.proofs.ListLaws.{all_fails, all_passes, drop-end}
+use Rattle.axi4_rules.proofs.NumberLaws.{no_number, not_digits, is_number, digit_more, no_digit_left}
 use Rattle.axi4_rules.proofs.values.number.Goals as goal
 
 pub returns-then-is_empty : goal.returns-then-is_empty

@@ -1,6 +1,6 @@
 use Rattle.std.proofs.Common.{◌≡◌, ◌++◌, map, drop}
 use Rattle.axi4_rules.specs.Lines.{all_numbers}
-use Rattle.axi4_rules.proofs.Lists.{with_front}
+use Rattle.axi4_rules.proofs.ListLaws.{with_front}
 use Rattle.axi4_rules.proofs.values.numbers.Given as goal
 
 abbrev pub invariant-loop-text : goal.invariant-loop-text

@@ -1,8 +1,8 @@
 use Rattle.std.proofs.Common.{◌≡◌, length, get_or, drop, map, None, Some, ◌<◌, ◌∙◌, ap, sym, ◌++◌, ◌∷◌}
 use Rattle.std.specs.Option.{option_map, option_to_list}
 use Rattle.axi4_rules.specs.Lines.{optional, values}
-use Rattle.axi4_rules.proofs.Lists.{drop-end}
-use Rattle.axi4_rules.proofs.Fields.{lacks, strips, values-next, first_value, second_value, all_values}
+use Rattle.axi4_rules.proofs.ListLaws.{drop-end}
+use Rattle.axi4_rules.proofs.FieldLaws.{lacks, strips, values-next, first_value, second_value, all_values}
 use Rattle.axi4_rules.proofs.values.optional.Goals as goal
 
 pub loop-field-preserved-in_default : goal.loop-field-preserved-in_default

@@ -6,7 +6,7 @@ use Rattle.std.specs.Str.Pattern.{FindsTextPrefix, StripsPrefix}
 use Rattle.std.proofs.lemmas.Str.Pattern.{starts_text}
 use Rattle.std.proofs.lemmas.Bool.{true≢false, false≢true}
 use Rattle.axi4_rules.specs.Lines.{value_in, values, at_most_one}
-use Rattle.axi4_rules.proofs.Lists.{drop-next}
+use Rattle.axi4_rules.proofs.ListLaws.{drop-next}
 
 pub lacks : (key field : List ℕ) → FindsTextPrefix key field None → value_in key field ≡ None
 lacks key field h = rw (← starts_text false key field h) refl

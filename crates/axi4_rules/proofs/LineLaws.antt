@@ -2,9 +2,11 @@
 use Rattle.std.proofs.Common.{◌≡◌, ℕ, ◌+◌, ◌<◌, ◌≤◌, suc, Bool, true, false, List, [], ◌∷◌, ◌++◌, length, get_or, drop, map, Result, Ok, Err, Bor, refl, sym, ap, ◌∙◌, add-one, append_assoc}
 use Rattle.std.specs.Prelude.{not}
 use Rattle.axi4_rules.specs.declared.fault.PortFault.{PortFault}
+use Rattle.axi4_rules.specs.declared.fault.PortFault.TheVariants as faults
 use Rattle.axi4_rules.specs.Lines.{LineData}
+use Rattle.axi4_rules.specs.Seen.{IsFault}
 use Rattle.axi4_rules.specs.Ports.{is_skipped, port_in, ports_in, onto_ok}
-use Rattle.axi4_rules.proofs.Lists.{drop-next, drop-end}
+use Rattle.axi4_rules.proofs.ListLaws.{drop-next, drop-end}
 
 pub skipped : (n : ℕ) (l : List ℕ) (ls : List (List ℕ)) → is_skipped l ≡ true → ports_in n (l ∷ ls) ≡ ports_in (suc n) ls
 unfolding ports_in
@@ -51,3 +53,11 @@ left-refused ls i d f below h e =
 pub left-none : (ls : List (Bor (List ℕ))) (i : ℕ) → length ls ≤ i → left ls i ≡ Ok []
 unfolding ports_in
 left-none ls i over = rw (drop-end ls i over) refl
+
+-- a fault that one definition says, said by another
+pub carried : {Y Z : Type 0} (e : PortFault) (a : Result Y PortFault) (b : Result Z PortFault) → (a ≡ Err e → b ≡ Err e) → IsFault e a → IsFault e b
+carried faults.Memory a b f h = tt
+carried faults.BadWidth a b f h = f h
+carried faults.BadId a b f h = f h
+carried faults.BadName a b f h = f h
+carried (faults.BadLine n) a b f h = f h

@@ -5,7 +5,7 @@ use Rattle.std.specs.Char.{is_ascii_digit}
 use Rattle.std.specs.List.{list_all}
 use Rattle.std.proofs.lemmas.Bool.{true≢false, ne_eqb}
 use Rattle.axi4_rules.specs.Lines.{decimal_from, number}
-use Rattle.axi4_rules.proofs.Lists.{drop-next, drop-end}
+use Rattle.axi4_rules.proofs.ListLaws.{drop-next, drop-end}
 
 pub decimal_from-le : (n : ℕ) (ds : List ℕ) → n ≤ decimal_from n ds
 unfolding decimal_from
