@@ -1,10 +1,10 @@
 -- The lines of a port file, one by one.
-use Rattle.std.proofs.Common.{◌≡◌, ℕ, ◌+◌, ◌<◌, ◌≤◌, suc, Bool, true, false, List, [], ◌∷◌, ◌++◌, length, get_or, drop, map, Result, Ok, Err, Bor, refl, sym, ap, ◌∙◌, add-one, append_assoc}
-use Rattle.std.specs.Prelude.{not}
+use Rattle.std.proofs.Common.{◌≡◌, ℕ, ◌+◌, ◌<◌, ◌≤◌, suc, Bool, true, false, List, [], ◌∷◌, ◌++◌, length, get_or, drop, map, Result, Ok, Err, Bor, refl, sym, ap, ◌∙◌, add-one, append_assoc, subst}
+use Rattle.std.specs.Prelude.{not, IsErrAnd}
 use Rattle.axi4_rules.specs.declared.fault.PortFault.{PortFault}
 use Rattle.axi4_rules.specs.declared.fault.PortFault.TheVariants as faults
 use Rattle.axi4_rules.specs.Lines.{LineData}
-use Rattle.axi4_rules.specs.Seen.{IsFault}
+use Rattle.axi4_rules.specs.Seen.{IsFault, Gives}
 use Rattle.axi4_rules.specs.Ports.{is_skipped, port_in, ports_in, onto_ok}
 use Rattle.axi4_rules.proofs.ListLaws.{drop-next, drop-end}
 
@@ -61,3 +61,8 @@ carried faults.BadWidth a b f h = f h
 carried faults.BadId a b f h = f h
 carried faults.BadName a b f h = f h
 carried (faults.BadLine n) a b f h = f h
+
+-- a fault that is handed on
+pub handed_on : {X Y : Type 0} (view : X → Y) (r : Result X PortFault) (e : PortFault) (said : Result Y PortFault) → IsErrAnd r (λ f. f ≡ e) → IsFault e said → Gives view r said
+handed_on view (Ok x) e said h why = absurd h
+handed_on view (Err f) e said h why = subst (λ (g : PortFault). IsFault g said) (sym h) why
