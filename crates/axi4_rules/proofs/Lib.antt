@@ -3,3 +3,5 @@ pub mod FieldLaws
 pub mod NumberLaws
 pub mod LineLaws
 pub mod RangeLaws
+pub mod TokenLaws
+pub mod FillLaws

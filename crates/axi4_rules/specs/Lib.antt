@@ -6,3 +6,4 @@ pub mod Rules
 pub mod Seen
 pub mod Rows
 pub mod Drafts
+pub mod Wholes

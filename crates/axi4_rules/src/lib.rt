@@ -4,6 +4,10 @@
 mod case;
 mod draft;
 mod fault;
+mod fill;
+mod filling;
+mod form;
+mod lines;
 mod mode;
 mod names;
 mod paths;
@@ -11,6 +15,7 @@ mod port;
 mod ranges;
 mod read;
 mod row;
+mod rule_text;
 mod sizes;
 mod tables;
 mod text;
