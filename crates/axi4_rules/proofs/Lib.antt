@@ -5,3 +5,5 @@ pub mod LineLaws
 pub mod RangeLaws
 pub mod TokenLaws
 pub mod FillLaws
+pub mod GrowthLaws
+pub mod AddLaws

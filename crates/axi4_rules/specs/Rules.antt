@@ -105,11 +105,14 @@ wait_lines p channel =
     if p.sizes.wait == 0 then []
     else rule_line (of_channel p channel (decimal p.sizes.wait)) wait_row ∷ []
 
+abbrev pub stable_lines : PortData → List ℕ → List (List ℕ) → List (List ℕ)
+stable_lines p channel payload = map (λ s. rule_line (of_channel p channel s) stable_row) payload
+
 unfoldable pub channel_lines : PortData → List ℕ → List (List ℕ) → List (List ℕ)
 channel_lines p channel payload =
     reset_line (of_channel p channel []) reset_row
     ∷ rule_line (of_channel p channel []) hold_row
-    ∷ (map (λ s. rule_line (of_channel p channel s) stable_row) payload ++ wait_lines p channel)
+    ∷ (stable_lines p channel payload ++ wait_lines p channel)
 
 unfoldable pub address_payload : List (List ℕ)
 address_payload =

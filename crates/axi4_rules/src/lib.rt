@@ -1,6 +1,7 @@
 //! The rules of AXI4 for named ports.
 #![tactic(auto)]
 
+mod blocks;
 mod case;
 mod draft;
 mod fault;
@@ -8,6 +9,7 @@ mod fill;
 mod filling;
 mod form;
 mod lines;
+mod lone_rows;
 mod mode;
 mod names;
 mod paths;

@@ -7,19 +7,3 @@ pub(crate) struct Row<'t> {
     pub first: &'t str,
     pub second: &'t str,
 }
-
-impl<'t> Row<'t> {
-    ghost use Rattle.std.specs.Prelude.{◌≡◌};
-
-    pub fn new(name: &'t str, first: &'t str, second: &'t str) -> Row<'t>
-        ensures name { result.name.now ≡ name.now }
-        ensures first { result.first.now ≡ first.now }
-        ensures second { result.second.now ≡ second.now }
-    {
-        Row {
-            name,
-            first,
-            second,
-        }
-    }
-}
