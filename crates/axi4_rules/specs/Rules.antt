@@ -242,14 +242,21 @@ response_lines p mode =
     ++ for_ids rule_line p write_id_row ++ for_ids rule_line p read_id_row
     ++ in_single mode (for_rows rule_line p single_rows)
 
--- The table of a port: its lines, in order.
-unfoldable pub table : PortData → Mode → List (List ℕ)
-table p mode =
+unfoldable pub channels : PortData → List (List ℕ)
+channels p =
     channel_lines p (codes "aw") address_payload ++ channel_lines p (codes "w") write_payload
     ++ channel_lines p (codes "b") response_payload ++ channel_lines p (codes "ar") address_payload
     ++ channel_lines p (codes "r") read_payload
-    ++ address_lines p (codes "aw") ++ address_lines p (codes "ar")
-    ++ counter_lines p mode ++ response_lines p mode
+
+unfoldable pub addresses : PortData → List (List ℕ)
+addresses p = address_lines p (codes "aw") ++ address_lines p (codes "ar")
+
+unfoldable pub counting : PortData → Mode → List (List ℕ)
+counting p mode = counter_lines p mode ++ response_lines p mode
+
+-- The table of a port: its lines, in order.
+unfoldable pub table : PortData → Mode → List (List ℕ)
+table p mode = channels p ++ addresses p ++ counting p mode
 
 -- the tokens of lines
 abbrev pub tokens_of : List (List ℕ) → List (List ℕ)

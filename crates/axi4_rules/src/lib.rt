@@ -3,6 +3,7 @@
 
 mod blocks;
 mod case;
+mod channels;
 mod draft;
 mod fault;
 mod fill;
@@ -16,15 +17,18 @@ mod paths;
 mod port;
 mod ranges;
 mod read;
+mod responses;
 mod row;
 mod rule_text;
 mod sizes;
 mod tables;
 mod text;
 mod values;
+mod writing;
 
 pub use case::Case;
 pub use fault::PortFault;
 pub use mode::Mode;
 pub use port::Port;
 pub use read::read_ports;
+pub use writing::rules;
