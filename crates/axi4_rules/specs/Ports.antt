@@ -29,6 +29,12 @@ are_ids width ids = nat_le (length ids) 16 && list_all (λ i. nat_lt i (2 ^ widt
 unfoldable pub are_names : List ℕ → PathData → Bool
 are_names name p = is_word name && is_path p.clock && is_path p.reset && is_path (p.prefix ++ codes "awvalid")
 
+abbrev pub is_sized : ℕ → ℕ → ℕ → ℕ → Bool
+is_sized addr data_width id wait = are_sizes (record { addr = addr; data_width = data_width; id = id; wait = wait })
+
+abbrev pub is_named : List ℕ → List ℕ → List ℕ → List ℕ → Bool
+is_named name clock reset prefix = are_names name (record { clock = clock; reset = reset; prefix = prefix })
+
 -- the first fault of a line that has the form of a port
 unfoldable pub checked : LineData → Result LineData PortFault
 checked d =

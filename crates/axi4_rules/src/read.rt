@@ -1,9 +1,9 @@
 //! Reads port files.
 
-ghost use Rattle.std.specs.Prelude.{◌≡◌, IfOk, IsTrue, map, string_bytes};
-ghost use Rattle.axi4_rules.specs.Ports.{are_names, checked, is_skipped, port_in, ports_in, port_file};
+ghost use Rattle.std.specs.Prelude.{◌≡◌, IfOk, OnOk, IsTrue, map};
+ghost use Rattle.axi4_rules.specs.Ports.{are_sizes, are_ids, are_names, checked, is_skipped, port_in, ports_in, port_file};
 ghost use Rattle.axi4_rules.specs.Texts.{begins_with};
-ghost use Rattle.axi4_rules.specs.Drafts.{path_data, draft_data};
+ghost use Rattle.axi4_rules.specs.Drafts.{path_data, size_data, draft_data};
 ghost use Rattle.axi4_rules.specs.Seen.{Gives, line_data};
 
 use crate::draft::{Draft, line_said};
@@ -32,7 +32,10 @@ fn are_names(alloc: Global, name: &str, paths: Paths) -> Result<bool, AllocError
 /// The first fault of a line of the form of a port.
 #[tactic(auto, unfolding(crate::specs::Ports::checked))]
 fn check(alloc: Global, draft: &Draft) -> Result<(), PortFault>
-    ensures { Gives (λ d. draft_data draft.now) result (checked (draft_data draft.now)) }
+    ensures said { Gives (λ d. draft_data draft.now) result (checked (draft_data draft.now)) }
+    ensures sized { OnOk result (IsTrue (are_sizes (size_data draft.now.sizes))) }
+    ensures watching { OnOk result (IsTrue (are_ids draft.now.sizes.id draft.now.watch.items)) }
+    ensures named { OnOk result (IsTrue (are_names draft.now.name.now (path_data draft.now.paths))) }
 {
     if !are_sizes(draft.sizes) {
         return Err(PortFault::BadWidth);
@@ -48,6 +51,9 @@ fn check(alloc: Global, draft: &Draft) -> Result<(), PortFault>
 
 /// The port of a line, in memory of its own.
 fn port_of(alloc: Global, draft: Draft) -> Result<(Port, Mode), AllocError>
+    requires sized { IsTrue (are_sizes (size_data draft.sizes)) }
+    requires watching { IsTrue (are_ids draft.sizes.id draft.watch.items) }
+    requires named { IsTrue (are_names draft.name.now (path_data draft.paths)) }
     ensures { IfOk result (λ p. line_data p ≡ draft_data draft.entry) }
 {
     let name = String::from_str(alloc, draft.name)?;
