@@ -1,0 +1,9 @@
+pub mod ListLaws
+pub mod FieldLaws
+pub mod NumberLaws
+pub mod LineLaws
+pub mod RangeLaws
+pub mod TokenLaws
+pub mod FillLaws
+pub mod GrowthLaws
+pub mod AddLaws

@@ -1,0 +1,13 @@
+use Rattle.std.proofs.Common.{◌≡◌, ◌∙◌, ◌++◌, ap}
+use Rattle.axi4_rules.specs.Rules.{table, tokens_of}
+use Rattle.axi4_rules.specs.Seen.{port_data}
+use Rattle.axi4_rules.specs.Wholes.{Adds}
+use Rattle.axi4_rules.proofs.AddLaws.{and_then, from_nothing}
+use Rattle.axi4_rules.proofs.writing.rules.Goals as goal
+
+pub returns : goal.returns
+unfolding table
+returns c =
+    c.into_text.ensures
+    ∙ from_nothing c.new-text.ensures
+    (and_then (and_then c.in_ok-push_channels.ensures c.in_ok-push_addresses.ensures) c.in_ok-push_counting.ensures)

@@ -1,0 +1,21 @@
+-- What a clause sees of rows in memory, and of what fills them.
+use Rattle.std.specs.Prelude.{ℕ, List}
+use Rattle.axi4_rules.specs.declared.row.Row.{Row}
+use Rattle.axi4_rules.specs.declared.filling.Filling.{Filling}
+use Rattle.axi4_rules.specs.declared.form.Form.{Form}
+use Rattle.axi4_rules.specs.declared.form.Form.TheVariants.{Rule, Always, Counter}
+use Rattle.axi4_rules.specs.Rules as rules
+use Rattle.axi4_rules.specs.Rules.{rule_line, reset_line, counter_line}
+use Rattle.axi4_rules.specs.Seen.{port_data}
+
+abbrev pub row_data : Row → rules.Row
+row_data r = record { name = r.name.now; first = r.first.now; second = r.second.now }
+
+abbrev pub filling_data : Filling → rules.Filling
+filling_data f = record { port = port_data f.port.now; channel = f.channel.now; item = f.item.now }
+
+-- the line of a row in a form
+abbrev pub line_in : Form → rules.Filling → rules.Row → List ℕ
+line_in Rule f r = rule_line f r
+line_in Always f r = reset_line f r
+line_in Counter f r = counter_line f r

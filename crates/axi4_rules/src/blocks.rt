@@ -1,0 +1,90 @@
+//! Blocks of rows.
+
+ghost use Rattle.std.specs.Prelude.{◌≡◌, ◌∷◌, [], List, map, OnOk};
+ghost use Rattle.axi4_rules.specs.Rules.{stable_lines, for_ids};
+ghost use Rattle.axi4_rules.specs.Seen.{port_data};
+ghost use Rattle.axi4_rules.specs.Rows.{filling_data, row_data, line_in};
+ghost use Rattle.axi4_rules.specs.Wholes.{Adds};
+
+use crate::filling::Filling;
+use crate::form::Form;
+use crate::lines::line_in;
+use crate::lone_rows::stable_row;
+use crate::port::Port;
+use crate::row::Row;
+use crate::rule_text::RuleText;
+use std::alloc::{AllocError, Global};
+
+/// Adds the line of a row.
+pub(crate) fn push_row(
+    alloc: Global,
+    text: &mut RuleText,
+    form: Form,
+    filling: Filling,
+    row: Row,
+) -> Result<(), AllocError>
+    ensures { OnOk result (Adds text.old text.new (line_in form (filling_data filling.entry) (row_data row.entry) ∷ [])) }
+{
+    let line = line_in(alloc, form, filling, row)?;
+    text.push_line(line)?;
+    Ok(())
+}
+
+/// Adds the lines of rows.
+pub(crate) fn push_rows(
+    alloc: Global,
+    text: &mut RuleText,
+    form: Form,
+    filling: Filling,
+    rows: &[Row],
+) -> Result<(), AllocError>
+    ensures { OnOk result (Adds text.old text.new (map (line_in form (filling_data filling.entry)) (map row_data rows.now))) }
+{
+    for row in rows {
+        push_row(alloc, text, form, filling, *row)?;
+    }
+    Ok(())
+}
+
+/// Adds a line of the row for each watched ID.
+pub(crate) fn push_ids(
+    alloc: Global,
+    text: &mut RuleText,
+    form: Form,
+    port: &Port,
+    row: Row,
+) -> Result<(), AllocError>
+    ensures { OnOk result (Adds text.old text.new (for_ids (line_in form) (port_data port.now) (row_data row.entry))) }
+{
+    for id in &port.watch {
+        let item = format!(in alloc; "{id}")?;
+        let filling = Filling {
+            port,
+            channel: "",
+            item: item.as_str(),
+        };
+        push_row(alloc, text, form, filling, row)?;
+    }
+    Ok(())
+}
+
+/// Adds the rule of each payload signal.
+pub(crate) fn push_stables(
+    alloc: Global,
+    text: &mut RuleText,
+    port: &Port,
+    channel: &str,
+    payload: &[&str],
+) -> Result<(), AllocError>
+    ensures { OnOk result (Adds text.old text.new (stable_lines (port_data port.now) channel.now (map (λ s. s.now) payload.now))) }
+{
+    for signal in payload {
+        let filling = Filling {
+            port,
+            channel,
+            item: *signal,
+        };
+        push_row(alloc, text, Form::Rule, filling, stable_row())?;
+    }
+    Ok(())
+}

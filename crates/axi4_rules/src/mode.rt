@@ -1,0 +1,10 @@
+//! The mode of a port.
+
+/// How many transactions may be outstanding in one direction.
+#[derive(Clone, Copy, Debug, PartialEq, Eq)]
+pub enum Mode {
+    /// Any number.
+    Multi,
+    /// Never two, which the rules rest on and don't check.
+    Single,
+}

@@ -1,0 +1,74 @@
+//! The rules of a port.
+
+ghost use Rattle.std.specs.Prelude.{◌≡◌, codes, IfOk, OnOk, string_bytes};
+ghost use Rattle.axi4_rules.specs.Texts.{tokens};
+ghost use Rattle.axi4_rules.specs.Rules.{address_payload, write_payload, response_payload, read_payload, channels, addresses, counting, table, tokens_of};
+ghost use Rattle.axi4_rules.specs.Seen.{port_data};
+ghost use Rattle.axi4_rules.specs.Wholes.{Adds};
+
+use crate::channels::{push_address, push_channel, push_comment};
+use crate::mode::Mode;
+use crate::port::Port;
+use crate::responses::{push_counters, push_responses};
+use crate::rule_text::RuleText;
+use std::alloc::{AllocError, Global};
+
+const ADDRESS: [&str; 8] = ["id", "addr", "len", "size", "burst", "lock", "cache", "prot"];
+const WRITE: [&str; 2] = ["strb", "last"];
+const RESPONSE: [&str; 2] = ["id", "resp"];
+const READ: [&str; 3] = ["id", "resp", "last"];
+
+/// Adds a block for each channel.
+fn push_channels(alloc: Global, text: &mut RuleText, port: &Port) -> Result<(), AllocError>
+    ensures { OnOk result (Adds text.old text.new (channels (port_data port.now))) }
+{
+    push_comment(text, "Write address: silent in reset, still while it waits, taken in time.")?;
+    push_channel(alloc, text, port, "aw", &ADDRESS)?;
+    push_comment(text, "Write data: the same.")?;
+    push_channel(alloc, text, port, "w", &WRITE)?;
+    push_comment(text, "Write response: the same.")?;
+    push_channel(alloc, text, port, "b", &RESPONSE)?;
+    push_comment(text, "Read address: the same.")?;
+    push_channel(alloc, text, port, "ar", &ADDRESS)?;
+    push_comment(text, "Read data: the same.")?;
+    push_channel(alloc, text, port, "r", &READ)?;
+    Ok(())
+}
+
+/// Adds a block for each address channel.
+fn push_addresses(alloc: Global, text: &mut RuleText, port: &Port) -> Result<(), AllocError>
+    ensures { OnOk result (Adds text.old text.new (addresses (port_data port.now))) }
+{
+    push_comment(text, "Write address: bursts of a legal kind, length, size, place and lock.")?;
+    push_address(alloc, text, port, "aw")?;
+    push_comment(text, "Read address: the same.")?;
+    push_address(alloc, text, port, "ar")?;
+    Ok(())
+}
+
+/// Adds the counters and the rules that read them.
+fn push_counting(
+    alloc: Global,
+    text: &mut RuleText,
+    port: &Port,
+    mode: Mode,
+) -> Result<(), AllocError>
+    ensures { OnOk result (Adds text.old text.new (counting (port_data port.now) mode)) }
+{
+    push_comment(text, "What is outstanding; in single mode what was asked for, and the beats so far.")?;
+    push_counters(alloc, text, port, mode)?;
+    push_comment(text, "Responses: each after its request; in single mode of the right kind and length.")?;
+    push_responses(alloc, text, port, mode)?;
+    Ok(())
+}
+
+/// The text of a port's counters and rules: a line each, with a comment above each block.
+pub fn rules(alloc: Global, port: &Port, mode: Mode) -> Result<String, AllocError>
+    ensures { IfOk result (λ t. tokens (string_bytes t) ≡ tokens_of (table (port_data port.now) mode)) }
+{
+    let mut text = RuleText::new(alloc);
+    push_channels(alloc, &mut text, port)?;
+    push_addresses(alloc, &mut text, port)?;
+    push_counting(alloc, &mut text, port, mode)?;
+    Ok(text.into_text())
+}
