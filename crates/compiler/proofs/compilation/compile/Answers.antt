@@ -1,23 +1,29 @@
-use Rattle.std.proofs.Common.{rules, ◌≡◌, IfOk, IfErr, MatchOption, ℕ, ◌+◌, ◌-◌, ◌*◌, ◌<◌, ◌≤◌, length, ◌/◌, ◌%◌, Bool, true, false, nat_eq, nat_lt, List, [], ◌∷◌, ◌++◌, slice_index_or, slice_set, bit_and, bit_or, Fits, w8, w32, w64, Bor, MutBor}
-use Rattle.compiler.specs.Conditions.{IsFit}
-use Rattle.compiler.specs.Reads.{IsReadingOf}
-use Rattle.compiler.specs.Faults.{WhyNotCompiled, AreCounted, IsCountFault}
+use Rattle.std.proofs.Common.{◌≡◌, sym, subst}
+use Rattle.bytecode.specs.Programs.{data_of}
+use Rattle.verifier.specs.Programs.{least_limits}
 use Rattle.compiler.specs.Programs.{IsProgramOf}
-use Rattle.verifier.specs.Programs.{IsAccepted}
+use Rattle.compiler.specs.Parts.{declared_from}
+use Rattle.compiler.proofs.Formed as made
 use Rattle.compiler.proofs.compilation.compile.Goals as goal
 
--- src/compilation.rt:65:8
 pub accepted-requires-clause-formed : goal.accepted-requires-clause-formed
-accepted-requires-clause-formed c = ?
+accepted-requires-clause-formed c =
+    made.formed c.args.suite.now c.args.assertion.now c.requires c.in_ok-reading.reading.signals.items c.in_ok-reading.reading.counters.items
+    c.in_ok-reading.ensures.is (data_of c.in_ok-program.program) c.in_ok-program.ensures.made c.in_default.ensures
 
--- src/compilation.rt:65:8
 pub accepted-requires-clause-room : goal.accepted-requires-clause-room
-accepted-requires-clause-room c = ?
+accepted-requires-clause-room c =
+    made.roomy c.args.suite.now c.args.assertion.now c.requires c.in_ok-reading.reading.signals.items c.in_ok-reading.reading.counters.items
+    c.in_ok-reading.ensures.is (data_of c.in_ok-program.program) c.in_ok-program.ensures.made c.in_default.ensures
 
--- src/compilation.rt:65:8
 pub accepted-requires-clause-modest : goal.accepted-requires-clause-modest
-accepted-requires-clause-modest c = ?
+accepted-requires-clause-modest c =
+    made.modest c.args.suite.now c.args.assertion.now c.requires c.in_ok-reading.reading.signals.items c.in_ok-reading.reading.counters.items
+    c.in_ok-reading.ensures.is (data_of c.in_ok-program.program) c.in_ok-program.ensures.made c.in_default.ensures
 
--- src/compilation.rt:50:1
 pub returns-clause-made : goal.returns-clause-made
-returns-clause-made c = ?
+returns-clause-made c =
+    subst (IsProgramOf c.args.suite.now c.args.assertion.now) (sym c.in_ok-accepted.ensures)
+    (made.declares c.args.suite.now c.args.assertion.now (data_of c.in_ok-program.program) (declared_from (least_limits (data_of c.in_ok-program.program)))
+    (made.program-of c.args.suite.now c.args.assertion.now c.requires c.in_ok-reading.reading.signals.items c.in_ok-reading.reading.counters.items
+    c.in_ok-reading.ensures.is (data_of c.in_ok-program.program) c.in_ok-program.ensures.made))
