@@ -9,3 +9,4 @@ pub mod Refusals
 pub mod Counts
 pub mod Loops
 pub mod FaultLaws
+pub mod SmallLaws
