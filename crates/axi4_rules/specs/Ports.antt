@@ -1,5 +1,5 @@
 -- Port files.
-use Rattle.std.specs.Prelude.{ℕ, ◌+◌, ◌^◌, ◌==◌, ◌||◌, ◌&&◌, suc, nat_lt, nat_le, List, [], ◌∷◌, ◌++◌, map, length, Bool, true, false, not, Option, Some, None, Result, Ok, Err, codes, if◌then◌else◌}
+use Rattle.std.specs.Prelude.{ℕ, ◌^◌, ◌==◌, ◌||◌, ◌&&◌, suc, nat_lt, nat_le, List, [], ◌∷◌, ◌++◌, map, length, Bool, true, not, Option, Some, None, Result, Ok, Err, codes, if◌then◌else◌}
 use Rattle.std.specs.List.{list_all, list_any, filter}
 use Rattle.axi4_rules.specs.declared.fault.PortFault.{PortFault}
 use Rattle.axi4_rules.specs.declared.fault.PortFault.TheVariants.{BadWidth, BadId, BadName, BadLine}

@@ -1,5 +1,5 @@
 -- The rules of AXI4 and the counters that they read, as this project chose them.
-use Rattle.std.specs.Prelude.{ℕ, ◌==◌, ◌||◌, ◌&&◌, List, [], ◌∷◌, ◌++◌, map, Bool, true, false, not, codes, if◌then◌else◌}
+use Rattle.std.specs.Prelude.{ℕ, ◌==◌, List, [], ◌∷◌, ◌++◌, map, codes, if◌then◌else◌}
 use Rattle.std.specs.List.{flat_map}
 use Rattle.std.specs.Fmt.{decimal}
 use Rattle.std.specs.Char.{to_ascii_uppercase}
@@ -146,17 +146,17 @@ address_rows width =
     ∷ row (codes "__len") (codes "%valid && %burst != 2'b01 |-> %len <= 8'd15") []
     ∷ row (codes "__size") (codes "%valid |-> %size <=") (size_bound width)
     ∷ row (codes "__wrap_len") (codes "%valid && %burst == 2'b10 |-> %len == 8'd1 || %len == 8'd3")
-        (codes "|| %len == 8'd7 || %len == 8'd15")
+    (codes "|| %len == 8'd7 || %len == 8'd15")
     ∷ row (codes "__wrap_align") (codes "%valid && %burst == 2'b10 |->")
-        (codes "( %addr & ( ( ?'d1 << %size ) - ?'d1 ) ) == ?'d0")
+    (codes "( %addr & ( ( ?'d1 << %size ) - ?'d1 ) ) == ?'d0")
     ∷ row (codes "__4k") (codes "%valid && %burst == 2'b01 |-> ( { 8'd0 , %addr [ 11 : 0 ] }")
-        (codes "& ~ ( ( 20'd1 << %size ) - 20'd1 ) ) + ( ( { 12'd0 , %len } + 20'd1 ) << %size ) <= 20'd4096")
+    (codes "& ~ ( ( 20'd1 << %size ) - 20'd1 ) ) + ( ( { 12'd0 , %len } + 20'd1 ) << %size ) <= 20'd4096")
     ∷ row (codes "__cache") (codes "%valid && ! %cache [ 1 ] |-> %cache [ 3 : 2 ] == 2'b00") []
     ∷ row (codes "__excl_len") (codes "%valid && %lock |-> %len <= 8'd15") []
     ∷ row (codes "__excl_bytes") (codes "%valid && %lock |-> $onehot ( ( ( { 12'd0 , %len } + 20'd1 ) << %size ) )")
-        (codes "&& ( ( { 12'd0 , %len } + 20'd1 ) << %size ) <= 20'd128")
+    (codes "&& ( ( { 12'd0 , %len } + 20'd1 ) << %size ) <= 20'd128")
     ∷ row (codes "__excl_align") (codes "%valid && %lock |-> ( { 8'd0 , %addr [ 11 : 0 ] }")
-        (codes "& ( ( ( { 12'd0 , %len } + 20'd1 ) << %size ) - 20'd1 ) ) == 20'd0")
+    (codes "& ( ( ( { 12'd0 , %len } + 20'd1 ) << %size ) - 20'd1 ) ) == 20'd0")
     ∷ []
 
 unfoldable pub address_lines : PortData → List ℕ → List (List ℕ)
@@ -176,12 +176,12 @@ counter_rows =
 unfoldable pub writes_row : Row
 writes_row =
     row (codes "_awo_? [ 16 ]") (codes "add ( %awvalid && %awready && %awid == ? , 1 )")
-        (codes "sub ( %bvalid && %bready && %bid == ? , 1 )")
+    (codes "sub ( %bvalid && %bready && %bid == ? , 1 )")
 
 unfoldable pub reads_row : Row
 reads_row =
     row (codes "_aro_? [ 16 ]") (codes "add ( %arvalid && %arready && %arid == ? , 1 )")
-        (codes "sub ( %rvalid && %rready && %rlast && %rid == ? , 1 )")
+    (codes "sub ( %rvalid && %rready && %rlast && %rid == ? , 1 )")
 
 unfoldable pub single_counter_rows : List Row
 single_counter_rows =

@@ -1,5 +1,5 @@
 -- What a clause sees of a port in memory.
-use Rattle.std.specs.Prelude.{◌≡◌, ℕ, List, map, Option, Some, None, Result, Ok, Err, string_bytes}
+use Rattle.std.specs.Prelude.{◌≡◌, Result, Ok, Err, string_bytes}
 use Rattle.axi4_rules.specs.declared.port.Port.{Port}
 use Rattle.axi4_rules.specs.declared.mode.Mode.{Mode}
 use Rattle.axi4_rules.specs.declared.fault.PortFault.{PortFault}

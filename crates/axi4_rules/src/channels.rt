@@ -83,6 +83,12 @@ pub(crate) fn push_address(
         channel,
         item: item.as_str(),
     };
-    push_rows(alloc, text, Form::Rule, filling, &address_rows(port.data_width))?;
+    push_rows(
+        alloc,
+        text,
+        Form::Rule,
+        filling,
+        &address_rows(port.data_width),
+    )?;
     Ok(())
 }

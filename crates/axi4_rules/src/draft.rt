@@ -84,7 +84,11 @@ fn watched_in(alloc: Global, fields: &[&str]) -> Result<Option<Vec<u32>>, AllocE
 
 /// What the fields behind the name say.
 #[tactic(auto, unfolding(crate::specs::Lines::said_by))]
-fn said_by<'t>(alloc: Global, name: &'t str, fields: &[&'t str]) -> Result<Option<Draft<'t>>, AllocError>
+fn said_by<'t>(
+    alloc: Global,
+    name: &'t str,
+    fields: &[&'t str],
+) -> Result<Option<Draft<'t>>, AllocError>
     ensures { IfOk result (λ o. option_map draft_data o ≡ said_by name.now (map (λ f. f.now) fields.now)) }
 {
     let Some(paths) = paths_in(fields) else {
@@ -114,7 +118,10 @@ fn said_by<'t>(alloc: Global, name: &'t str, fields: &[&'t str]) -> Result<Optio
 
 /// What the fields of a line say; `None` where they don't have the form of a port.
 #[tactic(auto, unfolding(crate::specs::Lines::line_said))]
-pub(crate) fn line_said<'t>(alloc: Global, fields: &[&'t str]) -> Result<Option<Draft<'t>>, AllocError>
+pub(crate) fn line_said<'t>(
+    alloc: Global,
+    fields: &[&'t str],
+) -> Result<Option<Draft<'t>>, AllocError>
     ensures { IfOk result (λ o. option_map draft_data o ≡ line_said (map (λ f. f.now) fields.now)) }
 {
     match fields {

@@ -39,7 +39,12 @@ fn in_case(case: Case, name: String) -> String
 }
 
 /// Adds a signal of the channel.
-fn push_signal(alloc: Global, line: &mut String, filling: Filling, word: &str) -> Result<(), AllocError>
+fn push_signal(
+    alloc: Global,
+    line: &mut String,
+    filling: Filling,
+    word: &str,
+) -> Result<(), AllocError>
     ensures { OnOk result (string_bytes line.new ≡ string_bytes line.old ++ signal (filling_data filling.entry) word.now) }
 {
     let mut name = String::from_str(alloc, filling.channel)?;
@@ -60,7 +65,12 @@ fn push_own_name(line: &mut String, filling: Filling, word: &str) -> Result<(), 
 }
 
 /// Adds a word that names no path.
-fn push_word(alloc: Global, line: &mut String, filling: Filling, word: &str) -> Result<(), AllocError>
+fn push_word(
+    alloc: Global,
+    line: &mut String,
+    filling: Filling,
+    word: &str,
+) -> Result<(), AllocError>
     ensures { OnOk result (string_bytes line.new ≡ string_bytes line.old ++ filled_word (filling_data filling.entry) word.now) }
 {
     if let Some(rest) = word.strip_prefix('%') {
@@ -74,7 +84,12 @@ fn push_word(alloc: Global, line: &mut String, filling: Filling, word: &str) -> 
 
 /// Adds a word of a template.
 #[tactic(auto, unfolding(crate::specs::Rules::filled))]
-fn push_filled(alloc: Global, line: &mut String, filling: Filling, word: &str) -> Result<(), AllocError>
+fn push_filled(
+    alloc: Global,
+    line: &mut String,
+    filling: Filling,
+    word: &str,
+) -> Result<(), AllocError>
     ensures { OnOk result (string_bytes line.new ≡ string_bytes line.old ++ filled (filling_data filling.entry) word.now) }
 {
     if word == "CLOCK" {
@@ -87,7 +102,12 @@ fn push_filled(alloc: Global, line: &mut String, filling: Filling, word: &str) -
 }
 
 /// Adds words, each with a space behind.
-fn push_all(alloc: Global, line: &mut String, filling: Filling, words: &[&str]) -> Result<(), AllocError>
+fn push_all(
+    alloc: Global,
+    line: &mut String,
+    filling: Filling,
+    words: &[&str],
+) -> Result<(), AllocError>
     ensures { OnOk result (string_bytes line.new ≡ string_bytes line.old ++ flat_map (λ w. filled (filling_data filling.entry) w ++ codes " ") (map (λ w. w.now) words.now)) }
 {
     for word in words {
@@ -99,7 +119,12 @@ fn push_all(alloc: Global, line: &mut String, filling: Filling, words: &[&str]) 
 
 /// Adds the words of a template.
 #[tactic(auto, unfolding(crate::specs::Rules::words))]
-pub(crate) fn push_words(alloc: Global, line: &mut String, filling: Filling, template: &str) -> Result<(), AllocError>
+pub(crate) fn push_words(
+    alloc: Global,
+    line: &mut String,
+    filling: Filling,
+    template: &str,
+) -> Result<(), AllocError>
     ensures { OnOk result (string_bytes line.new ≡ string_bytes line.old ++ words (filling_data filling.entry) template.now) }
 {
     let words = fields(alloc, template)?;

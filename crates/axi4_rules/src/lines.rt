@@ -12,6 +12,7 @@ use std::alloc::{AllocError, Global};
 
 /// What stands between a rule's name and what it says.
 const OUT_OF_RESET: &str = ": assert property ( @ ( posedge CLOCK ) disable iff ( ! RESET )";
+
 const ALWAYS: &str = ": assert property ( @ ( posedge CLOCK )";
 
 #[tactic(auto, unfolding(crate::specs::Rules::rule_line))]
@@ -54,7 +55,12 @@ fn counter_line(alloc: Global, filling: Filling, row: Row) -> Result<String, All
 }
 
 /// The line of a row, in the form.
-pub(crate) fn line_in(alloc: Global, form: Form, filling: Filling, row: Row) -> Result<String, AllocError>
+pub(crate) fn line_in(
+    alloc: Global,
+    form: Form,
+    filling: Filling,
+    row: Row,
+) -> Result<String, AllocError>
     ensures { IfOk result (λ t. string_bytes t ≡ line_in form (filling_data filling.entry) (row_data row.entry)) }
 {
     match form {

@@ -13,16 +13,24 @@ use crate::responses::{push_counters, push_responses};
 use crate::rule_text::RuleText;
 use std::alloc::{AllocError, Global};
 
-const ADDRESS: [&str; 8] = ["id", "addr", "len", "size", "burst", "lock", "cache", "prot"];
+const ADDRESS: [&str; 8] = [
+    "id", "addr", "len", "size", "burst", "lock", "cache", "prot",
+];
+
 const WRITE: [&str; 2] = ["strb", "last"];
+
 const RESPONSE: [&str; 2] = ["id", "resp"];
+
 const READ: [&str; 3] = ["id", "resp", "last"];
 
 /// Adds a block for each channel.
 fn push_channels(alloc: Global, text: &mut RuleText, port: &Port) -> Result<(), AllocError>
     ensures { OnOk result (Adds text.old text.new (channels (port_data port.now))) }
 {
-    push_comment(text, "Write address: silent in reset, still while it waits, taken in time.")?;
+    push_comment(
+        text,
+        "Write address: silent in reset, still while it waits, taken in time.",
+    )?;
     push_channel(alloc, text, port, "aw", &ADDRESS)?;
     push_comment(text, "Write data: the same.")?;
     push_channel(alloc, text, port, "w", &WRITE)?;
@@ -39,7 +47,10 @@ fn push_channels(alloc: Global, text: &mut RuleText, port: &Port) -> Result<(), 
 fn push_addresses(alloc: Global, text: &mut RuleText, port: &Port) -> Result<(), AllocError>
     ensures { OnOk result (Adds text.old text.new (addresses (port_data port.now))) }
 {
-    push_comment(text, "Write address: bursts of a legal kind, length, size, place and lock.")?;
+    push_comment(
+        text,
+        "Write address: bursts of a legal kind, length, size, place and lock.",
+    )?;
     push_address(alloc, text, port, "aw")?;
     push_comment(text, "Read address: the same.")?;
     push_address(alloc, text, port, "ar")?;
@@ -55,9 +66,15 @@ fn push_counting(
 ) -> Result<(), AllocError>
     ensures { OnOk result (Adds text.old text.new (counting (port_data port.now) mode)) }
 {
-    push_comment(text, "What is outstanding; in single mode what was asked for, and the beats so far.")?;
+    push_comment(
+        text,
+        "What is outstanding; in single mode what was asked for, and the beats so far.",
+    )?;
     push_counters(alloc, text, port, mode)?;
-    push_comment(text, "Responses: each after its request; in single mode of the right kind and length.")?;
+    push_comment(
+        text,
+        "Responses: each after its request; in single mode of the right kind and length.",
+    )?;
     push_responses(alloc, text, port, mode)?;
     Ok(())
 }

@@ -1,4 +1,4 @@
-use Rattle.std.proofs.Common.{◌≡◌, sym, map, subst}
+use Rattle.std.proofs.Common.{sym, subst}
 use Rattle.axi4_rules.specs.Rows.{filling_data, row_data, line_in}
 use Rattle.axi4_rules.specs.Wholes.{Adds}
 use Rattle.axi4_rules.proofs.AddLaws.{all_done, map-map}

@@ -1,4 +1,4 @@
-use Rattle.std.proofs.Common.{◌≡◌, None, lit<}
+use Rattle.std.proofs.Common.{None, lit<}
 use Rattle.std.proofs.lemmas.Str.Pattern.{strip_prefix_char}
 use Rattle.axi4_rules.specs.Rows.{filling_data}
 use Rattle.axi4_rules.proofs.FillLaws.{plain_word}
