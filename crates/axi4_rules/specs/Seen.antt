@@ -9,7 +9,11 @@ use Rattle.axi4_rules.specs.Lines.{PortData, LineData}
 abbrev pub port_data : Port → PortData
 port_data p = record {
   name = string_bytes p.name;
-  paths = record { clock = string_bytes p.clock; reset = string_bytes p.reset; prefix = string_bytes p.prefix };
+  paths = record {
+    clock = string_bytes p.clock;
+    reset = string_bytes p.reset;
+    prefix = string_bytes p.prefix;
+  };
   sizes = record { addr = p.addr; data_width = p.data_width; id = p.id; wait = p.wait };
   case = p.case;
   watch = p.watch.items;

@@ -5,6 +5,7 @@ ghost use Rattle.std.specs.List.{list_any};
 ghost use Rattle.axi4_rules.specs.Rules.{wait_lines, channel_lines, address_lines};
 ghost use Rattle.axi4_rules.specs.Seen.{port_data};
 ghost use Rattle.axi4_rules.specs.Wholes.{Adds};
+ghost use Rattle.axi4_rules.specs.Views.{texts_of};
 
 use crate::blocks::{push_row, push_rows, push_stables};
 use crate::filling::Filling;
@@ -54,7 +55,7 @@ pub(crate) fn push_channel(
     channel: &str,
     payload: &[&str],
 ) -> Result<(), AllocError>
-    ensures { OnOk result (Adds text.old text.new (channel_lines (port_data port.now) channel.now (map (λ s. s.now) payload.now))) }
+    ensures { OnOk result (Adds text.old text.new (channel_lines (port_data port.now) channel.now (texts_of payload.now))) }
 {
     let filling = Filling {
         port,

@@ -1,10 +1,9 @@
 //! The rules of a port.
 
 ghost use Rattle.std.specs.Prelude.{◌≡◌, codes, IfOk, OnOk, string_bytes};
-ghost use Rattle.axi4_rules.specs.Texts.{tokens};
-ghost use Rattle.axi4_rules.specs.Rules.{address_payload, write_payload, response_payload, read_payload, channels, addresses, counting, table, tokens_of};
+ghost use Rattle.axi4_rules.specs.Rules.{channels, addresses, counting, table};
 ghost use Rattle.axi4_rules.specs.Seen.{port_data};
-ghost use Rattle.axi4_rules.specs.Wholes.{Adds};
+ghost use Rattle.axi4_rules.specs.Wholes.{Adds, HasTokens};
 
 use crate::channels::{push_address, push_channel, push_comment};
 use crate::mode::Mode;
@@ -81,7 +80,7 @@ fn push_counting(
 
 /// The text of a port's counters and rules: a line each, with a comment above each block.
 pub fn rules(alloc: Global, port: &Port, mode: Mode) -> Result<String, AllocError>
-    ensures { IfOk result (λ t. tokens (string_bytes t) ≡ tokens_of (table (port_data port.now) mode)) }
+    ensures { IfOk result (λ t. HasTokens t (table (port_data port.now) mode)) }
 {
     let mut text = RuleText::new(alloc);
     push_channels(alloc, &mut text, port)?;
