@@ -1,5 +1,7 @@
 -- Port files.
-use Rattle.std.specs.Prelude.{ℕ, ◌^◌, ◌==◌, ◌||◌, ◌&&◌, suc, nat_lt, nat_le, List, [], ◌∷◌, ◌++◌, map, length, Bool, true, not, Option, Some, None, Result, Ok, Err, codes, string_bytes, if◌then◌else◌}
+use Rattle.std.specs.Prelude.{ℕ, ◌^◌, ◌==◌, ◌||◌, ◌&&◌, suc, nat_lt, nat_le, Bool, true, not}
+use Rattle.std.specs.Prelude.{List, [], ◌∷◌, ◌++◌, map, length, Option, Some, None, Result, Ok, Err}
+use Rattle.std.specs.Prelude.{codes, string_bytes, if◌then◌else◌}
 use Rattle.std.specs.Prelude.{String}
 use Rattle.std.specs.Global.{Global}
 use Rattle.std.specs.List.{list_all, list_any, filter}

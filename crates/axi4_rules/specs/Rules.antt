@@ -154,8 +154,9 @@ address_rows width =
     (codes "|| %len == 8'd7 || %len == 8'd15")
     ∷ row (codes "__wrap_align") (codes "%valid && %burst == 2'b10 |->")
     (codes "( %addr & ( ( ?'d1 << %size ) - ?'d1 ) ) == ?'d0")
-    ∷ row (codes "__4k") (codes "%valid && %burst == 2'b01 |-> ( { 8'd0 , %addr [ 11 : 0 ] } & ~ ( ( 20'd1")
-    (codes "<< %size ) - 20'd1 ) ) + ( ( { 12'd0 , %len } + 20'd1 ) << %size ) <= 20'd4096")
+    ∷ row (codes "__4k")
+    (codes "%valid && %burst == 2'b01 |-> ( { 8'd0 , %addr [ 11 : 0 ] } & ~ ( ( 20'd1 <<")
+    (codes "%size ) - 20'd1 ) ) + ( ( { 12'd0 , %len } + 20'd1 ) << %size ) <= 20'd4096")
     ∷ row (codes "__cache") (codes "%valid && ! %cache [ 1 ] |-> %cache [ 3 : 2 ] == 2'b00") []
     ∷ row (codes "__excl_len") (codes "%valid && %lock |-> %len <= 8'd15") []
     ∷ row (codes "__excl_bytes")

@@ -1,11 +1,9 @@
 //! Blocks of rows.
 
 ghost use Rattle.std.specs.Prelude.{◌≡◌, ◌∷◌, [], List, map, OnOk};
-ghost use Rattle.axi4_rules.specs.Rules.{stable_lines};
 ghost use Rattle.axi4_rules.specs.Seen.{port_data};
-ghost use Rattle.axi4_rules.specs.Rows.{one_line, all_lines, id_lines};
+ghost use Rattle.axi4_rules.specs.Rows.{one_line, all_lines, id_lines, stable_block};
 ghost use Rattle.axi4_rules.specs.Wholes.{Adds};
-ghost use Rattle.axi4_rules.specs.Views.{texts_of};
 
 use crate::filling::Filling;
 use crate::form::Form;
@@ -77,7 +75,7 @@ pub(crate) fn push_stables(
     channel: &str,
     payload: &[&str],
 ) -> Result<(), AllocError>
-    ensures { OnOk result (Adds text.old text.new (stable_lines (port_data port.now) channel.now (texts_of payload.now))) }
+    ensures { OnOk result (Adds text.old text.new (stable_block port.now channel.now payload.now)) }
 {
     for signal in payload {
         let filling = Filling {

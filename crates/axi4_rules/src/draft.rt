@@ -3,7 +3,8 @@
 ghost use Rattle.std.specs.Prelude.{◌≡◌, IfOk, map, nat_eq};
 ghost use Rattle.std.specs.Option.{option_map};
 ghost use Rattle.std.specs.List.{list_all, list_any, starts_with};
-ghost use Rattle.axi4_rules.specs.Lines.{mode_in, case_in, watched_in, is_keyed, said_by, line_said};
+ghost use Rattle.axi4_rules.specs.Lines.{mode_in, case_in, watched_in};
+ghost use Rattle.axi4_rules.specs.Lines.{is_keyed, said_by, line_said};
 ghost use Rattle.axi4_rules.specs.Drafts.{draft_data};
 ghost use Rattle.axi4_rules.specs.Views.{texts_of, items_in};
 

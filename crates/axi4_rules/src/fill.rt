@@ -4,10 +4,10 @@ ghost use Rattle.std.specs.Prelude.{◌≡◌, ◌++◌, OnOk, IfOk, map, string
 ghost use Rattle.std.specs.List.{flat_map};
 ghost use Rattle.std.specs.Prelude.{codes};
 ghost use Rattle.axi4_rules.specs.Rules.{with_item, in_case, signal, own_name};
-ghost use Rattle.axi4_rules.specs.Rules.{filled_word, filled, all_filled, words};
+ghost use Rattle.axi4_rules.specs.Rules.{filled_word, filled, words};
 ghost use Rattle.axi4_rules.specs.Seen.{port_data};
-ghost use Rattle.axi4_rules.specs.Rows.{fills};
-ghost use Rattle.axi4_rules.specs.Views.{texts_of, Appends};
+ghost use Rattle.axi4_rules.specs.Rows.{fills, filled_texts};
+ghost use Rattle.axi4_rules.specs.Views.{Appends};
 
 use crate::case::Case;
 use crate::filling::Filling;
@@ -110,7 +110,7 @@ fn push_all(
     filling: Filling,
     words: &[&str],
 ) -> Result<(), AllocError>
-    ensures { OnOk result (Appends line.old line.new (all_filled (fills filling.entry) (texts_of words.now))) }
+    ensures { OnOk result (Appends line.old line.new (filled_texts filling.entry words.now)) }
 {
     for word in words {
         push_filled(alloc, line, filling, word)?;

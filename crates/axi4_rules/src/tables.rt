@@ -61,8 +61,8 @@ pub(crate) fn address_rows(width: u32) -> [Row<'static>; 10]
         },
         Row {
             name: "__4k",
-            first: "%valid && %burst == 2'b01 |-> ( { 8'd0 , %addr [ 11 : 0 ] } & ~ ( ( 20'd1",
-            second: "<< %size ) - 20'd1 ) ) + ( ( { 12'd0 , %len } + 20'd1 ) << %size ) <= 20'd4096",
+            first: "%valid && %burst == 2'b01 |-> ( { 8'd0 , %addr [ 11 : 0 ] } & ~ ( ( 20'd1 <<",
+            second: "%size ) - 20'd1 ) ) + ( ( { 12'd0 , %len } + 20'd1 ) << %size ) <= 20'd4096",
         },
         Row {
             name: "__cache",
