@@ -11,7 +11,7 @@
 //! programs_decide();    // a contract and no code: the line of a program is that of the meaning
 //! ```
 //!
-//! The definitions: `specs/Programs.antt` (what a program of an assertion is), `specs/Laws.antt`
+//! The definitions: `compiler/specs/Programs.antt` (what a program of an assertion is), `specs/Laws.antt`
 //! (rows, the rows of a program's own signals, what it decides). The verdicts are those of
 //! `assertions`, the machine that of `checked_machine`, the line that of `program_runs`.
 //!

@@ -1,6 +1,6 @@
 -- The lines of a port file, one by one.
-use Rattle.std.proofs.Common.{◌≡◌, ℕ, ◌+◌, ◌<◌, ◌≤◌, suc, Bool, true, false, List, [], ◌∷◌, ◌++◌, length, get_or, drop, map, Result, Ok, Err, Bor, refl, sym, ap, ◌∙◌, add-one, append_assoc, subst}
-use Rattle.std.specs.Prelude.{not, IsErrAnd}
+use Rattle.std.proofs.Common.{◌≡◌, ℕ, ◌+◌, ◌<◌, ◌≤◌, suc, true, false, List, [], ◌∷◌, ◌++◌, length, get_or, drop, map, Result, Ok, Err, Bor, refl, sym, ap, ◌∙◌, add-one, append_assoc, subst}
+use Rattle.std.specs.Prelude.{IsErrAnd}
 use Rattle.axi4_rules.specs.declared.fault.PortFault.{PortFault}
 use Rattle.axi4_rules.specs.declared.fault.PortFault.TheVariants as faults
 use Rattle.axi4_rules.specs.Lines.{LineData}

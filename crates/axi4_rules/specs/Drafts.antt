@@ -2,6 +2,8 @@
 use Rattle.axi4_rules.specs.declared.paths.Paths.{Paths}
 use Rattle.axi4_rules.specs.declared.sizes.Sizes.{Sizes}
 use Rattle.axi4_rules.specs.declared.draft.Draft.{Draft}
+use Rattle.std.specs.Prelude.{Bool}
+use Rattle.axi4_rules.specs.Ports.{are_names}
 use Rattle.axi4_rules.specs.Lines.{PathData, SizeData, LineData}
 
 abbrev pub path_data : Paths → PathData
@@ -12,6 +14,15 @@ size_data s = record { addr = s.addr; data_width = s.data_width; id = s.id; wait
 
 abbrev pub draft_data : Draft → LineData
 draft_data d = record {
-  port = record { name = d.name.now; paths = path_data d.paths; sizes = size_data d.sizes; case = d.case; watch = d.watch.items };
+  port = record {
+    name = d.name.now;
+    paths = path_data d.paths;
+    sizes = size_data d.sizes;
+    case = d.case;
+    watch = d.watch.items;
+  };
   mode = d.mode;
 }
+
+abbrev pub is_named_draft : Draft → Bool
+is_named_draft d = are_names d.name.now (path_data d.paths)

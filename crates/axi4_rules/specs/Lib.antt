@@ -1,4 +1,5 @@
 pub mod Texts
+pub mod Views
 pub mod Lines
 pub mod Names
 pub mod Ports

@@ -1,5 +1,6 @@
 -- What a line of a port file spells.
-use Rattle.std.specs.Prelude.{ℕ, ◌+◌, ◌-◌, ◌*◌, ◌==◌, ◌||◌, ◌&&◌, min, nat_eq, List, [], ◌∷◌, ◌++◌, map, length, drop, Bool, true, false, not, Option, Some, None, codes, if◌then◌else◌}
+use Rattle.std.specs.Prelude.{ℕ, ◌+◌, ◌-◌, ◌*◌, ◌&&◌, min, nat_eq, Bool, not, if◌then◌else◌}
+use Rattle.std.specs.Prelude.{List, [], ◌∷◌, length, drop, Option, Some, None, codes}
 use Rattle.std.specs.List.{list_all, list_any, filter_map, starts_with}
 use Rattle.std.specs.Char.{is_ascii_digit}
 use Rattle.std.specs.Str.{bytes_eq}
@@ -41,9 +42,12 @@ unfoldable pub decimal_from : ℕ → List ℕ → ℕ
 decimal_from n [] = n
 decimal_from n (d ∷ ds) = decimal_from (10 * n + (d - 48)) ds
 
--- A number is one digit or more. What is over 65,536 counts as 65,536, which is out of range everywhere.
+-- A number is one digit or more. What is over 65,536 counts as 65,536, which is out of range
+-- everywhere.
 unfoldable pub number : List ℕ → Option ℕ
-number ds = if not (is_empty ds) && list_all is_ascii_digit ds then Some (min 65536 (decimal_from 0 ds)) else None
+number ds =
+    if not (is_empty ds) && list_all is_ascii_digit ds then Some (min 65536 (decimal_from 0 ds))
+    else None
 
 abbrev pub number_or : ℕ → Option (List ℕ) → Option ℕ
 number_or n None = Some n
@@ -60,11 +64,17 @@ watched (Some text) = all_numbers (pieces 44 text)
 
 unfoldable pub case_named : Option (List ℕ) → Option Case
 case_named None = Some cases.Lower
-case_named (Some text) = if bytes_eq text (codes "lower") then Some cases.Lower else (if bytes_eq text (codes "upper") then Some cases.Upper else None)
+case_named (Some text) =
+    if bytes_eq text (codes "lower") then Some cases.Lower
+    else (if bytes_eq text (codes "upper") then Some cases.Upper
+    else None)
 
 unfoldable pub mode_named : Option (List ℕ) → Option Mode
 mode_named None = Some modes.Multi
-mode_named (Some text) = if bytes_eq text (codes "multi") then Some modes.Multi else (if bytes_eq text (codes "single") then Some modes.Single else None)
+mode_named (Some text) =
+    if bytes_eq text (codes "multi") then Some modes.Multi
+    else (if bytes_eq text (codes "single") then Some modes.Single
+    else None)
 
 -- the paths of a port
 pub record PathData : Type 0 where
@@ -147,4 +157,5 @@ said_by name fs =
 unfoldable pub line_said : List (List ℕ) → Option LineData
 line_said [] = None
 line_said (head ∷ []) = None
-line_said (head ∷ name ∷ fs) = if bytes_eq head (codes "port") && list_all is_keyed fs then said_by name fs else None
+line_said (head ∷ name ∷ fs) =
+    if bytes_eq head (codes "port") && list_all is_keyed fs then said_by name fs else None

@@ -1,5 +1,5 @@
 -- Names in a port file.
-use Rattle.std.specs.Prelude.{ℕ, ◌==◌, ◌||◌, ◌&&◌, List, [], ◌∷◌, ◌++◌, Bool, true, false, not, codes}
+use Rattle.std.specs.Prelude.{ℕ, ◌==◌, ◌||◌, ◌&&◌, List, [], ◌∷◌, Bool, false, not, codes}
 use Rattle.std.specs.List.{list_all, list_any}
 use Rattle.std.specs.Char.{is_ascii_alphabetic, is_ascii_digit}
 use Rattle.std.specs.Str.{bytes_eq}
@@ -16,7 +16,8 @@ unfoldable pub is_word : List ℕ → Bool
 is_word [] = false
 is_word (b ∷ bs) = is_word_start b && list_all is_word_part bs
 
--- the words that no path may begin with: those of the grammar of assertions, and those of constructs that it leaves out
+-- the words that no path may begin with: those of the grammar of assertions, and those of
+-- constructs that it leaves out
 unfoldable pub keywords : List (List ℕ)
 keywords =
     codes "sequence" ∷ codes "endsequence" ∷ codes "assert" ∷ codes "assume" ∷ codes "property"

@@ -1,5 +1,5 @@
 -- The rules of AXI4 and the counters that they read, as this project chose them.
-use Rattle.std.specs.Prelude.{ℕ, ◌==◌, ◌||◌, ◌&&◌, List, [], ◌∷◌, ◌++◌, map, Bool, true, false, not, codes, if◌then◌else◌}
+use Rattle.std.specs.Prelude.{ℕ, ◌==◌, List, [], ◌∷◌, ◌++◌, map, codes, if◌then◌else◌}
 use Rattle.std.specs.List.{flat_map}
 use Rattle.std.specs.Fmt.{decimal}
 use Rattle.std.specs.Char.{to_ascii_uppercase}
@@ -11,8 +11,8 @@ use Rattle.axi4_rules.specs.declared.mode.Mode.TheVariants as modes
 use Rattle.axi4_rules.specs.Texts.{fields, tokens}
 use Rattle.axi4_rules.specs.Lines.{PortData}
 
--- What fills a line of the table: a port; a channel, or nothing where the table writes its names out; an item, as a
--- payload signal, an ID, the wait or the address width.
+-- What fills a line of the table: a port; a channel, or nothing where the table writes its names
+-- out; an item, as a payload signal, an ID, the wait or the address width.
 pub record Filling : Type 0 where
   pub port : PortData
   pub channel : List ℕ
@@ -50,9 +50,13 @@ filled f word =
     else (if bytes_eq word (codes "RESET") then f.port.paths.reset
     else filled_word f word)
 
--- the words of a template, each filled and with a space behind
+-- words, each filled and with a space behind
+abbrev pub all_filled : Filling → List (List ℕ) → List ℕ
+all_filled f ws = flat_map (λ w. filled f w ++ codes " ") ws
+
+-- the words of a template
 unfoldable pub words : Filling → List ℕ → List ℕ
-words f template = flat_map (λ w. filled f w ++ codes " ") (fields template)
+words f template = all_filled f (fields template)
 
 -- a row of a table of rules: the rule's name and what it says, in two halves
 pub record Row : Type 0 where
@@ -66,7 +70,8 @@ row name first second = record { name = name; first = first; second = second }
 -- a rule that isn't looked at in reset
 unfoldable pub rule_line : Filling → Row → List ℕ
 rule_line f r =
-    words f r.name ++ words f (codes ": assert property ( @ ( posedge CLOCK ) disable iff ( ! RESET )")
+    words f r.name
+    ++ words f (codes ": assert property ( @ ( posedge CLOCK ) disable iff ( ! RESET )")
     ++ words f r.first ++ words f r.second ++ codes ") ;"
 
 -- the same without `disable iff`
@@ -146,17 +151,19 @@ address_rows width =
     ∷ row (codes "__len") (codes "%valid && %burst != 2'b01 |-> %len <= 8'd15") []
     ∷ row (codes "__size") (codes "%valid |-> %size <=") (size_bound width)
     ∷ row (codes "__wrap_len") (codes "%valid && %burst == 2'b10 |-> %len == 8'd1 || %len == 8'd3")
-        (codes "|| %len == 8'd7 || %len == 8'd15")
+    (codes "|| %len == 8'd7 || %len == 8'd15")
     ∷ row (codes "__wrap_align") (codes "%valid && %burst == 2'b10 |->")
-        (codes "( %addr & ( ( ?'d1 << %size ) - ?'d1 ) ) == ?'d0")
-    ∷ row (codes "__4k") (codes "%valid && %burst == 2'b01 |-> ( { 8'd0 , %addr [ 11 : 0 ] }")
-        (codes "& ~ ( ( 20'd1 << %size ) - 20'd1 ) ) + ( ( { 12'd0 , %len } + 20'd1 ) << %size ) <= 20'd4096")
+    (codes "( %addr & ( ( ?'d1 << %size ) - ?'d1 ) ) == ?'d0")
+    ∷ row (codes "__4k")
+    (codes "%valid && %burst == 2'b01 |-> ( { 8'd0 , %addr [ 11 : 0 ] } & ~ ( ( 20'd1 <<")
+    (codes "%size ) - 20'd1 ) ) + ( ( { 12'd0 , %len } + 20'd1 ) << %size ) <= 20'd4096")
     ∷ row (codes "__cache") (codes "%valid && ! %cache [ 1 ] |-> %cache [ 3 : 2 ] == 2'b00") []
     ∷ row (codes "__excl_len") (codes "%valid && %lock |-> %len <= 8'd15") []
-    ∷ row (codes "__excl_bytes") (codes "%valid && %lock |-> $onehot ( ( ( { 12'd0 , %len } + 20'd1 ) << %size ) )")
-        (codes "&& ( ( { 12'd0 , %len } + 20'd1 ) << %size ) <= 20'd128")
+    ∷ row (codes "__excl_bytes")
+    (codes "%valid && %lock |-> $onehot ( ( ( { 12'd0 , %len } + 20'd1 ) << %size ) )")
+    (codes "&& ( ( { 12'd0 , %len } + 20'd1 ) << %size ) <= 20'd128")
     ∷ row (codes "__excl_align") (codes "%valid && %lock |-> ( { 8'd0 , %addr [ 11 : 0 ] }")
-        (codes "& ( ( ( { 12'd0 , %len } + 20'd1 ) << %size ) - 20'd1 ) ) == 20'd0")
+    (codes "& ( ( ( { 12'd0 , %len } + 20'd1 ) << %size ) - 20'd1 ) ) == 20'd0")
     ∷ []
 
 unfoldable pub address_lines : PortData → List ℕ → List (List ℕ)
@@ -167,21 +174,24 @@ address_lines p channel =
 
 unfoldable pub counter_rows : List Row
 counter_rows =
-    row (codes "_awo [ 16 ]") (codes "add ( %awvalid && %awready , 1 )") (codes "sub ( %bvalid && %bready , 1 )")
-    ∷ row (codes "_wlo [ 16 ]") (codes "add ( %wvalid && %wready && %wlast , 1 )") (codes "sub ( %bvalid && %bready , 1 )")
-    ∷ row (codes "_aro [ 16 ]") (codes "add ( %arvalid && %arready , 1 )") (codes "sub ( %rvalid && %rready && %rlast , 1 )")
+    row (codes "_awo [ 16 ]") (codes "add ( %awvalid && %awready , 1 )")
+    (codes "sub ( %bvalid && %bready , 1 )")
+    ∷ row (codes "_wlo [ 16 ]") (codes "add ( %wvalid && %wready && %wlast , 1 )")
+    (codes "sub ( %bvalid && %bready , 1 )")
+    ∷ row (codes "_aro [ 16 ]") (codes "add ( %arvalid && %arready , 1 )")
+    (codes "sub ( %rvalid && %rready && %rlast , 1 )")
     ∷ []
 
 -- the item is a watched ID
 unfoldable pub writes_row : Row
 writes_row =
     row (codes "_awo_? [ 16 ]") (codes "add ( %awvalid && %awready && %awid == ? , 1 )")
-        (codes "sub ( %bvalid && %bready && %bid == ? , 1 )")
+    (codes "sub ( %bvalid && %bready && %bid == ? , 1 )")
 
 unfoldable pub reads_row : Row
 reads_row =
     row (codes "_aro_? [ 16 ]") (codes "add ( %arvalid && %arready && %arid == ? , 1 )")
-        (codes "sub ( %rvalid && %rready && %rlast && %rid == ? , 1 )")
+    (codes "sub ( %rvalid && %rready && %rlast && %rid == ? , 1 )")
 
 unfoldable pub single_counter_rows : List Row
 single_counter_rows =
@@ -189,8 +199,10 @@ single_counter_rows =
     ∷ row (codes "_rlock [ 1 ]") (codes "load ( %arvalid && %arready , %arlock )") []
     ∷ row (codes "_wlen [ 8 ]") (codes "load ( %awvalid && %awready , %awlen )") []
     ∷ row (codes "_rlen [ 8 ]") (codes "load ( %arvalid && %arready , %arlen )") []
-    ∷ row (codes "_wbeat [ 9 ]") (codes "load ( %wvalid && %wready && %wlast , 0 )") (codes "add ( %wvalid && %wready , 1 )")
-    ∷ row (codes "_rbeat [ 9 ]") (codes "load ( %rvalid && %rready && %rlast , 0 )") (codes "add ( %rvalid && %rready , 1 )")
+    ∷ row (codes "_wbeat [ 9 ]") (codes "load ( %wvalid && %wready && %wlast , 0 )")
+    (codes "add ( %wvalid && %wready , 1 )")
+    ∷ row (codes "_rbeat [ 9 ]") (codes "load ( %rvalid && %rready && %rlast , 0 )")
+    (codes "add ( %rvalid && %rready , 1 )")
     ∷ []
 
 unfoldable pub response_rows : List Row
@@ -211,8 +223,10 @@ unfoldable pub single_rows : List Row
 single_rows =
     row (codes "_b_exokay") (codes "%bvalid && %bresp == 2'b01 |-> _wlock") []
     ∷ row (codes "_r_exokay") (codes "%rvalid && %rresp == 2'b01 |-> _rlock") []
-    ∷ row (codes "_w_last") (codes "%wvalid && _awo == 1 && _wlo == 0 |->") (codes "%wlast == ( _wbeat == _wlen )")
-    ∷ row (codes "_r_last") (codes "%rvalid && _aro == 1 |->") (codes "%rlast == ( _rbeat == _rlen )")
+    ∷ row (codes "_w_last") (codes "%wvalid && _awo == 1 && _wlo == 0 |->")
+    (codes "%wlast == ( _wbeat == _wlen )")
+    ∷ row (codes "_r_last") (codes "%rvalid && _aro == 1 |->")
+    (codes "%rlast == ( _rbeat == _rlen )")
     ∷ []
 
 -- names are written out, and an ID may be the item
@@ -230,17 +244,23 @@ abbrev pub in_single : Mode → List (List ℕ) → List (List ℕ)
 in_single modes.Multi ls = []
 in_single modes.Single ls = ls
 
+abbrev pub single_counters : PortData → Mode → List (List ℕ)
+single_counters p mode = in_single mode (for_rows counter_line p single_counter_rows)
+
+abbrev pub single_rules : PortData → Mode → List (List ℕ)
+single_rules p mode = in_single mode (for_rows rule_line p single_rows)
+
 unfoldable pub counter_lines : PortData → Mode → List (List ℕ)
 counter_lines p mode =
     for_rows counter_line p counter_rows
     ++ for_ids counter_line p writes_row ++ for_ids counter_line p reads_row
-    ++ in_single mode (for_rows counter_line p single_counter_rows)
+    ++ single_counters p mode
 
 unfoldable pub response_lines : PortData → Mode → List (List ℕ)
 response_lines p mode =
     for_rows rule_line p response_rows
     ++ for_ids rule_line p write_id_row ++ for_ids rule_line p read_id_row
-    ++ in_single mode (for_rows rule_line p single_rows)
+    ++ single_rules p mode
 
 unfoldable pub channels : PortData → List (List ℕ)
 channels p =

@@ -1,5 +1,5 @@
 -- What a clause sees of a port in memory.
-use Rattle.std.specs.Prelude.{◌≡◌, ℕ, List, map, Option, Some, None, Result, Ok, Err, string_bytes}
+use Rattle.std.specs.Prelude.{◌≡◌, Result, Ok, Err, string_bytes}
 use Rattle.axi4_rules.specs.declared.port.Port.{Port}
 use Rattle.axi4_rules.specs.declared.mode.Mode.{Mode}
 use Rattle.axi4_rules.specs.declared.fault.PortFault.{PortFault}
@@ -9,7 +9,11 @@ use Rattle.axi4_rules.specs.Lines.{PortData, LineData}
 abbrev pub port_data : Port → PortData
 port_data p = record {
   name = string_bytes p.name;
-  paths = record { clock = string_bytes p.clock; reset = string_bytes p.reset; prefix = string_bytes p.prefix };
+  paths = record {
+    clock = string_bytes p.clock;
+    reset = string_bytes p.reset;
+    prefix = string_bytes p.prefix;
+  };
   sizes = record { addr = p.addr; data_width = p.data_width; id = p.id; wait = p.wait };
   case = p.case;
   watch = p.watch.items;

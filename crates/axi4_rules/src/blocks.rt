@@ -1,9 +1,8 @@
 //! Blocks of rows.
 
 ghost use Rattle.std.specs.Prelude.{◌≡◌, ◌∷◌, [], List, map, OnOk};
-ghost use Rattle.axi4_rules.specs.Rules.{stable_lines, for_ids};
 ghost use Rattle.axi4_rules.specs.Seen.{port_data};
-ghost use Rattle.axi4_rules.specs.Rows.{filling_data, row_data, line_in};
+ghost use Rattle.axi4_rules.specs.Rows.{one_line, all_lines, id_lines, stable_block};
 ghost use Rattle.axi4_rules.specs.Wholes.{Adds};
 
 use crate::filling::Filling;
@@ -23,7 +22,7 @@ pub(crate) fn push_row(
     filling: Filling,
     row: Row,
 ) -> Result<(), AllocError>
-    ensures { OnOk result (Adds text.old text.new (line_in form (filling_data filling.entry) (row_data row.entry) ∷ [])) }
+    ensures { OnOk result (Adds text.old text.new (one_line form filling.entry row.entry)) }
 {
     let line = line_in(alloc, form, filling, row)?;
     text.push_line(line)?;
@@ -38,7 +37,7 @@ pub(crate) fn push_rows(
     filling: Filling,
     rows: &[Row],
 ) -> Result<(), AllocError>
-    ensures { OnOk result (Adds text.old text.new (map (line_in form (filling_data filling.entry)) (map row_data rows.now))) }
+    ensures { OnOk result (Adds text.old text.new (all_lines form filling.entry rows.now)) }
 {
     for row in rows {
         push_row(alloc, text, form, filling, *row)?;
@@ -54,7 +53,7 @@ pub(crate) fn push_ids(
     port: &Port,
     row: Row,
 ) -> Result<(), AllocError>
-    ensures { OnOk result (Adds text.old text.new (for_ids (line_in form) (port_data port.now) (row_data row.entry))) }
+    ensures { OnOk result (Adds text.old text.new (id_lines form port.now row.entry)) }
 {
     for id in &port.watch {
         let item = format!(in alloc; "{id}")?;
@@ -76,7 +75,7 @@ pub(crate) fn push_stables(
     channel: &str,
     payload: &[&str],
 ) -> Result<(), AllocError>
-    ensures { OnOk result (Adds text.old text.new (stable_lines (port_data port.now) channel.now (map (λ s. s.now) payload.now))) }
+    ensures { OnOk result (Adds text.old text.new (stable_block port.now channel.now payload.now)) }
 {
     for signal in payload {
         let filling = Filling {

@@ -2,9 +2,10 @@
 
 ghost use Rattle.std.specs.Prelude.{◌≡◌, ◌==◌, [], IsTrue, not, map, OnOk};
 ghost use Rattle.std.specs.List.{list_any};
-ghost use Rattle.axi4_rules.specs.Rules.{wait_lines, channel_lines, address_lines};
+ghost use Rattle.axi4_rules.specs.Rules.{wait_lines};
 ghost use Rattle.axi4_rules.specs.Seen.{port_data};
 ghost use Rattle.axi4_rules.specs.Wholes.{Adds};
+ghost use Rattle.axi4_rules.specs.Rows.{channel_block, address_block};
 
 use crate::blocks::{push_row, push_rows, push_stables};
 use crate::filling::Filling;
@@ -54,7 +55,7 @@ pub(crate) fn push_channel(
     channel: &str,
     payload: &[&str],
 ) -> Result<(), AllocError>
-    ensures { OnOk result (Adds text.old text.new (channel_lines (port_data port.now) channel.now (map (λ s. s.now) payload.now))) }
+    ensures { OnOk result (Adds text.old text.new (channel_block port.now channel.now payload.now)) }
 {
     let filling = Filling {
         port,
@@ -75,7 +76,7 @@ pub(crate) fn push_address(
     port: &Port,
     channel: &str,
 ) -> Result<(), AllocError>
-    ensures { OnOk result (Adds text.old text.new (address_lines (port_data port.now) channel.now)) }
+    ensures { OnOk result (Adds text.old text.new (address_block port.now channel.now)) }
 {
     let item = format!(in alloc; "{}", port.addr)?;
     let filling = Filling {
@@ -83,6 +84,12 @@ pub(crate) fn push_address(
         channel,
         item: item.as_str(),
     };
-    push_rows(alloc, text, Form::Rule, filling, &address_rows(port.data_width))?;
+    push_rows(
+        alloc,
+        text,
+        Form::Rule,
+        filling,
+        &address_rows(port.data_width),
+    )?;
     Ok(())
 }

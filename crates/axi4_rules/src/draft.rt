@@ -3,8 +3,10 @@
 ghost use Rattle.std.specs.Prelude.{◌≡◌, IfOk, map, nat_eq};
 ghost use Rattle.std.specs.Option.{option_map};
 ghost use Rattle.std.specs.List.{list_all, list_any, starts_with};
-ghost use Rattle.axi4_rules.specs.Lines.{mode_in, case_in, watched_in, is_keyed, said_by, line_said};
+ghost use Rattle.axi4_rules.specs.Lines.{mode_in, case_in, watched_in};
+ghost use Rattle.axi4_rules.specs.Lines.{is_keyed, said_by, line_said};
 ghost use Rattle.axi4_rules.specs.Drafts.{draft_data};
+ghost use Rattle.axi4_rules.specs.Views.{texts_of, items_in};
 
 use crate::case::Case;
 use crate::mode::Mode;
@@ -31,7 +33,7 @@ const KEYS: [&str; 10] = [
 
 /// Whether the field begins with one of the keys.
 fn begins_with_any(field: &str, keys: &[&str]) -> bool
-    ensures { result ≡ list_any (starts_with nat_eq field.now) (map (λ k. k.now) keys.now) }
+    ensures { result ≡ list_any (starts_with nat_eq field.now) (texts_of keys.now) }
 {
     for key in keys {
         if field.starts_with(*key) {
@@ -50,7 +52,7 @@ fn is_keyed(field: &str) -> bool
 
 /// Whether each field begins with a key.
 fn are_keyed(fields: &[&str]) -> bool
-    ensures { result ≡ list_all is_keyed (map (λ f. f.now) fields.now) }
+    ensures { result ≡ list_all is_keyed (texts_of fields.now) }
 {
     for field in fields {
         if !is_keyed(field) {
@@ -61,20 +63,20 @@ fn are_keyed(fields: &[&str]) -> bool
 }
 
 fn mode_in(fields: &[&str]) -> Option<Mode>
-    ensures { result ≡ mode_in (map (λ f. f.now) fields.now) }
+    ensures { result ≡ mode_in (texts_of fields.now) }
 {
     mode_named(optional(fields, "mode=")?)
 }
 
 fn case_in(fields: &[&str]) -> Option<Case>
-    ensures { result ≡ case_in (map (λ f. f.now) fields.now) }
+    ensures { result ≡ case_in (texts_of fields.now) }
 {
     case_named(optional(fields, "case=")?)
 }
 
 /// The watched IDs; `None` where they aren't numbers, or stand twice.
 fn watched_in(alloc: Global, fields: &[&str]) -> Result<Option<Vec<u32>>, AllocError>
-    ensures { IfOk result (λ o. option_map (λ v. v.items) o ≡ watched_in (map (λ f. f.now) fields.now)) }
+    ensures { IfOk result (λ o. items_in o ≡ watched_in (texts_of fields.now)) }
 {
     match optional(fields, "watch=") {
         Some(text) => watched(alloc, text),
@@ -84,8 +86,12 @@ fn watched_in(alloc: Global, fields: &[&str]) -> Result<Option<Vec<u32>>, AllocE
 
 /// What the fields behind the name say.
 #[tactic(auto, unfolding(crate::specs::Lines::said_by))]
-fn said_by<'t>(alloc: Global, name: &'t str, fields: &[&'t str]) -> Result<Option<Draft<'t>>, AllocError>
-    ensures { IfOk result (λ o. option_map draft_data o ≡ said_by name.now (map (λ f. f.now) fields.now)) }
+fn said_by<'t>(
+    alloc: Global,
+    name: &'t str,
+    fields: &[&'t str],
+) -> Result<Option<Draft<'t>>, AllocError>
+    ensures { IfOk result (λ o. option_map draft_data o ≡ said_by name.now (texts_of fields.now)) }
 {
     let Some(paths) = paths_in(fields) else {
         return Ok(None);
@@ -114,8 +120,11 @@ fn said_by<'t>(alloc: Global, name: &'t str, fields: &[&'t str]) -> Result<Optio
 
 /// What the fields of a line say; `None` where they don't have the form of a port.
 #[tactic(auto, unfolding(crate::specs::Lines::line_said))]
-pub(crate) fn line_said<'t>(alloc: Global, fields: &[&'t str]) -> Result<Option<Draft<'t>>, AllocError>
-    ensures { IfOk result (λ o. option_map draft_data o ≡ line_said (map (λ f. f.now) fields.now)) }
+pub(crate) fn line_said<'t>(
+    alloc: Global,
+    fields: &[&'t str],
+) -> Result<Option<Draft<'t>>, AllocError>
+    ensures { IfOk result (λ o. option_map draft_data o ≡ line_said (texts_of fields.now)) }
 {
     match fields {
         [head, name, rest @ ..] => {

@@ -3,9 +3,11 @@
 ghost use Rattle.std.specs.Prelude.{◌≡◌, ◌++◌, OnOk, IfOk, map, string_bytes};
 ghost use Rattle.std.specs.List.{flat_map};
 ghost use Rattle.std.specs.Prelude.{codes};
-ghost use Rattle.axi4_rules.specs.Rules.{with_item, in_case, signal, own_name, filled_word, filled, words};
+ghost use Rattle.axi4_rules.specs.Rules.{with_item, in_case, signal, own_name};
+ghost use Rattle.axi4_rules.specs.Rules.{filled_word, filled, words};
 ghost use Rattle.axi4_rules.specs.Seen.{port_data};
-ghost use Rattle.axi4_rules.specs.Rows.{filling_data};
+ghost use Rattle.axi4_rules.specs.Rows.{fills, filled_texts};
+ghost use Rattle.axi4_rules.specs.Views.{Appends};
 
 use crate::case::Case;
 use crate::filling::Filling;
@@ -14,7 +16,7 @@ use std::alloc::{AllocError, Global};
 
 /// Adds the text with the item in place of its first `?`.
 fn push_with_item(line: &mut String, text: &str, item: &str) -> Result<(), AllocError>
-    ensures { OnOk result (string_bytes line.new ≡ string_bytes line.old ++ with_item item.now text.now) }
+    ensures { OnOk result (Appends line.old line.new (with_item item.now text.now)) }
 {
     match text.split_once('?') {
         Some((front, back)) => {
@@ -39,8 +41,13 @@ fn in_case(case: Case, name: String) -> String
 }
 
 /// Adds a signal of the channel.
-fn push_signal(alloc: Global, line: &mut String, filling: Filling, word: &str) -> Result<(), AllocError>
-    ensures { OnOk result (string_bytes line.new ≡ string_bytes line.old ++ signal (filling_data filling.entry) word.now) }
+fn push_signal(
+    alloc: Global,
+    line: &mut String,
+    filling: Filling,
+    word: &str,
+) -> Result<(), AllocError>
+    ensures { OnOk result (Appends line.old line.new (signal (fills filling.entry) word.now)) }
 {
     let mut name = String::from_str(alloc, filling.channel)?;
     push_with_item(&mut name, word, filling.item)?;
@@ -51,7 +58,7 @@ fn push_signal(alloc: Global, line: &mut String, filling: Filling, word: &str) -
 
 /// Adds a name of the port's own.
 fn push_own_name(line: &mut String, filling: Filling, word: &str) -> Result<(), AllocError>
-    ensures { OnOk result (string_bytes line.new ≡ string_bytes line.old ++ own_name (filling_data filling.entry) word.now) }
+    ensures { OnOk result (Appends line.old line.new (own_name (fills filling.entry) word.now)) }
 {
     line.push_str(filling.port.name.as_str())?;
     line.push_str("_")?;
@@ -60,8 +67,13 @@ fn push_own_name(line: &mut String, filling: Filling, word: &str) -> Result<(), 
 }
 
 /// Adds a word that names no path.
-fn push_word(alloc: Global, line: &mut String, filling: Filling, word: &str) -> Result<(), AllocError>
-    ensures { OnOk result (string_bytes line.new ≡ string_bytes line.old ++ filled_word (filling_data filling.entry) word.now) }
+fn push_word(
+    alloc: Global,
+    line: &mut String,
+    filling: Filling,
+    word: &str,
+) -> Result<(), AllocError>
+    ensures { OnOk result (Appends line.old line.new (filled_word (fills filling.entry) word.now)) }
 {
     if let Some(rest) = word.strip_prefix('%') {
         return push_signal(alloc, line, filling, rest);
@@ -74,8 +86,13 @@ fn push_word(alloc: Global, line: &mut String, filling: Filling, word: &str) -> 
 
 /// Adds a word of a template.
 #[tactic(auto, unfolding(crate::specs::Rules::filled))]
-fn push_filled(alloc: Global, line: &mut String, filling: Filling, word: &str) -> Result<(), AllocError>
-    ensures { OnOk result (string_bytes line.new ≡ string_bytes line.old ++ filled (filling_data filling.entry) word.now) }
+fn push_filled(
+    alloc: Global,
+    line: &mut String,
+    filling: Filling,
+    word: &str,
+) -> Result<(), AllocError>
+    ensures { OnOk result (Appends line.old line.new (filled (fills filling.entry) word.now)) }
 {
     if word == "CLOCK" {
         return line.push_str(filling.port.clock.as_str());
@@ -87,8 +104,13 @@ fn push_filled(alloc: Global, line: &mut String, filling: Filling, word: &str) -
 }
 
 /// Adds words, each with a space behind.
-fn push_all(alloc: Global, line: &mut String, filling: Filling, words: &[&str]) -> Result<(), AllocError>
-    ensures { OnOk result (string_bytes line.new ≡ string_bytes line.old ++ flat_map (λ w. filled (filling_data filling.entry) w ++ codes " ") (map (λ w. w.now) words.now)) }
+fn push_all(
+    alloc: Global,
+    line: &mut String,
+    filling: Filling,
+    words: &[&str],
+) -> Result<(), AllocError>
+    ensures { OnOk result (Appends line.old line.new (filled_texts filling.entry words.now)) }
 {
     for word in words {
         push_filled(alloc, line, filling, word)?;
@@ -99,8 +121,13 @@ fn push_all(alloc: Global, line: &mut String, filling: Filling, words: &[&str]) 
 
 /// Adds the words of a template.
 #[tactic(auto, unfolding(crate::specs::Rules::words))]
-pub(crate) fn push_words(alloc: Global, line: &mut String, filling: Filling, template: &str) -> Result<(), AllocError>
-    ensures { OnOk result (string_bytes line.new ≡ string_bytes line.old ++ words (filling_data filling.entry) template.now) }
+pub(crate) fn push_words(
+    alloc: Global,
+    line: &mut String,
+    filling: Filling,
+    template: &str,
+) -> Result<(), AllocError>
+    ensures { OnOk result (Appends line.old line.new (words (fills filling.entry) template.now)) }
 {
     let words = fields(alloc, template)?;
     push_all(alloc, line, filling, &words)

@@ -1,8 +1,8 @@
 //! Lines of the table.
 
 ghost use Rattle.std.specs.Prelude.{◌≡◌, IfOk, string_bytes};
-ghost use Rattle.axi4_rules.specs.Rules.{rule_line, reset_line, counter_line};
-ghost use Rattle.axi4_rules.specs.Rows.{filling_data, row_data, line_in};
+ghost use Rattle.axi4_rules.specs.declared.form.Form.TheVariants.{Rule, Always, Counter};
+ghost use Rattle.axi4_rules.specs.Rows.{line_of};
 
 use crate::fill::push_words;
 use crate::filling::Filling;
@@ -12,11 +12,12 @@ use std::alloc::{AllocError, Global};
 
 /// What stands between a rule's name and what it says.
 const OUT_OF_RESET: &str = ": assert property ( @ ( posedge CLOCK ) disable iff ( ! RESET )";
+
 const ALWAYS: &str = ": assert property ( @ ( posedge CLOCK )";
 
 #[tactic(auto, unfolding(crate::specs::Rules::rule_line))]
 fn rule_line(alloc: Global, filling: Filling, row: Row) -> Result<String, AllocError>
-    ensures { IfOk result (λ t. string_bytes t ≡ rule_line (filling_data filling.entry) (row_data row.entry)) }
+    ensures { IfOk result (λ t. string_bytes t ≡ line_of Rule filling.entry row.entry) }
 {
     let mut line = String::new(alloc);
     push_words(alloc, &mut line, filling, row.name)?;
@@ -29,7 +30,7 @@ fn rule_line(alloc: Global, filling: Filling, row: Row) -> Result<String, AllocE
 
 #[tactic(auto, unfolding(crate::specs::Rules::reset_line))]
 fn reset_line(alloc: Global, filling: Filling, row: Row) -> Result<String, AllocError>
-    ensures { IfOk result (λ t. string_bytes t ≡ reset_line (filling_data filling.entry) (row_data row.entry)) }
+    ensures { IfOk result (λ t. string_bytes t ≡ line_of Always filling.entry row.entry) }
 {
     let mut line = String::new(alloc);
     push_words(alloc, &mut line, filling, row.name)?;
@@ -42,7 +43,7 @@ fn reset_line(alloc: Global, filling: Filling, row: Row) -> Result<String, Alloc
 
 #[tactic(auto, unfolding(crate::specs::Rules::counter_line))]
 fn counter_line(alloc: Global, filling: Filling, row: Row) -> Result<String, AllocError>
-    ensures { IfOk result (λ t. string_bytes t ≡ counter_line (filling_data filling.entry) (row_data row.entry)) }
+    ensures { IfOk result (λ t. string_bytes t ≡ line_of Counter filling.entry row.entry) }
 {
     let mut line = String::from_str(alloc, "counter ")?;
     push_words(alloc, &mut line, filling, row.name)?;
@@ -54,8 +55,13 @@ fn counter_line(alloc: Global, filling: Filling, row: Row) -> Result<String, All
 }
 
 /// The line of a row, in the form.
-pub(crate) fn line_in(alloc: Global, form: Form, filling: Filling, row: Row) -> Result<String, AllocError>
-    ensures { IfOk result (λ t. string_bytes t ≡ line_in form (filling_data filling.entry) (row_data row.entry)) }
+pub(crate) fn line_in(
+    alloc: Global,
+    form: Form,
+    filling: Filling,
+    row: Row,
+) -> Result<String, AllocError>
+    ensures { IfOk result (λ t. string_bytes t ≡ line_of form filling.entry row.entry) }
 {
     match form {
         Form::Rule => rule_line(alloc, filling, row),

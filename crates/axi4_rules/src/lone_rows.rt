@@ -1,7 +1,8 @@
 //! Rows that stand alone.
 
 ghost use Rattle.std.specs.Prelude.{◌≡◌};
-ghost use Rattle.axi4_rules.specs.Rules.{reset_row, hold_row, stable_row, wait_row, writes_row, reads_row, write_id_row, read_id_row};
+ghost use Rattle.axi4_rules.specs.Rules.{reset_row, hold_row, stable_row, wait_row};
+ghost use Rattle.axi4_rules.specs.Rules.{writes_row, reads_row, write_id_row, read_id_row};
 ghost use Rattle.axi4_rules.specs.Rows.{row_data};
 
 use crate::row::Row;

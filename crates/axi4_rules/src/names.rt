@@ -3,7 +3,9 @@
 ghost use Rattle.std.specs.Prelude.{◌≡◌, IfOk, map};
 ghost use Rattle.std.specs.List.{list_all, list_any};
 ghost use Rattle.std.specs.Str.{bytes_eq};
-ghost use Rattle.axi4_rules.specs.Names.{is_word_start, is_word_part, is_word, is_keyword, are_path_words, is_path};
+ghost use Rattle.axi4_rules.specs.Names.{is_word_start, is_word_part, is_word};
+ghost use Rattle.axi4_rules.specs.Names.{is_keyword, are_path_words, is_path};
+ghost use Rattle.axi4_rules.specs.Views.{texts_of};
 
 use crate::text::pieces;
 use std::alloc::{AllocError, Global};
@@ -87,7 +89,7 @@ pub(crate) fn is_word(text: &str) -> bool
 }
 
 fn is_one_of(text: &str, words: &[&str]) -> bool
-    ensures { result ≡ list_any (bytes_eq text.now) (map (λ w. w.now) words.now) }
+    ensures { result ≡ list_any (bytes_eq text.now) (texts_of words.now) }
 {
     for word in words {
         if text == *word {
@@ -105,7 +107,7 @@ fn is_keyword(text: &str) -> bool
 }
 
 fn are_words(texts: &[&str]) -> bool
-    ensures { result ≡ list_all is_word (map (λ t. t.now) texts.now) }
+    ensures { result ≡ list_all is_word (texts_of texts.now) }
 {
     for text in texts {
         if !is_word(text) {
@@ -116,7 +118,7 @@ fn are_words(texts: &[&str]) -> bool
 }
 
 fn are_path_words(words: &[&str]) -> bool
-    ensures { result ≡ are_path_words (map (λ w. w.now) words.now) }
+    ensures { result ≡ are_path_words (texts_of words.now) }
 {
     match words {
         [first, ..] => !is_keyword(first) && are_words(words),

@@ -4,6 +4,7 @@ ghost use Rattle.std.specs.Prelude.{◌≡◌, map};
 ghost use Rattle.std.specs.Option.{option_map};
 ghost use Rattle.axi4_rules.specs.Lines.{paths_in};
 ghost use Rattle.axi4_rules.specs.Drafts.{path_data};
+ghost use Rattle.axi4_rules.specs.Views.{texts_of};
 
 use crate::values::required;
 
@@ -18,7 +19,7 @@ pub(crate) struct Paths<'t> {
 /// The paths that the fields have.
 #[tactic(auto, unfolding(crate::specs::Lines::paths_in))]
 pub(crate) fn paths_in<'t>(fields: &[&'t str]) -> Option<Paths<'t>>
-    ensures { option_map path_data result ≡ paths_in (map (λ f. f.now) fields.now) }
+    ensures { option_map path_data result ≡ paths_in (texts_of fields.now) }
 {
     let clock = required(fields, "clock=")?;
     let reset = required(fields, "reset=")?;

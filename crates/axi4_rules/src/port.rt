@@ -1,6 +1,6 @@
 //! An AXI4 port.
 
-ghost use Rattle.std.specs.Prelude.{IsTrue, string_bytes};
+ghost use Rattle.std.specs.Prelude.{IsTrue};
 ghost use Rattle.axi4_rules.specs.Ports.{is_sized, is_named, are_ids};
 
 use crate::case::Case;
@@ -29,6 +29,6 @@ pub struct Port {
     /// Up to 16 different IDs that are counted one by one.
     pub watch: Vec<u32>,
     pub ghost sized: { IsTrue (is_sized addr data_width id wait) },
-    pub ghost named: { IsTrue (is_named (string_bytes name) (string_bytes clock) (string_bytes reset) (string_bytes prefix)) },
+    pub ghost named: { IsTrue (is_named name clock reset prefix) },
     pub ghost watching: { IsTrue (are_ids id watch.items) },
 }

@@ -2,7 +2,8 @@
 
 ghost use Rattle.std.specs.Prelude.{◌≡◌, ◌≤◌, ◌==◌, nat_lt};
 ghost use Rattle.std.specs.List.{list_all, list_any};
-ghost use Rattle.axi4_rules.specs.Ports.{is_between, is_data_width, are_sizes, are_different, are_ids};
+ghost use Rattle.axi4_rules.specs.Ports.{is_between, is_data_width, are_sizes};
+ghost use Rattle.axi4_rules.specs.Ports.{are_different, are_ids};
 ghost use Rattle.axi4_rules.specs.Drafts.{size_data};
 
 use crate::sizes::Sizes;

@@ -1,10 +1,12 @@
 //! Reads port files.
 
 ghost use Rattle.std.specs.Prelude.{◌≡◌, IfOk, OnOk, IsTrue, map};
-ghost use Rattle.axi4_rules.specs.Ports.{are_sizes, are_ids, are_names, checked, is_skipped, port_in, ports_in, port_file};
+ghost use Rattle.axi4_rules.specs.Ports.{are_sizes, are_ids, are_names, checked};
+ghost use Rattle.axi4_rules.specs.Ports.{is_skipped, port_in, ports_in, port_file};
 ghost use Rattle.axi4_rules.specs.Texts.{begins_with};
-ghost use Rattle.axi4_rules.specs.Drafts.{path_data, size_data, draft_data};
+ghost use Rattle.axi4_rules.specs.Drafts.{path_data, size_data, draft_data, is_named_draft};
 ghost use Rattle.axi4_rules.specs.Seen.{Gives, line_data};
+ghost use Rattle.axi4_rules.specs.Views.{texts_of};
 
 use crate::draft::{Draft, line_said};
 use crate::fault::PortFault;
@@ -35,7 +37,7 @@ fn check(alloc: Global, draft: &Draft) -> Result<(), PortFault>
     ensures said { Gives (λ d. draft_data draft.now) result (checked (draft_data draft.now)) }
     ensures sized { OnOk result (IsTrue (are_sizes (size_data draft.now.sizes))) }
     ensures watching { OnOk result (IsTrue (are_ids draft.now.sizes.id draft.now.watch.items)) }
-    ensures named { OnOk result (IsTrue (are_names draft.now.name.now (path_data draft.now.paths))) }
+    ensures named { OnOk result (IsTrue (is_named_draft draft.now)) }
 {
     if !are_sizes(draft.sizes) {
         return Err(PortFault::BadWidth);
@@ -107,7 +109,7 @@ fn is_skipped(alloc: Global, line: &str) -> Result<bool, AllocError>
 }
 
 fn read_lines(alloc: Global, lines: &[&str]) -> Result<Vec<(Port, Mode)>, PortFault>
-    ensures { Gives (λ v. map line_data v.items) result (ports_in 1 (map (λ l. l.now) lines.now)) }
+    ensures { Gives (λ v. map line_data v.items) result (ports_in 1 (texts_of lines.now)) }
 {
     let mut ports = Vec::new(alloc);
     for index in 0..lines.len() {

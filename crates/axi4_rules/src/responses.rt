@@ -1,9 +1,10 @@
 //! The counters, and the rules that read them.
 
 ghost use Rattle.std.specs.Prelude.{◌≡◌, [], OnOk};
-ghost use Rattle.axi4_rules.specs.Rules.{rule_line, counter_line, of_port, in_single, for_rows, counter_rows, single_counter_rows, response_rows, single_rows, counter_lines, response_lines};
+ghost use Rattle.axi4_rules.specs.Rules.{of_port, single_counters, single_rules};
+ghost use Rattle.axi4_rules.specs.Rules.{counter_lines, response_lines};
 ghost use Rattle.axi4_rules.specs.Seen.{port_data};
-ghost use Rattle.axi4_rules.specs.Rows.{filling_data};
+ghost use Rattle.axi4_rules.specs.Rows.{fills};
 ghost use Rattle.axi4_rules.specs.Wholes.{Adds};
 
 use crate::blocks::{push_ids, push_rows};
@@ -18,7 +19,7 @@ use std::alloc::{AllocError, Global};
 
 /// The port alone: names are written out.
 fn of_port(port: &Port) -> Filling<'_>
-    ensures { filling_data result ≡ of_port (port_data port.now) [] }
+    ensures { fills result ≡ of_port (port_data port.now) [] }
 {
     Filling {
         port,
@@ -34,7 +35,7 @@ fn push_single_counters(
     port: &Port,
     mode: Mode,
 ) -> Result<(), AllocError>
-    ensures { OnOk result (Adds text.old text.new (in_single mode (for_rows counter_line (port_data port.now) single_counter_rows))) }
+    ensures { OnOk result (Adds text.old text.new (single_counters (port_data port.now) mode)) }
 {
     if mode == Mode::Single {
         let filling = of_port(port);
@@ -50,7 +51,7 @@ fn push_single_rules(
     port: &Port,
     mode: Mode,
 ) -> Result<(), AllocError>
-    ensures { OnOk result (Adds text.old text.new (in_single mode (for_rows rule_line (port_data port.now) single_rows))) }
+    ensures { OnOk result (Adds text.old text.new (single_rules (port_data port.now) mode)) }
 {
     if mode == Mode::Single {
         let filling = of_port(port);

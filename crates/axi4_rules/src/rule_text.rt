@@ -38,7 +38,10 @@ impl RuleText {
     pub fn into_text(self) -> String
         ensures { tokens (string_bytes result) ≡ self }
     {
-        let RuleText { alloc: _alloc, text } = self;
+        let RuleText {
+            alloc: _alloc,
+            text,
+        } = self;
         text
     }
 

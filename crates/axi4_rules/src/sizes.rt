@@ -4,6 +4,7 @@ ghost use Rattle.std.specs.Prelude.{◌≡◌, map};
 ghost use Rattle.std.specs.Option.{option_map};
 ghost use Rattle.axi4_rules.specs.Lines.{required_number, optional_number, sizes_in};
 ghost use Rattle.axi4_rules.specs.Drafts.{size_data};
+ghost use Rattle.axi4_rules.specs.Views.{texts_of};
 
 use crate::values::{number, number_or, optional, required};
 
@@ -18,14 +19,14 @@ pub(crate) struct Sizes {
 
 /// The number behind the key, which stands once.
 fn required_number(fields: &[&str], key: &str) -> Option<u32>
-    ensures { result ≡ required_number key.now (map (λ f. f.now) fields.now) }
+    ensures { result ≡ required_number key.now (texts_of fields.now) }
 {
     number(required(fields, key)?)
 }
 
 /// The number behind the key, or another.
 fn optional_number(fields: &[&str], key: &str, other: u32) -> Option<u32>
-    ensures { result ≡ optional_number other key.now (map (λ f. f.now) fields.now) }
+    ensures { result ≡ optional_number other key.now (texts_of fields.now) }
 {
     number_or(other, optional(fields, key)?)
 }
@@ -33,7 +34,7 @@ fn optional_number(fields: &[&str], key: &str, other: u32) -> Option<u32>
 /// The numbers that the fields have.
 #[tactic(auto, unfolding(crate::specs::Lines::sizes_in))]
 pub(crate) fn sizes_in(fields: &[&str]) -> Option<Sizes>
-    ensures { option_map size_data result ≡ sizes_in (map (λ f. f.now) fields.now) }
+    ensures { option_map size_data result ≡ sizes_in (texts_of fields.now) }
 {
     let addr = required_number(fields, "addr=")?;
     let data_width = required_number(fields, "data=")?;

@@ -1,7 +1,8 @@
 //! The rows of the table.
 
 ghost use Rattle.std.specs.Prelude.{◌≡◌, map};
-ghost use Rattle.axi4_rules.specs.Rules.{size_bound, address_rows, counter_rows, single_counter_rows, response_rows, single_rows};
+ghost use Rattle.axi4_rules.specs.Rules.{size_bound, address_rows, counter_rows};
+ghost use Rattle.axi4_rules.specs.Rules.{single_counter_rows, response_rows, single_rows};
 ghost use Rattle.axi4_rules.specs.Rows.{row_data};
 
 use crate::row::Row;
@@ -60,8 +61,8 @@ pub(crate) fn address_rows(width: u32) -> [Row<'static>; 10]
         },
         Row {
             name: "__4k",
-            first: "%valid && %burst == 2'b01 |-> ( { 8'd0 , %addr [ 11 : 0 ] }",
-            second: "& ~ ( ( 20'd1 << %size ) - 20'd1 ) ) + ( ( { 12'd0 , %len } + 20'd1 ) << %size ) <= 20'd4096",
+            first: "%valid && %burst == 2'b01 |-> ( { 8'd0 , %addr [ 11 : 0 ] } & ~ ( ( 20'd1 <<",
+            second: "%size ) - 20'd1 ) ) + ( ( { 12'd0 , %len } + 20'd1 ) << %size ) <= 20'd4096",
         },
         Row {
             name: "__cache",

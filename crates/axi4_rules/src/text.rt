@@ -1,22 +1,22 @@
 //! Texts, cut into parts.
 
 ghost use Rattle.std.specs.Prelude.{◌≡◌, ◌<◌, IfOk, map, not};
-ghost use Rattle.std.specs.List.{filter};
-ghost use Rattle.axi4_rules.specs.Texts.{pieces, fields, is_empty};
+ghost use Rattle.axi4_rules.specs.Texts.{pieces, fields, filled_ones};
+ghost use Rattle.axi4_rules.specs.Views.{texts_of};
 
 use std::alloc::{AllocError, Global};
 
 /// The parts between the separators.
 pub(crate) fn pieces(alloc: Global, text: &str, separator: char) -> Result<Vec<&str>, AllocError>
     requires { separator < 128 }
-    ensures { IfOk result (λ v. map (λ p. p.now) v.items ≡ pieces separator text.now) }
+    ensures { IfOk result (λ v. texts_of v.items ≡ pieces separator text.now) }
 {
     text.split(separator).collect(alloc)
 }
 
 /// The texts that aren't empty.
 fn without_empty<'t>(alloc: Global, texts: &[&'t str]) -> Result<Vec<&'t str>, AllocError>
-    ensures { IfOk result (λ v. map (λ t. t.now) v.items ≡ filter (λ t. not (is_empty t)) (map (λ t. t.now) texts.now)) }
+    ensures { IfOk result (λ v. texts_of v.items ≡ filled_ones (texts_of texts.now)) }
 {
     let mut found = Vec::new(alloc);
     for text in texts {
@@ -29,7 +29,7 @@ fn without_empty<'t>(alloc: Global, texts: &[&'t str]) -> Result<Vec<&'t str>, A
 
 /// What stands between spaces.
 pub(crate) fn fields(alloc: Global, line: &str) -> Result<Vec<&str>, AllocError>
-    ensures { IfOk result (λ v. map (λ f. f.now) v.items ≡ fields line.now) }
+    ensures { IfOk result (λ v. texts_of v.items ≡ fields line.now) }
 {
     let parts = pieces(alloc, line, ' ')?;
     without_empty(alloc, &parts)

@@ -2,7 +2,9 @@
 
 ghost use Rattle.std.specs.Prelude.{◌≡◌, IfOk, map, None, Some};
 ghost use Rattle.std.specs.Option.{option_map};
-ghost use Rattle.axi4_rules.specs.Lines.{optional, required, number, number_or, all_numbers, case_named, mode_named, watched};
+ghost use Rattle.axi4_rules.specs.Lines.{optional, required, number, number_or};
+ghost use Rattle.axi4_rules.specs.Lines.{all_numbers, case_named, mode_named, watched};
+ghost use Rattle.axi4_rules.specs.Views.{texts_of, text_in, items_in};
 
 use crate::case::Case;
 use crate::mode::Mode;
@@ -14,7 +16,7 @@ const MOST: u32 = 65_536;
 
 /// What stands behind the key, if anything; `None` where the key stands twice.
 pub(crate) fn optional<'t>(fields: &[&'t str], key: &str) -> Option<Option<&'t str>>
-    ensures { option_map (λ o. option_map (λ t. t.now) o) result ≡ optional key.now (map (λ f. f.now) fields.now) }
+    ensures { option_map text_in result ≡ optional key.now (texts_of fields.now) }
 {
     let mut found = None;
     for field in fields {
@@ -32,7 +34,7 @@ pub(crate) fn optional<'t>(fields: &[&'t str], key: &str) -> Option<Option<&'t s
 /// What stands behind the key, which stands once.
 #[tactic(auto, unfolding(crate::specs::Lines::required))]
 pub(crate) fn required<'t>(fields: &[&'t str], key: &str) -> Option<&'t str>
-    ensures { option_map (λ t. t.now) result ≡ required key.now (map (λ f. f.now) fields.now) }
+    ensures { text_in result ≡ required key.now (texts_of fields.now) }
 {
     optional(fields, key)?
 }
@@ -57,7 +59,7 @@ pub(crate) fn number(text: &str) -> Option<u32>
 
 /// The number, or another where the field is left out.
 pub(crate) fn number_or(other: u32, text: Option<&str>) -> Option<u32>
-    ensures { result ≡ number_or other (option_map (λ t. t.now) text.entry) }
+    ensures { result ≡ number_or other (text_in text.entry) }
 {
     match text {
         Some(text) => number(text),
@@ -68,7 +70,7 @@ pub(crate) fn number_or(other: u32, text: Option<&str>) -> Option<u32>
 /// The case that the text names.
 #[tactic(auto, unfolding(crate::specs::Lines::case_named))]
 pub(crate) fn case_named(text: Option<&str>) -> Option<Case>
-    ensures { result ≡ case_named (option_map (λ t. t.now) text.entry) }
+    ensures { result ≡ case_named (text_in text.entry) }
 {
     match text {
         None => Some(Case::Lower),
@@ -87,7 +89,7 @@ pub(crate) fn case_named(text: Option<&str>) -> Option<Case>
 /// The mode that the text names.
 #[tactic(auto, unfolding(crate::specs::Lines::mode_named))]
 pub(crate) fn mode_named(text: Option<&str>) -> Option<Mode>
-    ensures { result ≡ mode_named (option_map (λ t. t.now) text.entry) }
+    ensures { result ≡ mode_named (text_in text.entry) }
 {
     match text {
         None => Some(Mode::Multi),
@@ -105,7 +107,7 @@ pub(crate) fn mode_named(text: Option<&str>) -> Option<Mode>
 
 /// The numbers of a list, or `None` where one is none.
 fn numbers(alloc: Global, texts: &[&str]) -> Result<Option<Vec<u32>>, AllocError>
-    ensures { IfOk result (λ o. option_map (λ v. v.items) o ≡ all_numbers (map (λ t. t.now) texts.now)) }
+    ensures { IfOk result (λ o. items_in o ≡ all_numbers (texts_of texts.now)) }
 {
     let mut found = Vec::new(alloc);
     for text in texts {
@@ -120,7 +122,7 @@ fn numbers(alloc: Global, texts: &[&str]) -> Result<Option<Vec<u32>>, AllocError
 /// The numbers between commas, or `None` where one is none.
 #[tactic(auto, unfolding(crate::specs::Lines::watched))]
 pub(crate) fn watched(alloc: Global, text: Option<&str>) -> Result<Option<Vec<u32>>, AllocError>
-    ensures { IfOk result (λ o. option_map (λ v. v.items) o ≡ watched (option_map (λ t. t.now) text.entry)) }
+    ensures { IfOk result (λ o. items_in o ≡ watched (text_in text.entry)) }
 {
     match text {
         Some(text) => {

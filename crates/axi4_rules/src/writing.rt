@@ -1,10 +1,9 @@
 //! The rules of a port.
 
 ghost use Rattle.std.specs.Prelude.{◌≡◌, codes, IfOk, OnOk, string_bytes};
-ghost use Rattle.axi4_rules.specs.Texts.{tokens};
-ghost use Rattle.axi4_rules.specs.Rules.{address_payload, write_payload, response_payload, read_payload, channels, addresses, counting, table, tokens_of};
+ghost use Rattle.axi4_rules.specs.Rules.{channels, addresses, counting, table};
 ghost use Rattle.axi4_rules.specs.Seen.{port_data};
-ghost use Rattle.axi4_rules.specs.Wholes.{Adds};
+ghost use Rattle.axi4_rules.specs.Wholes.{Adds, HasTokens};
 
 use crate::channels::{push_address, push_channel, push_comment};
 use crate::mode::Mode;
@@ -13,16 +12,24 @@ use crate::responses::{push_counters, push_responses};
 use crate::rule_text::RuleText;
 use std::alloc::{AllocError, Global};
 
-const ADDRESS: [&str; 8] = ["id", "addr", "len", "size", "burst", "lock", "cache", "prot"];
+const ADDRESS: [&str; 8] = [
+    "id", "addr", "len", "size", "burst", "lock", "cache", "prot",
+];
+
 const WRITE: [&str; 2] = ["strb", "last"];
+
 const RESPONSE: [&str; 2] = ["id", "resp"];
+
 const READ: [&str; 3] = ["id", "resp", "last"];
 
 /// Adds a block for each channel.
 fn push_channels(alloc: Global, text: &mut RuleText, port: &Port) -> Result<(), AllocError>
     ensures { OnOk result (Adds text.old text.new (channels (port_data port.now))) }
 {
-    push_comment(text, "Write address: silent in reset, still while it waits, taken in time.")?;
+    push_comment(
+        text,
+        "Write address: silent in reset, still while it waits, taken in time.",
+    )?;
     push_channel(alloc, text, port, "aw", &ADDRESS)?;
     push_comment(text, "Write data: the same.")?;
     push_channel(alloc, text, port, "w", &WRITE)?;
@@ -39,7 +46,10 @@ fn push_channels(alloc: Global, text: &mut RuleText, port: &Port) -> Result<(), 
 fn push_addresses(alloc: Global, text: &mut RuleText, port: &Port) -> Result<(), AllocError>
     ensures { OnOk result (Adds text.old text.new (addresses (port_data port.now))) }
 {
-    push_comment(text, "Write address: bursts of a legal kind, length, size, place and lock.")?;
+    push_comment(
+        text,
+        "Write address: bursts of a legal kind, length, size, place and lock.",
+    )?;
     push_address(alloc, text, port, "aw")?;
     push_comment(text, "Read address: the same.")?;
     push_address(alloc, text, port, "ar")?;
@@ -55,16 +65,22 @@ fn push_counting(
 ) -> Result<(), AllocError>
     ensures { OnOk result (Adds text.old text.new (counting (port_data port.now) mode)) }
 {
-    push_comment(text, "What is outstanding; in single mode what was asked for, and the beats so far.")?;
+    push_comment(
+        text,
+        "What is outstanding; in single mode what was asked for, and the beats so far.",
+    )?;
     push_counters(alloc, text, port, mode)?;
-    push_comment(text, "Responses: each after its request; in single mode of the right kind and length.")?;
+    push_comment(
+        text,
+        "Responses: each after its request; in single mode of the right kind and length.",
+    )?;
     push_responses(alloc, text, port, mode)?;
     Ok(())
 }
 
 /// The text of a port's counters and rules: a line each, with a comment above each block.
 pub fn rules(alloc: Global, port: &Port, mode: Mode) -> Result<String, AllocError>
-    ensures { IfOk result (λ t. tokens (string_bytes t) ≡ tokens_of (table (port_data port.now) mode)) }
+    ensures { IfOk result (λ t. HasTokens t (table (port_data port.now) mode)) }
 {
     let mut text = RuleText::new(alloc);
     push_channels(alloc, &mut text, port)?;

@@ -1,5 +1,5 @@
 -- How many names are read, and the code over their slots.
-use Rattle.std.proofs.Common.{◌≡◌, ◌∙◌, ℕ, ◌+◌, ◌<◌, ◌≤◌, Bool, true, List, length, map, refl, ap, sym, subst, arith, inl, inr}
+use Rattle.std.proofs.Common.{◌≡◌, ◌∙◌, ℕ, ◌<◌, ◌≤◌, Bool, List, length, map, ap, sym, arith}
 use Rattle.std.specs.Prelude.{count_by, slice_get, unwrap_or, Option, Some, None}
 use Rattle.std.proofs.Math.Path.{fun_ext}
 use Rattle.expressions.specs.declared.name.Origin.{Origin}
@@ -20,7 +20,7 @@ use Rattle.expression_code.specs.Samples.{sample_code, sample_reach}
 use Rattle.expression_code.specs.Chosen.{terms_at, held_at}
 use Rattle.expression_code.specs.Slots.{slots_in}
 use Rattle.compiler.specs.Conditions.{IsFit}
-use Rattle.compiler.specs.Readings.{IsReading, first_counter, slot_count, slots_over, boolean_terms, counters_read, code_over}
+use Rattle.compiler.specs.Readings.{IsReading, first_counter, slots_over, boolean_terms, counters_read, code_over}
 use Rattle.compiler.proofs.Places.{places-long}
 use Rattle.compiler.proofs.Known as known
 use Rattle.compiler.proofs.Formed as made

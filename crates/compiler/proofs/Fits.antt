@@ -1,15 +1,14 @@
 -- A file can hold the program of an assertion.
-use Rattle.std.proofs.Common.{◌≡◌, ◌∙◌, ℕ, zero, suc, ◌+◌, ◌^◌, ◌<◌, ◌≤◌, Bool, true, false, List, [], ◌∷◌, ◌++◌, length, map}
+use Rattle.std.proofs.Common.{◌≡◌, ◌∙◌, ℕ, zero, suc, ◌+◌, ◌^◌, ◌<◌, ◌≤◌, Bool, true, false, List, [], ◌∷◌, length, map}
 use Rattle.std.proofs.Common.{Option, Some, None, slice_get, refl, ap, sym, subst, arith, inl, inr, IsTrue}
 use Rattle.std.specs.Prelude.{◌&&◌, ◌||◌, ◌-◌, string_bytes, nat_lt, nat_le, if◌then◌else◌, count_by}
-use Rattle.std.specs.List.{AllByRecursion, list_all, list_any}
+use Rattle.std.specs.List.{list_all, list_any}
 use Rattle.std.proofs.lemmas.Bool.{lt-ltb, le-leb, cases_lt, ltb-true}
 use Rattle.std.proofs.lemmas.Nat.{pow_below}
 use Rattle.std.proofs.Math.Nat.{pow-le-pow_right}
 use Rattle.std.proofs.lemmas.List.Folds.{list_all-map}
 use Rattle.std.proofs.lemmas.Option.{slice_get_within}
 use Rattle.std.proofs.lemmas.List.{length-map}
-use Rattle.expressions.specs.declared.counter.Counter.{Counter}
 use Rattle.expressions.specs.Expressions.{term_of}
 use Rattle.assertions.specs.declared.sequence.Boolean.{Boolean}
 use Rattle.assertions.specs.declared.sequence.Boolean.TheVariants.{One, Listed}
@@ -19,17 +18,15 @@ use Rattle.assertions.specs.declared.suite.Suite.{Suite}
 use Rattle.assertions.specs.Listed.{IsListedOption}
 use Rattle.bytecode.specs.declared.block_instr.BlockInstr.{BlockInstr}
 use Rattle.bytecode.specs.declared.block_instr.BlockInstr.TheVariants.{Unless, Enter, Accept, Stop}
-use Rattle.bytecode.specs.declared.limits.Limits.{Limits}
 use Rattle.bytecode.specs.Texts.{is_word, is_path}
 use Rattle.bytecode.specs.Instructions.{frame_of}
-use Rattle.bytecode.specs.Values.{ProgramData, SlotData, SectionData, HeaderData, in_byte, in_two, is_width, fits_text, fits_slot, fits_list}
+use Rattle.bytecode.specs.Values.{ProgramData, SectionData, in_byte, in_two, is_width, fits_text, fits_slot, fits_list}
 use Rattle.bytecode.specs.Values.{fits_sample, fits_block, fits_section, fits_disable, fits_limits, fits_header, fits_program}
 use Rattle.inference.specs.declared.refusal.Refusal.{Refusal}
 use Rattle.inference.specs.declared.refusal.Refusal.TheVariants.{SlotRange, Cycle}
 use Rattle.inference.specs.Rules.{block_rules}
-use Rattle.inference.specs.Typing.{IsTyped, IsFine}
+use Rattle.inference.specs.Typing.{IsFine}
 use Rattle.inference.specs.Sections.{IsSection, AreTyped, size_of}
-use Rattle.expression_code.specs.Samples.{Held, sample_code}
 use Rattle.expression_code.proofs.FitLaws.{samples-fit}
 use Rattle.assertion_reads.specs.Marks.{is_marked, places_from}
 use Rattle.assertion_reads.proofs.SlotLaws.{place-at}
@@ -37,7 +34,7 @@ use Rattle.compiler.specs.Conditions.{IsFit}
 use Rattle.compiler.specs.Programs.{disabling_atom}
 use Rattle.compiler.specs.Readings.{IsReading, slots_over, counters_read}
 use Rattle.compiler.specs.Faults.{is_long, is_long_found, is_long_path, AreCounted}
-use Rattle.compiler.specs.Parts.{slot_found, slot_at, width_found, width_at, no_limits, AreParts}
+use Rattle.compiler.specs.Parts.{slot_found, slot_at, width_found, width_at, AreParts}
 use Rattle.compiler.proofs.ListLaws.{some-one, all-at}
 use Rattle.compiler.proofs.Places.{AreBelow, stands-at, places-long, held-long}
 use Rattle.compiler.proofs.Known as known
@@ -55,7 +52,7 @@ width-fits w low high = both (nat_le 1 w) (nat_le w 128) (le-leb 1 w low) (le-le
 text-fits : (is_text : List ℕ → Bool) (bytes : List ℕ) → (is_long bytes ≡ true → ⊥) → is_text bytes ≡ true → fits_text is_text bytes ≡ true
 text-fits is_text bytes short is =
     both (in_two (length bytes)) (is_text bytes)
-    (small (length bytes) 65536 (elim (cases_lt 65535 (length bytes)) [ | inl long ↦ absurd (short (lt-ltb 65535 (length bytes) long)) | inr le ↦ omega (arith, le) ])) is
+    (small (length bytes) 65536 (elim (cases_lt 65535 (length bytes)) [ inl long ↦ absurd (short (lt-ltb 65535 (length bytes) long)) | inr le ↦ omega (arith, le) ])) is
 
 or_left : (a b : Bool) → a ≡ true → (a || b) ≡ true
 or_left a b h = ap (λ c. c || b) h

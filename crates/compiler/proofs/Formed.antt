@@ -1,11 +1,10 @@
 -- The parts of a fit assertion make a program of it, which the verifier accepts with its least limits.
-use Rattle.std.proofs.Common.{◌≡◌, ◌∙◌, ℕ, zero, suc, ◌+◌, ◌-◌, ◌*◌, ◌<◌, ◌≤◌, max, Bool, true, List, [], ◌∷◌, ◌++◌, length, map}
-use Rattle.std.proofs.Common.{Option, Some, None, slice_get, refl, ap, sym, subst, arith, inl, inr, length-append}
-use Rattle.std.specs.Prelude.{string_bytes, slice_index, count_by}
-use Rattle.std.specs.List.{AllByRecursion, AllZip}
-use Rattle.std.proofs.Math.Nat.{mul-le-mul_right, mul-le-mul_left}
+use Rattle.std.proofs.Common.{◌≡◌, ◌∙◌, ℕ, zero, suc, ◌+◌, ◌-◌, ◌*◌, ◌≤◌, Bool, List, [], ◌∷◌, ◌++◌, length, map}
+use Rattle.std.proofs.Common.{Option, Some, None, ap, sym, subst, arith, inl, inr, length-append}
+use Rattle.std.specs.Prelude.{slice_index, count_by}
+use Rattle.std.specs.List.{AllZip}
+use Rattle.std.proofs.Math.Nat.{mul-le-mul_right}
 use Rattle.std.proofs.lemmas.List.{length-map}
-use Rattle.std.proofs.lemmas.List.Sums.{count_by-le-length}
 use Rattle.expressions.specs.Terms.{Term}
 use Rattle.expressions.specs.Expressions.{term_of}
 use Rattle.assertions.specs.declared.sequence.Boolean.{Boolean}
@@ -23,8 +22,8 @@ use Rattle.bytecode.specs.Values.{ProgramData, SectionData}
 use Rattle.bytecode.specs.Instructions.{frame_of, sample_flow, block_flow}
 use Rattle.inference.specs.Sections.{IsSection, size_of}
 use Rattle.inference.specs.Typing.{longest_list}
-use Rattle.verifier.specs.Limits.{path_of, paths_from, longest_path, path_sum, start_life}
-use Rattle.verifier.specs.Programs.{IsAtom, IsWellFormed, HasRoom, IsWithinLimits, IsAcceptable, IsAccepted, least_limits, least_attempts, least_obligations, least_budget, least_stack}
+use Rattle.verifier.specs.Limits.{path_of, paths_from, longest_path, path_sum}
+use Rattle.verifier.specs.Programs.{IsAtom, IsWellFormed, HasRoom, IsAccepted, least_limits, least_attempts, least_obligations, least_stack}
 use Rattle.verifier.proofs.ProgramLaws.{longest_is_least}
 use Rattle.verifier.proofs.ShortLaws.{accepted}
 use Rattle.visits.proofs.LifeLaws.{start_life-most}
@@ -39,7 +38,7 @@ use Rattle.positions.specs.Laws.{Occurs, IsThere, section_for}
 use Rattle.positions.proofs.Theorem.{law-section_is_well_formed, law-section_is_small}
 use Rattle.compiler.specs.Conditions.{IsKnown, IsFit}
 use Rattle.compiler.specs.Programs.{disabling_atom, IsSlotOf, IsProgramOf}
-use Rattle.compiler.specs.Readings.{IsReading, first_counter, slot_count, slots_over, counters_read}
+use Rattle.compiler.specs.Readings.{IsReading, slots_over, counters_read}
 use Rattle.compiler.specs.Faults.{AreCounted}
 use Rattle.compiler.specs.Parts.{slot_at, width_at, no_limits, AreParts, AreModest, with_limits, declared_from}
 use Rattle.compiler.proofs.ListLaws.{all-more}
@@ -94,13 +93,13 @@ occurs-there n (boolean c) b h o = there-same n b c h o
 occurs-there n (delay r least most s) b h o =
     elim o [
       | inl one ↦ there-one n b one
-      | inr more ↦ elim more [ | inl x ↦ occurs-there n r b h.0 x | inr y ↦ occurs-there n s b h.1 y ]
+      | inr more ↦ elim more [ inl x ↦ occurs-there n r b h.0 x | inr y ↦ occurs-there n s b h.1 y ]
     ]
-occurs-there n (lead least most s) b h o = elim o [ | inl one ↦ there-one n b one | inr y ↦ occurs-there n s b h y ]
+occurs-there n (lead least most s) b h o = elim o [ inl one ↦ there-one n b one | inr y ↦ occurs-there n s b h y ]
 occurs-there n (repeat r least most) b h o = occurs-there n r b h o
-occurs-there n (or r s) b h o = elim o [ | inl x ↦ occurs-there n r b h.0 x | inr y ↦ occurs-there n s b h.1 y ]
-occurs-there n (and r s) b h o = elim o [ | inl x ↦ occurs-there n r b h.0 x | inr y ↦ occurs-there n s b h.1 y ]
-occurs-there n (throughout c r) b h o = elim o [ | inl x ↦ there-same n b c h.0 x | inr y ↦ occurs-there n r b h.1 y ]
+occurs-there n (or r s) b h o = elim o [ inl x ↦ occurs-there n r b h.0 x | inr y ↦ occurs-there n s b h.1 y ]
+occurs-there n (and r s) b h o = elim o [ inl x ↦ occurs-there n r b h.0 x | inr y ↦ occurs-there n s b h.1 y ]
+occurs-there n (throughout c r) b h o = elim o [ inl x ↦ there-same n b c h.0 x | inr y ↦ occurs-there n r b h.1 y ]
 
 -- a disabling boolean that is listed has an atom
 disabling-there : (n : ℕ) (o : Option Boolean) → IsListedOption n o → IsAtom (disabling_atom o) n
@@ -218,7 +217,8 @@ module _ (suite : Suite) (a : Assertion) (fit : IsFit suite a) (signals counters
         let typed = typed-of p parts in
         let life_a = start_life-most p.antecedent roomy.antecedent_positions in
         let life_c = start_life-most p.consequent roomy.consequent_positions in
-        let stack : least_stack p ≡ longest_list formed.table 0 p.sample = longest_is_least p formed.table formed.sample formed.short in
+        let stack : least_stack p ≡ longest_list typed.table 0 p.sample =
+        longest_is_least p typed.table typed.typed (typed.short (omega (arith, bounded.need))) in
         let path = longest-short 0 (map sample_flow p.sample) in
         let long : length (map sample_flow p.sample) ≡ length p.sample = length-map p.sample sample_flow in
         record {

@@ -1,7 +1,7 @@
 -- What a fit assertion reads is held by its program.
-use Rattle.std.proofs.Common.{◌≡◌, ◌∙◌, ℕ, zero, suc, ◌+◌, ◌-◌, ◌<◌, ◌≤◌, Bool, true, List, [], ◌∷◌, ◌++◌, length, map}
-use Rattle.std.proofs.Common.{Option, Some, None, slice_get, refl, ap, sym, subst, arith}
-use Rattle.std.specs.Prelude.{Contains, string_bytes, count_by}
+use Rattle.std.proofs.Common.{◌≡◌, ◌∙◌, ℕ, suc, ◌+◌, ◌-◌, ◌<◌, ◌≤◌, Bool, true, List, [], ◌∷◌, ◌++◌, length, map}
+use Rattle.std.proofs.Common.{Some, slice_get, refl, ap, sym, subst, arith}
+use Rattle.std.specs.Prelude.{Contains, count_by}
 use Rattle.std.proofs.lemmas.List.Elements.{Contains-append_left, Contains-append_right}
 use Rattle.std.specs.List.{AllByRecursion, AllZip, flat_map}
 use Rattle.std.proofs.lemmas.Option.{slice_get_within}
@@ -9,16 +9,13 @@ use Rattle.expressions.specs.declared.name.Origin.{Origin}
 use Rattle.expressions.specs.declared.name.Origin.TheVariants.{Signal, Counter}
 use Rattle.expressions.specs.declared.name.Name.{Name}
 use Rattle.expressions.specs.declared.expr.Expr.{Expr}
-use Rattle.expressions.specs.declared.counter.Counter.{Counter as Counting}
 use Rattle.expressions.specs.Terms.{Term, width_of}
 use Rattle.expressions.specs.Expressions.{term_of}
-use Rattle.assertions.specs.declared.signal.Signal.{Signal as Watched}
 use Rattle.assertions.specs.declared.assertion.Assertion.{Assertion}
 use Rattle.assertions.specs.declared.suite.Suite.{Suite}
-use Rattle.bytecode.specs.Values.{SlotData}
 use Rattle.assertion_reads.specs.Names.{names_in, expression_names, counter_names}
-use Rattle.assertion_reads.specs.Reads.{IsRead, at_once, through, names_of, boolean_names}
-use Rattle.assertion_reads.specs.Marks.{IsAmong, AreMarks, is_marked, places_from}
+use Rattle.assertion_reads.specs.Reads.{at_once, through, names_of, boolean_names}
+use Rattle.assertion_reads.specs.Marks.{IsAmong, is_marked, places_from}
 use Rattle.expression_code.specs.Samples.{Held, counter_terms}
 use Rattle.expression_code.specs.Chosen.{term_found, terms_at}
 use Rattle.expression_code.specs.Laws.{Each, OfName, program_terms}
@@ -70,7 +67,7 @@ module _ (suite : Suite) where
         within = (
           λ n c. Contains-append_left (names_at p) (flat_map names_at ps) n (subst (λ o. Contains (expression_names o) n) (sym here.found) c),
           further (flat_map names_at ps) (names_at p ++ flat_map names_at ps) (map term_of rest.booleans)
-          (λ n c. Contains-append_right (names_at p) (flat_map names_at ps) n c) rest.within,
+              (λ n c. Contains-append_right (names_at p) (flat_map names_at ps) n c) rest.within,
         );
       }
 

@@ -8,3 +8,5 @@ pub mod Fits
 pub mod Refusals
 pub mod Counts
 pub mod Loops
+pub mod FaultLaws
+pub mod SmallLaws

@@ -1,7 +1,7 @@
 -- The names of an expression, part by part.
-use Rattle.std.proofs.Common.{◌≡◌, ℕ, List, [], ◌∷◌, ◌++◌, Option, Some, None, refl, arith}
+use Rattle.std.proofs.Common.{List, [], ◌∷◌, ◌++◌, Option, Some, None, refl, arith}
 use Rattle.std.specs.Prelude.{Contains}
-use Rattle.std.specs.List.{AllByRecursion, flat_map}
+use Rattle.std.specs.List.{AllByRecursion}
 use Rattle.std.proofs.lemmas.List.Elements.{Contains-append_left, Contains-append_right}
 use Rattle.expressions.specs.declared.name.Name.{Name}
 use Rattle.expressions.specs.declared.expr.Expr.{Expr}
@@ -33,9 +33,10 @@ module _ (P : Name → Type 0) where
   Has e = (n : Name) → Contains (names_in e) n → P n
 
   two : (a b : Term) → ((n : Name) → Contains (names_in a ++ names_in b) n → P n) → Has a × Has b
-  two a b h =
-      (λ n c. h n (left-within (names_in a) (names_in b) n c),
-      λ n c. h n (right-within (names_in a) (names_in b) n c))
+  two a b h = (
+    λ n c. h n (left-within (names_in a) (names_in b) n c),
+    λ n c. h n (right-within (names_in a) (names_in b) n c),
+  )
 
   pub each-name : (e : Term) → ((n : Name) → Contains (names_in e) n → P n) → Each (OfName P) e
   each-name (constant bits) h = tt
@@ -51,10 +52,13 @@ module _ (P : Name → Type 0) where
   each-name (connect op a b) h = let s = two a b h in (tt, each-name a s.0, each-name b s.1)
   each-name (choose c a b) h =
       let more = λ (n : Name) (k : Contains (names_in a ++ names_in b) n).
-          h n (right-within (names_in c) (names_in a ++ names_in b) n k) in
-      let s = two a b more in
-      (tt, each-name c (λ n k. h n (left-within (names_in c) (names_in a ++ names_in b) n k)),
-      each-name a s.0, each-name b s.1)
+      h n (right-within (names_in c) (names_in a ++ names_in b) n k) in
+      let s = two a b more in (
+        tt,
+        each-name c (λ n k. h n (left-within (names_in c) (names_in a ++ names_in b) n k)),
+        each-name a s.0,
+        each-name b s.1,
+      )
   each-name (past e ticks) h = (tt, each-name e h)
   each-name (change op e) h = (tt, each-name e h)
 

@@ -1,6 +1,6 @@
 -- Marked places, and what stands at them.
 use Rattle.std.proofs.Common.{◌≡◌, ◌∙◌, ℕ, zero, suc, ◌+◌, ◌-◌, ◌<◌, ◌≤◌, Bool, true, false, List, [], ◌∷◌}
-use Rattle.std.proofs.Common.{◌++◌, length, map, Option, Some, None, slice_get, refl, ap, sym, subst, arith, inl, inr}
+use Rattle.std.proofs.Common.{length, map, Some, slice_get, refl, ap, sym, subst, arith, inl, inr}
 use Rattle.std.specs.Prelude.{unwrap_or, count_by, cond}
 use Rattle.std.specs.List.{AllByRecursion, AllZip, All}
 use Rattle.std.proofs.lemmas.List.Sums.{sum_by-cons}

@@ -4,3 +4,4 @@ pub mod Readings
 pub mod Reads
 pub mod Faults
 pub mod Parts
+pub mod Small

@@ -9,7 +9,7 @@ use Rattle.assertions.specs.declared.assertion.Assertion.{Assertion}
 use Rattle.assertions.specs.declared.suite.Suite.{Suite}
 use Rattle.assertions.specs.Shapes.{written_form}
 use Rattle.bytecode.specs.declared.limits.Limits.{Limits}
-use Rattle.bytecode.specs.Values.{ProgramData, HeaderData, SlotData}
+use Rattle.bytecode.specs.Values.{ProgramData, SlotData}
 use Rattle.inference.specs.Sections.{size_of}
 use Rattle.verifier.specs.declared.least.LeastLimits.{LeastLimits}
 use Rattle.assertion_reads.specs.Marks.{places_from}

@@ -1,5 +1,5 @@
 -- What an assertion reads of its suite, and the slots and sample code that its program has for it.
-use Rattle.std.specs.Prelude.{◌≡◌, ℕ, ◌+◌, Bool, List, length, count_by, slice_get, unwrap_or}
+use Rattle.std.specs.Prelude.{ℕ, ◌+◌, Bool, List, length, count_by, slice_get, unwrap_or}
 use Rattle.expressions.specs.declared.name.Origin.TheVariants.{Signal, Counter}
 use Rattle.expressions.specs.declared.name.Name.{Name}
 use Rattle.expressions.specs.Terms.{Term}

@@ -15,13 +15,15 @@
 //! The definitions: what a program of an assertion is, and that it decides as the assertion means,
 //! in `assertion_programs`; what `compile` takes for granted of an assertion and its suite in
 //! `specs/Conditions.antt` (it follows where the type checker made the suite of a text); what an
-//! assertion reads in `specs/Readings.antt`; why there is no program in `specs/Faults.antt`.
+//! assertion reads in `specs/Readings.antt`; why there is no program in `specs/Faults.antt`; small
+//! assertions, for which K2 never comes, in `specs/Small.antt`.
 //!
 //! Not promised: that memory suffices, or that code is as short as can be.
 #![tactic(auto)]
 
 mod compilation;
 mod fault;
+mod laws;
 mod limits;
 mod program;
 mod reading;
@@ -30,3 +32,4 @@ mod texts;
 
 pub use compilation::compile;
 pub use fault::CompileFault;
+pub use laws::small_law;

@@ -12,6 +12,7 @@ use assertions::{Boolean, Sequence};
 use std::alloc::{AllocError, Global};
 
 /// A boolean with a place of its own in an assertion's list.
+#[tactic(auto, using(crate::proofs::PlacedLaws::of_pushed))]
 pub fn place_boolean(boolean: Boolean, places: &mut Vec<usize>) -> Result<Boolean, AllocError>
     ensures grows { OnOk result (Extends places.old.items places.new.items) }
     ensures placed { (booleans : List Expr) (more : List ℕ) → IfOk result (λ b. IsPlacedBoolean booleans (places.new.items ++ more) boolean b) }

@@ -1,4 +1,4 @@
-use Rattle.std.proofs.Common.{◌≡◌, ◌∙◌, subst, [], ◌∷◌, List, ℕ}
+use Rattle.std.proofs.Common.{◌∙◌, subst, [], ◌∷◌, List, ℕ}
 use Rattle.std.specs.Fmt.{decimal}
 use Rattle.axi4_rules.specs.Rules.{of_port}
 use Rattle.axi4_rules.specs.Seen.{port_data}

@@ -1,4 +1,4 @@
-use Rattle.std.proofs.Common.{map, take, []}
+use Rattle.std.proofs.Common.{map, take}
 use Rattle.std.specs.Fmt.{decimal}
 use Rattle.axi4_rules.specs.Rules.{of_port}
 use Rattle.axi4_rules.specs.Seen.{port_data}

@@ -1,4 +1,4 @@
-use Rattle.std.proofs.Common.{◌≡◌, ◌∙◌, ◌++◌, ap}
+use Rattle.std.proofs.Common.{◌∙◌, ◌++◌, ap}
 use Rattle.axi4_rules.specs.Texts.{tokens}
 use Rattle.axi4_rules.proofs.AddLaws.{one_line}
 use Rattle.axi4_rules.proofs.blocks.push_row.Goals as goal

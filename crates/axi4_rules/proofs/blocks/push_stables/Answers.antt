@@ -1,4 +1,4 @@
-use Rattle.std.proofs.Common.{◌≡◌, sym, map, subst, List, ℕ}
+use Rattle.std.proofs.Common.{sym, subst, List, ℕ}
 use Rattle.axi4_rules.specs.Rules.{rule_line, of_channel, stable_row}
 use Rattle.axi4_rules.specs.Seen.{port_data}
 use Rattle.axi4_rules.specs.Wholes.{Adds}

@@ -1,4 +1,4 @@
-use Rattle.std.proofs.Common.{◌≡◌, ◌∙◌, List, ℕ}
+use Rattle.std.proofs.Common.{◌∙◌, List, ℕ}
 use Rattle.axi4_rules.specs.Rules.{rule_line, of_channel, address_lines}
 use Rattle.axi4_rules.specs.Seen.{port_data}
 use Rattle.axi4_rules.proofs.AddLaws.{same_rows}

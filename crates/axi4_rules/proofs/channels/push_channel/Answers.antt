@@ -1,4 +1,4 @@
-use Rattle.std.proofs.Common.{◌≡◌, []}
+use Rattle.std.proofs.Common.{[]}
 use Rattle.axi4_rules.specs.Rules.{rule_line, reset_line, of_channel, channel_lines}
 use Rattle.axi4_rules.specs.Seen.{port_data}
 use Rattle.axi4_rules.proofs.AddLaws.{and_then, same_row}

@@ -1,4 +1,4 @@
-use Rattle.std.proofs.Common.{◌≡◌, ◌∙◌, ◌++◌, sym, ap, Some, None, lit<, string_bytes}
+use Rattle.std.proofs.Common.{◌∙◌, ◌++◌, sym, ap, Some, None, lit<, string_bytes}
 use Rattle.std.proofs.lemmas.Str.Pattern.{split_parts}
 use Rattle.axi4_rules.specs.Rules.{with_item}
 use Rattle.axi4_rules.proofs.FillLaws.{with_item-at, with_item-none, pushed, three_pieces}

@@ -1,4 +1,4 @@
-use Rattle.std.proofs.Common.{◌≡◌, ◌∙◌, sym}
+use Rattle.std.proofs.Common.{◌∙◌, sym}
 use Rattle.axi4_rules.specs.Drafts.{size_data}
 use Rattle.axi4_rules.proofs.RangeLaws.{id_at_most}
 use Rattle.axi4_rules.proofs.read.check.Goals as goal

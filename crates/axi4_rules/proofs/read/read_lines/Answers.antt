@@ -1,6 +1,6 @@
-use Rattle.std.proofs.Common.{◌≡◌, ◌∙◌, ◌+◌, ◌++◌, ◌∷◌, [], sym, ap, map, Ok, Err, append-nil, subst, get_or}
+use Rattle.std.proofs.Common.{◌∙◌, ◌+◌, sym, ap, map, Ok, append-nil}
 use Rattle.std.proofs.lemmas.List.{map-append}
-use Rattle.axi4_rules.specs.Seen.{Gives, line_data}
+use Rattle.axi4_rules.specs.Seen.{line_data}
 use Rattle.axi4_rules.proofs.LineLaws.{behind, left, left-skipped, left-said, left-refused, left-none, behind-onto, carried, handed_on}
 use Rattle.axi4_rules.proofs.read.read_lines.Goals as goal
 

@@ -1,6 +1,6 @@
-use Rattle.std.proofs.Common.{◌≡◌, [], ℕ}
+use Rattle.std.proofs.Common.{ℕ}
 use Rattle.std.specs.Fmt.{decimal}
-use Rattle.axi4_rules.specs.Rules.{Row, Filling, rule_line, of_port, response_lines}
+use Rattle.axi4_rules.specs.Rules.{Row, rule_line, of_port, response_lines}
 use Rattle.axi4_rules.specs.Seen.{port_data}
 use Rattle.axi4_rules.proofs.AddLaws.{and_then, same_filled, same_ids}
 use Rattle.axi4_rules.proofs.responses.push_responses.Goals as goal

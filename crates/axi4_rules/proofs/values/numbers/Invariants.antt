@@ -1,4 +1,4 @@
-use Rattle.std.proofs.Common.{◌≡◌, ◌++◌, map, drop}
+use Rattle.std.proofs.Common.{◌≡◌, map, drop}
 use Rattle.axi4_rules.specs.Lines.{all_numbers}
 use Rattle.axi4_rules.proofs.ListLaws.{with_front}
 use Rattle.axi4_rules.proofs.values.numbers.Given as goal

@@ -1,4 +1,4 @@
-use Rattle.std.proofs.Common.{◌≡◌, length, get_or, drop, map, None, Some, ◌<◌, ◌∙◌, ap, sym, ◌++◌, ◌∷◌}
+use Rattle.std.proofs.Common.{map, None, Some, ◌∙◌, ap, sym, ◌++◌}
 use Rattle.std.specs.Option.{option_map, option_to_list}
 use Rattle.axi4_rules.specs.Lines.{optional, values}
 use Rattle.axi4_rules.proofs.ListLaws.{drop-end}

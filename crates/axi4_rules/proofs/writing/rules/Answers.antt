@@ -1,7 +1,5 @@
-use Rattle.std.proofs.Common.{◌≡◌, ◌∙◌, ◌++◌, ap}
-use Rattle.axi4_rules.specs.Rules.{table, tokens_of}
-use Rattle.axi4_rules.specs.Seen.{port_data}
-use Rattle.axi4_rules.specs.Wholes.{Adds}
+use Rattle.std.proofs.Common.{◌∙◌}
+use Rattle.axi4_rules.specs.Rules.{table}
 use Rattle.axi4_rules.proofs.AddLaws.{and_then, from_nothing}
 use Rattle.axi4_rules.proofs.writing.rules.Goals as goal
 

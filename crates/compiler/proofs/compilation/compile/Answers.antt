@@ -1,4 +1,4 @@
-use Rattle.std.proofs.Common.{◌≡◌, sym, subst}
+use Rattle.std.proofs.Common.{sym, subst}
 use Rattle.bytecode.specs.Programs.{data_of}
 use Rattle.verifier.specs.Programs.{least_limits}
 use Rattle.compiler.specs.Programs.{IsProgramOf}

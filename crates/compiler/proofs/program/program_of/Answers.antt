@@ -1,25 +1,27 @@
-use Rattle.std.proofs.Common.{◌≡◌, ◌+◌, ◌≤◌, List, length, map, arith, ap, sym, subst, ◌∙◌}
-use Rattle.std.specs.Prelude.{string_bytes}
+use Rattle.std.proofs.Common.{length, map, arith, ap, ◌∙◌}
+use Rattle.assertions.specs.Shapes.{written_form}
 use Rattle.bytecode.specs.Views.{data_from}
-use Rattle.compiler.specs.Parts.{AreParts, slot_at, width_at}
-use Rattle.compiler.proofs.Counts.{marked-count, listed-more, option-more}
+use Rattle.compiler.specs.Parts.{slot_at, width_at}
+use Rattle.compiler.proofs.Counts.{marked-count, listed-more}
 use Rattle.compiler.proofs.Fits.{program-fits}
 use Rattle.compiler.proofs.program.program_of.Goals as goal
 
 pub code_of-requires-clause-slots : goal.code_of-requires-clause-slots
 code_of-requires-clause-slots c =
-    omega (arith,
-    marked-count c.args.reading.now.signals.items c.args.reading.now.signal_places.items c.requires.reading.signals_at,
-    marked-count c.args.reading.now.counters.items c.args.reading.now.counter_places.items c.requires.reading.counters_at,
-    c.requires.counted.slots)
+    omega (
+      arith,
+      marked-count c.args.reading.now.signals.items c.args.reading.now.signal_places.items c.requires.reading.signals_at,
+      marked-count c.args.reading.now.counters.items c.args.reading.now.counter_places.items c.requires.reading.counters_at,
+      c.requires.counted.slots,
+    )
 
 pub side_of-requires-clause-listed : goal.side_of-requires-clause-listed
 side_of-requires-clause-listed c =
-    listed-more _ 127 _ c.requires.counted.atoms c.requires.fit.placed.antecedent
+    listed-more (length c.args.assertion.now.booleans.items) 127 (written_form c.args.assertion.now.antecedent) c.requires.counted.atoms c.requires.fit.placed.antecedent
 
 pub side_of-requires-2-clause-listed : goal.side_of-requires-2-clause-listed
 side_of-requires-2-clause-listed c =
-    listed-more _ 127 _ c.requires.counted.atoms c.requires.fit.placed.consequent
+    listed-more (length c.args.assertion.now.booleans.items) 127 (written_form c.args.assertion.now.consequent) c.requires.counted.atoms c.requires.fit.placed.consequent
 
 pub invariant_of-result : goal.invariant_of-result
 invariant_of-result c =
@@ -32,7 +34,7 @@ invariant_of-result c =
           (record {
             limits = c.undeclared.ensures;
             disable = c.disabling.ensures;
-            atoms = c.len.ensures;
+            atoms = c.len.ensures ∙ c.args.assertion.now.booleans.ok.0;
             name = c.in_ok-from_str.ensures.ok ∙ c.as_str.ensures.value;
             clock = c.in_ok-from_str-2.ensures.ok ∙ c.as_str-2.ensures.value;
             signals_are =

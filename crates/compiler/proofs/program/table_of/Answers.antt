@@ -7,13 +7,22 @@ use Rattle.compiler.proofs.program.table_of.Goals as goal
 
 pub slots_of-requires : goal.slots_of-requires
 slots_of-requires c =
-    omega (arith, ap (count_by is_marked) c.as_slice.ensures.value,
-    marked-count c.args.reading.now.signals.items c.args.reading.now.signal_places.items c.requires.signals, c.requires.few)
+    omega (
+      arith,
+      ap (count_by is_marked) c.as_slice.ensures.value,
+      marked-count c.args.reading.now.signals.items c.args.reading.now.signal_places.items c.requires.signals,
+      c.requires.few,
+    )
 
 pub slots_of-requires-2 : goal.slots_of-requires-2
 slots_of-requires-2 c =
-    omega (arith, c.len.ensures, ap (count_by is_marked) c.as_slice-2.ensures.value,
-    marked-count c.args.reading.now.counters.items c.args.reading.now.counter_places.items c.requires.counters, c.requires.few)
+    omega (
+      arith,
+      c.len.ensures,
+      ap (count_by is_marked) c.as_slice-2.ensures.value,
+      marked-count c.args.reading.now.counters.items c.args.reading.now.counter_places.items c.requires.counters,
+      c.requires.few,
+    )
 
 pub returns-clause-counters : goal.returns-clause-counters
 returns-clause-counters c =

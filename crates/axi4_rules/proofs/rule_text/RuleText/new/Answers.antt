@@ -1,4 +1,4 @@
-use Rattle.std.proofs.Common.{◌≡◌, ◌∙◌, ◌++◌, ap, refl}
+use Rattle.std.proofs.Common.{◌∙◌, ap, refl}
 use Rattle.axi4_rules.specs.Texts.{tokens}
 use Rattle.axi4_rules.proofs.TokenLaws.{tokens-nil}
 use Rattle.axi4_rules.proofs.rule_text.RuleText.new.Goals as goal

@@ -1,4 +1,4 @@
-use Rattle.std.proofs.Common.{◌≡◌, ◌∙◌, ◌++◌, ap}
+use Rattle.std.proofs.Common.{◌∙◌, ◌++◌, ap}
 use Rattle.axi4_rules.specs.Texts.{tokens}
 use Rattle.axi4_rules.proofs.TokenLaws.{tokens-comment}
 use Rattle.axi4_rules.proofs.GrowthLaws.{nothing_added, not_true}

@@ -1,4 +1,4 @@
-use Rattle.std.proofs.Common.{◌≡◌, ◌∙◌, string_bytes}
+use Rattle.std.proofs.Common.{◌∙◌, string_bytes}
 use Rattle.axi4_rules.proofs.GrowthLaws.{stays_whole, line_added}
 use Rattle.axi4_rules.proofs.rule_text.RuleText.push_line.Goals as goal
 

@@ -1,0 +1,135 @@
+//! Prints, of each port of `ports.txt`, how many assertions and tokens its rules have, and a sum of
+//! the tokens; and of each small port file of `faults.txt`, between which byte 1 stands, how many
+//! ports it has, or its fault. With a file's name as its word it prints the rules of that port
+//! file.
+#![tactic(auto)]
+
+#[cfg(test)]
+mod tests;
+
+use anyhow::Result;
+use axi4_rules::{Mode, Port, read_ports, rules};
+use std::alloc::Global;
+use std::{env, fs};
+
+/// The sum of no token (FNV-1a of 64 bits).
+const START: u64 = 0xcbf2_9ce4_8422_2325;
+const PRIME: u64 = 0x0100_0000_01b3;
+
+/// Assertions and tokens of a text, and the sum of the tokens.
+struct Count {
+    assertions: usize,
+    tokens: usize,
+    sum: u64,
+}
+
+/// The sum with a token more, and a space behind it.
+fn with_token(sum: u64, token: &str) -> u64 {
+    let mut sum = sum;
+    for byte in token.as_bytes() {
+        sum = (sum ^ u64::from(*byte)).wrapping_mul(PRIME);
+    }
+    (sum ^ 32).wrapping_mul(PRIME)
+}
+
+/// Counts a line too, unless it is a comment.
+fn with_line(count: Count, line: &str) -> Count {
+    let Count {
+        mut assertions,
+        mut tokens,
+        mut sum,
+    } = count;
+    if !line.starts_with("//") {
+        for token in line.split_whitespace() {
+            if token == "assert" {
+                assertions = assertions.saturating_add(1);
+            }
+            tokens = tokens.saturating_add(1);
+            sum = with_token(sum, token);
+        }
+    }
+    Count {
+        assertions,
+        tokens,
+        sum,
+    }
+}
+
+fn count_of(text: &str) -> Count {
+    let mut count = Count {
+        assertions: 0,
+        tokens: 0,
+        sum: START,
+    };
+    for line in text.lines() {
+        count = with_line(count, line);
+    }
+    count
+}
+
+/// What is printed of a port.
+fn summary(alloc: Global, port: &Port, mode: Mode) -> Result<String> {
+    let text = rules(alloc, port, mode)?;
+    let Count {
+        assertions,
+        tokens,
+        sum,
+    } = count_of(text.as_str());
+    let name = port.name.as_str();
+    Ok(format!(in alloc; "{name} assertions {assertions} tokens {tokens} sum {sum:016x}\n")?)
+}
+
+/// What is printed of the ports.
+fn summaries(alloc: Global, text: &str) -> Result<String> {
+    let ports = read_ports(alloc, text)?;
+    let mut answers = String::new(alloc);
+    for (port, mode) in &ports {
+        answers.push_str(summary(alloc, port, *mode)?.as_str())?;
+    }
+    Ok(answers)
+}
+
+/// What is printed of a small port file.
+fn answer(alloc: Global, text: &str) -> Result<String> {
+    match read_ports(alloc, text) {
+        Ok(ports) => Ok(format!(in alloc; "ports {}\n", ports.len())?),
+        Err(fault) => Ok(format!(in alloc; "{fault}\n")?),
+    }
+}
+
+/// What is printed of small port files.
+fn answers(alloc: Global, texts: &str) -> Result<String> {
+    let mut answers = String::new(alloc);
+    for text in texts.split('\x01') {
+        answers.push_str(answer(alloc, text)?.as_str())?;
+    }
+    Ok(answers)
+}
+
+/// The rules of all ports.
+fn text_of(alloc: Global, text: &str) -> Result<String> {
+    let ports = read_ports(alloc, text)?;
+    let mut all = String::new(alloc);
+    for (port, mode) in &ports {
+        all.push_str(rules(alloc, port, *mode)?.as_str())?;
+    }
+    Ok(all)
+}
+
+fn main(rt: HostRuntime) -> Result<()> {
+    let mut args = env::args(&rt)?;
+    let _name = args.next();
+    if let Some(path) = args.next() {
+        let file = fs::read_to_string(&rt, path.as_str())?;
+        let text = text_of(rt.alloc(), file.as_str())?;
+        print!(rt; "{text}")?;
+        return Ok(());
+    }
+    let ports = fs::read_to_string(&rt, "ports.txt")?;
+    let summaries = summaries(rt.alloc(), ports.as_str())?;
+    print!(rt; "{summaries}")?;
+    let faults = fs::read_to_string(&rt, "faults.txt")?;
+    let answers = answers(rt.alloc(), faults.as_str())?;
+    print!(rt; "{answers}")?;
+    Ok(())
+}
