@@ -13,7 +13,7 @@ use Rattle.cycle_window.specs.Ticks.{ticks_of, row_of}
 use Rattle.cycle_window.specs.Held.{ticks_in, code_in, columns_in, places_in, clock_in}
 use Rattle.verdicts.specs.Lines.{LineData, ReportData, report_of}
 use Rattle.program_runs.specs.Lines.{IsLineOver}
-use Rattle.program_runs.specs.Reported.{AreBound, IsBoundClock, rows_of, Reports}
+use Rattle.program_runs.specs.Reported.{AreBound, IsBoundClock, rows_of, Reports, RunsOn}
 use Rattle.program_runs.specs.Runs.{IsWindowFor, rows_to}
 
 module _ (d : Dump) (k : Contents) (p : ProgramData) (w : Window) (clocks : Clocks) (holds : HoldsContents d k) (window : IsWindowFor w d clocks p) (v : ℕ) (code : code_in clocks ≡ code_number (variables_of d) v) where
@@ -50,3 +50,20 @@ reports d k p w clocks l r holds (v, named, bit, code) window ran is = record {
   ran = subst (λ (rows : List (List ℕ)). IsLineOver p rows l) (all-rows d k p w clocks holds window v code) ran;
   is = is ∙ ap (λ (n : ℕ). report_of n (l ∷ [])) (many d k p w clocks holds window v code);
 }
+
+-- the line over all rows, on clocks of another's choosing
+pub runs-on : (d : Dump) (k : Contents) (p : ProgramData) (w : Window) (clocks : Clocks) (l : LineData) → HoldsContents d k → IsWindowFor w d clocks p →
+    IsLineOver p (rows_to k (columns_in w) (length (ticks_in clocks))) l → RunsOn k (code_in clocks) p l
+runs-on d k p w clocks l holds window ran =
+    let last : length (ticks_in clocks) ≤ length (ticks_in clocks) = omega arith in
+    let all : ticks_of k (clock_in (columns_in w)) ≡ ticks_in clocks = ap (ticks_of k) (sym window.of.same_clock) ∙ sym (window.of.clocks k holds) in
+    let row : ℕ → List ℕ = row_of k (places_in (columns_in w)) in
+    let same : rows_to k (columns_in w) (length (ticks_in clocks)) ≡ map row (ticks_of k (code_in clocks)) =
+    ap (λ (ts : List ℕ). map row (take (length (ticks_in clocks)) ts)) all
+    ∙ ap (map row) (take_all (length (ticks_in clocks)) (ticks_in clocks) last)
+    ∙ ap (map row) (window.of.clocks k holds) in
+    record {
+      variables = places_in (columns_in w);
+      bound = subst (λ (vs : List Declared). AreBound vs p.signals (places_in (columns_in w))) holds.variables window.bound;
+      ran = subst (λ (rows : List (List ℕ)). IsLineOver p rows l) same ran;
+    }

@@ -31,4 +31,4 @@ mod run;
 mod window;
 
 pub use laws::batches_law;
-pub use report::report_run;
+pub use report::{line_run, report_run};

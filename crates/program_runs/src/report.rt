@@ -2,13 +2,14 @@
 
 ghost use Rattle.std.specs.Prelude.{◌≡◌, ◌≤◌, ℕ, IfOk, IfErr, length};
 ghost use Rattle.vcd_reader.specs.Dump.{Contents};
-ghost use Rattle.vcd_reader.specs.Held.{HoldsContents};
-ghost use Rattle.cycle_window.specs.Held.{ticks_in, columns_in, end_in};
+ghost use Rattle.vcd_reader.specs.Held.{HoldsContents, variables_of};
+ghost use Rattle.cycle_window.specs.Held.{ticks_in, code_in, columns_in, end_in, AreClocksOf};
 ghost use Rattle.verdicts.specs.Lines.{line};
 ghost use Rattle.verdicts.specs.Shown.{data_of};
 ghost use Rattle.program_runs.specs.Lines.{IsLineOver, attempts_of};
-ghost use Rattle.program_runs.specs.Reported.{Reports, WhyNoRun};
+ghost use Rattle.program_runs.specs.Reported.{Reports, RunsOn, WhyNoRun};
 ghost use Rattle.program_runs.specs.Runs.{IsWindowFor, rows_to};
+ghost use Rattle.program_runs.specs.Working.{IsWindowFault};
 
 use crate::run::Run;
 use crate::window::window_of;
@@ -70,4 +71,26 @@ pub fn report_run(
     let mut lines = Vec::new(alloc);
     lines.push(line)?;
     Ok(Report::new(clocks.len(), lines))
+}
+
+/// The line of a verified program over a dump, on clocks of another's choosing, through windows of
+/// so many clocks, 1 to 65,536. The size changes no line.
+pub fn line_run(
+    alloc: Global,
+    dump: &Dump,
+    clocks: &Clocks,
+    verified: Verified,
+    size: usize,
+) -> Result<Line, WindowFault>
+    requires { AreClocksOf dump.now clocks.now }
+    ensures line { (c : Contents) → HoldsContents dump.now c
+        → IfOk result (λ l. RunsOn c (code_in clocks.now) verified (line l)) }
+    // The first cause that stands.
+    ensures refused { IfErr result (IsWindowFault (variables_of dump.now) verified size) }
+{
+    let mut window = match window_of(alloc, dump, clocks, verified.program(), size) {
+        Err(fault) => return Err(fault),
+        Ok(window) => window,
+    };
+    Ok(line_over(alloc, dump, clocks, &mut window, verified)?)
 }
