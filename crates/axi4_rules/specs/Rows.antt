@@ -32,8 +32,8 @@ abbrev pub filled_texts : Filling → List (Bor (List ℕ)) → List ℕ
 filled_texts f ws = all_filled (fills f) (texts_of ws)
 
 -- the block of a channel, its rules of payload signals alone, and the block of an address channel
-abbrev pub channel_block : Port → List ℕ → List (Bor (List ℕ)) → List (List ℕ)
-channel_block p channel payload = channel_lines (port_data p) channel (texts_of payload)
+abbrev pub block_of : Port → List ℕ → List (Bor (List ℕ)) → List (List ℕ)
+block_of p channel payload = channel_lines (port_data p) channel (texts_of payload)
 
 abbrev pub stable_block : Port → List ℕ → List (Bor (List ℕ)) → List (List ℕ)
 stable_block p channel payload = stable_lines (port_data p) channel (texts_of payload)

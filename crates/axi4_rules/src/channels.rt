@@ -5,7 +5,7 @@ ghost use Rattle.std.specs.List.{list_any};
 ghost use Rattle.axi4_rules.specs.Rules.{wait_lines};
 ghost use Rattle.axi4_rules.specs.Seen.{port_data};
 ghost use Rattle.axi4_rules.specs.Wholes.{Adds};
-ghost use Rattle.axi4_rules.specs.Rows.{channel_block, address_block};
+ghost use Rattle.axi4_rules.specs.Rows.{block_of, address_block};
 
 use crate::blocks::{push_row, push_rows, push_stables};
 use crate::filling::Filling;
@@ -55,7 +55,7 @@ pub(crate) fn push_channel(
     channel: &str,
     payload: &[&str],
 ) -> Result<(), AllocError>
-    ensures { OnOk result (Adds text.old text.new (channel_block port.now channel.now payload.now)) }
+    ensures { OnOk result (Adds text.old text.new (block_of port.now channel.now payload.now)) }
 {
     let filling = Filling {
         port,
