@@ -20,8 +20,8 @@ use Rattle.expressions.specs.Counters.{counter_samples}
 use Rattle.bytecode.specs.Values.{ProgramData}
 use Rattle.verifier.specs.Programs.{IsAccepted}
 use Rattle.checked_machine.specs.Outcomes.{Ran, done, trapped}
-use Rattle.checked_machine.specs.Machine.{Outcome, opening, open_ones}
-use Rattle.checked_machine.specs.Runs.{run_from}
+use Rattle.checked_machine.specs.Machine.{Outcome}
+use Rattle.machine.specs.Running.{open_ones}
 use Rattle.vcd_reader.specs.Variables.{Declared, variable_named, size_of}
 use Rattle.vcd_reader.specs.Dump.{Contents}
 use Rattle.cycle_window.specs.declared.fault.WindowFault.{WindowFault}
