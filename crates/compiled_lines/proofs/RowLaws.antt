@@ -6,8 +6,7 @@ use Rattle.std.specs.Option.{option_map}
 use Rattle.std.proofs.Math.Nat.{mod-lt}
 use Rattle.std.proofs.lemmas.Bool.{cases_lt, eq-eqb}
 use Rattle.std.proofs.lemmas.List.{length-map, get_or-map, get_or_past}
-use Rattle.std.proofs.lemmas.Option.{slice_get_within, get_or_from_slice_get}
-use Rattle.expressions.specs.Tables.{cell}
+use Rattle.std.proofs.lemmas.Option.{slice_get_within}
 use Rattle.assertions.specs.declared.signal.Signal.{Signal}
 use Rattle.assertions.specs.declared.suite.Suite.{Suite}
 use Rattle.bytecode.specs.Values.{SlotData}
@@ -107,7 +106,7 @@ unfolding row_of
 value-at c k signals place s one =
     let inside : place < length signals = slice_get_within signals place one.variable one.there in
     let at : slice_index_or (map (sample c k) signals) place 0 ≡ sample c k one.variable =
-        get_or-map (sample c k) signals place 0 0 inside ∙ ap (sample c k) (by-index signals place one.variable one.there) in
+    get_or-map (sample c k) signals place 0 0 inside ∙ ap (sample c k) (by-index signals place one.variable one.there) in
     let narrow : size_of c.variables one.variable ≤ 128 = omega (arith, one.wide, s.at_most_128) in
     subst (λ (n : ℕ). n < 2 ^ s.width) (sym at)
     (subst (λ (w : ℕ). sample c k one.variable < 2 ^ w) one.wide (sample-fits c k one.variable narrow))

@@ -41,7 +41,9 @@ pub fn lines_of(
     let mut lines = Vec::new(alloc);
     for assertion in &suite.assertions {
         let line = line_of(alloc, dump, clocks, suite, assertion, size)?;
-        lines.push(line)?;
+        let Ok(()) = lines.push(line) else {
+            return Err(CompileFault::Memory);
+        };
     }
     Ok(lines)
 }
