@@ -4,68 +4,15 @@
 //! file.
 #![tactic(auto)]
 
+mod count;
 #[cfg(test)]
 mod tests;
 
 use anyhow::Result;
 use axi4_rules::{Mode, Port, read_ports, rules};
+use count::Count;
 use std::alloc::Global;
 use std::{env, fs};
-
-/// The sum of no token (FNV-1a of 64 bits).
-const START: u64 = 0xcbf2_9ce4_8422_2325;
-const PRIME: u64 = 0x0100_0000_01b3;
-
-/// Assertions and tokens of a text, and the sum of the tokens.
-struct Count {
-    assertions: usize,
-    tokens: usize,
-    sum: u64,
-}
-
-/// The sum with a token more, and a space behind it.
-fn with_token(sum: u64, token: &str) -> u64 {
-    let mut sum = sum;
-    for byte in token.as_bytes() {
-        sum = (sum ^ u64::from(*byte)).wrapping_mul(PRIME);
-    }
-    (sum ^ 32).wrapping_mul(PRIME)
-}
-
-/// Counts a line too, unless it is a comment.
-fn with_line(count: Count, line: &str) -> Count {
-    let Count {
-        mut assertions,
-        mut tokens,
-        mut sum,
-    } = count;
-    if !line.starts_with("//") {
-        for token in line.split_whitespace() {
-            if token == "assert" {
-                assertions = assertions.saturating_add(1);
-            }
-            tokens = tokens.saturating_add(1);
-            sum = with_token(sum, token);
-        }
-    }
-    Count {
-        assertions,
-        tokens,
-        sum,
-    }
-}
-
-fn count_of(text: &str) -> Count {
-    let mut count = Count {
-        assertions: 0,
-        tokens: 0,
-        sum: START,
-    };
-    for line in text.lines() {
-        count = with_line(count, line);
-    }
-    count
-}
 
 /// What is printed of a port.
 fn summary(alloc: Global, port: &Port, mode: Mode) -> Result<String> {
@@ -74,7 +21,7 @@ fn summary(alloc: Global, port: &Port, mode: Mode) -> Result<String> {
         assertions,
         tokens,
         sum,
-    } = count_of(text.as_str());
+    } = Count::of(text.as_str());
     let name = port.name.as_str();
     Ok(format!(in alloc; "{name} assertions {assertions} tokens {tokens} sum {sum:016x}\n")?)
 }

@@ -1,6 +1,6 @@
 //! Port files as people write them.
 
-use crate::count_of;
+use crate::count::Count;
 use axi4_rules::{Case, PortFault, read_ports, rules};
 use std::alloc::Global;
 use std::test::Fail;
@@ -14,7 +14,7 @@ fn assertions(alloc: Global, more: &str) -> Result<usize, Fail> {
     let mut assertions = 0usize;
     for (port, mode) in &ports {
         let text = rules(alloc, port, *mode)?;
-        assertions = count_of(text.as_str()).assertions;
+        assertions = Count::of(text.as_str()).assertions;
     }
     Ok(assertions)
 }
@@ -53,7 +53,9 @@ fn bad_port_lines(rt: HostRuntime) -> Result<(), Fail> {
 #[test]
 fn fields_of_a_port(rt: HostRuntime) -> Result<(), Fail> {
     let line = "port p id=3 watch=5,0 case=upper reset=r clock=t.c prefix=u. addr=12 data=8";
-    for (port, _mode) in &read_ports(rt.alloc(), line)? {
+    let ports = read_ports(rt.alloc(), line)?;
+    assert_eq!(rt; ports.len(), 1);
+    for (port, _mode) in &ports {
         assert_eq!(rt; port.name.as_str(), "p");
         assert_eq!(rt; port.clock.as_str(), "t.c");
         assert_eq!(rt; port.prefix.as_str(), "u.");
