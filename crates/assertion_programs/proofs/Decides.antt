@@ -47,13 +47,13 @@ occurs-listed n (boolean c) b h o = same-listed n b c h o
 occurs-listed n (delay r least most s) b h o =
     elim o [
       | inl one ↦ one-listed n b one
-      | inr more ↦ elim more [ | inl x ↦ occurs-listed n r b h.0 x | inr y ↦ occurs-listed n s b h.1 y ]
+      | inr more ↦ elim more [ inl x ↦ occurs-listed n r b h.0 x | inr y ↦ occurs-listed n s b h.1 y ]
     ]
-occurs-listed n (lead least most s) b h o = elim o [ | inl one ↦ one-listed n b one | inr y ↦ occurs-listed n s b h y ]
+occurs-listed n (lead least most s) b h o = elim o [ inl one ↦ one-listed n b one | inr y ↦ occurs-listed n s b h y ]
 occurs-listed n (repeat r least most) b h o = occurs-listed n r b h o
-occurs-listed n (or r s) b h o = elim o [ | inl x ↦ occurs-listed n r b h.0 x | inr y ↦ occurs-listed n s b h.1 y ]
-occurs-listed n (and r s) b h o = elim o [ | inl x ↦ occurs-listed n r b h.0 x | inr y ↦ occurs-listed n s b h.1 y ]
-occurs-listed n (throughout c r) b h o = elim o [ | inl x ↦ same-listed n b c h.0 x | inr y ↦ occurs-listed n r b h.1 y ]
+occurs-listed n (or r s) b h o = elim o [ inl x ↦ occurs-listed n r b h.0 x | inr y ↦ occurs-listed n s b h.1 y ]
+occurs-listed n (and r s) b h o = elim o [ inl x ↦ occurs-listed n r b h.0 x | inr y ↦ occurs-listed n s b h.1 y ]
+occurs-listed n (throughout c r) b h o = elim o [ inl x ↦ same-listed n b c h.0 x | inr y ↦ occurs-listed n r b h.1 y ]
 
 module _ (suite : Suite) (a : Assertion) (p : ProgramData) (of : IsProgramOf suite a p) (rows : List (List ℕ)) (fit : AreRowsOf suite rows) where
   abbrev value : Boolean → ℕ → Bool
