@@ -25,7 +25,8 @@ AreVariables c suite signals =
 abbrev pub rows_at : Contents → List ℕ → ℕ → List (List ℕ)
 rows_at c signals code = map (row_of c signals) (ticks_of c code)
 
--- An assertion's line over rows of its suite's signals: its name, and the verdicts of the definition.
+-- An assertion's line over rows of its suite's signals: its name, and the verdicts of the
+-- definition.
 pub record IsLineOf (suite : Suite) (rows : List (List ℕ)) (a : Assertion) (line : LineData) :
     Type 0 where
   pub verdicts : List Verdict
