@@ -6,3 +6,4 @@ pub mod ReportLaws
 pub mod RunLaws
 pub mod TextLaws
 pub mod VerifyLaws
+pub mod ProgramLaws

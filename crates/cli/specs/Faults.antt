@@ -12,13 +12,15 @@ use Rattle.cycle_window.specs.declared.fault.WindowFault.{WindowFault}
 use Rattle.cycle_window.specs.declared.fault.WindowFault.TheVariants as windows
 use Rattle.verdicts.specs.declared.write.ReportFault.{ReportFault}
 use Rattle.verdicts.specs.declared.write.ReportFault.TheVariants as reports
+use Rattle.compiler.specs.declared.fault.CompileFault.{CompileFault}
+use Rattle.compiler.specs.declared.fault.CompileFault.TheVariants as compiles
 use Rattle.bytecode.specs.declared.fault.CodeFault.{CodeFault}
 use Rattle.bytecode.specs.declared.fault.CodeFault.TheVariants as codes
 use Rattle.inference.specs.declared.refusal.Refusal.{Refusal}
 use Rattle.inference.specs.declared.refusal.Refusal.TheVariants as refusals
 use Rattle.cli.specs.declared.fault.Fault.{Fault}
 use Rattle.cli.specs.declared.fault.Fault.TheVariants.{Vcd, Lex, Parse, Typing, Window, Report}
-use Rattle.cli.specs.declared.fault.Fault.TheVariants.{Code, Refused, Memory}
+use Rattle.cli.specs.declared.fault.Fault.TheVariants.{Compile, Code, Refused, Memory}
 
 abbrev pub vcd_fault : VcdFault → Fault
 vcd_fault dumps.Memory = Memory
@@ -35,6 +37,10 @@ parse_fault e = Parse e
 abbrev pub type_fault : TypeFault → Fault
 type_fault types.Memory = Memory
 type_fault e = Typing e
+
+abbrev pub compile_fault : CompileFault → Fault
+compile_fault compiles.Memory = Memory
+compile_fault e = Compile e
 
 abbrev pub window_fault : WindowFault → Fault
 window_fault windows.Memory = Memory

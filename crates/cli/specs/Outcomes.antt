@@ -1,5 +1,5 @@
 -- What a run over a source, a text and a sink comes to.
-use Rattle.std.specs.Prelude.{◌≡◌, ℕ, List, [], ◌∷◌, Option, string_bytes}
+use Rattle.std.specs.Prelude.{◌≡◌, ℕ, List, [], ◌∷◌, Option, None, string_bytes}
 use Rattle.std.specs.Io.KnownBytes.{Appends}
 use Rattle.signals.specs.Source.{after_failure}
 use Rattle.signals.specs.Sink.{AppendsFront}
@@ -14,18 +14,23 @@ use Rattle.parser.specs.Faults.{IsPlaced}
 use Rattle.types.specs.declared.fault.TypeFault.{TypeFault}
 use Rattle.types.specs.declared.fault.TypeFault.TheVariants as types
 use Rattle.types.specs.Faults.{IsFirst}
+use Rattle.compiler.specs.declared.fault.CompileFault.{CompileFault}
+use Rattle.compiler.specs.declared.fault.CompileFault.TheVariants as compiles
+use Rattle.compiled_lines.specs.Faults.{HasNoProgram}
 use Rattle.vcd_reader.specs.declared.fault.VcdFault.{VcdFault}
 use Rattle.vcd_reader.specs.declared.fault.VcdFault.TheVariants as dumps
+use Rattle.vcd_reader.specs.Variables.{variable_named}
 use Rattle.vcd_reader.specs.Dump.{Contents, Gave, GaveDump, Stands}
 use Rattle.cycle_window.specs.declared.fault.WindowFault.{WindowFault}
 use Rattle.cycle_window.specs.declared.fault.WindowFault.TheVariants as windows
-use Rattle.cycle_window.specs.Bound.{IsClockFault, IsBadSize}
+use Rattle.cycle_window.specs.Bound.{misfit, IsClockFault, IsBadSize}
 use Rattle.verdicts.specs.declared.line.Counts.{Counts}
 use Rattle.verdicts.specs.declared.write.ReportFault.TheVariants as reports
 use Rattle.verdicts.specs.Lines.{ReportData}
 use Rattle.verdicts.specs.Texts.{report_text}
 use Rattle.cli.specs.declared.fault.Fault.{Fault}
-use Rattle.cli.specs.declared.fault.Fault.TheVariants.{Vcd, Lex, Parse, Typing, Window, Report, Memory}
+use Rattle.cli.specs.declared.fault.Fault.TheVariants.{Vcd, Lex, Parse, Typing, Compile}
+use Rattle.cli.specs.declared.fault.Fault.TheVariants.{Window, Report, Memory}
 use Rattle.cli.specs.Named.{scope_over}
 use Rattle.cli.specs.Reported.{AreTokens, HasItems, SaysSuite, IsReport}
 
@@ -118,6 +123,20 @@ WhyNoReport c text (Window windows.ClockWidth) = HasNoClock c text windows.Clock
 WhyNoReport c text Memory = Unit {0}
 WhyNoReport c text _ = ⊥
 
+-- The text says a suite that has a clock, and the fault is that of an assertion of it, before which
+-- all have programs.
+pub record IsNotCompiled (c : Contents) (text : List ℕ) (fault : CompileFault) : Type 0 where
+  pub suite : Suite
+  pub says : SaysSuite c text suite
+  pub clock : misfit c.variables (variable_named c.variables (string_bytes suite.clock)) 1 ≡ None
+  pub why : HasNoProgram suite fault
+
+-- why a text has no report by programs: it has none at all, or one of its assertions has no program
+abbrev pub WhyNoneByPrograms : Contents → List ℕ → Fault → Type 0
+WhyNoneByPrograms c text (Compile compiles.Memory) = ⊥
+WhyNoneByPrograms c text (Compile e) = IsNotCompiled c text e
+WhyNoneByPrograms c text fault = WhyNoReport c text fault
+
 -- the source gave a dump over which the text has no report, and nothing was written
 pub record IsRefusedReport (r : Run) (fault : Fault) : Type 0 where
   pub contents : Contents
@@ -160,6 +179,20 @@ WhyRunRefused r (Window e) = IsRefusedReport r (Window e)
 WhyRunRefused r Memory = IsOutOfMemory r
 WhyRunRefused r _ = ⊥
 
+-- the source gave a dump over which an assertion of the text has no program, and nothing was written
+pub record IsUncompiled (r : Run) (fault : CompileFault) : Type 0 where
+  pub contents : Contents
+  pub gave : GaveDump r.given_old r.given_new contents
+  pub why : IsNotCompiled contents r.text fault
+  pub reads : r.reads_new ≡ r.reads_old
+  pub unwritten : IsUnwritten r
+
+-- why there is no report by programs, or not all of it
+abbrev pub WhyCheckRefused : Run → Fault → Type 0
+WhyCheckRefused r (Compile compiles.Memory) = ⊥
+WhyCheckRefused r (Compile e) = IsUncompiled r e
+WhyCheckRefused r fault = WhyRunRefused r fault
+
 -- the window's size is out of range, and nothing was read or written
 pub record IsOutOfRange (window : ℕ) (r : Run) : Type 0 where
   pub size : IsBadSize window
@@ -170,4 +203,4 @@ pub record IsOutOfRange (window : ℕ) (r : Run) : Type 0 where
 -- why nothing was checked, or not all of the report written
 abbrev pub WhyNotChecked : ℕ → Run → Fault → Type 0
 WhyNotChecked window r (Window windows.BadSize) = IsOutOfRange window r
-WhyNotChecked window r fault = WhyRunRefused r fault
+WhyNotChecked window r fault = WhyCheckRefused r fault

@@ -3,6 +3,7 @@ use Rattle.std.specs.Prelude.{ℕ, ◌==◌, List, Result, Ok, Err, if◌then◌
 use Rattle.lexer.specs.declared.fault.LexFault.TheVariants as lexing
 use Rattle.parser.specs.declared.fault.ParseFault.TheVariants as parsing
 use Rattle.types.specs.declared.fault.TypeFault.TheVariants as types
+use Rattle.compiler.specs.declared.fault.CompileFault.TheVariants as compiles
 use Rattle.vcd_reader.specs.declared.fault.VcdFault.TheVariants as dumps
 use Rattle.cycle_window.specs.declared.fault.WindowFault.TheVariants as windows
 use Rattle.verdicts.specs.declared.write.ReportFault.TheVariants as reports
@@ -11,7 +12,7 @@ use Rattle.inference.specs.declared.refusal.Refusal.TheVariants as refusals
 use Rattle.command_line.specs.declared.fault.WordsFault.TheVariants as words
 use Rattle.cli.specs.declared.fault.Fault.{Fault}
 use Rattle.cli.specs.declared.fault.Fault.TheVariants.{Vcd, Lex, Parse, Typing, Window, Report}
-use Rattle.cli.specs.declared.fault.Fault.TheVariants.{Code, Refused, Words, File, Memory}
+use Rattle.cli.specs.declared.fault.Fault.TheVariants.{Compile, Code, Refused, Words, File, Memory}
 
 -- 3 for memory, 4 for a file or a device, and 2 for all else
 abbrev pub fault_status_of : Fault → ℕ
@@ -20,6 +21,7 @@ fault_status_of (Vcd dumps.Memory) = 3
 fault_status_of (Lex lexing.Memory) = 3
 fault_status_of (Parse parsing.Memory) = 3
 fault_status_of (Typing types.Memory) = 3
+fault_status_of (Compile compiles.Memory) = 3
 fault_status_of (Window windows.Memory) = 3
 fault_status_of (Report reports.Write) = 4
 fault_status_of (Report reports.Memory) = 3

@@ -6,13 +6,15 @@ ghost use Rattle.cycle_window.specs.Bound.{IsBadSize};
 ghost use Rattle.cli.specs.declared.fault.Fault.TheVariants.{Window};
 ghost use Rattle.cli.specs.Outcomes.{IsAnswered, WhyRunRefused, WhyNotChecked, run_of};
 
+use crate::checked::check_through;
 use crate::fault::Fault;
 use crate::run::run_through;
 use cycle_window::WindowFault;
 use signals::{Sink, Source};
 use std::alloc::Global;
 
-/// Judges the assertions of a text over the dump that a source gives, through windows of so many clocks, and writes the report.
+/// Judges the assertions of a text over the dump that a source gives, by their programs, through windows of so many clocks, and
+/// writes the report.
 ///
 /// The answer is the report's totals: how many attempts held, were vacuous, failed, were disabled, and are open. `window` is from
 /// 1 to 65,536, and does not change what is written.
@@ -20,7 +22,8 @@ use std::alloc::Global;
 /// # Errors
 ///
 /// C3 where `window` is out of its range, before anything is read; then what is wrong with the dump (V1 to V8), with the text
-/// (L1 to L3, P1 to P4, then Y1 to Y9), and with its clock (C1, C2), all before anything is written; G1 where the sink failed, which
+/// (L1 to L3, P1 to P4, then Y1 to Y9), with its clock (C1, C2), and with the first of its assertions that has no program (K1 to
+/// K4), all before anything is written; G1 where the sink failed, which
 /// then holds a beginning of the report behind what it held before; and want of memory.
 ///
 /// IEEE 1800-2017, clauses 11, 16.5 to 16.9, 16.12 to 16.15; IEEE 1364-2005, clause 18.2.
@@ -38,14 +41,14 @@ pub fn check_one<'a, S: Source, W: Sink>(
     if window < 1 || window > 65_536 {
         return Err(Fault::Window(WindowFault::BadSize));
     }
-    run_through(alloc, source, text, window as usize, out)
+    check_through(alloc, source, text, window as usize, out)
 }
 
-/// Does what [`check_one`] does, by the slow judge.
+/// Does what [`check_one`] does, by the slow judge, which makes no programs.
 ///
 /// # Errors
 ///
-/// Those of [`check_one`], but for C3.
+/// Those of [`check_one`], but for C3 and K1 to K4.
 pub fn judge_one<'a, S: Source, W: Sink>(
     alloc: Global,
     source: &mut S,

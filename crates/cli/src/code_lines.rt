@@ -1,6 +1,7 @@
 //! The lines that name the faults of programs.
 
 use bytecode::CodeFault;
+use compiler::CompileFault;
 use std::alloc::{AllocError, Global};
 use verifier::Refusal;
 
@@ -14,6 +15,17 @@ pub(crate) fn code_line(alloc: Global, fault: CodeFault) -> Result<String, Alloc
         CodeFault::BadField(at) => format!(in alloc; "svamon: B5 BadField {at}"),
         CodeFault::TrailingBytes(at) => format!(in alloc; "svamon: B6 TrailingBytes {at}"),
         CodeFault::Memory => String::from_str(alloc, "svamon: OutOfMemory"),
+    }
+}
+
+/// The line that names why an assertion has no program.
+pub(crate) fn compile_line(alloc: Global, fault: CompileFault) -> Result<String, AllocError> {
+    match fault {
+        CompileFault::TooManyAtoms => String::from_str(alloc, "svamon: K1 TooManyAtoms"),
+        CompileFault::CodeTooLong => String::from_str(alloc, "svamon: K2 CodeTooLong"),
+        CompileFault::TooManySlots => String::from_str(alloc, "svamon: K3 TooManySlots"),
+        CompileFault::TextTooLong => String::from_str(alloc, "svamon: K4 TextTooLong"),
+        CompileFault::Memory => String::from_str(alloc, "svamon: OutOfMemory"),
     }
 }
 

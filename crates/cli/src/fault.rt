@@ -3,9 +3,10 @@
 ghost use Rattle.std.specs.Prelude.{◌≡◌};
 ghost use Rattle.cli.specs.Statuses.{status_of, fault_status_of};
 
-use crate::code_lines::{code_line, refusal_line};
+use crate::code_lines::{code_line, compile_line, refusal_line};
 use bytecode::CodeFault;
 use command_line::WordsFault;
+use compiler::CompileFault;
 use cycle_window::WindowFault;
 use lexer::LexFault;
 use parser::ParseFault;
@@ -23,6 +24,8 @@ pub enum Fault<'a> {
     /// It borrows the word of P2 from the text.
     Parse(ParseFault<'a>),
     Typing(TypeFault),
+    /// An assertion has no program.
+    Compile(CompileFault),
     Window(WindowFault),
     Report(ReportFault),
     /// The bytes are no program.
@@ -125,6 +128,19 @@ impl From<ReportFault> for Fault<'_> {
         match fault {
             ReportFault::Memory => Fault::Memory,
             other => Fault::Report(other),
+        }
+    }
+}
+
+impl From<CompileFault> for Fault<'_> {
+    ghost use Rattle.cli.specs.Faults.{compile_fault};
+
+    ghost from_gives = { λ f e. e ≡ compile_fault f };
+
+    fn from(fault: CompileFault) -> Self {
+        match fault {
+            CompileFault::Memory => Fault::Memory,
+            other => Fault::Compile(other),
         }
     }
 }
@@ -249,6 +265,7 @@ pub fn fault_line(alloc: Global, fault: &Fault) -> Result<String, AllocError> {
         Fault::Lex(fault) => lex_line(alloc, fault),
         Fault::Parse(fault) => parse_line(alloc, fault),
         Fault::Typing(fault) => type_line(alloc, fault),
+        Fault::Compile(fault) => compile_line(alloc, *fault),
         Fault::Window(fault) => window_line(alloc, fault),
         Fault::Report(ReportFault::Write) => String::from_str(alloc, "svamon: G1 Write"),
         Fault::Report(ReportFault::Memory) => String::from_str(alloc, "svamon: OutOfMemory"),
@@ -287,6 +304,7 @@ fn fault_status(fault: &Fault) -> u8
         Fault::Lex(LexFault::Memory) => 3,
         Fault::Parse(ParseFault::Memory) => 3,
         Fault::Typing(TypeFault::Memory) => 3,
+        Fault::Compile(CompileFault::Memory) => 3,
         Fault::Window(WindowFault::Memory) => 3,
         Fault::Report(ReportFault::Write) => 4,
         Fault::Report(ReportFault::Memory) => 3,

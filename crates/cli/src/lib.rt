@@ -20,10 +20,12 @@
 #![tactic(auto)]
 
 mod check;
+mod checked;
 mod code_lines;
 mod fault;
 mod lines;
 mod names;
+mod programs;
 mod report;
 mod run;
 mod sampled;

@@ -37,7 +37,7 @@ fn report_judged<'a>(
 }
 
 /// The totals of a report, in the order of its last line.
-fn totals(report: &Report) -> [u64; 5]
+pub(crate) fn totals(report: &Report) -> [u64; 5]
     ensures { result ≡ totals_of report.now.total }
 {
     let total = report.total;

@@ -1,7 +1,7 @@
 //! Prints the report of each example: its assertions, judged over its dump.
 #![tactic(auto)]
 
-use cli::{check_one, fault_line, status};
+use cli::{fault_line, judge_one, status};
 use signals::Counted;
 use std::env::Env;
 use std::fs::{File, Files};
@@ -32,7 +32,7 @@ fn show<R: Files + Print + AllocGlobal>(rt: &R, folder: &str, name: &str) -> io:
     let path = format!(in rt.alloc(); "{folder}/{name}/dump.vcd")?;
     let mut dump = Counted::new(File::open(rt, path.as_str())?);
     let mut out = Counted::new(io::writer(rt));
-    let outcome = check_one(rt.alloc(), &mut dump, text.as_str(), 1024, &mut out);
+    let outcome = judge_one(rt.alloc(), &mut dump, text.as_str(), &mut out);
     if let Err(fault) = &outcome {
         let line = fault_line(rt.alloc(), fault)?;
         println!(rt; "{line}")?;

@@ -1,0 +1,76 @@
+//! From bytes and text to the bytes of a report, by programs.
+
+ghost use Rattle.std.specs.Prelude.{◌≡◌, ◌≤◌, IfOk, IfErr};
+ghost use Rattle.vcd_reader.specs.Dump.{Contents};
+ghost use Rattle.vcd_reader.specs.Held.{HoldsContents};
+ghost use Rattle.verdicts.specs.Shown.{data_of};
+ghost use Rattle.cli.specs.Reported.{HasReport};
+ghost use Rattle.cli.specs.Outcomes.{WhyNoneByPrograms, IsAnswered, WhyCheckRefused, run_of};
+
+use crate::fault::Fault;
+use crate::programs::report_by_programs;
+use crate::run::totals;
+use crate::text::{file_of, suite_of};
+use cycle_window::Clocks;
+use signals::{Sink, Source};
+use std::alloc::Global;
+use suite_facts::suite_law;
+use vcd_reader::{Dump, read_dump};
+use verdicts::{Report, ReportFault, write_report};
+
+/// The report on a text over a dump, by its assertions' programs.
+fn report_checked<'a>(
+    alloc: Global,
+    dump: &Dump,
+    text: &'a str,
+    size: usize,
+) -> Result<Report, Fault<'a>>
+    requires some { 1 ≤ size }
+    requires most { size ≤ 65536 }
+    requires held { (c : Contents) × HoldsContents dump.now c }
+    ensures ok { (c : Contents) → HoldsContents dump.now c
+        → IfOk result (λ r. HasReport c text.entry.now (data_of r)) }
+    ensures err { (c : Contents) → HoldsContents dump.now c
+        → IfErr result (WhyNoneByPrograms c text.entry.now) }
+{
+    suite_law();
+    let file = match file_of(alloc, text) {
+        Ok(file) => file,
+        Err(fault) => return Err(fault),
+    };
+    let suite = suite_of(alloc, dump, &file)?;
+    let clocks = Clocks::of(alloc, dump, suite.clock())?;
+    Ok(report_by_programs(alloc, dump, &clocks, &suite, size)?)
+}
+
+/// Reads the dump that a source gives, runs the programs of a text's assertions over it through
+/// windows of so many clocks, and writes the report.
+pub(crate) fn check_through<'a, S: Source, W: Sink>(
+    alloc: Global,
+    source: &mut S,
+    text: &'a str,
+    size: usize,
+    out: &mut W,
+) -> Result<[u64; 5], Fault<'a>>
+    requires some { 1 ≤ size }
+    requires most { size ≤ 65536 }
+    ensures answered { IfOk result (IsAnswered (run_of text.entry.now
+        (S.remaining source.old) (S.remaining source.new)
+        (S.failures source.old) (S.failures source.new)
+        (W.contents out.old) (W.contents out.new) (W.failures out.old) (W.failures out.new))) }
+    ensures refused { IfErr result (WhyCheckRefused (run_of text.entry.now
+        (S.remaining source.old) (S.remaining source.new)
+        (S.failures source.old) (S.failures source.new)
+        (W.contents out.old) (W.contents out.new) (W.failures out.old) (W.failures out.new))) }
+{
+    let dump = read_dump(alloc, source)?;
+    let report = match report_checked(alloc, &dump, text, size) {
+        Ok(report) => report,
+        Err(fault) => return Err(fault),
+    };
+    match write_report(alloc, &report, out) {
+        Ok(()) => Ok(totals(&report)),
+        Err(ReportFault::Memory) => Err(Fault::Memory),
+        Err(ReportFault::Write) => Err(Fault::Report(ReportFault::Write)),
+    }
+}
