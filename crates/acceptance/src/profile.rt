@@ -1,6 +1,6 @@
 //! The whole profile, judged from the bytes of dumps and texts: each report byte for byte.
 
-use cli::{fault_line, judge_one, status};
+use cli::{Fault, check_one, fault_line, judge_one, status};
 use signals::{Counted, CutWriter};
 use std::alloc::AllocError;
 use std::test::Fail;
@@ -40,17 +40,48 @@ fn dump_of(rt: &impl AllocGlobal, ticks: usize, all: &[Values<'_>]) -> Result<St
     Ok(dump)
 }
 
-/// What `svamon judge` writes on a text over a dump: the report, or the line of a fault.
-fn report_judged(rt: &impl AllocGlobal, dump: &str, text: &str) -> Result<String, Fail> {
-    let alloc = rt.alloc();
-    let mut source = Counted::new(dump.as_bytes());
-    let mut out = Counted::new(CutWriter::new(alloc, 10_000)?);
-    let answer = judge_one(alloc, &mut source, text, &mut out);
-    match &answer {
-        Ok(_) => Ok(String::from_utf8_lossy(alloc, out.inner.as_slice())?),
-        Err(fault) if out.inner.as_slice().is_empty() => Ok(fault_line(alloc, fault)?),
+/// What stands behind an answer: the report that was written, or the line of a fault.
+fn shown(
+    rt: &impl AllocGlobal,
+    answer: &Result<[u64; 5], Fault>,
+    written: &[u8],
+) -> Result<String, Fail> {
+    match answer {
+        Ok(_) => Ok(String::from_utf8_lossy(rt.alloc(), written)?),
+        Err(fault) if written.is_empty() => Ok(fault_line(rt.alloc(), fault)?),
         Err(_) => Err(Fail::from("it was refused behind a beginning")),
     }
+}
+
+/// What `svamon judge` writes on a text over a dump.
+fn report_by_judge(rt: &impl AllocGlobal, dump: &str, text: &str) -> Result<String, Fail> {
+    let mut source = Counted::new(dump.as_bytes());
+    let mut out = Counted::new(CutWriter::new(rt.alloc(), 10_000)?);
+    let answer = judge_one(rt.alloc(), &mut source, text, &mut out);
+    shown(rt, &answer, out.inner.as_slice())
+}
+
+/// What `svamon check` writes on a text over a dump, through windows of so many clocks.
+fn report_by_check(
+    rt: &impl AllocGlobal,
+    dump: &str,
+    text: &str,
+    window: u64,
+) -> Result<String, Fail> {
+    let mut source = Counted::new(dump.as_bytes());
+    let mut out = Counted::new(CutWriter::new(rt.alloc(), 10_000)?);
+    let answer = check_one(rt.alloc(), &mut source, text, window, &mut out);
+    shown(rt, &answer, out.inner.as_slice())
+}
+
+/// What is written on a text over a dump: by the judge, and alike by programs, whatever the window.
+fn report_judged(rt: &impl AllocGlobal, dump: &str, text: &str) -> Result<String, Fail> {
+    let judged = report_by_judge(rt, dump, text)?;
+    for window in [1, 2, 1000, 65_536] {
+        let checked = report_by_check(rt, dump, text, window)?;
+        assert_eq!(rt; checked.as_str(), judged.as_str(), "{text}, window {window}");
+    }
+    Ok(judged)
 }
 
 /// What is written on an assertion `r` of what stands behind its clock, with other items before it.

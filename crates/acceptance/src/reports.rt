@@ -390,7 +390,13 @@ fn words(rt: HostRuntime) -> Result<(), Fail> {
     let words = [
         "svamon", "check", "--vcd", "a.vcd", "--sva", "a.sva", "--window", "7",
     ];
-    let Ok(Request::Check { vcd, sva, window }) = read_words(alloc, words.as_slice()) else {
+    let Ok(Request::Check {
+        vcd,
+        sva,
+        axi: _axi,
+        window,
+    }) = read_words(alloc, words.as_slice())
+    else {
         return Err(Fail::from("the words are refused"));
     };
     assert_eq!(rt; (vcd.as_str(), sva.as_str(), window), ("a.vcd", "a.sva", 7));

@@ -7,3 +7,4 @@ pub mod RunLaws
 pub mod TextLaws
 pub mod VerifyLaws
 pub mod ProgramLaws
+pub mod BuildLaws

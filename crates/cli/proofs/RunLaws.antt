@@ -9,7 +9,7 @@ use Rattle.vcd_reader.specs.declared.fault.VcdFault.TheVariants as dumps
 use Rattle.vcd_reader.specs.Dump.{Contents, GaveDump, Stands}
 use Rattle.cli.specs.Faults.{vcd_fault}
 use Rattle.cli.specs.declared.fault.Fault.{Fault}
-use Rattle.cli.specs.declared.fault.Fault.TheVariants.{Vcd, Lex, Parse, Typing, Compile, Window, Report, Code, Refused, NoAssertion, NotText, Words, File, Memory}
+use Rattle.cli.specs.declared.fault.Fault.TheVariants.{Vcd, Lex, Parse, Typing, Compile, Window, Port, Report, Code, Refused, NoAssertion, NotText, Words, File, Memory}
 use Rattle.cli.specs.Outcomes.{Run, WhyNoReport, IsRefusedReport, IsUnwritten, WhyRunRefused, IsNotCompiled, WhyNoneByPrograms, IsUncompiled, WhyCheckRefused}
 
 module _ (r : Run) (c : Contents) (gave : GaveDump r.given_old r.given_new c) (reads : r.reads_new ≡ r.reads_old) (unwritten : IsUnwritten r) where
@@ -31,6 +31,7 @@ module _ (r : Run) (c : Contents) (gave : GaveDump r.given_old r.given_new c) (r
   refused_run (Typing e) h = refused (Typing e) h
   refused_run (Compile e) h = absurd h
   refused_run (Window e) h = refused (Window e) h
+  refused_run (Port e) h = absurd h
   refused_run (Report e) h = absurd h
   refused_run (Code e) h = absurd h
   refused_run (Refused e) h = absurd h

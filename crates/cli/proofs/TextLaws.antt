@@ -33,7 +33,7 @@ use Rattle.cycle_window.specs.declared.fault.WindowFault.{WindowFault}
 use Rattle.cycle_window.specs.declared.fault.WindowFault.TheVariants as windows
 use Rattle.cycle_window.specs.Bound.{IsClockFault, OtherWidth, misfit}
 use Rattle.cli.specs.declared.fault.Fault.{Fault}
-use Rattle.cli.specs.declared.fault.Fault.TheVariants.{Vcd, Lex, Parse, Typing, Compile, Window, Report, Code, Refused, NoAssertion, NotText, Words, File, Memory}
+use Rattle.cli.specs.declared.fault.Fault.TheVariants.{Vcd, Lex, Parse, Typing, Compile, Window, Port, Report, Code, Refused, NoAssertion, NotText, Words, File, Memory}
 use Rattle.cli.specs.Named.{width_named, scope_over, AreNamed}
 use Rattle.cli.specs.Faults.{lex_fault, parse_fault, type_fault, window_fault, compile_fault}
 use Rattle.cli.specs.Reported.{AreTokens, HasItems, IsTyped, SaysSuite}
@@ -134,6 +134,7 @@ without_items c text (Parse e) h = form_kept c text e h
 without_items c text (Typing e) h = elim h [ ]
 without_items c text (Compile e) h = elim h [ ]
 without_items c text (Window e) h = elim h [ ]
+without_items c text (Port e) h = elim h [ ]
 without_items c text (Report e) h = elim h [ ]
 without_items c text (Code e) h = elim h [ ]
 without_items c text (Refused e) h = elim h [ ]

@@ -10,6 +10,8 @@ use Rattle.types.specs.declared.fault.TypeFault.{TypeFault}
 use Rattle.types.specs.declared.fault.TypeFault.TheVariants as types
 use Rattle.cycle_window.specs.declared.fault.WindowFault.{WindowFault}
 use Rattle.cycle_window.specs.declared.fault.WindowFault.TheVariants as windows
+use Rattle.axi4_rules.specs.declared.fault.PortFault.{PortFault}
+use Rattle.axi4_rules.specs.declared.fault.PortFault.TheVariants as ports
 use Rattle.verdicts.specs.declared.write.ReportFault.{ReportFault}
 use Rattle.verdicts.specs.declared.write.ReportFault.TheVariants as reports
 use Rattle.compiler.specs.declared.fault.CompileFault.{CompileFault}
@@ -20,7 +22,7 @@ use Rattle.inference.specs.declared.refusal.Refusal.{Refusal}
 use Rattle.inference.specs.declared.refusal.Refusal.TheVariants as refusals
 use Rattle.cli.specs.declared.fault.Fault.{Fault}
 use Rattle.cli.specs.declared.fault.Fault.TheVariants.{Vcd, Lex, Parse, Typing, Window, Report}
-use Rattle.cli.specs.declared.fault.Fault.TheVariants.{Compile, Code, Refused, Memory}
+use Rattle.cli.specs.declared.fault.Fault.TheVariants.{Port, Compile, Code, Refused, Memory}
 
 abbrev pub vcd_fault : VcdFault → Fault
 vcd_fault dumps.Memory = Memory
@@ -45,6 +47,10 @@ compile_fault e = Compile e
 abbrev pub window_fault : WindowFault → Fault
 window_fault windows.Memory = Memory
 window_fault e = Window e
+
+abbrev pub port_fault : PortFault → Fault
+port_fault ports.Memory = Memory
+port_fault e = Port e
 
 abbrev pub report_fault : ReportFault → Fault
 report_fault reports.Memory = Memory

@@ -5,3 +5,4 @@ pub mod Statuses
 pub mod Faults
 pub mod Outcomes
 pub mod Verifications
+pub mod Builds

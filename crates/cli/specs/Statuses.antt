@@ -6,13 +6,14 @@ use Rattle.types.specs.declared.fault.TypeFault.TheVariants as types
 use Rattle.compiler.specs.declared.fault.CompileFault.TheVariants as compiles
 use Rattle.vcd_reader.specs.declared.fault.VcdFault.TheVariants as dumps
 use Rattle.cycle_window.specs.declared.fault.WindowFault.TheVariants as windows
+use Rattle.axi4_rules.specs.declared.fault.PortFault.TheVariants as ports
 use Rattle.verdicts.specs.declared.write.ReportFault.TheVariants as reports
 use Rattle.bytecode.specs.declared.fault.CodeFault.TheVariants as codes
 use Rattle.inference.specs.declared.refusal.Refusal.TheVariants as refusals
 use Rattle.command_line.specs.declared.fault.WordsFault.TheVariants as words
 use Rattle.cli.specs.declared.fault.Fault.{Fault}
 use Rattle.cli.specs.declared.fault.Fault.TheVariants.{Vcd, Lex, Parse, Typing, Window, Report}
-use Rattle.cli.specs.declared.fault.Fault.TheVariants.{Compile, Code, Refused, Words, File, Memory}
+use Rattle.cli.specs.declared.fault.Fault.TheVariants.{Port, Compile, Code, Refused, Words, File, Memory}
 
 -- 3 for memory, 4 for a file or a device, and 2 for all else
 abbrev pub fault_status_of : Fault → ℕ
@@ -23,6 +24,7 @@ fault_status_of (Parse parsing.Memory) = 3
 fault_status_of (Typing types.Memory) = 3
 fault_status_of (Compile compiles.Memory) = 3
 fault_status_of (Window windows.Memory) = 3
+fault_status_of (Port ports.Memory) = 3
 fault_status_of (Report reports.Write) = 4
 fault_status_of (Report reports.Memory) = 3
 fault_status_of (Code codes.Memory) = 3

@@ -1,5 +1,6 @@
-//! The lines that name the faults of programs.
+//! The lines that name the faults of programs and of port files.
 
+use axi4_rules::PortFault;
 use bytecode::CodeFault;
 use compiler::CompileFault;
 use std::alloc::{AllocError, Global};
@@ -26,6 +27,17 @@ pub(crate) fn compile_line(alloc: Global, fault: CompileFault) -> Result<String,
         CompileFault::TooManySlots => String::from_str(alloc, "svamon: K3 TooManySlots"),
         CompileFault::TextTooLong => String::from_str(alloc, "svamon: K4 TextTooLong"),
         CompileFault::Memory => String::from_str(alloc, "svamon: OutOfMemory"),
+    }
+}
+
+/// The line that names what is wrong with a port file.
+pub(crate) fn port_line(alloc: Global, fault: PortFault) -> Result<String, AllocError> {
+    match fault {
+        PortFault::BadWidth => String::from_str(alloc, "svamon: X1 BadWidth"),
+        PortFault::BadId => String::from_str(alloc, "svamon: X2 BadId"),
+        PortFault::BadName => String::from_str(alloc, "svamon: X3 BadName"),
+        PortFault::BadLine(line) => format!(in alloc; "svamon: X4 BadLine {line}"),
+        PortFault::Memory => String::from_str(alloc, "svamon: OutOfMemory"),
     }
 }
 

@@ -3,7 +3,8 @@
 ghost use Rattle.std.specs.Prelude.{◌≡◌};
 ghost use Rattle.cli.specs.Statuses.{status_of, fault_status_of};
 
-use crate::code_lines::{code_line, compile_line, refusal_line};
+use crate::code_lines::{code_line, compile_line, port_line, refusal_line};
+use axi4_rules::PortFault;
 use bytecode::CodeFault;
 use command_line::WordsFault;
 use compiler::CompileFault;
@@ -27,6 +28,8 @@ pub enum Fault<'a> {
     /// An assertion has no program.
     Compile(CompileFault),
     Window(WindowFault),
+    /// The port file.
+    Port(PortFault),
     Report(ReportFault),
     /// The bytes are no program.
     Code(CodeFault),
@@ -128,6 +131,19 @@ impl From<ReportFault> for Fault<'_> {
         match fault {
             ReportFault::Memory => Fault::Memory,
             other => Fault::Report(other),
+        }
+    }
+}
+
+impl From<PortFault> for Fault<'_> {
+    ghost use Rattle.cli.specs.Faults.{port_fault};
+
+    ghost from_gives = { λ f e. e ≡ port_fault f };
+
+    fn from(fault: PortFault) -> Self {
+        match fault {
+            PortFault::Memory => Fault::Memory,
+            other => Fault::Port(other),
         }
     }
 }
@@ -248,7 +264,7 @@ fn push_escaped(line: &mut String, character: char) -> Result<(), AllocError> {
     Ok(())
 }
 
-/// The line that names a fault of a file, with its path in one line.
+/// The line that names a fault of a file or of a name, with its path in one line.
 fn path_line(alloc: Global, what: &str, path: &str) -> Result<String, AllocError> {
     let mut line = String::from_str(alloc, what)?;
     for character in path.chars() {
@@ -258,7 +274,7 @@ fn path_line(alloc: Global, what: &str, path: &str) -> Result<String, AllocError
 }
 
 /// The line that names a fault, without its line feed; for words it is the text that explains them.
-/// In a path, control characters are escaped, so that it is one line.
+/// In a path or a name, control characters are escaped, so that it is one line.
 pub fn fault_line(alloc: Global, fault: &Fault) -> Result<String, AllocError> {
     match fault {
         Fault::Vcd(fault) => vcd_line(alloc, fault),
@@ -267,11 +283,12 @@ pub fn fault_line(alloc: Global, fault: &Fault) -> Result<String, AllocError> {
         Fault::Typing(fault) => type_line(alloc, fault),
         Fault::Compile(fault) => compile_line(alloc, *fault),
         Fault::Window(fault) => window_line(alloc, fault),
+        Fault::Port(fault) => port_line(alloc, *fault),
         Fault::Report(ReportFault::Write) => String::from_str(alloc, "svamon: G1 Write"),
         Fault::Report(ReportFault::Memory) => String::from_str(alloc, "svamon: OutOfMemory"),
         Fault::Code(fault) => code_line(alloc, *fault),
         Fault::Refused(refusal) => refusal_line(alloc, *refusal),
-        Fault::NoAssertion(name) => format!(in alloc; "svamon: N1 NoAssertion {name}"),
+        Fault::NoAssertion(name) => path_line(alloc, "svamon: N1 NoAssertion ", name.as_str()),
         Fault::NotText(path) => path_line(alloc, "svamon: N2 NotText ", path.as_str()),
         Fault::Words(WordsFault::Words(text)) => {
             let text = format!(in alloc; "{text}")?;
@@ -306,6 +323,7 @@ fn fault_status(fault: &Fault) -> u8
         Fault::Typing(TypeFault::Memory) => 3,
         Fault::Compile(CompileFault::Memory) => 3,
         Fault::Window(WindowFault::Memory) => 3,
+        Fault::Port(PortFault::Memory) => 3,
         Fault::Report(ReportFault::Write) => 4,
         Fault::Report(ReportFault::Memory) => 3,
         Fault::Code(CodeFault::Memory) => 3,

@@ -7,11 +7,12 @@ use Rattle.bytecode.specs.Values.{ProgramData}
 use Rattle.verifier.specs.Programs.{IsAccepted}
 use Rattle.compiler.specs.declared.fault.CompileFault.{CompileFault}
 use Rattle.compiler.specs.declared.fault.CompileFault.TheVariants.{Memory}
-use Rattle.compiler.specs.Faults.{WhyNotCompiled}
+use Rattle.compiler.specs.Faults.{WhyNotCompiled, IsFaultless}
 use Rattle.compiler.specs.Programs.{IsProgramOf}
 
--- The assertion has a program that the verifier accepts.
+-- The assertion has no fault, and a program that the verifier accepts.
 pub record HasProgram (suite : Suite) (a : Assertion) : Type 0 where
+  pub faultless : IsFaultless suite a
   pub program : ProgramData
   pub of : IsProgramOf suite a program
   pub accepted : IsAccepted program

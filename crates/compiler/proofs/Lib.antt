@@ -10,3 +10,4 @@ pub mod Counts
 pub mod Loops
 pub mod FaultLaws
 pub mod SmallLaws
+pub mod Faultless

@@ -92,3 +92,11 @@ pub record IsCountFault (suite : Suite) (a : Assertion) (signals counters : List
 abbrev pub WhyNotCompiled : Suite → Assertion → CompileFault → Type 0
 WhyNotCompiled suite a Memory = Unit {0}
 WhyNotCompiled suite a fault = IsFirstFault suite a fault
+
+-- No fault stands: an assertion that has a program.
+pub record IsFaultless (suite : Suite) (a : Assertion) : Type 0 where
+  pub signals : List Bool
+  pub counters : List Bool
+  pub reading : IsReading suite a signals counters
+  pub none : (fault : CompileFault) → rank fault < rank Memory →
+      StandsOver suite a signals counters fault → ⊥

@@ -1,6 +1,7 @@
 //! The program `svamon`: checks SystemVerilog assertions over recorded waveforms.
 #![tactic(auto)]
 
+mod assertions_text;
 mod files;
 mod serve;
 

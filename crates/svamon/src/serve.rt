@@ -1,14 +1,17 @@
 //! The commands, from the words of the command line to the answer.
 
-use crate::files::{open, read_bytes, read_text};
-use cli::{Fault, Request, check_one, fault_line, judge_one, read_words, status, verify_code};
+use crate::assertions_text::{read_assertions, read_rules};
+use crate::files::{open, read_bytes, write_bytes};
+use cli::{Fault, Request, build_one, check_one, fault_line, judge_one};
+use cli::{read_words, status, verify_code};
 use cli_runs::run_code;
-use signals::Counted;
+use signals::{Counted, Sink, write_all};
 use std::alloc::AllocError;
 use std::env::Env;
 use std::fs::Files;
 use std::io::{Eprint, ErrorKind, Print};
 use std::{env, io};
+use verdicts::ReportFault;
 
 /// Writes the line of a fault to standard error; it is lost where that can't be written.
 fn report_fault<R: Eprint + AllocGlobal>(rt: &R, fault: &Fault) {
@@ -51,17 +54,78 @@ fn serve_text<R: Files + Print + Eprint + AllocGlobal>(
     rt: &R,
     vcd: &str,
     sva: &str,
+    axi: Option<&str>,
     window: Option<u64>,
 ) -> u8 {
     let dump = match open(rt, vcd) {
         Ok(dump) => dump,
         Err(fault) => return shown_status(rt, &Err(fault)),
     };
-    let text = match read_text(rt, sva) {
+    let text = match read_assertions(rt, sva, axi) {
         Ok(text) => text,
         Err(fault) => return shown_status(rt, &Err(fault)),
     };
     shown_status(rt, &judge_text(rt, dump, text.as_str(), window))
+}
+
+/// Compiles an assertion of a text over a dump, and makes a file of its program.
+fn build_text<'a, R: Files + AllocGlobal>(
+    rt: &R,
+    dump: R::File,
+    text: &'a str,
+    name: &str,
+    out: &str,
+) -> Result<(), Fault<'a>> {
+    let mut dump = Counted::new(dump);
+    let bytes = build_one(rt.alloc(), &mut dump, text, name)?;
+    write_bytes(rt, out, bytes.as_slice())
+}
+
+/// Opens the dump, then reads the text, compiles its assertion of a name, and answers the status: 0
+/// where the file of the program was made.
+fn serve_build<R: Files + Eprint + AllocGlobal>(
+    rt: &R,
+    vcd: &str,
+    sva: &str,
+    axi: Option<&str>,
+    name: &str,
+    out: &str,
+) -> u8 {
+    let dump = match open(rt, vcd) {
+        Ok(dump) => dump,
+        Err(fault) => return shown_status(rt, &Err(fault)),
+    };
+    let text = match read_assertions(rt, sva, axi) {
+        Ok(text) => text,
+        Err(fault) => return shown_status(rt, &Err(fault)),
+    };
+    match build_text(rt, dump, text.as_str(), name, out) {
+        Ok(()) => 0,
+        Err(fault) => shown_status(rt, &Err(fault)),
+    }
+}
+
+/// Writes all of a text to standard output.
+fn print_text<R: Print + AllocGlobal>(rt: &R, text: &str) -> Result<(), Fault<'static>> {
+    let mut out = Counted::new(io::writer(rt));
+    if write_all(&mut out, text.as_bytes()).is_err() || out.flush().is_err() {
+        return Err(Fault::Report(ReportFault::Write));
+    }
+    Ok(())
+}
+
+/// The rules of the ports that a file names go to standard output.
+fn print_rules<R: Files + Print + AllocGlobal>(rt: &R, axi: &str) -> Result<(), Fault<'static>> {
+    let rules = read_rules(rt, axi)?;
+    print_text(rt, rules.as_str())
+}
+
+/// Prints the rules of ports, and answers the status: 0 where they were printed.
+fn serve_rules<R: Files + Print + Eprint + AllocGlobal>(rt: &R, axi: &str) -> u8 {
+    match print_rules(rt, axi) {
+        Ok(()) => 0,
+        Err(fault) => shown_status(rt, &Err(fault)),
+    }
 }
 
 /// Verifies the program in a file; the line of its limits goes to standard output.
@@ -103,17 +167,45 @@ fn run_file<R: Files + Print + AllocGlobal>(
     run_bytes(rt, dump, bytes.as_slice(), window)
 }
 
+/// The path of an option that may be left out.
+fn path_of(option: &Option<String>) -> Option<&str> {
+    match option {
+        None => None,
+        Some(path) => Some(path.as_str()),
+    }
+}
+
 /// Does what the words ask for.
 fn serve<R: Files + Print + Eprint + AllocGlobal>(rt: &R, request: &Request) -> u8 {
     match request {
-        Request::Check { vcd, sva, window } => {
-            serve_text(rt, vcd.as_str(), sva.as_str(), Some(*window))
-        }
+        Request::Check {
+            vcd,
+            sva,
+            axi,
+            window,
+        } => serve_text(rt, vcd.as_str(), sva.as_str(), path_of(axi), Some(*window)),
+        Request::Build {
+            vcd,
+            sva,
+            axi,
+            name,
+            out,
+        } => serve_build(
+            rt,
+            vcd.as_str(),
+            sva.as_str(),
+            path_of(axi),
+            name.as_str(),
+            out.as_str(),
+        ),
         Request::Verify { code } => serve_code(rt, code.as_str()),
         Request::Run { vcd, code, window } => {
             shown_status(rt, &run_file(rt, vcd.as_str(), code.as_str(), *window))
         }
-        Request::Judge { vcd, sva } => serve_text(rt, vcd.as_str(), sva.as_str(), None),
+        Request::Judge { vcd, sva, axi } => {
+            serve_text(rt, vcd.as_str(), sva.as_str(), path_of(axi), None)
+        }
+        Request::Rules { axi } => serve_rules(rt, axi.as_str()),
     }
 }
 

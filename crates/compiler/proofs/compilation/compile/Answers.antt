@@ -1,9 +1,11 @@
-use Rattle.std.proofs.Common.{sym, subst}
+use Rattle.std.proofs.Common.{◌≡◌, refl, sym, subst}
+use Rattle.bytecode.specs.Values.{ProgramData}
 use Rattle.bytecode.specs.Programs.{data_of}
 use Rattle.verifier.specs.Programs.{least_limits}
 use Rattle.compiler.specs.Programs.{IsProgramOf}
 use Rattle.compiler.specs.Parts.{declared_from}
 use Rattle.compiler.proofs.Formed as made
+use Rattle.compiler.proofs.Faultless.{faultless}
 use Rattle.compiler.proofs.compilation.compile.Goals as goal
 
 pub accepted-requires-clause-formed : goal.accepted-requires-clause-formed
@@ -27,3 +29,12 @@ returns-clause-made c =
     (made.declares c.args.suite.now c.args.assertion.now (data_of c.in_ok-program.program) (declared_from (least_limits (data_of c.in_ok-program.program)))
     (made.program-of c.args.suite.now c.args.assertion.now c.requires c.in_ok-reading.reading.signals.items c.in_ok-reading.reading.counters.items
     c.in_ok-reading.ensures.is (data_of c.in_ok-program.program) c.in_ok-program.ensures.made))
+
+pub returns-clause-least : goal.returns-clause-least
+returns-clause-least c =
+    subst (λ (p : ProgramData). p.header.limits ≡ declared_from (least_limits p)) (sym c.in_ok-accepted.ensures) refl
+
+pub returns-clause-faultless : goal.returns-clause-faultless
+returns-clause-faultless c =
+    faultless c.args.suite.now c.args.assertion.now c.in_ok-reading.reading.signals.items c.in_ok-reading.reading.counters.items (data_of c.in_ok-program.program)
+    c.in_ok-reading.ensures.is c.in_default.ensures c.in_ok-program.ensures.made

@@ -1,0 +1,123 @@
+-- What a build of an assertion's program comes to: no clock is looked up.
+use Rattle.std.specs.Prelude.{◌≡◌, ℕ, List, Option, Some, slice_get, string_bytes}
+use Rattle.std.specs.List.{AllByRecursion}
+use Rattle.assertions.specs.declared.assertion.Assertion.{Assertion}
+use Rattle.assertions.specs.declared.suite.Suite.{Suite}
+use Rattle.bytecode.specs.Values.{ProgramData}
+use Rattle.verifier.specs.Programs.{IsAccepted, least_limits}
+use Rattle.parser.specs.declared.fault.ParseFault.TheVariants as parsing
+use Rattle.compiler.specs.declared.fault.CompileFault.{CompileFault}
+use Rattle.compiler.specs.declared.fault.CompileFault.TheVariants as compiles
+use Rattle.compiler.specs.Faults.{WhyNotCompiled, IsFaultless}
+use Rattle.compiler.specs.Parts.{declared_from}
+use Rattle.compiler.specs.Programs.{IsProgramOf}
+use Rattle.vcd_reader.specs.declared.fault.VcdFault.TheVariants as dumps
+use Rattle.vcd_reader.specs.Dump.{Contents, GaveDump, Stands}
+use Rattle.lexer.specs.Covering.{IsFaulty}
+use Rattle.cli.specs.declared.fault.Fault.{Fault}
+use Rattle.cli.specs.declared.fault.Fault.TheVariants.{Vcd, Lex, Parse, Typing, Compile}
+use Rattle.cli.specs.declared.fault.Fault.TheVariants.{NoAssertion, Memory}
+use Rattle.cli.specs.Reported.{SaysSuite}
+use Rattle.cli.specs.Outcomes.{HasNoItems, IsMistyped}
+use Rattle.cli.specs.Verifications.{Spells}
+
+-- The suite's assertion of this name.
+pub record IsNamed (suite : Suite) (name : List ℕ) (a : Assertion) : Type 0 where
+  pub place : ℕ
+  pub is : slice_get suite.assertions.items place ≡ Some a
+  pub named : string_bytes a.name ≡ name
+
+-- no assertion of the suite has this name
+abbrev pub LacksName : Suite → List ℕ → Type 0
+LacksName suite name =
+    AllByRecursion (λ (a : Assertion). string_bytes a.name ≡ name → ⊥) suite.assertions.items
+
+-- The bytes spell an accepted program of the suite's assertion of this name, which has no fault;
+-- the limits that it declares are the least that serve it.
+pub record IsSpelledProgram (suite : Suite) (name bytes : List ℕ) : Type 0 where
+  pub assertion : Assertion
+  pub of : IsNamed suite name assertion
+  pub faultless : IsFaultless suite assertion
+  pub program : ProgramData
+  pub means : IsProgramOf suite assertion program
+  pub accepted : IsAccepted program
+  pub least : program.header.limits ≡ declared_from (least_limits program)
+  pub spells : Spells bytes program
+
+-- The suite's assertion of this name has no program.
+pub record HasNoneOfName (suite : Suite) (name : List ℕ) (fault : CompileFault) : Type 0 where
+  pub assertion : Assertion
+  pub of : IsNamed suite name assertion
+  pub why : WhyNotCompiled suite assertion fault
+
+-- why a suite has no program for a name
+abbrev pub WhyNoProgram : Suite → List ℕ → Fault → Type 0
+WhyNoProgram suite name (NoAssertion n) = (string_bytes n ≡ name) × LacksName suite name
+WhyNoProgram suite name (Compile compiles.Memory) = ⊥
+WhyNoProgram suite name (Compile e) = HasNoneOfName suite name e
+WhyNoProgram suite name Memory = Unit {0}
+WhyNoProgram suite name _ = ⊥
+
+-- The text says a suite over the contents of a dump, and the bytes are its program for the name.
+pub record IsBuilt (c : Contents) (text name bytes : List ℕ) : Type 0 where
+  pub suite : Suite
+  pub says : SaysSuite c text suite
+  pub is : IsSpelledProgram suite name bytes
+
+-- The text says a suite that has no program for the name.
+pub record SaysNone (c : Contents) (text name : List ℕ) (fault : Fault) : Type 0 where
+  pub suite : Suite
+  pub says : SaysSuite c text suite
+  pub why : WhyNoProgram suite name fault
+
+-- why a text has no program for a name over these contents
+abbrev pub WhyNotBuilt : Contents → List ℕ → List ℕ → Fault → Type 0
+WhyNotBuilt c text name (Lex e) = IsFaulty 0 text e
+WhyNotBuilt c text name (Parse parsing.Memory) = ⊥
+WhyNotBuilt c text name (Parse e) = HasNoItems text e
+WhyNotBuilt c text name (Typing e) = IsMistyped c text e
+WhyNotBuilt c text name (NoAssertion n) = SaysNone c text name (NoAssertion n)
+WhyNotBuilt c text name (Compile e) = SaysNone c text name (Compile e)
+WhyNotBuilt c text name Memory = Unit {0}
+WhyNotBuilt c text name _ = ⊥
+
+-- What a build was given and what it left: the text, the name, the bytes that the source had left
+-- before and after, and how many of its calls had failed.
+pub record Build : Type 0 where
+  pub text : List ℕ
+  pub name : List ℕ
+  pub given_old : Option (List ℕ)
+  pub given_new : Option (List ℕ)
+  pub reads_old : ℕ
+  pub reads_new : ℕ
+
+abbrev pub build_of : List ℕ → List ℕ → Option (List ℕ) → Option (List ℕ) → ℕ → ℕ → Build
+build_of text name given_old given_new reads_old reads_new = record {
+  text = text;
+  name = name;
+  given_old = given_old;
+  given_new = given_new;
+  reads_old = reads_old;
+  reads_new = reads_new;
+}
+
+-- The source gave a dump, and the bytes are the text's program for the name. No call failed.
+pub record IsBuiltFrom (b : Build) (bytes : List ℕ) : Type 0 where
+  pub contents : Contents
+  pub gave : GaveDump b.given_old b.given_new contents
+  pub built : IsBuilt contents b.text b.name bytes
+  pub reads : b.reads_new ≡ b.reads_old
+
+-- The source gave a dump over which the text has no program for the name.
+pub record IsRefusedBuild (b : Build) (fault : Fault) : Type 0 where
+  pub contents : Contents
+  pub gave : GaveDump b.given_old b.given_new contents
+  pub why : WhyNotBuilt contents b.text b.name fault
+  pub reads : b.reads_new ≡ b.reads_old
+
+-- why there is no program
+abbrev pub WhyBuildRefused : Build → Fault → Type 0
+WhyBuildRefused b (Vcd dumps.Memory) = ⊥
+WhyBuildRefused b (Vcd e) = Stands b.given_old b.given_new b.reads_old b.reads_new e
+WhyBuildRefused b Memory = b.reads_new ≡ b.reads_old
+WhyBuildRefused b fault = IsRefusedBuild b fault
