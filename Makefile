@@ -22,7 +22,7 @@ help:
 	@echo 'make test             the gate: proves all from nothing, and runs tests, programs, and the edits of what changed'
 	@echo 'make test-all         the gate with all edits'
 	@echo 'make edits NAME=      tries the must-fail edits of a crate, and writes its stamp'
-	@echo 'make bench            times reading against the plain C baseline, on dumps of 50 and 200 MB made from DUMP (clock CLOCK), and on odd shapes; reading and checking texts; bytecode; verifying; judging; and the machine against a plain C one'
+	@echo 'make bench            times reading against the plain C baseline, on dumps of 50 and 200 MB made from DUMP (clock CLOCK), and on odd shapes; reading and checking texts; bytecode; verifying; judging; checking by programs; and the machine against a plain C one'
 	@echo 'make allocations      refuses each allocation of svamon in turn, and of the reader and writer of bytecode, and of the verifier; and looks at what counts in bytecode take'
 	@echo 'make random           compares svamon with an independent judge on CASES random dumps and texts (SEED), the reader of bytecode with another on MUTANTS random mutants of each of two programs, the verifier with another on CASES random programs and their mutants, and the machine with another on PROGRAMS random programs of 100 clocks'
 
@@ -66,6 +66,7 @@ bench: svamon oracle_bytecode oracle_verifier oracle_machine
 	bench/bytecode
 	bench/verifier
 	bench/judge
+	bench/check
 	bench/machine
 
 allocations: svamon oracle_bytecode oracle_verifier
@@ -74,6 +75,9 @@ allocations: svamon oracle_bytecode oracle_verifier
 	$(REFUSING) check $(call FILES,fails_at_its_tick)
 	$(REFUSING) check $(call FILES,one_then_down)
 	$(REFUSING) judge $(call FILES,whole_profile)
+	$(REFUSING) check $(call FILES,axi_port) --axi examples/axi_port/ports.txt
+	$(REFUSING) build $(call FILES,fails_at_its_tick) --name r --out /dev/null
+	$(REFUSING) rules --axi examples/axi_port/ports.txt
 	$(REFUSING) verify $(PROGRAM)
 	$(REFUSING) run --vcd examples/fails_at_its_tick/dump.vcd --code $(PROGRAM)
 
@@ -82,5 +86,8 @@ random: svamon oracle_bytecode oracle_verifier oracle_machine
 	scripts/random_verifier.py $(VERIFIER) $(CASES) $(SEED)
 	scripts/random_machine.py $(MACHINE) $(PROGRAMS) 100 $(SEED)
 	cd crates/svamon/out && ../../../scripts/random_judge.py ./svamon $(CASES) $(SEED)
+	scripts/edge_ports.py crates/svamon/out/svamon
+	scripts/same_reports.py crates/svamon/out/svamon
+	scripts/random_axi4.py crates/svamon/out/svamon 100 $(SEED)
 
 .PHONY: help demo try test test-all edits install svamon oracle_bytecode oracle_verifier oracle_machine bench allocations random

@@ -1,15 +1,16 @@
-//! Prints the report of each example: its assertions, judged over its dump.
+//! Prints the report of each example: its assertions, or the rules of its port, judged over its dump.
 #![tactic(auto)]
 
+use axi4_rules::{joined_text, port_rules};
 use cli::{fault_line, judge_one, status};
 use signals::Counted;
 use std::env::Env;
 use std::fs::{File, Files};
-use std::io::Print;
+use std::io::{ErrorKind, Print};
 use std::process::ExitCode;
 use std::{env, fs, io};
 
-/// The examples, by the names of their directories.
+/// The examples but that with a port, by the names of their directories.
 const EXAMPLES: [&str; 10] = [
     "fails_at_its_tick",
     "one_then_down",
@@ -23,21 +24,55 @@ const EXAMPLES: [&str; 10] = [
     "fifo_arb",
 ];
 
-/// Prints an example's text, the report on it, and the status that svamon gives for it.
-fn show<R: Files + Print + AllocGlobal>(rt: &R, folder: &str, name: &str) -> io::Result<()> {
-    let path = format!(in rt.alloc(); "{folder}/{name}/assertion.sva")?;
-    let text = fs::read_to_string(rt, path.as_str())?;
-    println!(rt; "== {name}")?;
-    print!(rt; "{text}")?;
+/// A file of an example, as text.
+fn read_file<R: Files + AllocGlobal>(
+    rt: &R,
+    folder: &str,
+    name: &str,
+    file: &str,
+) -> io::Result<String> {
+    let path = format!(in rt.alloc(); "{folder}/{name}/{file}")?;
+    fs::read_to_string(rt, path.as_str())
+}
+
+/// Prints the report on a text over an example's dump, and the status that svamon gives for it.
+fn print_report<R: Files + Print + AllocGlobal>(
+    rt: &R,
+    folder: &str,
+    name: &str,
+    text: &str,
+) -> io::Result<()> {
     let path = format!(in rt.alloc(); "{folder}/{name}/dump.vcd")?;
     let mut dump = Counted::new(File::open(rt, path.as_str())?);
     let mut out = Counted::new(io::writer(rt));
-    let outcome = judge_one(rt.alloc(), &mut dump, text.as_str(), &mut out);
+    let outcome = judge_one(rt.alloc(), &mut dump, text, &mut out);
     if let Err(fault) = &outcome {
         let line = fault_line(rt.alloc(), fault)?;
         println!(rt; "{line}")?;
     }
     println!(rt; "status {}", status(&outcome))
+}
+
+/// Prints an example's text, the report on it, and the status that svamon gives for it.
+fn show<R: Files + Print + AllocGlobal>(rt: &R, folder: &str, name: &str) -> io::Result<()> {
+    let text = read_file(rt, folder, name, "assertion.sva")?;
+    println!(rt; "== {name}")?;
+    print!(rt; "{text}")?;
+    print_report(rt, folder, name, text.as_str())
+}
+
+/// Prints the port file of the example with an AXI4 port, the report on the rules of its port, and
+/// the status.
+fn show_port<R: Files + Print + AllocGlobal>(rt: &R, folder: &str) -> io::Result<()> {
+    let text = read_file(rt, folder, "axi_port", "assertion.sva")?;
+    let ports = read_file(rt, folder, "axi_port", "ports.txt")?;
+    println!(rt; "== axi_port")?;
+    print!(rt; "{ports}")?;
+    let Ok(rules) = port_rules(rt.alloc(), ports.as_str()) else {
+        return Err(io::Error::from(ErrorKind::InvalidData));
+    };
+    let text = joined_text(rt.alloc(), text.as_str(), rules.as_str())?;
+    print_report(rt, folder, "axi_port", text.as_str())
 }
 
 /// The folder of the examples: the first word behind the program's name, or the one that it runs in.
@@ -50,6 +85,7 @@ fn folder_of<R: Env + AllocGlobal>(rt: &R) -> io::Result<String> {
 
 fn main(rt: HostRuntime) -> io::Result<()> {
     let folder = folder_of(&rt)?;
+    show_port(&rt, folder.as_str())?;
     for name in EXAMPLES {
         show(&rt, folder.as_str(), name)?;
     }
