@@ -7,7 +7,8 @@ use Rattle.clap.specs.Words.{AddsSubcommand, App, HasMatchesOf, Row, Text, app_o
 use Rattle.clap.specs.Words.{subcommand_name_of, subcommand_rows_of, with_subcommand}
 use Rattle.clap.specs.declared.builder.command.Command.{Command}
 use Rattle.clap.specs.declared.parser.matches.ArgMatches.{ArgMatches}
-use Rattle.command_line.specs.Words.{Names, svamon_app}
+use Rattle.command_line.specs.declared.request.Request.{Request}
+use Rattle.command_line.specs.Words.{IsRequest, IsAsked, svamon_app}
 
 pub not-is : (b : Bool) → not b ≡ true → b ≡ false
 not-is b h = elim b as (λ v. not v ≡ true → v ≡ false) [ true ↦ λ k. sym k | false ↦ λ k. sym (ap not k) ] h
@@ -30,11 +31,14 @@ pair_of None n rs e f = absurd (none-some _ e)
 pair_of (Some p) n rs e f =
     ap₂ (λ (a : Text) (b : List Row). Some (a, b)) (ap (λ (o : Option Text). unwrap_or o n) e) (ap (λ (o : Option (List Row)). unwrap_or o rs) f)
 
--- the words name the subcommand that a parse of svamon's command entered, with the rows that it found
+-- the words ask for the request that the rows of the entered command give
 pub asked : (a : App) (words : List Text) (m : ArgMatches) (n : Text) (rs : List Row) → HasMatchesOf a words m → a ≡ svamon_app
-    → subcommand_name_of m ≡ Some n → option_map (λ p. p.1) (subcommand_rows_of m) ≡ Some rs → Names words n rs
-asked a words m n rs has is name rows = record {
+    → subcommand_name_of m ≡ Some n → option_map (λ p. p.1) (subcommand_rows_of m) ≡ Some rs → (r : Request) → IsRequest n rs r → IsAsked words r
+asked a words m n rs has is name rows r said = record {
+  rows = rs;
   named =
       ap (λ (b : App). subcommand_of b words) (sym is) ∙ sym (has (ap is_simple is)).1
-      ∙ pair_of (subcommand_rows_of m) n rs (map_map _ _ _ ∙ name) rows;
+      ∙ pair_of (subcommand_rows_of m) n rs (map_map _ _ _ ∙ name) rows
+      ∙ ap (λ (t : Text). Some (t, rs)) (sym said.command);
+  given = said.given;
 }

@@ -1,13 +1,17 @@
 -- svamon's command line, in the words of `clap`, which reads it: a command has a name, its rules
 -- (options) and subcommands; `subcommand_of` says which subcommand words name, and with which
 -- rows (an option's id, and the values behind it or else its defaults).
-use Rattle.std.specs.Prelude.{◌≡◌, ℕ, ◌≤◌, List, [], ◌∷◌, Some, Ok, true, codes, string_bytes}
+use Rattle.std.specs.Prelude.{◌≡◌, ℕ, ◌≤◌, List, [], ◌∷◌, Option, Some, Ok, true, codes}
+use Rattle.std.specs.Prelude.{String, string_bytes}
+use Rattle.std.specs.Global.{Global}
+use Rattle.std.specs.Option.{option_map}
 use Rattle.std.specs.Str.Parse.{ParsesUnsigned}
 use Rattle.clap.specs.Words.{App, Row, Rule, Text, first_of, new_app, new_rule, one_of}
 use Rattle.clap.specs.Words.{subcommand_of, with_rule, with_subcommand}
 use Rattle.clap.specs.declared.builder.value_parser.ValueParser.TheVariants.{Unsigned}
 use Rattle.command_line.specs.declared.request.Request.{Request}
-use Rattle.command_line.specs.declared.request.Request.TheVariants.{Check, Verify, Run, Judge}
+use Rattle.command_line.specs.declared.request.Request.TheVariants.{Check, Build, Verify}
+use Rattle.command_line.specs.declared.request.Request.TheVariants.{Run, Judge, Rules}
 
 -- an option `--name`, of one value
 abbrev pub option_rule : Text → Rule
@@ -21,6 +25,10 @@ file_rule name = record (option_rule name) { required = true }
 abbrev pub word_rule : Text → Rule
 word_rule name = record (new_rule name) { value_names = 1; required = true }
 
+-- a port file, which may be left out
+abbrev pub axi_rule : Rule
+axi_rule = option_rule (codes "axi")
+
 -- a window's size, 1,024 where it isn't given
 abbrev pub window_rule : Rule
 window_rule = record (option_rule (codes "window")) {
@@ -30,10 +38,20 @@ window_rule = record (option_rule (codes "window")) {
 
 -- a command with an option for the dump, and one for another file
 abbrev pub dump_app : Text → Text → App
-dump_app name other = with_rule (with_rule (new_app name) (file_rule (codes "vcd"))) (file_rule other)
+dump_app name other =
+    with_rule (with_rule (new_app name) (file_rule (codes "vcd"))) (file_rule other)
+
+-- a command that reads a dump, a text and ports
+abbrev pub text_app : Text → App
+text_app name = with_rule (dump_app name (codes "sva")) axi_rule
 
 abbrev pub check_app : App
-check_app = with_rule (dump_app (codes "check") (codes "sva")) window_rule
+check_app = with_rule (text_app (codes "check")) window_rule
+
+abbrev pub build_app : App
+build_app =
+    with_rule (with_rule (text_app (codes "build")) (file_rule (codes "name")))
+    (file_rule (codes "out"))
 
 abbrev pub verify_app : App
 verify_app = with_rule (new_app (codes "verify")) (word_rule (codes "code"))
@@ -42,7 +60,10 @@ abbrev pub run_app : App
 run_app = with_rule (dump_app (codes "run") (codes "code")) window_rule
 
 abbrev pub judge_app : App
-judge_app = dump_app (codes "judge") (codes "sva")
+judge_app = text_app (codes "judge")
+
+abbrev pub rules_app : App
+rules_app = with_rule (new_app (codes "rules")) (file_rule (codes "axi"))
 
 -- `svamon`, which wants a subcommand
 abbrev pub svamon_top : App
@@ -52,12 +73,13 @@ svamon_top = record (new_app (codes "svamon")) {
 
 abbrev pub svamon_app : App
 svamon_app =
-    let first_two = with_subcommand (with_subcommand svamon_top check_app.top) verify_app.top in
-    with_subcommand (with_subcommand first_two run_app.top) judge_app.top
+    let first_two = with_subcommand (with_subcommand svamon_top check_app.top) build_app.top in
+    let first_four = with_subcommand (with_subcommand first_two verify_app.top) run_app.top in
+    with_subcommand (with_subcommand first_four judge_app.top) rules_app.top
 
--- the path that the rows give for an option
-abbrev pub IsPath : Text → List Row → List ℕ → Type 0
-IsPath name rows path = first_of name rows ≡ Some path
+-- what the rows give for an option, which is there or not
+abbrev pub Gives : Text → List Row → Option (String Global) → Type 0
+Gives name rows given = first_of name rows ≡ option_map string_bytes given
 
 -- the size of a window that the rows give, in decimal digits
 pub record IsWindow (rows : List Row) (size : ℕ) : Type 0 where
@@ -67,42 +89,47 @@ pub record IsWindow (rows : List Row) (size : ℕ) : Type 0 where
   pub least : 1 ≤ size
   pub most : size ≤ 65536
 
--- the rows of the subcommand of this name, where the words name it
-pub record Names (words : List Text) (name : Text) (rows : List Row) : Type 0 where
-  pub named : subcommand_of svamon_app words ≡ Some (name, rows)
+-- a dump, a text, and ports if there are any
+abbrev pub HasText : List Row → String Global → String Global → Option (String Global) → Type 0
+HasText rows vcd sva axi =
+    Gives (codes "vcd") rows (Some vcd) × Gives (codes "sva") rows (Some sva)
+    × Gives (codes "axi") rows axi
 
--- what a check of these files through such a window has
-pub record IsCheck (words : List Text) (vcd sva : List ℕ) (window : ℕ) : Type 0 where
+-- an assertion's name, and the file to write
+abbrev pub HasOutput : List Row → String Global → String Global → Type 0
+HasOutput rows name out =
+    Gives (codes "name") rows (Some name) × Gives (codes "out") rows (Some out)
+
+-- a dump, and a program to run over it
+abbrev pub HasProgram : List Row → String Global → String Global → Type 0
+HasProgram rows vcd code =
+    Gives (codes "vcd") rows (Some vcd) × Gives (codes "code") rows (Some code)
+
+-- the command that makes such a request
+abbrev pub command_of : Request → Text
+command_of (Check vcd sva axi window) = codes "check"
+command_of (Build vcd sva axi name out) = codes "build"
+command_of (Verify code) = codes "verify"
+command_of (Run vcd code window) = codes "run"
+command_of (Judge vcd sva axi) = codes "judge"
+command_of (Rules axi) = codes "rules"
+
+-- the request has what the rows of its command give
+abbrev pub IsGiven : List Row → Request → Type 0
+IsGiven rows (Check vcd sva axi window) = HasText rows vcd sva axi × IsWindow rows window
+IsGiven rows (Build vcd sva axi name out) = HasText rows vcd sva axi × HasOutput rows name out
+IsGiven rows (Verify code) = Gives (codes "code") rows (Some code)
+IsGiven rows (Run vcd code window) = HasProgram rows vcd code × IsWindow rows window
+IsGiven rows (Judge vcd sva axi) = HasText rows vcd sva axi
+IsGiven rows (Rules axi) = Gives (codes "axi") rows (Some axi)
+
+-- a request of the command of this name, by its rows
+pub record IsRequest (name : Text) (rows : List Row) (request : Request) : Type 0 where
+  pub command : command_of request ≡ name
+  pub given : IsGiven rows request
+
+-- the words ask for this: they name its command, with these rows
+pub record IsAsked (words : List Text) (request : Request) : Type 0 where
   pub rows : List Row
-  pub named : Names words (codes "check") rows
-  pub dump : IsPath (codes "vcd") rows vcd
-  pub text : IsPath (codes "sva") rows sva
-  pub size : IsWindow rows window
-
--- what a verification of this file has
-pub record IsVerify (words : List Text) (code : List ℕ) : Type 0 where
-  pub rows : List Row
-  pub named : Names words (codes "verify") rows
-  pub program : IsPath (codes "code") rows code
-
--- what a run of the one file over the other through such a window has
-pub record IsRun (words : List Text) (vcd code : List ℕ) (window : ℕ) : Type 0 where
-  pub rows : List Row
-  pub named : Names words (codes "run") rows
-  pub dump : IsPath (codes "vcd") rows vcd
-  pub program : IsPath (codes "code") rows code
-  pub size : IsWindow rows window
-
--- what a judging of these files has
-pub record IsJudge (words : List Text) (vcd sva : List ℕ) : Type 0 where
-  pub rows : List Row
-  pub named : Names words (codes "judge") rows
-  pub dump : IsPath (codes "vcd") rows vcd
-  pub text : IsPath (codes "sva") rows sva
-
--- the words ask for this
-abbrev pub IsAsked : List Text → Request → Type 0
-IsAsked words (Check vcd sva window) = IsCheck words (string_bytes vcd) (string_bytes sva) window
-IsAsked words (Verify code) = IsVerify words (string_bytes code)
-IsAsked words (Run vcd code window) = IsRun words (string_bytes vcd) (string_bytes code) window
-IsAsked words (Judge vcd sva) = IsJudge words (string_bytes vcd) (string_bytes sva)
+  pub named : subcommand_of svamon_app words ≡ Some (command_of request, rows)
+  pub given : IsGiven rows request

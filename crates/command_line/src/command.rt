@@ -3,22 +3,31 @@
 ghost use Rattle.std.specs.Prelude.{◌≡◌, Some, IfOk, false};
 ghost use Rattle.clap.specs.Words.{app_of, rule_of};
 ghost use Rattle.clap.specs.declared.builder.value_parser.ValueParser.TheVariants.{Unsigned};
-ghost use Rattle.command_line.specs.Words.{file_rule, word_rule, window_rule, check_app};
-ghost use Rattle.command_line.specs.Words.{verify_app, run_app, judge_app, svamon_app};
+ghost use Rattle.command_line.specs.Words.{file_rule, word_rule, axi_rule, window_rule};
+ghost use Rattle.command_line.specs.Words.{text_app, check_app, build_app, verify_app, run_app};
+ghost use Rattle.command_line.specs.Words.{judge_app, rules_app, svamon_app};
 
 use clap::{Arg, Command, value_parser};
 use std::alloc::{AllocError, Global};
 
 /// An option with one value that has to be there.
-fn file_option<'a>(alloc: Global, name: &'a str, help: &'a str) -> Arg<'a>
+fn named_option<'a>(alloc: Global, name: &'a str, value: &'a str, help: &'a str) -> Arg<'a>
     ensures rule { rule_of result ≡ file_rule name.entry.now }
     ensures local { result.global ≡ false }
 {
     Arg::new(alloc, name)
         .long(name)
-        .value_name("FILE")
+        .value_name(value)
         .required(true)
         .help(help)
+}
+
+/// An option with a file that has to be there.
+fn file_option<'a>(alloc: Global, name: &'a str, help: &'a str) -> Arg<'a>
+    ensures rule { rule_of result ≡ file_rule name.entry.now }
+    ensures local { result.global ≡ false }
+{
+    named_option(alloc, name, "FILE", help)
 }
 
 /// A file that is named by a word alone, which has to be there.
@@ -30,6 +39,16 @@ fn file_word<'a>(alloc: Global, name: &'a str, help: &'a str) -> Arg<'a>
         .value_name("FILE")
         .required(true)
         .help(help)
+}
+
+/// The option for a port file, which may be left out.
+fn axi_option<'a>(alloc: Global) -> Arg<'a>
+    ensures rule { rule_of result ≡ axi_rule }
+    ensures local { result.global ≡ false }
+{
+    Arg::new(alloc, "axi").long("axi").value_name("FILE").help(
+        "A port file, whose ports' rules stand behind the assertions",
+    )
 }
 
 /// The option with a number from 1 to 65,536 as its value.
@@ -51,14 +70,30 @@ fn window_option<'a>(alloc: Global) -> Arg<'a>
     within_sizes(option)
 }
 
+/// A command that reads a dump, a text and, if they are named, ports.
+fn text_command<'a>(alloc: Global, name: &'a str, about: &'a str) -> Result<Command<'a>, AllocError>
+    ensures { IfOk result (λ c. app_of c ≡ text_app name.entry.now) }
+{
+    Command::new(alloc, name)
+        .about(about)
+        .arg(file_option(alloc, "vcd", "The dump, in VCD"))?
+        .arg(file_option(alloc, "sva", "The assertions"))?
+        .arg(axi_option(alloc))
+}
+
 fn check_command<'a>(alloc: Global) -> Result<Command<'a>, AllocError>
     ensures { IfOk result (λ c. app_of c ≡ check_app) }
 {
-    Command::new(alloc, "check")
-        .about("Judges assertions over a dump and prints the report")
-        .arg(file_option(alloc, "vcd", "The dump, in VCD"))?
-        .arg(file_option(alloc, "sva", "The assertions"))?
-        .arg(window_option(alloc))
+    let about = "Judges assertions over a dump and prints the report";
+    text_command(alloc, "check", about)?.arg(window_option(alloc))
+}
+
+fn build_command<'a>(alloc: Global) -> Result<Command<'a>, AllocError>
+    ensures { IfOk result (λ c. app_of c ≡ build_app) }
+{
+    text_command(alloc, "build", "Writes the bytecode of one assertion")?
+        .arg(named_option(alloc, "name", "NAME", "The assertion's name"))?
+        .arg(file_option(alloc, "out", "The file to write"))
 }
 
 fn verify_command<'a>(alloc: Global) -> Result<Command<'a>, AllocError>
@@ -82,10 +117,15 @@ fn run_command<'a>(alloc: Global) -> Result<Command<'a>, AllocError>
 fn judge_command<'a>(alloc: Global) -> Result<Command<'a>, AllocError>
     ensures { IfOk result (λ c. app_of c ≡ judge_app) }
 {
-    Command::new(alloc, "judge")
-        .about("Prints the same report by the slow judge")
-        .arg(file_option(alloc, "vcd", "The dump, in VCD"))?
-        .arg(file_option(alloc, "sva", "The assertions"))
+    text_command(alloc, "judge", "Prints the same report by the slow judge")
+}
+
+fn rules_command<'a>(alloc: Global) -> Result<Command<'a>, AllocError>
+    ensures { IfOk result (λ c. app_of c ≡ rules_app) }
+{
+    Command::new(alloc, "rules")
+        .about("Prints the rules of the ports of a port file")
+        .arg(file_option(alloc, "axi", "The port file"))
 }
 
 /// svamon's commands.
@@ -96,7 +136,9 @@ pub(crate) fn svamon_command<'a>(alloc: Global) -> Result<Command<'a>, AllocErro
         .about("Checks SystemVerilog assertions over recorded waveforms")
         .subcommand_required(true)
         .subcommand(check_command(alloc)?)?
+        .subcommand(build_command(alloc)?)?
         .subcommand(verify_command(alloc)?)?
         .subcommand(run_command(alloc)?)?
-        .subcommand(judge_command(alloc)?)
+        .subcommand(judge_command(alloc)?)?
+        .subcommand(rules_command(alloc)?)
 }

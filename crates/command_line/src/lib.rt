@@ -2,10 +2,12 @@
 //!
 //! ```text
 //! match read_words(alloc, &["svamon", "check", "--vcd", "top.vcd", "--sva", "rules.sva"]) {
-//!     Ok(Request::Check { vcd, sva, window }) => ..,   // the two paths, and 1,024
+//!     Ok(Request::Check { vcd, sva, axi, window }) => ..,   // the two paths, None, and 1,024
+//!     Ok(Request::Build { vcd, sva, axi, name, out }) => ..,
 //!     Ok(Request::Verify { code }) => ..,
 //!     Ok(Request::Run { vcd, code, window }) => ..,
-//!     Ok(Request::Judge { vcd, sva }) => ..,
+//!     Ok(Request::Judge { vcd, sva, axi }) => ..,
+//!     Ok(Request::Rules { axi }) => ..,
 //!     Err(WordsFault::Words(error)) => ..,             // `{error}` is the text to show
 //!     Err(WordsFault::OutOfMemory) => ..,
 //! }
@@ -14,7 +16,7 @@
 //! The words are read by `clap`, and what they give is `clap`'s own definition of that
 //! (`subcommand_of`, for a command written out in `specs/Words.antt`): the command that is named,
 //! and for each of its options the value behind it or else its default; the file of `verify` is a
-//! word alone. The contract of
+//! word alone, and `--axi` may be left out where a text is read, which gives None. The contract of
 //! `read_words` says that a request is that command with those values, and that a window has from
 //! 1 to 65,536 clocks. Not promised: which words are refused, and with what text; tests show that.
 #![tactic(auto)]

@@ -1,8 +1,8 @@
 //! From words to a request.
 
-ghost use Rattle.std.specs.Prelude.{IfOk, map, string_bytes};
+ghost use Rattle.std.specs.Prelude.{IfOk, Some, codes, map};
 ghost use Rattle.clap.specs.Words.{found_of, rows_of};
-ghost use Rattle.command_line.specs.Words.{IsPath, IsWindow, IsAsked};
+ghost use Rattle.command_line.specs.Words.{Gives, IsWindow, IsRequest, IsAsked};
 
 use crate::command::svamon_command;
 use crate::fault::WordsFault;
@@ -11,12 +11,22 @@ use clap::error::ErrorKind;
 use clap::{ArgMatches, Error};
 use std::alloc::Global;
 
-/// The text of an option that has to be there: `clap` refuses words that lack it.
-fn path_of(alloc: Global, options: &ArgMatches, name: &str) -> Result<String, WordsFault>
-    ensures { IfOk result (λ p. IsPath name.now (rows_of (found_of options.now)) (string_bytes p)) }
+/// The text of an option that may be left out.
+fn option_of(alloc: Global, options: &ArgMatches, name: &str) -> Result<Option<String>, WordsFault>
+    ensures { IfOk result (Gives name.now (rows_of (found_of options.now))) }
 {
     match options.get_str(name) {
-        Some(path) => Ok(String::from_str(alloc, path)?),
+        Some(text) => Ok(Some(String::from_str(alloc, text)?)),
+        None => Ok(None),
+    }
+}
+
+/// The text of an option that has to be there: `clap` refuses words that lack it.
+fn text_of(alloc: Global, options: &ArgMatches, name: &str) -> Result<String, WordsFault>
+    ensures { IfOk result (λ t. Gives name.now (rows_of (found_of options.now)) (Some t)) }
+{
+    match option_of(alloc, options, name)? {
+        Some(text) => Ok(text),
         None => Err(WordsFault::OutOfMemory),
     }
 }
@@ -44,6 +54,65 @@ fn words_fault(error: Error) -> WordsFault {
     WordsFault::Words(error)
 }
 
+fn check_request(alloc: Global, options: &ArgMatches) -> Result<Request, WordsFault>
+    ensures { IfOk result (IsRequest (codes "check") (rows_of (found_of options.now))) }
+{
+    Ok(Request::Check {
+        vcd: text_of(alloc, options, "vcd")?,
+        sva: text_of(alloc, options, "sva")?,
+        axi: option_of(alloc, options, "axi")?,
+        window: window_of(options)?,
+    })
+}
+
+fn build_request(alloc: Global, options: &ArgMatches) -> Result<Request, WordsFault>
+    ensures { IfOk result (IsRequest (codes "build") (rows_of (found_of options.now))) }
+{
+    Ok(Request::Build {
+        vcd: text_of(alloc, options, "vcd")?,
+        sva: text_of(alloc, options, "sva")?,
+        axi: option_of(alloc, options, "axi")?,
+        name: text_of(alloc, options, "name")?,
+        out: text_of(alloc, options, "out")?,
+    })
+}
+
+fn verify_request(alloc: Global, options: &ArgMatches) -> Result<Request, WordsFault>
+    ensures { IfOk result (IsRequest (codes "verify") (rows_of (found_of options.now))) }
+{
+    Ok(Request::Verify {
+        code: text_of(alloc, options, "code")?,
+    })
+}
+
+fn run_request(alloc: Global, options: &ArgMatches) -> Result<Request, WordsFault>
+    ensures { IfOk result (IsRequest (codes "run") (rows_of (found_of options.now))) }
+{
+    Ok(Request::Run {
+        vcd: text_of(alloc, options, "vcd")?,
+        code: text_of(alloc, options, "code")?,
+        window: window_of(options)?,
+    })
+}
+
+fn judge_request(alloc: Global, options: &ArgMatches) -> Result<Request, WordsFault>
+    ensures { IfOk result (IsRequest (codes "judge") (rows_of (found_of options.now))) }
+{
+    Ok(Request::Judge {
+        vcd: text_of(alloc, options, "vcd")?,
+        sva: text_of(alloc, options, "sva")?,
+        axi: option_of(alloc, options, "axi")?,
+    })
+}
+
+fn rules_request(alloc: Global, options: &ArgMatches) -> Result<Request, WordsFault>
+    ensures { IfOk result (IsRequest (codes "rules") (rows_of (found_of options.now))) }
+{
+    Ok(Request::Rules {
+        axi: text_of(alloc, options, "axi")?,
+    })
+}
+
 /// What the words of a command line ask for; the first is the program's name.
 pub fn read_words(alloc: Global, words: &[&str]) -> Result<Request, WordsFault>
     ensures { IfOk result (IsAsked (map (λ w. w.now) words.now)) }
@@ -54,23 +123,12 @@ pub fn read_words(alloc: Global, words: &[&str]) -> Result<Request, WordsFault>
         Err(error) => return Err(words_fault(error)),
     };
     match matches.subcommand() {
-        Some(("check", options)) => Ok(Request::Check {
-            vcd: path_of(alloc, options, "vcd")?,
-            sva: path_of(alloc, options, "sva")?,
-            window: window_of(options)?,
-        }),
-        Some(("verify", options)) => Ok(Request::Verify {
-            code: path_of(alloc, options, "code")?,
-        }),
-        Some(("run", options)) => Ok(Request::Run {
-            vcd: path_of(alloc, options, "vcd")?,
-            code: path_of(alloc, options, "code")?,
-            window: window_of(options)?,
-        }),
-        Some(("judge", options)) => Ok(Request::Judge {
-            vcd: path_of(alloc, options, "vcd")?,
-            sva: path_of(alloc, options, "sva")?,
-        }),
+        Some(("check", options)) => check_request(alloc, options),
+        Some(("build", options)) => build_request(alloc, options),
+        Some(("verify", options)) => verify_request(alloc, options),
+        Some(("run", options)) => run_request(alloc, options),
+        Some(("judge", options)) => judge_request(alloc, options),
+        Some(("rules", options)) => rules_request(alloc, options),
         _ => Err(WordsFault::OutOfMemory),
     }
 }

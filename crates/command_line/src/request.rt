@@ -7,8 +7,21 @@ pub enum Request {
     Check {
         vcd: String,
         sva: String,
+        /// A port file: the rules of its ports stand behind the text.
+        axi: Option<String>,
         /// From 1 to 65,536.
         window: u64,
+    },
+    /// Writes the bytecode of one assertion of a text into a file.
+    Build {
+        vcd: String,
+        sva: String,
+        /// A port file: the rules of its ports stand behind the text.
+        axi: Option<String>,
+        /// The assertion's name.
+        name: String,
+        /// The file to write.
+        out: String,
     },
     /// Verifies a program and tells the limits that it declares.
     Verify {
@@ -25,5 +38,11 @@ pub enum Request {
     Judge {
         vcd: String,
         sva: String,
+        /// A port file: the rules of its ports stand behind the text.
+        axi: Option<String>,
+    },
+    /// Prints the rules of the ports of a port file.
+    Rules {
+        axi: String,
     },
 }
