@@ -278,4 +278,5 @@ def main():
     write(f"{folder}/stdout", "".join(line + "\n" for line in lines))
 
 
-main()
+if __name__ == "__main__":
+    main()

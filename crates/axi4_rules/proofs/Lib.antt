@@ -7,3 +7,4 @@ pub mod TokenLaws
 pub mod FillLaws
 pub mod GrowthLaws
 pub mod AddLaws
+pub mod FileLaws

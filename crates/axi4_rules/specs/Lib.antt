@@ -8,3 +8,4 @@ pub mod Seen
 pub mod Rows
 pub mod Drafts
 pub mod Wholes
+pub mod Files

@@ -5,6 +5,7 @@
 //! for (port, mode) in &read_ports(alloc, text)? {
 //!     let rules = rules(alloc, port, *mode)?;   // 61 assertions and 3 counters
 //! }
+//! let judged = joined_text(alloc, own_rules, port_rules(alloc, text)?.as_str())?;
 //! ```
 //!
 //! The first lines of these rules are
@@ -21,11 +22,15 @@
 //! tokens are what stands between white space, comments left out (`specs/Texts.antt`). The text
 //! has a space between any two tokens, but a path is one word of it.
 //!
+//! `port_rules` writes the rules of all ports of a file, in its order, or answers the file's fault
+//! (`specs/Files.antt`); `joined_text` is a text, a line feed and those rules, byte for byte.
+//!
 //! Not promised: where lines and comments stand in the text; that the rules are all of AXI4, or
 //! agree with its document: the table is this project's choice; that a dump has the signals, at
 //! these widths; that a port in single mode has no two transactions outstanding.
 #![tactic(auto)]
 
+mod all_ports;
 mod blocks;
 mod case;
 mod channels;
@@ -51,6 +56,7 @@ mod text;
 mod values;
 mod writing;
 
+pub use all_ports::{joined_text, port_rules};
 pub use case::Case;
 pub use fault::PortFault;
 pub use mode::Mode;
