@@ -79,7 +79,9 @@ fn report_judged(rt: &impl AllocGlobal, dump: &str, text: &str) -> Result<String
     let judged = report_by_judge(rt, dump, text)?;
     for window in [1, 2, 1000, 65_536] {
         let checked = report_by_check(rt, dump, text, window)?;
-        assert_eq!(rt; checked.as_str(), judged.as_str(), "{text}, window {window}");
+        if checked.as_str() != judged.as_str() {
+            return Err(Fail::from("programs and the judge write different reports"));
+        }
     }
     Ok(judged)
 }
