@@ -6,6 +6,7 @@ definition itself: for each number of ticks seen, the ends of all matches, with 
 It prints the differences from the stored reports; with the word 'write' it writes the reports, and what crates/demo prints.
 """
 import pathlib
+import subprocess
 import sys
 
 HERE = pathlib.Path(__file__).resolve().parent.parent / 'crates' / 'demo'
@@ -278,9 +279,18 @@ EXAMPLES = {
 TOP = ['fails_at_its_tick', 'whole_profile']
 
 
+def shown_port(write):
+    """What crates/demo prints of the example with an AXI4 port; its report is that of scripts/axi4_judge.py."""
+    folder = HERE / 'data' / 'axi_port'
+    words = [sys.executable, str(HERE.parent.parent / 'scripts' / 'axi4_judge.py'), str(folder / 'dump.vcd'), str(folder / 'ports.txt')]
+    text = subprocess.run(words, capture_output=True, text=True, check=True).stdout
+    compare(folder / 'report.txt', text, write)
+    return '== axi_port\n' + (folder / 'ports.txt').read_text() + text + 'status 1\n'
+
+
 def main():
     write = sys.argv[1:] == ['write']
-    shown = ''
+    shown = shown_port(write)
     for name, judge in EXAMPLES.items():
         folder = HERE / 'data' / name
         prefix = 'top.' if name in TOP else 'tb.'
