@@ -1,5 +1,6 @@
 -- What a build comes to.
 use Rattle.std.proofs.Common.{◌≡◌, List, ℕ, string_bytes}
+use Rattle.std.specs.Prelude.{Result, Ok, Err, IfOk, IfErr}
 use Rattle.grammar.specs.Trees.{ItemForm}
 use Rattle.assertions.specs.declared.assertion.Assertion.{Assertion}
 use Rattle.assertions.specs.declared.suite.Suite.{Suite}
@@ -20,6 +21,15 @@ use Rattle.cli.specs.Reported.{HasItems, SaysSuite}
 use Rattle.cli.specs.Outcomes.{WhyNoItems, WhyNotTyped, IsMistyped, WhyNoReport}
 use Rattle.cli.specs.Builds.{IsNamed, WhyNoProgram, SaysNone, WhyNotBuilt, Build, IsRefusedBuild, WhyBuildRefused}
 use Rattle.cli.proofs.TextLaws.{untyped}
+
+-- what an answer says, said otherwise
+pub ok_kept : {A E : Type 0} (r : Result A E) (P Q : A → Type 0) → ((x : A) → P x → Q x) → IfOk r P → IfOk r Q
+ok_kept (Ok x) P Q f h = f x h
+ok_kept (Err e) P Q f h = tt
+
+pub err_kept : {A E : Type 0} (r : Result A E) (P Q : E → Type 0) → ((e : E) → P e → Q e) → IfErr r P → IfErr r Q
+err_kept (Ok x) P Q f h = tt
+err_kept (Err e) P Q f h = f e h
 
 -- the assertion of the name has no program
 pub unnamed : (suite : Suite) (name : List ℕ) (a : Assertion) (e : CompileFault) → IsNamed suite name a → WhyNotCompiled suite a e → WhyNoProgram suite name (compile_fault e)

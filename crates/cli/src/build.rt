@@ -64,10 +64,7 @@ fn built_over<'a>(
         Err(fault) => return Err(fault),
     };
     let suite = suite_of(alloc, dump, &file)?;
-    match program_named(alloc, &suite, name) {
-        Ok(bytes) => Ok(bytes),
-        Err(fault) => Err(fault),
-    }
+    program_named(alloc, &suite, name)
 }
 
 /// Compiles the assertion of this name in a text over the dump that a source gives: the bytes of
