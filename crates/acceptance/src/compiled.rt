@@ -14,16 +14,11 @@ const DUMP: &str =
      $enddefinitions $end\n#0\n0!\n1x\n0y\nb11 v\n#5\n1!\n";
 
 /// The report on `x |-> y` over the dump.
-const REPORT: &str =
-    "svamon 1\nclocks 1\nmonitor r holds 0 vacuous 0 fails 1 disabled 0 open 0\n\
+const REPORT: &str = "svamon 1\nclocks 1\nmonitor r holds 0 vacuous 0 fails 1 disabled 0 open 0\n\
      fail r start 0 clock 0\ntotal holds 0 vacuous 0 fails 1 disabled 0 open 0\n";
 
 /// An assertion of this name.
-fn assertion(
-    rt: &impl AllocGlobal,
-    name: &str,
-    property: &str,
-) -> Result<String, AllocError> {
+fn assertion(rt: &impl AllocGlobal, name: &str, property: &str) -> Result<String, AllocError> {
     format!(in rt.alloc(); "{name}: assert property (@(posedge clk) {property});\n")
 }
 
@@ -197,18 +192,23 @@ fn words_of_builds(rt: HostRuntime) -> Result<(), Fail> {
         "svamon", "build", "--vcd", "a.vcd", "--sva", "a.sva", "--axi", "p", "--name", "r",
         "--out", "r.svm",
     ];
-    let Ok(Request::Build {
-        vcd,
-        sva,
-        axi,
-        name,
-        out,
-    }) = read_words(alloc, words.as_slice())
+    let Ok(
+        Request::Build {
+            vcd,
+            sva,
+            axi,
+            name,
+            out,
+        },
+    ) = read_words(alloc, words.as_slice())
     else {
         return Err(Fail::from("the words are refused"));
     };
     let axi = axi.unwrap_or(String::new(alloc));
-    assert_eq!(rt; (vcd.as_str(), sva.as_str(), axi.as_str()), ("a.vcd", "a.sva", "p"));
+    assert_eq!(rt;
+        (vcd.as_str(), sva.as_str(), axi.as_str()),
+        ("a.vcd", "a.sva", "p")
+    );
     assert_eq!(rt; (name.as_str(), out.as_str()), ("r", "r.svm"));
     let words = ["svamon", "rules", "--axi", "p"];
     let Ok(Request::Rules { axi }) = read_words(alloc, words.as_slice()) else {

@@ -390,12 +390,14 @@ fn words(rt: HostRuntime) -> Result<(), Fail> {
     let words = [
         "svamon", "check", "--vcd", "a.vcd", "--sva", "a.sva", "--window", "7",
     ];
-    let Ok(Request::Check {
-        vcd,
-        sva,
-        axi: _axi,
-        window,
-    }) = read_words(alloc, words.as_slice())
+    let Ok(
+        Request::Check {
+            vcd,
+            sva,
+            axi: _axi,
+            window,
+        },
+    ) = read_words(alloc, words.as_slice())
     else {
         return Err(Fail::from("the words are refused"));
     };

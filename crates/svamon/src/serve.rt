@@ -2,8 +2,9 @@
 
 use crate::assertions_text::{read_assertions, read_rules};
 use crate::files::{open, read_bytes, write_bytes};
-use cli::{Fault, Request, build_one, check_one, fault_line, judge_one};
-use cli::{read_words, status, verify_code};
+use cli::{
+    Fault, Request, build_one, check_one, fault_line, judge_one, read_words, status, verify_code,
+};
 use cli_runs::run_code;
 use signals::{Counted, Sink, write_all};
 use std::alloc::AllocError;
