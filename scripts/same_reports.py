@@ -3,7 +3,7 @@
 
 Over each example, and each text of oracle_suites and of oracle_texts over a dump of random values of all the names in them, it compares what
 `svamon check` writes through windows of 1, 7, 1,000 and 65,536 clocks, and its status, with what `svamon judge` writes. A text that
-`check` can't compile (K1 to K4) is counted apart.
+`check` can't compile (K1 to K4), or on which the slow `judge` takes over ten seconds, is counted apart.
 """
 import os
 import random
@@ -18,17 +18,22 @@ WORDS = r"[A-Za-z_][A-Za-z0-9_$]*(?:\.[A-Za-z_][A-Za-z0-9_$]*)*"
 
 
 def run(words):
-    ran = subprocess.run(words, capture_output=True, text=True)
+    try:
+        ran = subprocess.run(words, capture_output=True, text=True, timeout=10)
+    except subprocess.TimeoutExpired:
+        return None
     return ran.returncode, ran.stdout, ran.stderr
 
 
 def compare(svamon, vcd, text, *more):
-    """Whether there is a report, after a comparison; nothing where the text can't be compiled."""
+    """Whether there is a report, after a comparison; nothing where the text can't be compiled, or not be judged in time."""
     files = ["--vcd", vcd, "--sva", text, *more]
     judged = run([svamon, "judge", *files])
+    if judged is None:
+        return None
     for window in ("1", "7", "1000", "65536"):
         checked = run([svamon, "check", *files, "--window", window])
-        if checked[2].startswith("svamon: K"):
+        if checked and checked[2].startswith("svamon: K"):
             return None
         if checked != judged:
             sys.exit(f"same_reports: {' '.join(files)}, window {window}: {checked} and {judged}")
@@ -78,7 +83,7 @@ def compare_texts(svamon, crate, file, room):
             it.write(line + "\n")
         told = compare(svamon, f"{room}/top.vcd", f"{room}/text.sva")
         counts[2 if told is None else int(told)] += 1
-    print(f"same_reports: {crate}: {counts[1]} texts with a report, {counts[0]} refused, all the same; {counts[2]} not compiled")
+    print(f"same_reports: {crate}: {counts[1]} texts with a report, {counts[0]} refused, all the same; {counts[2]} not compiled, or not judged in time")
 
 
 def main(svamon):
