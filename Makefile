@@ -11,6 +11,7 @@ UNPROVED := Builds svamon without proof, with run-time checks: what you see is u
 BYTECODE := crates/oracle_bytecode/out/oracle_bytecode
 VERIFIER := crates/oracle_verifier/out/oracle_verifier
 MACHINE := crates/oracle_machine/out/oracle_machine
+CORE := crates/oracle_core/out/oracle_core
 REFUSING := scripts/fail_alloc 3 crates/svamon/out/svamon
 PROGRAM := examples/fails_at_its_tick/program.svm
 FILES = --vcd examples/$(1)/dump.vcd --sva examples/$(1)/assertion.sva
@@ -23,7 +24,7 @@ help:
 	@echo 'make test-all         the gate with all edits'
 	@echo 'make edits NAME=      tries the must-fail edits of a crate, and writes its stamp'
 	@echo 'make bench            times reading against the plain C baseline, on dumps of 50 and 200 MB made from DUMP (clock CLOCK), and on odd shapes; reading and checking texts; bytecode; verifying; judging; checking by programs; and the machine against a plain C one'
-	@echo 'make allocations      refuses each allocation of svamon in turn, and of the reader and writer of bytecode, and of the verifier; and looks at what counts in bytecode take'
+	@echo 'make allocations      refuses each allocation of svamon in turn, and of the reader and writer of bytecode, of the verifier, and of a core at its steps; and looks at what counts in bytecode take'
 	@echo 'make random           compares svamon with an independent judge on CASES random dumps and texts (SEED), the reader of bytecode with another on MUTANTS random mutants of each of two programs, the verifier with another on CASES random programs and their mutants, and the machine with another on PROGRAMS random programs of 100 clocks'
 
 demo:
@@ -52,7 +53,7 @@ svamon:
 	cd crates/svamon && rm -f out/svamon && { rt run -- help; test -x out/svamon; }
 
 # Their runs by rt have no cases, and fail.
-oracle_bytecode oracle_verifier oracle_machine:
+oracle_bytecode oracle_verifier oracle_machine oracle_core:
 	cd crates/$@ && rm -f out/$@ && { rt run > /dev/null 2>&1; test -x out/$@; }
 
 bench: svamon oracle_bytecode oracle_verifier oracle_machine
@@ -69,7 +70,7 @@ bench: svamon oracle_bytecode oracle_verifier oracle_machine
 	bench/check
 	bench/machine
 
-allocations: svamon oracle_bytecode oracle_verifier
+allocations: svamon oracle_bytecode oracle_verifier oracle_core
 	scripts/bytecode_memory.py $(BYTECODE)
 	scripts/verifier_memory $(VERIFIER)
 	$(REFUSING) check $(call FILES,fails_at_its_tick)
@@ -80,6 +81,8 @@ allocations: svamon oracle_bytecode oracle_verifier
 	$(REFUSING) rules --axi examples/axi_port/ports.txt
 	$(REFUSING) verify $(PROGRAM)
 	$(REFUSING) run --vcd examples/fails_at_its_tick/dump.vcd --code $(PROGRAM)
+	awk 'BEGIN { RS = "\001"; ORS = "" } NR == 3' crates/oracle_core/stdin > $(CORE).case
+	scripts/fail_alloc -i $(CORE).case 1 $(CORE)
 
 random: svamon oracle_bytecode oracle_verifier oracle_machine
 	scripts/random_bytecode.py $(BYTECODE) $(MUTANTS) $(SEED)
@@ -87,7 +90,8 @@ random: svamon oracle_bytecode oracle_verifier oracle_machine
 	scripts/random_machine.py $(MACHINE) $(PROGRAMS) 100 $(SEED)
 	cd crates/svamon/out && ../../../scripts/random_judge.py ./svamon $(CASES) $(SEED)
 	scripts/edge_ports.py crates/svamon/out/svamon
+	scripts/least_axi4.py crates/svamon/out/svamon
 	scripts/same_reports.py crates/svamon/out/svamon
 	scripts/random_axi4.py crates/svamon/out/svamon 100 $(SEED)
 
-.PHONY: help demo try test test-all edits install svamon oracle_bytecode oracle_verifier oracle_machine bench allocations random
+.PHONY: help demo try test test-all edits install svamon oracle_bytecode oracle_verifier oracle_machine oracle_core bench allocations random

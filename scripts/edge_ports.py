@@ -1,11 +1,15 @@
 #!/usr/bin/env python3
-"""Whether the rules of every port at the edges of a port file have no fault: scripts/edge_ports.py SVAMON
+"""Whether the rules of every port at the edges of a port file have no fault: scripts/edge_ports.py SVAMON | --write
 
 For each port of `edge_ports` (scripts/axi4_rules.py: every width of data, IDs of 1 and 16 bits, no wait, one tick and 64, both modes, both
 cases, with and without watched IDs) it writes a dump that has the port's signals at their widths and twelve ticks of random values, runs
 `svamon check` and `svamon judge` with --axi on an empty text, and `svamon check` on what `svamon rules` prints: all must write one report,
 with a monitor for each rule of the table.
+
+With --write it writes what the gate runs instead: the cases of crates/edge_ports, in which those ports that have their signals in common
+stand in one port file, and what must be printed of each, by axi4_judge.py.
 """
+import itertools
 import os
 import random
 import re
@@ -13,8 +17,10 @@ import subprocess
 import sys
 import tempfile
 
+import axi4_judge
 import axi4_rules
 
+CRATE = f"{os.path.dirname(os.path.abspath(__file__))}/../crates/edge_ports"
 WIDTHS = {"len": 8, "size": 3, "burst": 2, "cache": 4, "prot": 3, "resp": 2}
 
 
@@ -28,7 +34,7 @@ def signals(port):
     return found
 
 
-def dump(port, chance):
+def dump(port, chance, ticks=12):
     widths = {port["clock"]: 1, port["reset"]: 1, **signals(port)}
     codes = {path: f"c{at}" for at, path in enumerate(widths)}
     lines = []
@@ -37,7 +43,7 @@ def dump(port, chance):
         lines += [f"$scope module {it} $end" for it in scopes]
         lines += [f"$var wire {width} {codes[path]} {name} $end"] + ["$upscope $end" for _ in scopes]
     lines.append("$enddefinitions $end")
-    for tick in range(12):
+    for tick in range(ticks):
         lines += [f"#{tick}0", f"0{codes[port['clock']]}"]
         for path, width in widths.items():
             if path == port["reset"]:
@@ -79,5 +85,34 @@ def main(svamon):
     print(f"edge_ports: {len(list(axi4_rules.edge_ports()))} ports, {monitors} rules, no fault, and one report each")
 
 
+def cases():
+    """The port files of the gate's cases: the twelve ports that share their signals."""
+    for at, (data, width, case) in enumerate(itertools.product((8, 16, 32, 64, 128), (1, 16), ("lower", "upper"))):
+        prefix, ids = ("top.u.s_", "", "axi_")[at % 3], "1,0" if width == 1 else "65535,0,7"
+        own = f"clock=top.clk reset=top.rst_n prefix={prefix} addr={12 + at * 52 // 19} data={data} id={width} case={case}"
+        varied = itertools.product((0, 1, 64), ("multi", "single"), ("", f" watch={ids}"))
+        yield "".join(f"port p{n} {own} wait={wait} mode={mode}{watch}\n" for n, (wait, mode, watch) in enumerate(varied))
+
+
+def summed(report):
+    total = 0xcbf29ce484222325
+    for byte in report:
+        total = (total ^ byte) * 0x100000001b3 % 2 ** 64
+    return f"bytes {len(report)} sum {total:016x}"
+
+
+def write():
+    chance, found, lines = random.Random(1), [], []
+    for ports in cases():
+        vcd = dump(axi4_rules.port_of(ports.split("\n")[0], 1), chance, 8)
+        found.append(f"{ports}\x02{vcd}")
+        report = summed(axi4_judge.report(vcd, ports).encode())
+        lines.append(f"check {report} judge {report}\n")
+    written(f"{CRATE}/data/cases.txt", "\x01".join(found))
+    written(f"{CRATE}/stdout", "".join(lines))
+
+
 if __name__ == "__main__":
-    main(os.path.abspath(sys.argv[1])) if len(sys.argv) == 2 else sys.exit(__doc__)
+    if len(sys.argv) != 2:
+        sys.exit(__doc__)
+    write() if sys.argv[1] == "--write" else main(os.path.abspath(sys.argv[1]))

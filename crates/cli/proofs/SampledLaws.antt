@@ -2,19 +2,7 @@
 use Rattle.std.proofs.Common.{◌≡◌, ℕ, ◌+◌, ◌<◌, ◌≤◌, List, [], ◌∷◌, ◌++◌, length, take, map, sym, ap, ◌∙◌, add-one, arith}
 use Rattle.std.specs.Prelude.{slice_index}
 use Rattle.std.proofs.Math.Seq.{take-suc}
-use Rattle.std.proofs.lemmas.List.{map-append, take_all, length-map}
-use Rattle.vcd_reader.specs.Dump.{Contents}
-use Rattle.cycle_window.specs.declared.window.Window.{Window}
-use Rattle.cycle_window.specs.Ticks.{ticks_of, row_of}
-use Rattle.cycle_window.specs.Held.{columns_in, places_in, clock_in, end_in, AreColumnsOf, IsOver}
-
--- a window over the contents ends with their ticks at the latest
-pub over_end : (w : Window) (c : Contents) → IsOver w c → end_in w ≤ length (ticks_of c (clock_in (columns_in w)))
-unfolding IsOver AreColumnsOf end_in columns_in
-over_end w c h =
-    let same : length w.columns.rows.items ≡ length (ticks_of c (clock_in w.columns)) =
-    sym (length-map w.columns.rows.items (λ r. r.items)) ∙ ap length h ∙ length-map (ticks_of c (clock_in w.columns)) (row_of c (places_in w.columns)) in
-    omega (arith, w.inside, same)
+use Rattle.std.proofs.lemmas.List.{map-append, take_all}
 
 -- the row of one tick more
 pub row_more : (f : ℕ → List ℕ) (ticks : List ℕ) (n : ℕ) (old new : List (List ℕ)) (row : List ℕ) → n < length ticks → old ≡ map f (take n ticks) → row ≡ f (slice_index ticks n) → new ≡ old ++ row ∷ [] → new ≡ map f (take (n + 1) ticks)

@@ -22,5 +22,6 @@
 
 mod line;
 mod lines;
+mod shared;
 
 pub use lines::lines_of;

@@ -7,6 +7,7 @@ ghost use Rattle.vcd_reader.specs.Held.{HoldsContents, variables_of};
 ghost use Rattle.cycle_window.specs.declared.fault.WindowFault.TheVariants.{Memory};
 ghost use Rattle.cycle_window.specs.Held.{AreClocksOf, code_in};
 ghost use Rattle.verdicts.specs.Lines.{line};
+ghost use Rattle.program_runs.specs.Wider.{AreColumnsFor};
 ghost use Rattle.compiler.specs.Conditions.{IsFit};
 ghost use Rattle.compiler.specs.Faults.{WhyNotCompiled};
 ghost use Rattle.compiled_lines.specs.Lines.{IsWatched, AreVariables, rows_at, IsLineOf};
@@ -14,7 +15,7 @@ ghost use Rattle.compiled_lines.specs.Faults.{HasProgram};
 
 use assertions::{Assertion, Suite};
 use compiler::{CompileFault, compile};
-use cycle_window::{Clocks, WindowFault};
+use cycle_window::{Clocks, Columns, WindowFault};
 use program_runs::line_run;
 use std::alloc::Global;
 use vcd_reader::Dump;
@@ -36,6 +37,7 @@ pub(crate) fn line_of(
     alloc: Global,
     dump: &Dump,
     clocks: &Clocks,
+    wider: &Columns,
     suite: &Suite,
     assertion: &Assertion,
     size: usize,
@@ -43,6 +45,7 @@ pub(crate) fn line_of(
     requires some { 1 ≤ size }
     requires most { size ≤ 65536 }
     requires clocks { AreClocksOf dump.now clocks.now }
+    requires wider { AreColumnsFor dump.now clocks.now wider.now }
     requires watched { AllByRecursion (IsWatched (variables_of dump.now)) suite.now.names.items }
     requires fit { IsFit suite.now assertion.now }
     ensures line { (c : Contents) (signals : List ℕ) → HoldsContents dump.now c
@@ -53,7 +56,7 @@ pub(crate) fn line_of(
     ensures refused { IfErr result (WhyNotCompiled suite.now assertion.now) }
 {
     let verified = compile(alloc, assertion, suite)?;
-    match line_run(alloc, dump, clocks, verified, size) {
+    match line_run(alloc, dump, clocks, wider, verified, size) {
         Ok(line) => Ok(line),
         Err(fault) => Err(want_of_memory(fault)),
     }

@@ -11,6 +11,7 @@ ghost use Rattle.compiled_lines.specs.Lines.{IsWatched, AreVariables, rows_at, I
 ghost use Rattle.compiled_lines.specs.Faults.{WhyNoLines};
 
 use crate::line::line_of;
+use crate::shared::shared_columns;
 use assertions::Suite;
 use compiler::CompileFault;
 use cycle_window::Clocks;
@@ -38,9 +39,10 @@ pub fn lines_of(
         suite.now.assertions.items (map line ls.items)) }
     ensures refused { IfErr result (WhyNoLines suite.now) }
 {
+    let wider = shared_columns(alloc, dump, clocks, suite)?;
     let mut lines = Vec::new(alloc);
     for assertion in &suite.assertions {
-        let line = line_of(alloc, dump, clocks, suite, assertion, size)?;
+        let line = line_of(alloc, dump, clocks, &wider, suite, assertion, size)?;
         let Ok(()) = lines.push(line) else {
             return Err(CompileFault::Memory);
         };

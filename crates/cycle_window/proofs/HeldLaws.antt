@@ -1,9 +1,12 @@
 -- What a dump holds, against its contents.
-use Rattle.std.proofs.Common.{◌≡◌, ℕ, suc, ◌+◌, ◌<◌, Bool, true, false, cond, eqb, List, [], ◌∷◌, ◌++◌, length, get_or, take, map, Option, Some, None, refl, sym, ap, ◌∙◌, arith, add-one, ◌&&◌}
+use Rattle.std.proofs.Common.{◌≡◌, ℕ, zero, suc, ◌+◌, ◌*◌, ◌<◌, ◌≤◌, Bool, true, false, cond, eqb, List, [], ◌∷◌, ◌++◌, length, get_or, take, drop, map, Option, Some, None, refl, sym, ap, ◌∙◌, arith, add-one, ◌&&◌}
 use Rattle.std.specs.Option.{option_map}
 use Rattle.std.specs.Prelude.{is_some}
 use Rattle.std.specs.List.{flat_map}
-use Rattle.std.proofs.lemmas.List.{take-map, take_more, get_or-map, length-map, map-append}
+use Rattle.std.proofs.lemmas.Grind.{flat_map-append}
+use Rattle.std.proofs.Math.Nat.{suc-mul, mul-le-mul_right}
+use Rattle.std.proofs.Math.Seq.{drop-append-add}
+use Rattle.std.proofs.lemmas.List.{append-nil, append_assoc, take_at, take-map, take_more, get_or-map, length-map, map-append}
 use Rattle.vcd_reader.specs.declared.dump.Dump.{Dump}
 use Rattle.vcd_reader.specs.declared.step.Step.{Step}
 use Rattle.vcd_reader.specs.declared.variable.VarId.{VarId}
@@ -14,8 +17,9 @@ use Rattle.vcd_reader.specs.Stored.{StoredChange, StoredStep, stored_value, stor
 use Rattle.vcd_reader.specs.Dump.{Contents}
 use Rattle.vcd_reader.specs.Held.{HoldsContents, steps_in, high_of, value_of_change, variables_of}
 use Rattle.vcd_reader.specs.Variables.{code_number, size_of}
-use Rattle.cycle_window.specs.Ticks.{is_tick, sample}
-use Rattle.cycle_window.specs.Held.{changes_to, last_of}
+use Rattle.cycle_window.specs.Ticks.{is_tick, sample, row_of, ticks_of}
+use Rattle.cycle_window.specs.declared.window.Window.{Window}
+use Rattle.cycle_window.specs.Held.{changes_to, last_of, columns_in, clock_in, end_in, IsOver}
 
 last_stored : ℕ → List StoredChange → Option ℕ
 last_stored code [] = None
@@ -83,28 +87,50 @@ sample-is d c h k v value last is tells =
     tells (last_digits (code_number (variables_of d) v) (changes_before c.steps k)) (ap (option_map (value_of_change d)) is ∙ held-last d c h (code_number (variables_of d) v) k)
     ∙ rw h.variables refl
 
--- a row with one more value
-pub row-more : (c : Contents) (k : ℕ) (vs : List VarId) (i value : ℕ) (v : VarId) (row new : List ℕ) → i < length vs → v ≡ get_or vs i v → row ≡ map (sample c k) (take i (map (λ (x : VarId). x.place) vs)) → new ≡ row ++ value ∷ [] → value ≡ sample c k v.place
-    → new ≡ map (sample c k) (take (i + 1) (map (λ (x : VarId). x.place) vs))
-row-more c k vs i value v row new lt at before pushed is =
-    let long : length (map (λ (x : VarId). x.place) vs) ≡ length vs = rw length-map refl in
-    let item : get_or (map (λ (x : VarId). x.place) vs) i 0 ≡ v.place = get_or-map (λ (x : VarId). x.place) vs i v 0 lt ∙ ap (λ (x : VarId). x.place) (sym at) in
-    let more : take (i + 1) (map (λ (x : VarId). x.place) vs) ≡ take i (map (λ (x : VarId). x.place) vs) ++ v.place ∷ [] = take_more (map (λ (x : VarId). x.place) vs) i 0 (omega arith) ∙ ap (λ (n : ℕ). take i (map (λ (x : VarId). x.place) vs) ++ n ∷ []) item in
-    pushed ∙ ap (λ (xs : List ℕ). xs ++ value ∷ []) before ∙ ap (λ (n : ℕ). map (sample c k) (take i (map (λ (x : VarId). x.place) vs)) ++ n ∷ []) is
-    ∙ sym (ap (map (sample c k)) more ∙ map-append (sample c k) (take i (map (λ (x : VarId). x.place) vs)) (v.place ∷ []))
+-- values with one more of a row
+pub row-more : (c : Contents) (k : ℕ) (vs : List VarId) (i value : ℕ) (v : VarId) (before values : List ℕ) → i < length vs → v ≡ get_or vs i v
+    → values ≡ before ++ map (sample c k) (take i (map (λ (x : VarId). x.place) vs)) → value ≡ sample c k v.place
+    → values ++ value ∷ [] ≡ before ++ map (sample c k) (take (i + 1) (map (λ (x : VarId). x.place) vs))
+row-more c k vs i value v before values lt at so-far is =
+    let places = map (λ (x : VarId). x.place) vs in
+    let long : length places ≡ length vs = rw length-map refl in
+    let item : get_or places i 0 ≡ v.place = get_or-map (λ (x : VarId). x.place) vs i v 0 lt ∙ ap (λ (x : VarId). x.place) (sym at) in
+    let more : take (i + 1) places ≡ take i places ++ v.place ∷ [] = take_more places i 0 (omega arith) ∙ ap (λ (n : ℕ). take i places ++ n ∷ []) item in
+    let row : map (sample c k) (take i places) ++ value ∷ [] ≡ map (sample c k) (take (i + 1) places) =
+    ap (λ (n : ℕ). map (sample c k) (take i places) ++ n ∷ []) is ∙ sym (ap (map (sample c k)) more ∙ map-append (sample c k) (take i places) (v.place ∷ [])) in
+    ap (λ (xs : List ℕ). xs ++ value ∷ []) so-far ∙ append_assoc before (map (sample c k) (take i places)) (value ∷ []) ∙ ap (λ (xs : List ℕ). before ++ xs) row
 
--- one of the rows
-pub row-at : {A : Type 0} (items : A → List ℕ) (row : ℕ → List ℕ) (rows : List A) (ticks : List ℕ) (n : ℕ) (r : A) → map items rows ≡ map row ticks → n < length rows → r ≡ get_or rows n r → items r ≡ row (get_or ticks n 0)
-row-at items row rows ticks n r same lt at =
-    let a : length (map items rows) ≡ length rows = rw length-map refl in
-    let b : length (map row ticks) ≡ length ticks = rw length-map refl in
-    let both : length (map items rows) ≡ length (map row ticks) = ap (λ (xs : List (List ℕ)). length xs) same in
-    let inside : n < length ticks = omega arith in
-    ap items at ∙ sym (get_or-map items rows n r [] lt) ∙ ap (λ (xs : List (List ℕ)). get_or xs n []) same ∙ get_or-map row ticks n 0 [] inside
+-- as many values as variables
+pub row-long : (c : Contents) (places : List ℕ) (k : ℕ) → length (row_of c places k) ≡ length places
+unfolding row_of
+row-long c places k = length-map places (sample c k)
 
--- as many rows as ticks
-pub rows-many : {A : Type 0} (items : A → List ℕ) (row : ℕ → List ℕ) (rows : List A) (ticks : List ℕ) → map items rows ≡ map row ticks → length rows ≡ length ticks
-rows-many items row rows ticks same =
-    let a : length (map items rows) ≡ length rows = rw length-map refl in
-    let b : length (map row ticks) ≡ length ticks = rw length-map refl in
-    sym a ∙ ap (λ (xs : List (List ℕ)). length xs) same ∙ b
+-- rows with one more
+pub rows-more : (row : ℕ → List ℕ) (ticks : List ℕ) (i : ℕ) (values new : List ℕ) → i < length ticks → values ≡ flat_map row (take i ticks) → new ≡ values ++ row (get_or ticks i 0) → new ≡ flat_map row (take (i + 1) ticks)
+rows-more row ticks i values new lt so-far is =
+    is ∙ ap (λ (xs : List ℕ). xs ++ row (get_or ticks i 0)) so-far
+    ∙ sym (ap (flat_map row) (take_more ticks i 0 lt) ∙ flat_map-append row (take i ticks) (get_or ticks i 0 ∷ []) ∙ ap (λ (xs : List ℕ). flat_map row (take i ticks) ++ xs) (append-nil (row (get_or ticks i 0))))
+
+-- the place behind one more row
+pub place-more : (i w : ℕ) → (i + 1) * w ≡ i * w + w
+place-more i w = ap (λ (n : ℕ). n * w) (add-one i) ∙ suc-mul i w
+
+-- one of the rows, each of which has so many values
+pub row-at : (row : ℕ → List ℕ) (w : ℕ) → ((k : ℕ) → length (row k) ≡ w) → (ticks : List ℕ) (i : ℕ) → i < length ticks → take w (drop (i * w) (flat_map row ticks)) ≡ row (get_or ticks i 0)
+row-at row w long [] i lt = absurd (omega arith)
+row-at row w long (t ∷ ts) zero lt =
+    let none : 0 * w ≡ 0 = omega arith in
+    ap (λ (n : ℕ). take w (drop n (row t ++ flat_map row ts))) none ∙ take_at (row t) (flat_map row ts) w (long t)
+row-at row w long (t ∷ ts) (suc i) lt =
+    let behind : suc i * w ≡ length (row t) + i * w = omega (arith, suc-mul i w, long t) in
+    let here : drop (suc i * w) (row t ++ flat_map row ts) ≡ drop (i * w) (flat_map row ts) = ap (λ (n : ℕ). drop n (row t ++ flat_map row ts)) behind ∙ drop-append-add (row t) (flat_map row ts) (i * w) in
+    ap (take w) here ∙ row-at row w long ts i (omega arith)
+
+-- a row of so many lies within all of them
+pub row-inside : (i count w long : ℕ) → i < count → long ≡ count * w → i * w + w ≤ long
+row-inside i count w long lt is = omega (arith, is, place-more i w, mul-le-mul_right w (let le : i + 1 ≤ count = omega arith in le))
+
+-- a window over the contents ends with their ticks at the latest
+pub over-end : (w : Window) (c : Contents) → IsOver w c → end_in w ≤ length (ticks_of c (clock_in (columns_in w)))
+unfolding IsOver end_in columns_in
+over-end w c over = omega (arith, w.inside, over.many)

@@ -2,3 +2,4 @@ pub mod LastLaws
 pub mod TickLaws
 pub mod HeldLaws
 pub mod BoundLaws
+pub mod PickLaws

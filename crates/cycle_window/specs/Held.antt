@@ -31,9 +31,10 @@ places_in cs = map (λ v. v.place) cs.variables.items
 unfoldable pub clock_in : Columns → ℕ
 clock_in cs = cs.code
 
--- the columns are of these contents: the row of each tick of their clock
-unfoldable pub AreColumnsOf : Columns → Contents → Type 0
-AreColumnsOf cs c = map (λ r. r.items) cs.rows.items ≡ map (row_of c (places_in cs)) (ticks_of c (clock_in cs))
+-- the columns are of these contents: the rows of the ticks of their clock, one behind the other
+pub record AreColumnsOf (cs : Columns) (c : Contents) : Type 0 where
+  pub many : cs.count ≡ length (ticks_of c (clock_in cs))
+  pub rows : cs.values.items ≡ flat_map (row_of c (places_in cs)) (ticks_of c (clock_in cs))
 
 unfoldable pub columns_in : Window → Columns
 columns_in w = w.columns

@@ -1,4 +1,5 @@
 pub mod Ticks
+pub mod Picks
 pub mod Held
 pub mod Bound
 pub mod Signals

@@ -6,6 +6,8 @@ mod columns;
 mod fault;
 mod last;
 mod laws;
+mod picks;
+mod rows;
 mod sampling;
 mod window;
 

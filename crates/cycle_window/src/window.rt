@@ -23,7 +23,7 @@ pub struct Window {
     pub(crate) first: usize,
     pub(crate) end: usize,
     ghost ordered: { first ≤ end },
-    ghost inside: { end ≤ length columns.rows.items },
+    ghost inside: { end ≤ columns.count },
 }
 
 impl Window {
@@ -75,7 +75,7 @@ impl Window {
             (places_in (columns_in self.now))
             (slice_index (ticks_of c (clock_in (columns_in self.now))) tick) }
     {
-        &self.columns.rows[tick as usize]
+        self.columns.row(tick as usize)
     }
 
     /// The window's clocks: from the first up to the second, which is not in it.

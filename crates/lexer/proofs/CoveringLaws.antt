@@ -236,45 +236,45 @@ next-is b bs =
 
 -- what was cut is so
 abbrev IsAnswer : ℕ → List ℕ → Result (List Cut) LexFault → Type 0
-IsAnswer place bytes (Ok tokens) = IsCut place bytes tokens
-IsAnswer place bytes (Err (BadCharacter at)) = IsFaulty place bytes (BadCharacter at)
-IsAnswer place bytes (Err (BadNumber at)) = IsFaulty place bytes (BadNumber at)
-IsAnswer place bytes (Err (UnclosedComment at)) = IsFaulty place bytes (UnclosedComment at)
-IsAnswer place bytes (Err Memory) = ⊥
+IsAnswer at bytes (Ok tokens) = IsCut at bytes tokens
+IsAnswer at bytes (Err (BadCharacter byte)) = IsFaulty at bytes (BadCharacter byte)
+IsAnswer at bytes (Err (BadNumber byte)) = IsFaulty at bytes (BadNumber byte)
+IsAnswer at bytes (Err (UnclosedComment byte)) = IsFaulty at bytes (UnclosedComment byte)
+IsAnswer at bytes (Err Memory) = ⊥
 
-answer-gap : (place n : ℕ) (bytes : List ℕ) (r : Result (List Cut) LexFault) → 0 < n → n ≤ length bytes → IsGap (take n bytes) (drop n bytes) → IsAnswer (place + n) (drop n bytes) r → IsAnswer place bytes r
-answer-gap place n bytes (Ok tokens) some le g a = over_gap some le g a
-answer-gap place n bytes (Err (BadCharacter at)) some le g a = behind_gap some le g a
-answer-gap place n bytes (Err (BadNumber at)) some le g a = behind_gap some le g a
-answer-gap place n bytes (Err (UnclosedComment at)) some le g a = behind_gap some le g a
-answer-gap place n bytes (Err Memory) some le g a = a
+answer-gap : (at n : ℕ) (bytes : List ℕ) (r : Result (List Cut) LexFault) → 0 < n → n ≤ length bytes → IsGap (take n bytes) (drop n bytes) → IsAnswer (at + n) (drop n bytes) r → IsAnswer at bytes r
+answer-gap at n bytes (Ok tokens) some le g a = over_gap some le g a
+answer-gap at n bytes (Err (BadCharacter byte)) some le g a = behind_gap some le g a
+answer-gap at n bytes (Err (BadNumber byte)) some le g a = behind_gap some le g a
+answer-gap at n bytes (Err (UnclosedComment byte)) some le g a = behind_gap some le g a
+answer-gap at n bytes (Err Memory) some le g a = a
 
-answer-token : (place n : ℕ) (bytes : List ℕ) (s : Shape) (k : Kind) (r : Result (List Cut) LexFault) → HasNoGap bytes → IsLongest bytes n s → kind_of s (take n bytes) ≡ Some k → IsAnswer (place + n) (drop n bytes) r
-    → IsAnswer place bytes (with_cut (record { kind = k; at = place; text = take n bytes }) r)
-answer-token place n bytes s k (Ok tokens) apart l e a = over_token apart l e a
-answer-token place n bytes s k (Err (BadCharacter at)) apart l e a = behind_token apart l e a
-answer-token place n bytes s k (Err (BadNumber at)) apart l e a = behind_token apart l e a
-answer-token place n bytes s k (Err (UnclosedComment at)) apart l e a = behind_token apart l e a
-answer-token place n bytes s k (Err Memory) apart l e a = a
+answer-token : (at n : ℕ) (bytes : List ℕ) (s : Shape) (k : Kind) (r : Result (List Cut) LexFault) → HasNoGap bytes → IsLongest bytes n s → kind_of s (take n bytes) ≡ Some k → IsAnswer (at + n) (drop n bytes) r
+    → IsAnswer at bytes (with_cut (record { kind = k; at = at; text = take n bytes }) r)
+answer-token at n bytes s k (Ok tokens) apart l e a = over_token apart l e a
+answer-token at n bytes s k (Err (BadCharacter byte)) apart l e a = behind_token apart l e a
+answer-token at n bytes s k (Err (BadNumber byte)) apart l e a = behind_token apart l e a
+answer-token at n bytes s k (Err (UnclosedComment byte)) apart l e a = behind_token apart l e a
+answer-token at n bytes s k (Err Memory) apart l e a = a
 
-answer-after : (place : ℕ) (bytes : List ℕ) (x : Next) (go : ℕ → Result (List Cut) LexFault) → IsNext bytes x → ((n : ℕ) → 0 < n → n ≤ length bytes → IsAnswer (place + n) (drop n bytes) (go n)) → IsAnswer place bytes (cut_after x place bytes go)
-answer-after place bytes (Gap n) go next more = answer-gap place n bytes (go n) next.0 next.1 next.2 (more n next.0 next.1)
-answer-after place bytes (Lexeme n s) go next more = by_kind (kind_of s (take n bytes)) refl
+answer-after : (at : ℕ) (bytes : List ℕ) (x : Next) (go : ℕ → Result (List Cut) LexFault) → IsNext bytes x → ((n : ℕ) → 0 < n → n ≤ length bytes → IsAnswer (at + n) (drop n bytes) (go n)) → IsAnswer at bytes (cut_after x at bytes go)
+answer-after at bytes (Gap n) go next more = answer-gap at n bytes (go n) next.0 next.1 next.2 (more n next.0 next.1)
+answer-after at bytes (Lexeme n s) go next more = by_kind (kind_of s (take n bytes)) refl
   where
-    by_kind : (o : Option Kind) → kind_of s (take n bytes) ≡ o → IsAnswer place bytes (with_token o place (take n bytes) (go n))
+    by_kind : (o : Option Kind) → kind_of s (take n bytes) ≡ o → IsAnswer at bytes (with_token o at (take n bytes) (go n))
     by_kind None e = bad_number next.0 next.1 e
-    by_kind (Some k) e = answer-token place n bytes s k (go n) next.0 next.1 e (more n next.1.some next.1.inside)
-answer-after place bytes Unclosed go next more = unclosed next.0 next.1
-answer-after place bytes Stray go next more = bad_character next.0 next.1 next.2
+    by_kind (Some k) e = answer-token at n bytes s k (go n) next.0 next.1 e (more n next.1.some next.1.inside)
+answer-after at bytes Unclosed go next more = unclosed next.0 next.1
+answer-after at bytes Stray go next more = bad_character next.0 next.1 next.2
 
-cuts-answer : (turns place : ℕ) (bytes : List ℕ) → length bytes ≤ turns → IsAnswer place bytes (cuts turns place bytes)
+cuts-answer : (turns at : ℕ) (bytes : List ℕ) → length bytes ≤ turns → IsAnswer at bytes (cuts turns at bytes)
 unfolding cuts
-cuts-answer zero place [] le = at_end
-cuts-answer (suc turns) place [] le = at_end
-cuts-answer zero place (b ∷ bs) le = absurd (omega arith)
-cuts-answer (suc turns) place (b ∷ bs) le =
-    answer-after place (b ∷ bs) (next b bs) (λ n. cuts turns (place + n) (drop n (b ∷ bs))) (next-is b bs)
-    (λ n some inside. cuts-answer turns (place + n) (drop n (b ∷ bs)) (omega (arith, length-drop n (b ∷ bs))))
+cuts-answer zero at [] le = at_end
+cuts-answer (suc turns) at [] le = at_end
+cuts-answer zero at (b ∷ bs) le = absurd (omega arith)
+cuts-answer (suc turns) at (b ∷ bs) le =
+    answer-after at (b ∷ bs) (next b bs) (λ n. cuts turns (at + n) (drop n (b ∷ bs))) (next-is b bs)
+    (λ n some inside. cuts-answer turns (at + n) (drop n (b ∷ bs)) (omega (arith, length-drop n (b ∷ bs))))
 
 answer : (bytes : List ℕ) → IsAnswer 0 bytes (tokens_of bytes)
 unfolding tokens_of

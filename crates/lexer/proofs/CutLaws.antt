@@ -87,29 +87,29 @@ pub cuts_behind-err : (ps : List Token) (f : LexFault) → cuts_behind ps (Err f
 cuts_behind-err [] f = refl
 cuts_behind-err (p ∷ ps) f = ap (with_cut (cut_of p)) (cuts_behind-err ps f)
 
-pub cuts-end : (turns place : ℕ) (bs : List ℕ) → bs ≡ [] → cuts turns place bs ≡ Ok (end_at place ∷ [])
+pub cuts-end : (turns at : ℕ) (bs : List ℕ) → bs ≡ [] → cuts turns at bs ≡ Ok (end_at at ∷ [])
 unfolding cuts
-cuts-end zero place bs e = rw e refl
-cuts-end (suc turns) place bs e = rw e refl
+cuts-end zero at bs e = rw e refl
+cuts-end (suc turns) at bs e = rw e refl
 
 -- one turn
-pub cuts-turn : (turns place : ℕ) (bytes : List ℕ) (x : Next) → place < length bytes → length (drop place bytes) ≤ turns → x ≡ next (get_or bytes place 0) (drop (place + 1) bytes)
-    → cuts turns place (drop place bytes) ≡ cut_after x place (drop place bytes) (λ n. cuts (turns - 1) (place + n) (drop (place + n) bytes))
+pub cuts-turn : (turns at : ℕ) (bytes : List ℕ) (x : Next) → at < length bytes → length (drop at bytes) ≤ turns → x ≡ next (get_or bytes at 0) (drop (at + 1) bytes)
+    → cuts turns at (drop at bytes) ≡ cut_after x at (drop at bytes) (λ n. cuts (turns - 1) (at + n) (drop (at + n) bytes))
 unfolding cuts
-cuts-turn zero place bytes x lt le e = absurd (omega (arith, length-drop place bytes))
-cuts-turn (suc turns) place bytes x lt le e =
-    let cell : drop place bytes ≡ get_or bytes place 0 ∷ drop (place + 1) bytes = rw add-one (drop-cons bytes place 0 lt) in
+cuts-turn zero at bytes x lt le e = absurd (omega (arith, length-drop at bytes))
+cuts-turn (suc turns) at bytes x lt le e =
+    let cell : drop at bytes ≡ get_or bytes at 0 ∷ drop (at + 1) bytes = rw add-one (drop-cons bytes at 0 lt) in
     let less : suc turns - 1 ≡ turns = omega arith in
-    rw less (ap (cuts (suc turns) place) cell
-    ∙ ap (λ (y : Next). cut_after y place (get_or bytes place 0 ∷ drop (place + 1) bytes) (λ n. cuts turns (place + n) (drop n (get_or bytes place 0 ∷ drop (place + 1) bytes)))) (sym e)
-    ∙ ap (λ (r : List ℕ). cut_after x place r (λ n. cuts turns (place + n) (drop n r))) (sym cell)
-    ∙ moved x turns place bytes)
+    rw less (ap (cuts (suc turns) at) cell
+    ∙ ap (λ (y : Next). cut_after y at (get_or bytes at 0 ∷ drop (at + 1) bytes) (λ n. cuts turns (at + n) (drop n (get_or bytes at 0 ∷ drop (at + 1) bytes)))) (sym e)
+    ∙ ap (λ (r : List ℕ). cut_after x at r (λ n. cuts turns (at + n) (drop n r))) (sym cell)
+    ∙ moved x turns at bytes)
   where
-    moved : (x : Next) (turns place : ℕ) (bytes : List ℕ) → cut_after x place (drop place bytes) (λ n. cuts turns (place + n) (drop n (drop place bytes))) ≡ cut_after x place (drop place bytes) (λ n. cuts turns (place + n) (drop (place + n) bytes))
-    moved (Gap n) turns place bytes = ap (cuts turns (place + n)) (drop-drop bytes place n)
-    moved (Lexeme n s) turns place bytes = ap (λ (r : List ℕ). with_token (kind_of s (take n (drop place bytes))) place (take n (drop place bytes)) (cuts turns (place + n) r)) (drop-drop bytes place n)
-    moved Unclosed turns place bytes = refl
-    moved Stray turns place bytes = refl
+    moved : (x : Next) (turns at : ℕ) (bytes : List ℕ) → cut_after x at (drop at bytes) (λ n. cuts turns (at + n) (drop n (drop at bytes))) ≡ cut_after x at (drop at bytes) (λ n. cuts turns (at + n) (drop (at + n) bytes))
+    moved (Gap n) turns at bytes = ap (cuts turns (at + n)) (drop-drop bytes at n)
+    moved (Lexeme n s) turns at bytes = ap (λ (r : List ℕ). with_token (kind_of s (take n (drop at bytes))) at (take n (drop at bytes)) (cuts turns (at + n) r)) (drop-drop bytes at n)
+    moved Unclosed turns at bytes = refl
+    moved Stray turns at bytes = refl
 
 -- what comes next
 module _ (bytes : List ℕ) (at : ℕ) where

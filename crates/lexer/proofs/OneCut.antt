@@ -131,31 +131,31 @@ kind_same bytes m n s r k h l some none =
     absurd cc
 
 -- a fault behind so many bytes
-carried : (place m n : ℕ) (bytes : List ℕ) (fault : LexFault) → m ≡ n → IsFaulty (place + m) (drop m bytes) fault → IsFaulty (place + n) (drop n bytes) fault
-carried place m n bytes fault e h = subst (λ (i : ℕ). IsFaulty (place + i) (drop i bytes) fault) e h
+carried : (at m n : ℕ) (bytes : List ℕ) (fault : LexFault) → m ≡ n → IsFaulty (at + m) (drop m bytes) fault → IsFaulty (at + n) (drop n bytes) fault
+carried at m n bytes fault e h = subst (λ (i : ℕ). IsFaulty (at + i) (drop i bytes) fault) e h
 
-pub cut_faultless : {place : ℕ} {bytes : List ℕ} {cs : List Cut} → IsCut place bytes cs → (fault : LexFault) → IsFaulty place bytes fault → ⊥
+pub cut_faultless : {at : ℕ} {bytes : List ℕ} {cs : List Cut} → IsCut at bytes cs → (fault : LexFault) → IsFaulty at bytes fault → ⊥
 cut_faultless at_end fault (behind_gap some le g more) = absurd (omega arith)
 cut_faultless at_end fault (behind_token apart l k more) = absurd (omega (arith, l.some, l.inside))
 cut_faultless at_end fault (bad_character some apart none) = absurd (omega arith)
 cut_faultless at_end fault (bad_number apart l k) = absurd (omega (arith, l.some, l.inside))
 cut_faultless at_end fault (unclosed w open_ended) = w
-cut_faultless (over_gap {place = place} {n = n} {bytes = bytes} some le g cs) fault (behind_gap {n = m} more_than least h more) = cut_faultless cs fault (carried place m n bytes fault (gap_same bytes m n least le h g) more)
+cut_faultless (over_gap {at = at} {n = n} {bytes = bytes} some le g cs) fault (behind_gap {n = m} more_than least h more) = cut_faultless cs fault (carried at m n bytes fault (gap_same bytes m n least le h g) more)
 cut_faultless (over_gap {n = n} {bytes = bytes} some le g cs) fault (behind_token apart l k more) = gap_none bytes g (take-append-drop n bytes) apart
 cut_faultless (over_gap {n = n} {bytes = bytes} some le g cs) fault (bad_character least apart none) = gap_none bytes g (take-append-drop n bytes) apart
 cut_faultless (over_gap {n = n} {bytes = bytes} some le g cs) fault (bad_number apart l k) = gap_none bytes g (take-append-drop n bytes) apart
 cut_faultless (over_gap {n = n} {bytes = bytes} some le g cs) fault (unclosed w open_ended) = gap_open bytes g (sym (take-append-drop n bytes)) w open_ended
 cut_faultless (over_token {bytes = bytes} apart l k cs) fault (behind_gap {n = m} some le g more) = gap_none bytes g (take-append-drop m bytes) apart
-cut_faultless (over_token {place = place} {n = n} {shape = s} {bytes = bytes} apart l k cs) fault (behind_token {n = m} {shape = r} also h j more) =
-    cut_faultless cs fault (carried place m n bytes fault (longest_same bytes m n r s h l) more)
+cut_faultless (over_token {at = at} {n = n} {shape = s} {bytes = bytes} apart l k cs) fault (behind_token {n = m} {shape = r} also h j more) =
+    cut_faultless cs fault (carried at m n bytes fault (longest_same bytes m n r s h l) more)
 cut_faultless (over_token {n = n} apart l k cs) fault (bad_character some also none) = let off = none n l.inside in let on = l.is in absurd cc
 cut_faultless (over_token {n = n} {shape = s} {kind = kind} {bytes = bytes} apart l k cs) fault (bad_number {n = m} {shape = r} also h j) = kind_same bytes n m s r kind l h k j
 cut_faultless (over_token apart l k cs) fault (unclosed w open_ended) = apart.no_comment w
 
 -- what one token is, and those behind it
-token_same : (place m n : ℕ) (bytes : List ℕ) (s r : Shape) (j k : Kind) (cs ds : List Cut) → IsLongest bytes m s → IsLongest bytes n r → kind_of s (take m bytes) ≡ Some j → kind_of r (take n bytes) ≡ Some k → cs ≡ ds
-    → record { kind = j; at = place; text = take m bytes } ∷ cs ≡ record { kind = k; at = place; text = take n bytes } ∷ ds
-token_same place m n bytes s r j k cs ds h l first second e =
+token_same : (at m n : ℕ) (bytes : List ℕ) (s r : Shape) (j k : Kind) (cs ds : List Cut) → IsLongest bytes m s → IsLongest bytes n r → kind_of s (take m bytes) ≡ Some j → kind_of r (take n bytes) ≡ Some k → cs ≡ ds
+    → record { kind = j; at = at; text = take m bytes } ∷ cs ≡ record { kind = k; at = at; text = take n bytes } ∷ ds
+token_same at m n bytes s r j k cs ds h l first second e =
     let len : m ≡ n = longest_same bytes m n s r h l in
     let text : take m bytes ≡ take n bytes = ap (λ (i : ℕ). take i bytes) len in
     let shape : s ≡ r = shape_same bytes m n s r h l in
@@ -163,33 +163,33 @@ token_same place m n bytes s r j k cs ds h l first second e =
     let same : j ≡ k = cc in
     cc
 
-cut_carried : (place m n : ℕ) (bytes : List ℕ) (cs : List Cut) → m ≡ n → IsCut (place + m) (drop m bytes) cs → IsCut (place + n) (drop n bytes) cs
-cut_carried place m n bytes cs e h = subst (λ (i : ℕ). IsCut (place + i) (drop i bytes) cs) e h
+cut_carried : (at m n : ℕ) (bytes : List ℕ) (cs : List Cut) → m ≡ n → IsCut (at + m) (drop m bytes) cs → IsCut (at + n) (drop n bytes) cs
+cut_carried at m n bytes cs e h = subst (λ (i : ℕ). IsCut (at + i) (drop i bytes) cs) e h
 
-pub cut_same : {place : ℕ} {bytes : List ℕ} {cs ds : List Cut} → IsCut place bytes cs → IsCut place bytes ds → cs ≡ ds
+pub cut_same : {at : ℕ} {bytes : List ℕ} {cs ds : List Cut} → IsCut at bytes cs → IsCut at bytes ds → cs ≡ ds
 cut_same at_end at_end = refl
 cut_same at_end (over_gap some le g more) = absurd (omega arith)
 cut_same at_end (over_token apart l k more) = absurd (omega (arith, l.some, l.inside))
 cut_same (over_gap some le g cs) at_end = absurd (omega arith)
-cut_same (over_gap {place = place} {n = n} {bytes = bytes} some le g cs) (over_gap {n = m} {tokens = ds} least inside h more) = cut_same cs (cut_carried place m n bytes ds (gap_same bytes m n inside le h g) more)
+cut_same (over_gap {at = at} {n = n} {bytes = bytes} some le g cs) (over_gap {n = m} {tokens = ds} least inside h more) = cut_same cs (cut_carried at m n bytes ds (gap_same bytes m n inside le h g) more)
 cut_same (over_gap {n = n} {bytes = bytes} some le g cs) (over_token apart l k more) = absurd (gap_none bytes g (take-append-drop n bytes) apart)
 cut_same (over_token apart l k cs) at_end = absurd (omega (arith, l.some, l.inside))
 cut_same (over_token {bytes = bytes} apart l k cs) (over_gap {n = m} some le g more) = absurd (gap_none bytes g (take-append-drop m bytes) apart)
-cut_same (over_token {place = place} {n = n} {shape = s} {kind = j} {bytes = bytes} {tokens = cs} apart l k more) (over_token {n = m} {shape = r} {kind = i} {tokens = ds} also h e rest) =
-    token_same place n m bytes s r j i cs ds l h k e (cut_same more (cut_carried place m n bytes ds (longest_same bytes m n r s h l) rest))
+cut_same (over_token {at = at} {n = n} {shape = s} {kind = j} {bytes = bytes} {tokens = cs} apart l k more) (over_token {n = m} {shape = r} {kind = i} {tokens = ds} also h e rest) =
+    token_same at n m bytes s r j i cs ds l h k e (cut_same more (cut_carried at m n bytes ds (longest_same bytes m n r s h l) rest))
 
 -- a token at a place where there is none
 no_token : (bytes : List ℕ) (n : ℕ) (s : Shape) → IsLongest bytes n s → shape_of_text (take n bytes) ≡ None → ⊥
 no_token bytes n s l off = let on = l.is in cc
 
-pub fault_same : {place : ℕ} {bytes : List ℕ} {f g : LexFault} → IsFaulty place bytes f → IsFaulty place bytes g → f ≡ g
-fault_same (behind_gap {place = place} {n = n} {bytes = bytes} some le g more) (behind_gap {n = m} {fault = fault} least inside h rest) = fault_same more (carried place m n bytes fault (gap_same bytes m n inside le h g) rest)
+pub fault_same : {at : ℕ} {bytes : List ℕ} {f g : LexFault} → IsFaulty at bytes f → IsFaulty at bytes g → f ≡ g
+fault_same (behind_gap {at = at} {n = n} {bytes = bytes} some le g more) (behind_gap {n = m} {fault = fault} least inside h rest) = fault_same more (carried at m n bytes fault (gap_same bytes m n inside le h g) rest)
 fault_same (behind_gap {n = n} {bytes = bytes} some le g more) (behind_token apart l k rest) = absurd (gap_none bytes g (take-append-drop n bytes) apart)
 fault_same (behind_gap {n = n} {bytes = bytes} some le g more) (bad_character least apart none) = absurd (gap_none bytes g (take-append-drop n bytes) apart)
 fault_same (behind_gap {n = n} {bytes = bytes} some le g more) (bad_number apart l k) = absurd (gap_none bytes g (take-append-drop n bytes) apart)
 fault_same (behind_gap {n = n} {bytes = bytes} some le g more) (unclosed w open_ended) = absurd (gap_open bytes g (sym (take-append-drop n bytes)) w open_ended)
 fault_same (behind_token {bytes = bytes} apart l k more) (behind_gap {n = m} some le g rest) = absurd (gap_none bytes g (take-append-drop m bytes) apart)
-fault_same (behind_token {place = place} {n = n} {shape = s} {bytes = bytes} apart l k more) (behind_token {n = m} {shape = r} {fault = fault} also h e rest) = fault_same more (carried place m n bytes fault (longest_same bytes m n r s h l) rest)
+fault_same (behind_token {at = at} {n = n} {shape = s} {bytes = bytes} apart l k more) (behind_token {n = m} {shape = r} {fault = fault} also h e rest) = fault_same more (carried at m n bytes fault (longest_same bytes m n r s h l) rest)
 fault_same (behind_token {n = n} {shape = s} {bytes = bytes} apart l k more) (bad_character some also none) = absurd (no_token bytes n s l (none n l.inside))
 fault_same (behind_token {n = n} {shape = s} {kind = kind} {bytes = bytes} apart l k more) (bad_number {n = m} {shape = r} also h e) = absurd (kind_same bytes n m s r kind l h k e)
 fault_same (behind_token apart l k more) (unclosed w open_ended) = absurd (apart.no_comment w)

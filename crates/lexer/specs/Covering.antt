@@ -58,19 +58,19 @@ pub record HasNoGap (bytes : List ℕ) : Type 0 where
 -- The bytes, of which the first stands at the place, are covered by the tokens and by what stands between them: white space and
 -- comments. Each token is the longest at its place, its text is the slice there, and the last one is the empty end.
 pub data IsCut : ℕ → List ℕ → List Cut → Type 0 where
-  at_end : {place : ℕ} → IsCut place [] (end_at place ∷ [])
-  over_gap : {place n : ℕ} {bytes : List ℕ} {tokens : List Cut} → 0 < n → n ≤ length bytes → IsGap (take n bytes) (drop n bytes) → IsCut (place + n) (drop n bytes) tokens → IsCut place bytes tokens
-  over_token : {place n : ℕ} {shape : Shape} {kind : Kind} {bytes : List ℕ} {tokens : List Cut} → HasNoGap bytes → IsLongest bytes n shape → kind_of shape (take n bytes) ≡ Some kind
-      → IsCut (place + n) (drop n bytes) tokens → IsCut place bytes (record { kind = kind; at = place; text = take n bytes } ∷ tokens)
+  at_end : {at : ℕ} → IsCut at [] (end_at at ∷ [])
+  over_gap : {at n : ℕ} {bytes : List ℕ} {tokens : List Cut} → 0 < n → n ≤ length bytes → IsGap (take n bytes) (drop n bytes) → IsCut (at + n) (drop n bytes) tokens → IsCut at bytes tokens
+  over_token : {at n : ℕ} {shape : Shape} {kind : Kind} {bytes : List ℕ} {tokens : List Cut} → HasNoGap bytes → IsLongest bytes n shape → kind_of shape (take n bytes) ≡ Some kind
+      → IsCut (at + n) (drop n bytes) tokens → IsCut at bytes (record { kind = kind; at = at; text = take n bytes } ∷ tokens)
 
 -- The first fault of the bytes: what stands before it is covered by tokens, white space and comments.
 pub data IsFaulty : ℕ → List ℕ → LexFault → Type 0 where
-  behind_gap : {place n : ℕ} {bytes : List ℕ} {fault : LexFault} → 0 < n → n ≤ length bytes → IsGap (take n bytes) (drop n bytes) → IsFaulty (place + n) (drop n bytes) fault → IsFaulty place bytes fault
-  behind_token : {place n : ℕ} {shape : Shape} {kind : Kind} {bytes : List ℕ} {fault : LexFault} → HasNoGap bytes → IsLongest bytes n shape → kind_of shape (take n bytes) ≡ Some kind
-      → IsFaulty (place + n) (drop n bytes) fault → IsFaulty place bytes fault
-  bad_character : {place : ℕ} {bytes : List ℕ} → 0 < length bytes → HasNoGap bytes → HasNoToken bytes → IsFaulty place bytes (BadCharacter place)
-  bad_number : {place n : ℕ} {shape : Shape} {bytes : List ℕ} → HasNoGap bytes → IsLongest bytes n shape → kind_of shape (take n bytes) ≡ None → IsFaulty place bytes (BadNumber place)
-  unclosed : {place : ℕ} {bytes : List ℕ} → BeginsWith 47 42 bytes → HasNoClose (drop 2 bytes) → IsFaulty place bytes (UnclosedComment place)
+  behind_gap : {at n : ℕ} {bytes : List ℕ} {fault : LexFault} → 0 < n → n ≤ length bytes → IsGap (take n bytes) (drop n bytes) → IsFaulty (at + n) (drop n bytes) fault → IsFaulty at bytes fault
+  behind_token : {at n : ℕ} {shape : Shape} {kind : Kind} {bytes : List ℕ} {fault : LexFault} → HasNoGap bytes → IsLongest bytes n shape → kind_of shape (take n bytes) ≡ Some kind
+      → IsFaulty (at + n) (drop n bytes) fault → IsFaulty at bytes fault
+  bad_character : {at : ℕ} {bytes : List ℕ} → 0 < length bytes → HasNoGap bytes → HasNoToken bytes → IsFaulty at bytes (BadCharacter at)
+  bad_number : {at n : ℕ} {shape : Shape} {bytes : List ℕ} → HasNoGap bytes → IsLongest bytes n shape → kind_of shape (take n bytes) ≡ None → IsFaulty at bytes (BadNumber at)
+  unclosed : {at : ℕ} {bytes : List ℕ} → BeginsWith 47 42 bytes → HasNoClose (drop 2 bytes) → IsFaulty at bytes (UnclosedComment at)
 
 -- A refusal: the first fault of the text, unless memory ran out.
 abbrev pub IsLexFault : List ℕ → LexFault → Type 0

@@ -71,14 +71,14 @@ with_cut c (Ok cs) = Ok (c ∷ cs)
 with_cut c (Err f) = Err f
 
 abbrev pub with_token : Option Kind → ℕ → List ℕ → Result (List Cut) LexFault → Result (List Cut) LexFault
-with_token None place text r = Err (BadNumber place)
-with_token (Some k) place text r = with_cut (record { kind = k; at = place; text = text }) r
+with_token None at text r = Err (BadNumber at)
+with_token (Some k) at text r = with_cut (record { kind = k; at = at; text = text }) r
 
 abbrev pub cut_after : Next → ℕ → List ℕ → (ℕ → Result (List Cut) LexFault) → Result (List Cut) LexFault
-cut_after (Gap n) place bytes go = go n
-cut_after (Lexeme n s) place bytes go = with_token (kind_of s (take n bytes)) place (take n bytes) (go n)
-cut_after Unclosed place bytes go = Err (UnclosedComment place)
-cut_after Stray place bytes go = Err (BadCharacter place)
+cut_after (Gap n) at bytes go = go n
+cut_after (Lexeme n s) at bytes go = with_token (kind_of s (take n bytes)) at (take n bytes) (go n)
+cut_after Unclosed at bytes go = Err (UnclosedComment at)
+cut_after Stray at bytes go = Err (BadCharacter at)
 
 -- What comes next ends inside the bytes, and a token between characters.
 abbrev pub StaysInside : List ℕ → ℕ → Next → Type 0
@@ -89,13 +89,13 @@ StaysInside bytes at Stray = Unit {0}
 
 -- the last token: empty, where the text ends
 abbrev pub end_at : ℕ → Cut
-end_at place = record { kind = kinds.End; at = place; text = [] }
+end_at at = record { kind = kinds.End; at = at; text = [] }
 
 -- The tokens of the bytes, the first of which stands at the place. The number bounds the turns; the count of the bytes is enough.
 unfoldable pub cuts : ℕ → ℕ → List ℕ → Result (List Cut) LexFault
-cuts turns place [] = Ok (end_at place ∷ [])
-cuts zero place (b ∷ bs) = Err Memory
-cuts (suc turns) place (b ∷ bs) = cut_after (next b bs) place (b ∷ bs) (λ n. cuts turns (place + n) (drop n (b ∷ bs)))
+cuts turns at [] = Ok (end_at at ∷ [])
+cuts zero at (b ∷ bs) = Err Memory
+cuts (suc turns) at (b ∷ bs) = cut_after (next b bs) at (b ∷ bs) (λ n. cuts turns (at + n) (drop n (b ∷ bs)))
 
 unfoldable pub tokens_of : List ℕ → Result (List Cut) LexFault
 tokens_of bytes = cuts (length bytes) 0 bytes

@@ -1,4 +1,4 @@
--- The rules of reading that the readers of counts and items use.
+-- The rules of reading that the readers of items use.
 use Rattle.parser_expressions.proofs.Steps.{optional-absent, optional-present, optional-fails}
 
 pub ruleset for_optional = (optional-absent, optional-present, optional-fails)

@@ -6,7 +6,7 @@ use Rattle.grammar.specs.Trees.{ItemForm}
 use Rattle.grammar.specs.Files.{IsFile}
 use Rattle.parser.specs.declared.fault.ParseFault.{ParseFault}
 use Rattle.parser.specs.declared.fault.ParseFault.TheVariants as faults
-use Rattle.parser_expressions.specs.Places.{IsPlaceIn}
+use Rattle.parser_expressions.specs.Bytes.{IsByteIn}
 use Rattle.parser_expressions.specs.declared.stop.Stop.{Stop}
 use Rattle.parser_expressions.specs.declared.stop.Stop.TheVariants as stops
 
@@ -31,19 +31,20 @@ Refuses fault read = (fault ≡ faults.Memory → ⊥) → read ≡ None
 
 -- No file spells the tokens, unless memory ran out.
 abbrev pub IsParseFault : List Token → ParseFault → Type 0
-IsParseFault tokens fault = (fault ≡ faults.Memory → ⊥) → (xs : List ItemForm) → IsFile xs tokens → ⊥
+IsParseFault tokens fault =
+    (fault ≡ faults.Memory → ⊥) → (xs : List ItemForm) → IsFile xs tokens → ⊥
 
 -- One of the tokens stands at the byte, and this is its text.
 pub record IsWordIn (tokens : List Token) (word : List ℕ) (at : ℕ) : Type 0 where
   pub token : Token
   pub among : Contains tokens token
-  pub place : token.at ≡ at
+  pub stands : token.at ≡ at
   pub text : token.text.now ≡ word
 
 -- The fault stands at one of the tokens, and the word of P2 is that token's text.
 abbrev pub IsPlaced : List Token → ParseFault → Type 0
 IsPlaced tokens faults.Memory = Unit {0}
-IsPlaced tokens (faults.Expected what at) = IsPlaceIn tokens at
+IsPlaced tokens (faults.Expected what at) = IsByteIn tokens at
 IsPlaced tokens (faults.OutsideProfile word at) = IsWordIn tokens word.now at
-IsPlaced tokens (faults.TooDeep at) = IsPlaceIn tokens at
-IsPlaced tokens (faults.BadBound at) = IsPlaceIn tokens at
+IsPlaced tokens (faults.TooDeep at) = IsByteIn tokens at
+IsPlaced tokens (faults.BadBound at) = IsByteIn tokens at

@@ -1,3 +1,2 @@
 pub mod Views
 pub mod Faults
-pub mod Bodies

@@ -1,13 +1,9 @@
--- The ghost trees that the trees of sequences, items and files are.
+-- The ghost trees that the trees of properties, items and files are.
 use Rattle.std.specs.Prelude.{List, map, option_map, Box}
 use Rattle.std.specs.declared.alloc.Global.{Global}
-use Rattle.grammar.specs.declared.bound.Range.{Range}
 use Rattle.grammar.specs.Trees as trees
 use Rattle.grammar.specs.Trees.{Tree}
-use Rattle.grammar.specs.ReadSequences.{steps_of, others_of}
 use Rattle.parser_expressions.specs.declared.tree.ExprTree.{ExprTree}
-use Rattle.parser.specs.declared.tree.SequenceTree.{SequenceTree, fold-SequenceTree}
-use Rattle.parser.specs.declared.tree.SequenceTree.TheOpen.{SequenceTree-F}
 use Rattle.parser.specs.declared.tree.PropertyTree.{PropertyTree}
 use Rattle.parser.specs.declared.tree.PropertyTree.TheVariants.{Plain, Implication}
 use Rattle.parser.specs.declared.tree.CounterTree.{CounterTree}
@@ -17,24 +13,7 @@ use Rattle.parser.specs.declared.tree.ItemTree.{ItemTree}
 use Rattle.parser.specs.declared.tree.ItemTree.TheVariants as items
 use Rattle.parser.specs.declared.tree.File.{File}
 use Rattle.parser_expressions.specs.Views.{path_of, tree_of, boxed_of}
-
-abbrev pub sequence_step : SequenceTree-F trees.SequenceForm → trees.SequenceForm
-sequence_step (SequenceTree-F.Boolean e) = trees.boolean (tree_of e.value)
-sequence_step (SequenceTree-F.Repeated s n) = trees.repeated s.value n
-sequence_step (SequenceTree-F.Late t n s) = trees.late t n s.value
-sequence_step (SequenceTree-F.Delayed s v) = trees.delayed s.value (steps_of v.items)
-sequence_step (SequenceTree-F.Throughout e s) = trees.throughout (tree_of e.value) s.value
-sequence_step (SequenceTree-F.And s v) = trees.all s.value (others_of v.items)
-sequence_step (SequenceTree-F.Or s v) = trees.either s.value (others_of v.items)
-
-abbrev pub sequence_of : SequenceTree → trees.SequenceForm
-sequence_of = fold-SequenceTree trees.SequenceForm sequence_step
-
-abbrev pub delay_step_of : Range × SequenceTree → Range × trees.SequenceForm
-delay_step_of x = (x.0, sequence_of x.1)
-
-abbrev pub boxed_step_of : Range × Box SequenceTree Global → Range × trees.SequenceForm
-boxed_step_of x = (x.0, sequence_of x.1.value)
+use Rattle.parser_sequences.specs.Views.{sequence_of}
 
 abbrev pub property_of : PropertyTree → trees.PropertyForm
 property_of (Plain s) = trees.plain (sequence_of s.value)
@@ -44,13 +23,26 @@ abbrev pub pair_of : Box ExprTree Global × Box ExprTree Global → Tree × Tree
 pair_of x = (tree_of x.0.value, tree_of x.1.value)
 
 abbrev pub counter_of : CounterTree → trees.CounterForm
-counter_of c = record { name = c.name; width = c.width; clear = option_map boxed_of c.clear; load = option_map pair_of c.load; add = option_map pair_of c.add; sub = option_map pair_of c.sub }
+counter_of c = record {
+  name = c.name;
+  width = c.width;
+  clear = option_map boxed_of c.clear;
+  load = option_map pair_of c.load;
+  add = option_map pair_of c.add;
+  sub = option_map pair_of c.sub;
+}
 
 abbrev pub declaration_of : DeclarationTree → trees.DeclarationForm
 declaration_of s = record { name = s.name; body = sequence_of s.body.value }
 
 abbrev pub assertion_of : AssertionTree → trees.AssertionForm
-assertion_of a = record { label = a.label; verb = a.verb; clock = path_of a.clock; disable = option_map boxed_of a.disable; property = property_of a.property }
+assertion_of a = record {
+  label = a.label;
+  verb = a.verb;
+  clock = path_of a.clock;
+  disable = option_map boxed_of a.disable;
+  property = property_of a.property;
+}
 
 abbrev pub item_of : ItemTree → trees.ItemForm
 item_of (items.Counter c) = trees.counter (counter_of c)

@@ -3,12 +3,12 @@
 ghost use Rattle.std.specs.Prelude.{◌≡◌, ◌<◌, length, IfSome};
 ghost use Rattle.std.specs.List.{Contains};
 ghost use Rattle.parser.specs.declared.fault.ParseFault.TheVariants.{Memory};
-ghost use Rattle.parser_expressions.specs.Places.{IsPlaceIn};
+ghost use Rattle.parser_expressions.specs.Bytes.{IsByteIn};
 ghost use Rattle.parser.specs.Faults.{NamesStop, IsPlaced};
 
 use grammar::{Terminal, is, terminal_of};
 use lexer::Token;
-use parser_expressions::{Stop, first, place, same};
+use parser_expressions::{Stop, byte_at, first, same};
 use std::alloc::{AllocError, AllocFailed};
 use thiserror::Error;
 
@@ -65,8 +65,8 @@ impl Before {
     }
 }
 
-/// Whether the profile leaves out what the token stands for behind those before it: `property` where an item begins, and
-/// a second implication, too.
+/// Whether the profile leaves out what the token stands for behind those before it: `property`
+/// where an item begins, and a second implication, too.
 fn is_outside(token: Token, before: Before) -> bool {
     if is_implication(token) {
         return before.implication;
@@ -99,26 +99,26 @@ fn token_at<'a>(tokens: &[Token<'a>], at: usize) -> Option<(Token<'a>, Before)>
 }
 
 /// The byte, if a token stands there; else that of the first. One does: reading stops at a token.
-#[tactic(auto, using(crate::proofs::PlaceLaws::for_place_in))]
-pub(crate) fn place_in(tokens: &[Token], at: usize) -> usize
-    ensures { 0 < length tokens.now → IsPlaceIn tokens.now result }
+#[tactic(auto, using(crate::proofs::ByteLaws::for_byte_in))]
+pub(crate) fn byte_in(tokens: &[Token], at: usize) -> usize
+    ensures { 0 < length tokens.now → IsByteIn tokens.now result }
 {
     match token_at(tokens, at) {
         Some((token, _)) => token.at,
-        None => place(tokens),
+        None => byte_at(tokens),
     }
 }
 
 /// The fault at the byte, where something else would go on. The tokens are those from the item's
 /// first on.
-#[tactic(auto, using(crate::proofs::PlaceLaws::for_unexpected))]
+#[tactic(auto, using(crate::proofs::ByteLaws::for_unexpected))]
 fn unexpected_token<'a>(tokens: &[Token<'a>], what: &'static str, at: usize) -> ParseFault<'a>
     requires { 0 < length tokens.now }
     ensures other { result ≡ Memory → ⊥ }
     ensures placed { IsPlaced tokens.now result }
 {
     let Some((token, before)) = token_at(tokens, at) else {
-        return ParseFault::Expected(what, place(tokens));
+        return ParseFault::Expected(what, byte_at(tokens));
     };
     if is_outside(token, before) {
         return ParseFault::OutsideProfile(token.text, token.at);
@@ -135,8 +135,8 @@ pub(crate) fn fault_of<'a>(tokens: &[Token<'a>], stop: Stop) -> ParseFault<'a>
     match stop {
         Stop::Memory => ParseFault::Memory,
         Stop::Expected(what, at) => unexpected_token(tokens, what, at),
-        Stop::TooDeep(at) => ParseFault::TooDeep(place_in(tokens, at)),
-        Stop::BadBound(at) => ParseFault::BadBound(place_in(tokens, at)),
+        Stop::TooDeep(at) => ParseFault::TooDeep(byte_in(tokens, at)),
+        Stop::BadBound(at) => ParseFault::BadBound(byte_in(tokens, at)),
     }
 }
 

@@ -1,18 +1,19 @@
 //! Whole files.
 
-ghost use Rattle.std.specs.Prelude.{◌≡◌, ◌≤◌, ◌<◌, ◌-◌, [], ◌∷◌, Some, None, length, drop, map, IfOk, IfErr, MatchOption, MatchResult, IfSome};
+ghost use Rattle.std.specs.Prelude.{◌≡◌, ◌≤◌, ◌<◌, ◌-◌, [], ◌∷◌, Some, None, length, drop, map};
+ghost use Rattle.std.specs.Prelude.{IfOk, IfErr, MatchOption, MatchResult, IfSome};
 ghost use Rattle.grammar.specs.Readers.{lead};
 ghost use Rattle.grammar.specs.Files.{IsFile};
 ghost use Rattle.grammar.specs.ReadFiles.{asserts, is_more, items};
 ghost use Rattle.parser.specs.Views.{item_of, items_of};
 ghost use Rattle.parser.specs.Faults.{IsParseFault, Refuses, IsPlaced};
 
-use crate::fault::{ParseFault, fault_of, place_in};
+use crate::fault::{ParseFault, byte_in, fault_of};
 use crate::item::read_item;
 use crate::tree::{File, ItemTree};
 use grammar::{Terminal, is};
 use lexer::Token;
-use parser_expressions::{first, place, same};
+use parser_expressions::{byte_at, first, same};
 use std::alloc::Global;
 
 /// The items that stand first, whether one of them is an assertion, and the tokens behind them.
@@ -21,7 +22,8 @@ type Items<'t, 'a> = Result<(Vec<ItemTree<'a>>, bool, &'t [Token<'a>]), ParseFau
 /// The first token, if it isn't that of the end.
 #[tactic(auto, using(crate::proofs::ItemSteps::for_more))]
 fn more<'t, 'a>(tokens: &'t [Token<'a>]) -> Option<(Token<'a>, &'t [Token<'a>])>
-    ensures token { MatchOption result (lead is_more tokens.now ≡ None) (λ r. lead is_more tokens.now ≡ Some (r.0, r.1.now)) }
+    ensures token { MatchOption result (lead is_more tokens.now ≡ None)
+        (λ r. lead is_more tokens.now ≡ Some (r.0, r.1.now)) }
     ensures whole { IfSome result (λ r. tokens.now ≡ r.0 ∷ r.1.now) }
     ensures shorter { IfSome result (λ r. length r.1.now < length tokens.now) }
 {
@@ -80,9 +82,9 @@ fn read_items<'t, 'a>(alloc: Global, tokens: &'t [Token<'a>]) -> Items<'t, 'a>
 
 /// The file that the tokens are.
 ///
-/// The tokens are those of `lexer::lex`: the last one is the end, and no other is. The fault is that
-/// of the first token at which reading can't go on (see `ParseFault`). Which one it is, and at which
-/// of the tokens, is shown by tests.
+/// The tokens are those of `lexer::lex`: the last one is the end, and no other is. The fault is
+/// that of the first token at which reading can't go on (see `ParseFault`). Which one it is, and at
+/// which of the tokens, is shown by tests.
 pub fn parse<'a>(alloc: Global, tokens: &[Token<'a>]) -> Result<File<'a>, ParseFault<'a>>
     ensures ok { IfOk result (λ f. IsFile (items_of f) tokens.now) }
     ensures err { IfErr result (IsParseFault tokens.now) }
@@ -94,16 +96,16 @@ pub fn parse<'a>(alloc: Global, tokens: &[Token<'a>]) -> Result<File<'a>, ParseF
         Err(fault) => return Err(fault),
     };
     let Some((last, behind)) = first(rest) else {
-        return Err(ParseFault::Expected("the end", place(tokens)));
+        return Err(ParseFault::Expected("the end", byte_at(tokens)));
     };
     if !is(Terminal::End, last) {
-        return Err(ParseFault::Expected("the end", place_in(tokens, last.at)));
+        return Err(ParseFault::Expected("the end", byte_in(tokens, last.at)));
     }
     if let Some((token, _)) = first(behind) {
-        return Err(ParseFault::Expected("no more tokens", place_in(tokens, token.at)));
+        return Err(ParseFault::Expected("no more tokens", byte_in(tokens, token.at)));
     }
     if !asserted {
-        return Err(ParseFault::Expected("an assertion", place_in(tokens, last.at)));
+        return Err(ParseFault::Expected("an assertion", byte_in(tokens, last.at)));
     }
     Ok(File { items })
 }

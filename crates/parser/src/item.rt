@@ -7,13 +7,16 @@ ghost use Rattle.grammar.specs.declared.terminal.Terminal.TheVariants.{Clear, Co
 ghost use Rattle.grammar.specs.Readers.{pick, optional};
 ghost use Rattle.grammar.specs.Trees as trees;
 ghost use Rattle.grammar.specs.Files.{in_one};
-ghost use Rattle.grammar.specs.ReadFiles.{one_operand, two_operands, counter_head, counter_item, again_of, skip, ending_of, declaration_item, opening_words, clock_words, disable_reader, property_end, assertion_item, label_reader, declaration_reader, item};
+ghost use Rattle.grammar.specs.ReadFiles.{one_operand, two_operands, counter_head, counter_item};
+ghost use Rattle.grammar.specs.ReadFiles.{again_of, skip, ending_of, declaration_item};
+ghost use Rattle.grammar.specs.ReadFiles.{opening_words, clock_words, disable_reader, property_end};
+ghost use Rattle.grammar.specs.ReadFiles.{assertion_item, label_reader, declaration_reader, item};
 ghost use Rattle.parser_expressions.specs.Views.{path_of, boxed_of, Gives};
-ghost use Rattle.parser.specs.Views.{pair_of, property_of, counter_of, declaration_of, assertion_of, item_of};
+ghost use Rattle.parser.specs.Views.{pair_of, property_of, counter_of, declaration_of};
+ghost use Rattle.parser.specs.Views.{assertion_of, item_of};
 
 use crate::property::read_property;
 use crate::read::read;
-use crate::sequence::read_sequence;
 use crate::tree::{AssertionTree, CounterTree, DeclarationTree, ItemTree, Operands, PropertyTree};
 use grammar::{Bound, Terminal, is_word};
 use lexer::Token;
@@ -21,6 +24,7 @@ use parser_expressions::{
     ExprTree, Path, Read, Stop, accept, accept_name, expect, expect_bound, expect_name,
     expect_verb, first, read_expression, read_path, same,
 };
+use parser_sequences::read_sequence;
 use std::alloc::Global;
 
 /// `( operand )`, behind a word.
@@ -59,7 +63,8 @@ fn read_clear<'t, 'a>(
     alloc: Global,
     tokens: &'t [Token<'a>],
 ) -> Read<'t, 'a, Option<Box<ExprTree<'a>>>>
-    ensures read { Gives (λ r. (option_map boxed_of r.0, r.1.now)) result (optional Clear (one_operand in_one) tokens.now) }
+    ensures read { Gives (λ r. (option_map boxed_of r.0, r.1.now)) result
+        (optional Clear (one_operand in_one) tokens.now) }
     ensures shorter { IfOk result (λ r. length r.1.now ≤ length tokens.now) }
 {
     let Some((_, inside)) = accept(tokens, Terminal::Clear) else {
@@ -76,7 +81,8 @@ fn read_clause<'t, 'a>(
     tokens: &'t [Token<'a>],
     word: Terminal,
 ) -> Read<'t, 'a, Option<Operands<'a>>>
-    ensures read { Gives (λ r. (option_map pair_of r.0, r.1.now)) result (optional word two_operands tokens.now) }
+    ensures read { Gives (λ r. (option_map pair_of r.0, r.1.now)) result
+        (optional word two_operands tokens.now) }
     ensures shorter { IfOk result (λ r. length r.1.now ≤ length tokens.now) }
 {
     let Some((_, inside)) = accept(tokens, word) else {
@@ -143,7 +149,8 @@ fn expect_again<'t, 'a>(tokens: &'t [Token<'a>], name: Token<'a>) -> Read<'t, 'a
 /// The name behind a sequence's end, if it is there.
 #[tactic(auto, using(crate::proofs::Steps::for_optional))]
 fn read_closing<'t, 'a>(tokens: &'t [Token<'a>], name: Token<'a>) -> Read<'t, 'a, Option<Token<'a>>>
-    ensures read { Gives (λ r. (r.0, r.1.now)) result (optional Colon (pick (again_of name.entry)) tokens.now) }
+    ensures read { Gives (λ r. (r.0, r.1.now)) result
+        (optional Colon (pick (again_of name.entry)) tokens.now) }
     ensures shorter { IfOk result (λ r. length r.1.now ≤ length tokens.now) }
 {
     let Some((_, inside)) = accept(tokens, Terminal::Colon) else {
@@ -231,7 +238,8 @@ fn read_disable<'t, 'a>(
     alloc: Global,
     tokens: &'t [Token<'a>],
 ) -> Read<'t, 'a, Option<Box<ExprTree<'a>>>>
-    ensures read { Gives (λ r. (option_map boxed_of r.0, r.1.now)) result (optional Disable disable_reader tokens.now) }
+    ensures read { Gives (λ r. (option_map boxed_of r.0, r.1.now)) result
+        (optional Disable disable_reader tokens.now) }
     ensures shorter { IfOk result (λ r. length r.1.now ≤ length tokens.now) }
 {
     let Some((_, inside)) = accept(tokens, Terminal::Disable) else {
@@ -263,7 +271,8 @@ fn read_assertion<'t, 'a>(
     tokens: &'t [Token<'a>],
     label: Option<Token<'a>>,
 ) -> Read<'t, 'a, ItemTree<'a>>
-    ensures read { Gives (λ r. (item_of r.0, r.1.now)) result (assertion_item label.entry tokens.now) }
+    ensures read { Gives (λ r. (item_of r.0, r.1.now)) result
+        (assertion_item label.entry tokens.now) }
     ensures shorter { IfOk result (λ r. length r.1.now < length tokens.now) }
 {
     let (verb, rest) = read!(expect_verb(tokens));

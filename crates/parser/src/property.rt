@@ -3,14 +3,15 @@
 ghost use Rattle.std.specs.Prelude.{◌≡◌, ◌<◌, ◌≤◌, ◌+◌, ℕ, length, IfOk};
 ghost use Rattle.grammar.specs.ReadSequences.{implication_behind, regroup_property, property};
 ghost use Rattle.parser_expressions.specs.Views.{Gives};
-ghost use Rattle.parser.specs.Views.{sequence_of, property_of};
+ghost use Rattle.parser_sequences.specs.Views.{sequence_of};
+ghost use Rattle.parser.specs.Views.{property_of};
 
 use crate::read::read;
-use crate::sequence::{finish_sequence, read_sequence, regroup};
-use crate::tree::{PropertyTree, SequenceTree};
+use crate::tree::PropertyTree;
 use grammar::Terminal;
 use lexer::Token;
 use parser_expressions::{Read, accept, deeper, expect, operator};
+use parser_sequences::{SequenceTree, finish_sequence, read_sequence, regroup};
 use std::alloc::Global;
 
 /// The property that begins with a sequence.
@@ -21,7 +22,8 @@ fn read_implication<'t, 'a>(
     antecedent: Box<SequenceTree<'a>>,
     depth: usize,
 ) -> Read<'t, 'a, PropertyTree<'a>>
-    ensures read { Gives (λ r. (property_of r.0, r.1.now)) result (implication_behind depth (sequence_of antecedent.entry.value) tokens.now) }
+    ensures read { Gives (λ r. (property_of r.0, r.1.now)) result
+        (implication_behind depth (sequence_of antecedent.entry.value) tokens.now) }
     ensures shorter { IfOk result (λ r. length r.1.now ≤ length tokens.now) }
 {
     let Some((sign, right)) = operator(tokens, 17) else {
@@ -42,7 +44,8 @@ fn regroup_property<'t, 'a>(
     inner: PropertyTree<'a>,
     depth: usize,
 ) -> Read<'t, 'a, PropertyTree<'a>>
-    ensures read { Gives (λ r. (property_of r.0, r.1.now)) result (regroup_property depth (property_of inner.entry) tokens.now) }
+    ensures read { Gives (λ r. (property_of r.0, r.1.now)) result
+        (regroup_property depth (property_of inner.entry) tokens.now) }
     ensures shorter { IfOk result (λ r. length r.1.now ≤ length tokens.now) }
 {
     match inner {

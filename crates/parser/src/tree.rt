@@ -1,23 +1,9 @@
-//! The tree of a file. Brackets are not kept. A chain of left operators of one level is one node.
+//! The tree of a file. Brackets are not kept.
 
-use grammar::{Bound, Range};
+use grammar::Bound;
 use lexer::Token;
 use parser_expressions::{ExprTree, Path};
-
-/// A sequence (IEEE 1800-2017, 16.7 to 16.9). A lone name as a boolean may be that of a sequence.
-#[derive(Drop)]
-pub enum SequenceTree<'a> {
-    Boolean(Box<ExprTree<'a>>),
-    /// `body[*range]`.
-    Repeated(Box<SequenceTree<'a>>, Range),
-    /// `##range body`, with nothing before it, and the token `##`.
-    Late(Token<'a>, Range, Box<SequenceTree<'a>>),
-    /// The first part, and each delay with what it delays. They group to the left.
-    Delayed(Box<SequenceTree<'a>>, Vec<(Range, SequenceTree<'a>)>),
-    Throughout(Box<ExprTree<'a>>, Box<SequenceTree<'a>>),
-    And(Box<SequenceTree<'a>>, Vec<SequenceTree<'a>>),
-    Or(Box<SequenceTree<'a>>, Vec<SequenceTree<'a>>),
-}
+use parser_sequences::SequenceTree;
 
 /// A property (IEEE 1800-2017, 16.12).
 #[derive(Drop)]

@@ -2,4 +2,4 @@ pub mod Steps
 pub mod LoopLaws
 pub mod TreeLaws
 pub mod NameSteps
-pub mod PlaceLaws
+pub mod ByteLaws

@@ -25,8 +25,8 @@ mod tree;
 
 pub use expression::{finish_expression, read_expression, read_path};
 pub use read::{
-    Read, accept, accept_name, deeper, expect, expect_bound, expect_name, expect_verb, first,
-    operator, place, same,
+    Read, accept, accept_name, byte_at, deeper, expect, expect_bound, expect_name, expect_verb,
+    first, operator, same,
 };
 pub use stop::Stop;
 pub use tree::{ExprTree, Path};

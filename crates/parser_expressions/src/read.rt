@@ -9,7 +9,7 @@ ghost use Rattle.grammar.specs.ReadExpressions.{name_of, word_of};
 ghost use Rattle.grammar.specs.ReadFiles.{is_verb_token};
 ghost use Rattle.grammar.specs.Terminals.{is_name};
 ghost use Rattle.parser_expressions.specs.Views.{Gives};
-ghost use Rattle.parser_expressions.specs.Places.{IsPlaceIn};
+ghost use Rattle.parser_expressions.specs.Bytes.{IsByteIn};
 
 use crate::stop::{Stop, in_words};
 use grammar::{Bound, Index, Terminal, bound_of, index_of, is, is_name, is_word, precedence_of};
@@ -48,9 +48,9 @@ pub fn same<'t, 'a>(tokens: &'t [Token<'a>]) -> &'t [Token<'a>]
 }
 
 /// The byte of the first token. There is one: reading never goes past the end's.
-#[tactic(auto, using(crate::proofs::PlaceLaws::for_place))]
-pub fn place(tokens: &[Token]) -> usize
-    ensures { 0 < length tokens.now → IsPlaceIn tokens.now result }
+#[tactic(auto, using(crate::proofs::ByteLaws::for_byte))]
+pub fn byte_at(tokens: &[Token]) -> usize
+    ensures { 0 < length tokens.now → IsByteIn tokens.now result }
 {
     match first(tokens) {
         Some((token, _)) => token.at,
@@ -83,7 +83,7 @@ pub fn expect<'t, 'a>(tokens: &'t [Token<'a>], wanted: Terminal) -> Read<'t, 'a,
 {
     match accept(tokens, wanted) {
         Some(read) => Ok(read),
-        None => Err(Stop::Expected(in_words(wanted), place(tokens))),
+        None => Err(Stop::Expected(in_words(wanted), byte_at(tokens))),
     }
 }
 
@@ -161,7 +161,7 @@ pub fn expect_verb<'t, 'a>(tokens: &'t [Token<'a>]) -> Read<'t, 'a, Token<'a>>
     }
     match accept(tokens, Terminal::Assume) {
         Some(read) => Ok(read),
-        None => Err(Stop::Expected("an item", place(tokens))),
+        None => Err(Stop::Expected("an item", byte_at(tokens))),
     }
 }
 

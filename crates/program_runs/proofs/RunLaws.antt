@@ -3,7 +3,7 @@ use Rattle.std.proofs.Common.{◌≡◌, ℕ, ◌+◌, ◌^◌, ◌<◌, ◌≤�
 use Rattle.std.specs.Prelude.{slice_index}
 use Rattle.std.proofs.Math.Logic.{∥∥₁_map}
 use Rattle.std.proofs.Math.Seq.{take-suc}
-use Rattle.std.proofs.lemmas.List.{map-append, length-map}
+use Rattle.std.proofs.lemmas.List.{map-append}
 use Rattle.signals.specs.declared.verdict.Decided.{Decided}
 use Rattle.bytecode.specs.Values.{SlotData, ProgramData}
 use Rattle.vcd_reader.specs.declared.dump.Dump.{Dump}
@@ -14,7 +14,7 @@ use Rattle.cycle_window.specs.declared.clocks.Clocks.{Clocks}
 use Rattle.cycle_window.specs.declared.columns.Columns.{Columns}
 use Rattle.cycle_window.specs.declared.window.Window.{Window}
 use Rattle.cycle_window.specs.Ticks.{ticks_of, row_of}
-use Rattle.cycle_window.specs.Held.{columns_in, places_in, clock_in, end_in, AreColumnsOf, IsOver}
+use Rattle.cycle_window.specs.Held.{columns_in, places_in, clock_in}
 use Rattle.checked_machine.specs.Machine.{State, Outcome, opening}
 use Rattle.machine.specs.Running.{Running, IsClock}
 use Rattle.program_runs.specs.declared.run.Run.{Run}
@@ -76,14 +76,6 @@ module _ (old : Run) (row : List ℕ) (out more : List Decided) (machine : Runni
               took = subst (λ (ds : List Decided). TookIn new.line (ran.decided ++ ds)) decided-is (took ran.decided ran.took);
             };
       }
-
--- a window over the contents ends with their ticks at the latest
-pub over-end : (w : Window) (c : Contents) → IsOver w c → end_in w ≤ length (ticks_of c (clock_in (columns_in w)))
-unfolding IsOver AreColumnsOf end_in columns_in
-over-end w c h =
-    let same : length w.columns.rows.items ≡ length (ticks_of c (clock_in w.columns)) =
-    sym (length-map w.columns.rows.items (λ r. r.items)) ∙ ap length h ∙ length-map (ticks_of c (clock_in w.columns)) (row_of c (places_in w.columns)) in
-    omega (arith, w.inside, same)
 
 -- the rows of one tick more
 pub row-more : (c : Contents) (cs : Columns) (n : ℕ) (row : List ℕ) → n < length (ticks_of c (clock_in cs)) → row ≡ row_of c (places_in cs) (slice_index (ticks_of c (clock_in cs)) n) → rows_to c cs n ++ row ∷ [] ≡ rows_to c cs (n + 1)

@@ -3,3 +3,4 @@ pub mod Lines
 pub mod Reported
 pub mod Working
 pub mod Runs
+pub mod Wider

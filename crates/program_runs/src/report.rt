@@ -9,11 +9,12 @@ ghost use Rattle.verdicts.specs.Shown.{data_of};
 ghost use Rattle.program_runs.specs.Lines.{IsLineOver, attempts_of};
 ghost use Rattle.program_runs.specs.Reported.{Reports, RunsOn, WhyNoRun};
 ghost use Rattle.program_runs.specs.Runs.{IsWindowFor, rows_to};
+ghost use Rattle.program_runs.specs.Wider.{AreColumnsFor};
 ghost use Rattle.program_runs.specs.Working.{IsWindowFault};
 
 use crate::run::Run;
-use crate::window::window_of;
-use cycle_window::{Clocks, Window, WindowFault};
+use crate::window::{window_from, window_of};
+use cycle_window::{Clocks, Columns, Window, WindowFault};
 use std::alloc::{AllocError, Global};
 use vcd_reader::Dump;
 use verdicts::{Line, Report};
@@ -74,21 +75,24 @@ pub fn report_run(
 }
 
 /// The line of a verified program over a dump, on clocks of another's choosing, through windows of
-/// so many clocks, 1 to 65,536. The size changes no line.
+/// so many clocks, 1 to 65,536. The size changes no line. The rows of signals that the wider
+/// columns have are taken from there, so that many programs read the dump once.
 pub fn line_run(
     alloc: Global,
     dump: &Dump,
     clocks: &Clocks,
+    wider: &Columns,
     verified: Verified,
     size: usize,
 ) -> Result<Line, WindowFault>
-    requires { AreClocksOf dump.now clocks.now }
+    requires clocks { AreClocksOf dump.now clocks.now }
+    requires wider { AreColumnsFor dump.now clocks.now wider.now }
     ensures line { (c : Contents) → HoldsContents dump.now c
         → IfOk result (λ l. RunsOn c (code_in clocks.now) verified (line l)) }
     // The first cause that stands.
     ensures refused { IfErr result (IsWindowFault (variables_of dump.now) verified size) }
 {
-    let mut window = match window_of(alloc, dump, clocks, verified.program(), size) {
+    let mut window = match window_from(alloc, dump, clocks, wider, verified.program(), size) {
         Err(fault) => return Err(fault),
         Ok(window) => window,
     };

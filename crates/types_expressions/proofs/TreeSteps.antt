@@ -11,12 +11,12 @@ use Rattle.grammar.specs.ReadSequences.{steps_of, others_of}
 use Rattle.parser_expressions.specs.declared.tree.Path.{Path}
 use Rattle.parser_expressions.specs.declared.tree.ExprTree.{ExprTree}
 use Rattle.parser_expressions.specs.declared.tree.ExprTree as expr
-use Rattle.parser.specs.declared.tree.SequenceTree.{SequenceTree}
-use Rattle.parser.specs.declared.tree.SequenceTree as seq
+use Rattle.parser_sequences.specs.declared.tree.SequenceTree.{SequenceTree}
+use Rattle.parser_sequences.specs.declared.tree.SequenceTree as seq
 use Rattle.parser_expressions.specs.Views.{path_of, tree_of, link_of}
-use Rattle.parser.specs.Views.{sequence_of, delay_step_of}
+use Rattle.parser_sequences.specs.Views.{sequence_of, delay_step_of}
 use Rattle.parser_expressions.proofs.TreeLaws.{tree-Number, tree-Path, tree-Concatenation, tree-Past, tree-Call, tree-Unary, tree-Chain, tree-Choice}
-use Rattle.parser.proofs.TreeLaws.{seq-Boolean, seq-Repeated, seq-Late, seq-Delayed, seq-Throughout, seq-And, seq-Or}
+use Rattle.parser_sequences.proofs.TreeLaws.{seq-Boolean, seq-Repeated, seq-Late, seq-Delayed, seq-Throughout, seq-And, seq-Or}
 
 pub is-Number : (x : ExprTree) (t : Token) → x ≡ expr.Number t → tree_of x ≡ trees.number t
 is-Number x t is = ap tree_of is ∙ tree-Number t

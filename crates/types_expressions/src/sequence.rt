@@ -3,7 +3,8 @@
 ghost use Rattle.std.specs.Prelude.{◌≡◌, map, IfOk};
 ghost use Rattle.grammar.specs.ReadSequences.{steps_of, others_of};
 ghost use Rattle.parser_expressions.specs.Views.{tree_of};
-ghost use Rattle.parser.specs.Views.{sequence_of, delay_step_of, property_of};
+ghost use Rattle.parser_sequences.specs.Views.{sequence_of, delay_step_of};
+ghost use Rattle.parser.specs.Views.{property_of};
 ghost use Rattle.types_expressions.specs.Faults.{boolean_faults, sequence_faults, step_faults, other_faults, property_faults, earlier, least};
 ghost use Rattle.types_expressions.specs.Views.{scope_of};
 

@@ -2,7 +2,7 @@
 
 ghost use Rattle.std.specs.Prelude.{◌≡◌};
 ghost use Rattle.parser_expressions.specs.Views.{tree_of};
-ghost use Rattle.parser.specs.Views.{sequence_of};
+ghost use Rattle.parser_sequences.specs.Views.{sequence_of};
 ghost use Rattle.types_suites.specs.Texts.{tree_byte, sequence_byte};
 
 use parser::{ExprTree, SequenceTree};

@@ -3,7 +3,7 @@
 ghost use Rattle.std.specs.Prelude.{◌≡◌, [], map, length, IfOk, OnOk, IsTrue};
 ghost use Rattle.grammar.specs.ReadSequences.{steps_of, others_of};
 ghost use Rattle.parser_expressions.specs.Views.{tree_of};
-ghost use Rattle.parser.specs.Views.{sequence_of, delay_step_of};
+ghost use Rattle.parser_sequences.specs.Views.{sequence_of, delay_step_of};
 ghost use Rattle.assertions.specs.declared.sequence.Boolean.TheVariants.{Listed};
 ghost use Rattle.types_sequences.specs.Drafts.{name, delay, lead, repeat, or, and, throughout};
 ghost use Rattle.types_sequences.specs.Views.{draft_of};

@@ -1,7 +1,8 @@
 use Rattle.std.proofs.Common.{◌∷◌, [], length, ap, ◌∙◌, arith, length-append}
 use Rattle.cycle_window.specs.Ticks.{ticks_of, row_of}
 use Rattle.cycle_window.specs.Held.{places_in, columns_in, clock_in}
-use Rattle.cli.proofs.SampledLaws.{over_end, row_more}
+use Rattle.cycle_window.proofs.HeldLaws.{over-end}
+use Rattle.cli.proofs.SampledLaws.{row_more}
 use Rattle.cli.proofs.sampled.push_rows.Goals as goal
 
 pub loop-clock-preserved : goal.loop-clock-preserved
@@ -10,5 +11,5 @@ loop-clock-preserved c = record {
   rows = λ contents over before.
       let window = c.args.window.now in
       row_more (row_of contents (places_in (columns_in window))) (ticks_of contents (clock_in (columns_in window))) c.loop-clock.clock c.loop-clock.rows c.push.new.self c.in_ok-row.row.items
-      (omega (arith, over_end window contents over, c.bounds-first.ensures.end)) (c.loop-clock.invariant.rows contents over before) (c.in_ok-row.ensures.items ∙ c.row.ensures contents over) c.in_ok-push.ensures.ok;
+      (omega (arith, over-end window contents over, c.bounds-first.ensures.end)) (c.loop-clock.invariant.rows contents over before) (c.in_ok-row.ensures.items ∙ c.row.ensures contents over) c.in_ok-push.ensures.ok;
 }

@@ -11,7 +11,7 @@ returns-in_err-line-clause-refused c =
     let a = c.assertion-item.result in
     let i = c.loop-assertion.assertion-index in
     let fault = c.in_err-line.field-0.0 in
-    err-is c.from_residual.result fault (WhyNoLines suite) c.from_residual.ensures.1
+    err-is c.from_residual-in_err-line.result fault (WhyNoLines suite) c.from_residual-in_err-line.ensures.1
     (no-lines suite i a fault
     (at-place c.deref-assertion-items.result.now suite.assertions.items i a c.deref-assertion-items.ensures.value c.loop-assertion-test.true c.assertion-item.is)
     c.loop-assertion.invariant.programs c.in_err-line.ensures.refused)

@@ -5,7 +5,7 @@ use Rattle.parser.specs.declared.tree.ItemTree.{ItemTree}
 use Rattle.parser.specs.Views.{item_of}
 use Rattle.parser_expressions.proofs.LoopLaws.{Turns, turns-init, turns-stop, turns-fail, turns-next, map-push}
 use Rattle.parser.proofs.FileLaws.{refuses, at-item-fails, at-item, items-are, items-fail, asserts-more}
-use Rattle.parser.proofs.PlaceLaws.{placed-drop}
+use Rattle.parser.proofs.ByteLaws.{placed-drop}
 use Rattle.std.proofs.lemmas.List.{length-drop}
 use Rattle.parser.proofs.file.read_items.Goals as goal
 

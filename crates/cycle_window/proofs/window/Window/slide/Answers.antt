@@ -5,9 +5,8 @@ use Rattle.vcd_reader.specs.declared.dump.Dump.{Dump}
 use Rattle.vcd_reader.proofs.HeldLaws.{says-something}
 use Rattle.cycle_window.specs.declared.clocks.Clocks.{Clocks}
 use Rattle.cycle_window.specs.declared.window.Window.{Window}
-use Rattle.cycle_window.specs.Ticks.{ticks_of, row_of}
-use Rattle.cycle_window.specs.Held.{ticks_in, places_in, clock_in, columns_in, size_in, first_in, end_in, AreColumnsOf, IsOver, IsWindowOf}
-use Rattle.cycle_window.proofs.HeldLaws.{rows-many}
+use Rattle.cycle_window.specs.Ticks.{ticks_of}
+use Rattle.cycle_window.specs.Held.{ticks_in, clock_in, columns_in, size_in, first_in, end_in, IsOver, IsWindowOf}
 use Rattle.cycle_window.proofs.window.Window.slide.Goals as goal
 
 pub overflow_sub-len : goal.overflow_sub-len
@@ -17,13 +16,12 @@ overflow_sub-len c =
     omega (arith, c.requires.remain, c.len.ensures)
 
 -- the columns have a row for each tick
-many-rows : (d : Dump) (k : Clocks) (w : Window) → IsWindowOf w d k → length (ticks_in k) ≤ length w.columns.rows.items
-unfolding ticks_in columns_in clock_in places_in IsOver AreColumnsOf
+many-rows : (d : Dump) (k : Clocks) (w : Window) → IsWindowOf w d k → length (ticks_in k) ≤ w.columns.count
+unfolding ticks_in columns_in clock_in IsOver
 many-rows d k w same =
     ∥∥₁_elim (says-something d) le_prop (λ says.
-    let row = row_of says.0 (places_in w.columns) in
-    let ticks = ticks_of says.0 (clock_in w.columns) in
-    let rows : length w.columns.rows.items ≡ length ticks = rows-many (λ r. r.items) row w.columns.rows.items ticks (same.over says.0 says.1) in
+    let ticks = ticks_of says.0 w.columns.code in
+    let rows : w.columns.count ≡ length ticks = (same.over says.0 says.1).many in
     let clocks : length k.ticks.items ≡ length ticks = ap (λ (xs : List ℕ). length xs) (same.clocks says.0 says.1 ∙ ap (ticks_of says.0) same.same_clock) in
     omega (arith, rows, clocks))
 

@@ -7,7 +7,8 @@ use Rattle.cycle_window.specs.Held.{columns_in, places_in, clock_in}
 use Rattle.machine.specs.Running.{IsRowOf}
 use Rattle.program_runs.specs.Runs.{HasRun}
 use Rattle.program_runs.proofs.RowLaws.{row-values, values-prop}
-use Rattle.program_runs.proofs.RunLaws.{over-end, row-more}
+use Rattle.cycle_window.proofs.HeldLaws.{over-end}
+use Rattle.program_runs.proofs.RunLaws.{row-more}
 use Rattle.program_runs.proofs.run.Run.run_window.Goals as goal
 
 pub clock-requires-clause-row : goal.clock-requires-clause-row

@@ -1,0 +1,65 @@
+//! Jobs of a case.
+
+ghost use Rattle.std.specs.Prelude.{◌<◌};
+
+use anyhow::{Result, bail};
+use bytecode::decode;
+use signals::Counted;
+use std::alloc::Global;
+use vcd_reader::read_dump;
+use verifier::{Verified, verify};
+use workers::Job;
+
+/// The value of a hexadecimal digit, 0 for other bytes.
+fn digit(byte: u8) -> u8
+    ensures { result < 16 }
+{
+    match byte {
+        b'0'..=b'9' => byte - b'0',
+        b'a'..=b'f' => byte - b'a' + 10,
+        _ => 0,
+    }
+}
+
+/// The bytes that hexadecimal digits spell.
+fn bytes_of(alloc: Global, digits: &str) -> Result<Vec<u8>> {
+    let mut bytes = Vec::new(alloc);
+    for pair in digits.as_bytes().chunks_exact(2) {
+        bytes.push(digit(pair[0]) * 16 + digit(pair[1]))?;
+    }
+    Ok(bytes)
+}
+
+/// The verified program of a file in hexadecimal digits.
+fn program_of(alloc: Global, digits: &str) -> Result<Verified> {
+    let bytes = bytes_of(alloc, digits)?;
+    let Ok(program) = decode(alloc, bytes.as_slice()) else {
+        bail!("no program is spelled");
+    };
+    match verify(alloc, program) {
+        Ok(verified) => Ok(verified),
+        Err(_) => bail!("a program is refused"),
+    }
+}
+
+/// The programs of a job, one a line.
+fn programs_of(alloc: Global, lines: &str) -> Result<Vec<Verified>> {
+    let mut programs = Vec::new(alloc);
+    for line in lines.lines() {
+        programs.push(program_of(alloc, line)?)?;
+    }
+    Ok(programs)
+}
+
+/// The job of programs over a dump.
+pub fn job_of(alloc: Global, dump: &str, programs: &str) -> Result<Job> {
+    let mut source = Counted::new(dump.as_bytes());
+    let Ok(dump) = read_dump(alloc, &mut source) else {
+        bail!("a dump is refused");
+    };
+    let programs = programs_of(alloc, programs)?;
+    match Job::new(alloc, programs, dump, "clk") {
+        Ok(job) => Ok(job),
+        Err(_) => bail!("there is no job"),
+    }
+}

@@ -1,0 +1,103 @@
+//! Drives cores by lists of steps, allowed or not, and prints their replies and their boards.
+//!
+//! Standard input has cases, between which byte 1 stands, each of four parts, between which byte 2
+//! stands: a dump, whose clock is `clk`; files of bytecode in hexadecimal digits, one a line; a line
+//! with the number of workers and the most clocks of a window; and the steps, one a line. Of each
+//! case it prints the replies, a letter for each step, and the board: its batches, or, behind a
+//! thousand steps and more, a sum of their lines. A step for which there was no memory is made once
+//! more. A script (`scripts/core_cases.py`) made the cases, with the answers of a core of its own.
+#![tactic(auto)]
+
+mod job;
+mod show;
+mod sum;
+
+use anyhow::{Context, Result, bail};
+use job::job_of;
+use show::{batch_line, letter, step_of};
+use std::alloc::Global;
+use std::io::{Print, Read};
+use sum::sum_of;
+use workers::{Core, Job, Reply, Step};
+
+/// The most steps of a list whose board is printed whole.
+const SHORT: usize = 1_000;
+
+/// The steps of a list.
+fn steps_of(alloc: Global, text: &str) -> Result<Vec<Step>> {
+    let mut steps = Vec::new(alloc);
+    for line in text.lines() {
+        steps.push(step_of(line)?)?;
+    }
+    Ok(steps)
+}
+
+/// A core of a job, by the line of its workers and its window.
+fn core_of<'j>(alloc: Global, job: &'j Job, line: &str) -> Result<Core<'j>> {
+    let (workers, size) = line.trim_end().split_once(' ').context("no window")?;
+    let Ok(core) = Core::new(
+        alloc,
+        job,
+        workers.parse::<usize>()?,
+        size.parse::<usize>()?,
+    ) else {
+        bail!("there is no core");
+    };
+    Ok(core)
+}
+
+/// The reply to a step, which is made once more where there was no memory.
+fn reply(alloc: Global, core: &mut Core<'_>, step: Step) -> Reply {
+    match core.step(alloc, step) {
+        Reply::Memory => core.step(alloc, step),
+        other => other,
+    }
+}
+
+/// The replies to steps.
+fn replies(alloc: Global, core: &mut Core<'_>, steps: &[Step]) -> Result<String> {
+    let mut text = String::new(alloc);
+    for step in steps {
+        let reply = reply(alloc, core, *step);
+        text.push_str(letter(reply))?;
+    }
+    Ok(text)
+}
+
+/// The lines of a board.
+fn board_lines(alloc: Global, core: &Core<'_>) -> Result<String> {
+    let mut lines = String::new(alloc);
+    for batch in core.board() {
+        lines.push_str(batch_line(alloc, batch)?.as_str())?;
+    }
+    Ok(lines)
+}
+
+/// Prints what a case came to.
+fn show_case<R: Print + AllocGlobal>(rt: &R, case: &str) -> Result<()> {
+    let (dump, rest) = case.split_once('\x02').context("no programs")?;
+    let (programs, rest) = rest.split_once('\x02').context("no workers")?;
+    let (team, steps) = rest.split_once('\x02').context("no steps")?;
+    let job = job_of(rt.alloc(), dump, programs)?;
+    let steps = steps_of(rt.alloc(), steps)?;
+    let mut core = core_of(rt.alloc(), &job, team)?;
+    let replies = replies(rt.alloc(), &mut core, steps.as_slice())?;
+    let lines = board_lines(rt.alloc(), &core)?;
+    println!(rt; "replies {replies}")?;
+    if steps.len() <= SHORT {
+        print!(rt; "{lines}")?;
+    } else {
+        let sum = sum_of(lines.as_bytes());
+        println!(rt; "batches {} sum {sum:016x}", core.board().len())?;
+    }
+    Ok(())
+}
+
+fn main(rt: HostRuntime) -> Result<()> {
+    let mut text = String::new(rt.alloc());
+    rt.stdin().read_to_string(&mut text)?;
+    for case in text.split('\x01') {
+        show_case(&rt, case)?;
+    }
+    Ok(())
+}

@@ -1,0 +1,59 @@
+//! Steps, replies and batches as text.
+
+use anyhow::{Context, Result, bail};
+use batches::Batch;
+use signals::{Decided, Verdict};
+use std::alloc::Global;
+use workers::{Reply, Step};
+
+/// The step that a line names.
+pub fn step_of(line: &str) -> Result<Step> {
+    let mut words = line.split_whitespace();
+    let name = words.next().context("no step")?;
+    match name {
+        "slide" => return Ok(Step::Slide),
+        "gather" => return Ok(Step::Gather),
+        _ => {}
+    }
+    let worker = words.next().context("no worker")?.parse::<usize>()?;
+    match name {
+        "claim" => Ok(Step::Claim(worker)),
+        "publish" => Ok(Step::Publish(worker)),
+        "advance" => {
+            let clocks = words.next().context("no clocks")?.parse::<u64>()?;
+            Ok(Step::Advance(worker, clocks))
+        }
+        _ => bail!("no such step"),
+    }
+}
+
+/// The letter of a reply.
+pub fn letter(reply: Reply) -> &'static str {
+    match reply {
+        Reply::Done => "D",
+        Reply::Refused => "R",
+        Reply::Memory => "M",
+    }
+}
+
+/// A verdict and its clock.
+fn decided_text(alloc: Global, decided: &Decided) -> Result<String> {
+    let start = decided.start;
+    Ok(match decided.verdict {
+        Verdict::Holds(clock) => format!(in alloc; " ({start} Holds {clock})")?,
+        Verdict::Vacuous(clock) => format!(in alloc; " ({start} Vacuous {clock})")?,
+        Verdict::Fails(clock) => format!(in alloc; " ({start} Fails {clock})")?,
+        Verdict::Disabled(clock) => format!(in alloc; " ({start} Disabled {clock})")?,
+        Verdict::Open => bail!("decided, and open"),
+    })
+}
+
+/// The line of a batch.
+pub fn batch_line(alloc: Global, batch: &Batch) -> Result<String> {
+    let mut line = format!(in alloc; "batch {} {} {}", batch.monitor, batch.first, batch.end)?;
+    for decided in &batch.decided {
+        line.push_str(decided_text(alloc, decided)?.as_str())?;
+    }
+    line.push_str("\n")?;
+    Ok(line)
+}

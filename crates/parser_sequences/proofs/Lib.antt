@@ -1,0 +1,3 @@
+pub mod TreeLaws
+pub mod BodyLaws
+pub mod Steps

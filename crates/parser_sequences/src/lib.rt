@@ -1,0 +1,32 @@
+//! Reads the tokens of a sequence as its tree.
+//!
+//! A reader takes the tokens that are left, and answers what it read with the tokens behind it, or
+//! where and why it stopped (`parser_expressions::Read`). It reads as far as the grammar lets it
+//! go on.
+//!
+//! ```text
+//! let (body, rest) = read!(read_sequence(alloc, tokens, 64));
+//! ```
+//!
+//! Brackets may hold a part of what goes on behind them: `regroup` and `finish_sequence` go on
+//! from what stood in brackets, which a property, too, may begin with.
+//!
+//! The grammar stands in `grammar/specs/Sequences.antt`, and the functions that read by it in
+//! `grammar/specs/ReadSequences.antt`; `specs/Views.antt` says how a tree stands for the
+//! grammar's. What it is that a reader gives what the function reads (`Gives`) is a definition of
+//! `parser_expressions`.
+//!
+//! The depth is how many more brackets and unfinished operators may open, from 0 to 64.
+//!
+//! Not promised: which of the reasons of `Stop` comes, and at which byte; the tests of
+//! `oracle_texts` show it.
+#![tactic(auto)]
+
+mod body;
+mod count;
+mod read;
+mod sequence;
+mod tree;
+
+pub use sequence::{finish_sequence, read_sequence, regroup};
+pub use tree::SequenceTree;

@@ -1,0 +1,36 @@
+-- The signals of programs, and why there is no job.
+use Rattle.std.proofs.Common.{◌≡◌, ℕ, ◌+◌, ◌<◌, Bool, cond, List, [], ◌∷◌, ◌++◌, length, get_or, take, map, Option, Some, None, ap, ◌∙◌}
+use Rattle.std.proofs.lemmas.Bool.{eq-eqb}
+use Rattle.std.proofs.lemmas.List.{take_more, append-nil}
+use Rattle.std.proofs.lemmas.Grind.{flat_map-append}
+use Rattle.bytecode.specs.Values.{ProgramData}
+use Rattle.vcd_reader.specs.Variables.{Declared, size_of}
+use Rattle.cycle_window.specs.Bound.{Wanted, OtherWidth, IsClock, misfit, first_refused}
+use Rattle.program_runs.specs.Reported.{wanted_slot}
+use Rattle.workers.specs.declared.job_fault.JobFault.{JobFault}
+use Rattle.workers.specs.declared.job_fault.JobFault.TheVariants as faults
+use Rattle.workers.specs.Wanted.{wanted_in, HasClock, IsGoodCount, SaysRefused, WhyNoJob}
+
+abbrev signals_wanted : ProgramData → List Wanted
+signals_wanted p = map wanted_slot p.signals
+
+-- the signals of one program more
+pub wanted-more : (ps : List ProgramData) (i : ℕ) (d : ProgramData) → i < length ps → wanted_in (take (i + 1) ps) ≡ wanted_in (take i ps) ++ map wanted_slot (get_or ps i d).signals
+wanted-more ps i d lt =
+    ap wanted_in (take_more ps i d lt)
+    ∙ flat_map-append signals_wanted (take i ps) (get_or ps i d ∷ [])
+    ∙ ap (λ (xs : List Wanted). wanted_in (take i ps) ++ xs) (append-nil (signals_wanted (get_or ps i d)))
+
+-- a clock of one bit is there
+pub has-clock : (vs : List Declared) (path : List ℕ) (code : ℕ) → IsClock vs path code → HasClock vs path
+has-clock vs path code (v, named, bit, is) =
+    ap (λ (o : Option ℕ). misfit vs o 1) named ∙ ap (λ (b : Bool). cond b None (Some OtherWidth)) (eq-eqb (size_of vs v) 1 bit)
+
+-- why there is no job, behind the clock and the number of programs
+pub refused-why : (vs : List Declared) (path : List ℕ) (ps : List ProgramData) (e : JobFault) → HasClock vs path → IsGoodCount ps → SaysRefused (first_refused vs (wanted_in ps)) e → WhyNoJob vs path ps e
+refused-why vs path ps faults.NoClock clock count h = absurd h
+refused-why vs path ps faults.ClockWidth clock count h = absurd h
+refused-why vs path ps faults.BadJob clock count h = absurd h
+refused-why vs path ps (faults.NoSignal p) clock count h = (clock, count, h)
+refused-why vs path ps (faults.SignalWidth p) clock count h = (clock, count, h)
+refused-why vs path ps faults.Memory clock count h = tt

@@ -1,0 +1,11 @@
+use Rattle.std.proofs.Common.{subst}
+use Rattle.workers.specs.Values.{CoreValue, Says}
+use Rattle.workers.specs.Following.{FollowsMachine}
+use Rattle.workers.proofs.FollowLaws.{core-follows}
+use Rattle.workers.proofs.cores.Core.follows_machine.Goals as goal
+
+pub returns : goal.returns
+returns c = record {
+  follows = λ k says. subst (λ (v : CoreValue). Says v.job k → FollowsMachine v k) c.self.view_is
+      (λ (s : _). core-follows c.self.inside.job.now c.self.inside.floor k c.self.invariant s) says;
+}

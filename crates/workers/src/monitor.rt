@@ -1,0 +1,136 @@
+//! A monitor at work.
+
+ghost use Rattle.std.specs.Prelude.{◌≡◌, IfOk, OnOk, ◌+◌, ◌-◌, ◌^◌, ◌<◌, ◌≤◌, length};
+ghost use Rattle.std.specs.Prelude.{slice_range};
+ghost use Rattle.std.specs.Prelude.{vec_len, vec_capacity};
+ghost use Rattle.vcd_reader.specs.Dump.{Contents};
+ghost use Rattle.cycle_window.specs.Held.{end_in, IsOver};
+ghost use Rattle.machine.specs.Running.{IsRowOf};
+ghost use Rattle.workers.specs.States.{advanced};
+
+use arrayvec::ArrayVec;
+use batches::Batch;
+use cycle_window::Window;
+use machine::Machine;
+use signals::Decided;
+use std::alloc::{AllocError, Global};
+use std::mem;
+use verifier::Verified;
+
+/// A program of a job at work.
+#[derive(Drop)]
+pub(crate) struct Monitor {
+    pub(crate) machine: Machine,
+    /// Its signals' part of a row: from the first place up to the second, which is not in it.
+    pub(crate) from: usize,
+    pub(crate) to: usize,
+    /// How many attempts its program may have live.
+    pub(crate) attempts: usize,
+    /// The clock from which on the decided attempts are kept.
+    pub(crate) since: u64,
+    pub(crate) decided: Vec<Decided>,
+}
+
+impl Monitor {
+    ghost use Rattle.workers.specs.Standing.{monitor_state, seen, part, IsSame, Stands, IsOneMore};
+    ghost use Rattle.workers.specs.Standing.{IsUnmoved, IsCleared};
+    ghost use Rattle.workers.specs.Floors.{batch_state};
+    ghost use Rattle.workers.specs.States.{batch};
+    ghost use Rattle.workers.specs.Opening.{IsNew, part_of, part_at, opened_monitor};
+
+    /// A program before its first clock, with its part of a row from a place on.
+    pub(crate) fn new(
+        alloc: Global,
+        verified: &Verified,
+        from: usize,
+    ) -> Result<Monitor, AllocError>
+        ensures opened { IfOk result (λ m. monitor_state m ≡ opened_monitor verified.now) }
+        ensures part { IfOk result (λ m. part_of m ≡ part_at from verified.now) }
+        ensures new { IfOk result IsNew }
+    {
+        let Some(to) = from.checked_add(verified.program().signals.len()) else {
+            return Err(AllocError);
+        };
+        let attempts = usize::from(verified.limits().attempts);
+        let copied = verified.copy(alloc)?;
+        let Ok(machine) = Machine::new(alloc, copied) else {
+            return Err(AllocError);
+        };
+        Ok(Monitor {
+            machine,
+            from,
+            to,
+            attempts,
+            since: 0,
+            decided: Vec::new(alloc),
+        })
+    }
+
+    /// A clock over a row of all signals. There is room for what it decides.
+    fn clock(&mut self, row: &[u128])
+        requires parted { self.old.from ≤ self.old.to }
+        requires inside { self.old.to ≤ length row.now }
+        requires row { IsRowOf self.old.machine.program (part self.old row.now) }
+        requires room { self.old.machine.program.header.limits.attempts ≤ 1024 }
+        requires spare { vec_len self.old.decided
+            + length self.old.machine.state.standing.attempts + 1 ≤ vec_capacity self.old.decided }
+        requires more { self.old.machine.state.standing.now + 1 < 2 ^ 64 }
+        ensures { IsOneMore self.old (part self.old row.now) self.new }
+    {
+        let mut decided: ArrayVec<Decided, 1024> = ArrayVec::new();
+        self.machine.clock(&row[self.from..self.to], &mut decided);
+        let kept = self.decided.extend_from_slice(decided.as_slice());
+        prove!(kept.is_ok());
+    }
+
+    /// Makes room for what so many clocks decide: an attempt each, and those that are live.
+    pub(crate) fn reserve(&mut self, clocks: u64) -> Result<(), AllocError>
+        ensures same { IsUnmoved self.old self.new }
+        ensures room { OnOk result (vec_len self.new.decided
+            + self.new.attempts + clocks
+            ≤ vec_capacity self.new.decided) }
+    {
+        let Some(room) = self.attempts.checked_add(clocks as usize) else {
+            return Err(AllocError);
+        };
+        self.decided.reserve(room)
+    }
+
+    /// The clocks up to one of the window's. There is room for what they decide.
+    pub(crate) fn advance(&mut self, window: &Window, to: u64)
+        requires stands { Stands window.now self.old }
+        requires ahead { self.old.machine.state.standing.now ≤ to }
+        requires inside { to ≤ end_in window.now }
+        requires spare { vec_len self.old.decided
+            + length self.old.machine.state.standing.attempts
+            + (to - self.old.machine.state.standing.now) ≤ vec_capacity self.old.decided }
+        ensures stands { Stands window.now self.new }
+        ensures same { IsSame self.old self.new }
+        ensures moved { (c : Contents) → IsOver window.now c →
+            advanced (seen window.now c self.old) (to - self.old.machine.state.standing.now)
+            (monitor_state self.old)
+            ≡ monitor_state self.new }
+    {
+        for clock in self.machine.now()..to {
+            let row = window.row(clock);
+            self.clock(row);
+        }
+    }
+
+    /// What was decided since the last batch, as the batch of the clocks since.
+    pub(crate) fn take_batch(&mut self, alloc: Global, number: usize) -> Batch
+        ensures batch { batch_state result ≡ batch number (monitor_state self.old) }
+        ensures cleared { IsCleared self.old self.new }
+    {
+        let decided = mem::replace(&mut self.decided, Vec::new(alloc));
+        let first = self.since;
+        let end = self.machine.now();
+        self.since = end;
+        Batch {
+            monitor: number,
+            first,
+            end,
+            decided,
+        }
+    }
+}
