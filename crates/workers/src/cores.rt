@@ -1,14 +1,17 @@
 //! A core: a job's monitors at work, step by step.
 
-ghost use Rattle.std.specs.Prelude.{◌≡◌, ◌≤◌, IfOk, IfErr, map};
+ghost use Rattle.std.specs.Prelude.{◌≡◌, ◌<◌, ◌≤◌, Some, IfOk, IfErr, length, map, slice_get};
 ghost use Rattle.vcd_reader.specs.Dump.{Contents};
+ghost use Rattle.machine.specs.Running.{open_ones};
 ghost use Rattle.workers.specs.States.{Replies, next};
 
 use crate::floor::Floor;
 use crate::job::Job;
 use crate::run_fault::RunFault;
 use crate::step::{Reply, Step};
+use arrayvec::ArrayVec;
 use batches::Batch;
+use signals::Decided;
 use std::alloc::Global;
 use std::marker::Model;
 
@@ -40,6 +43,7 @@ impl<'j> Core<'j> {
     ghost use Rattle.workers.specs.Values.{job_value, opening_core, setting_of, Says, WhyNoCore};
     ghost use Rattle.workers.specs.Following.{FollowsMachine};
     ghost use Rattle.workers.specs.Floors.{batch_state};
+    ghost use Rattle.workers.specs.States.{MonitorState};
 
     /// A core of 1 to 64 workers, through windows of so many clocks, 1 to 65,536.
     pub fn new(
@@ -84,6 +88,32 @@ impl<'j> Core<'j> {
         }
     }
 
+    /// How many clocks the trace has.
+    pub fn clocks(&self) -> u64
+        ensures { result ≡ length self.now.job.ticks }
+    {
+        self.job.clocks.len()
+    }
+
+    /// The window's clocks: from the first up to the second, which is not in it.
+    pub fn window(&self) -> (u64, u64)
+        ensures first { result.0 ≡ self.now.state.first }
+        ensures end { result.1 ≡ self.now.state.end }
+    {
+        self.floor.window.bounds()
+    }
+
+    /// The attempts of a monitor that are live at its place, as open ones, by start.
+    pub fn open_attempts(&self, monitor: usize) -> ArrayVec<Decided, 1024>
+        requires { monitor < length self.now.state.monitors }
+        ensures { (m : MonitorState) → slice_get self.now.state.monitors monitor ≡ Some m
+            → result.items ≡ open_ones m.state.standing.attempts }
+    {
+        let mut live = ArrayVec::new();
+        self.floor.monitors[monitor].machine.open_starts(&mut live);
+        live
+    }
+
     /// The published batches, in the order in which they were published.
     pub fn board(&self) -> &[Batch]
         ensures { map batch_state result.now ≡ self.now.state.board }
@@ -92,8 +122,8 @@ impl<'j> Core<'j> {
     }
 
     /// A law, and a call that does nothing. Whatever list of steps was made: each monitor is in the
-    /// state of the checked machine over the trace's first rows up to its place, and each batch on
-    /// the board is that of its monitor for its clocks.
+    /// state of the checked machine over the trace's first rows up to its place, each batch on the
+    /// board is that of its monitor for its clocks, and a monitor's batches leave nothing out.
     pub fn follows_machine(&self)
         ensures follows { (c : Contents) → Says self.now.job c → FollowsMachine self.now c }
     {

@@ -27,6 +27,7 @@ pub struct Job {
 impl Job {
     ghost use Rattle.workers.specs.Jobs.{IsJobOf};
     ghost use Rattle.workers.specs.Wanted.{WhyNoJob};
+    ghost use Rattle.workers.specs.Values.{job_value};
 
     /// A job of 1 to 4,096 programs on the clock that a path names. Each signal of each program
     /// names a variable of its width.
@@ -48,5 +49,12 @@ impl Job {
                 clocks,
             }),
         }
+    }
+
+    /// The job's programs, in source order.
+    pub fn programs(&self) -> &[Verified]
+        ensures { result.now ≡ (job_value self.now).programs }
+    {
+        self.programs.as_slice()
     }
 }
