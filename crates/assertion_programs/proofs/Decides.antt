@@ -56,10 +56,10 @@ occurs-listed n (and r s) b h o = elim o [ inl x ↦ occurs-listed n r b h.0 x |
 occurs-listed n (throughout c r) b h o = elim o [ inl x ↦ same-listed n b c h.0 x | inr y ↦ occurs-listed n r b h.1 y ]
 
 module _ (suite : Suite) (a : Assertion) (p : ProgramData) (of : IsProgramOf suite a p) (rows : List (List ℕ)) (fit : AreRowsOf suite rows) where
-  abbrev value : Boolean → ℕ → Bool
+  abbrev pub value : Boolean → ℕ → Bool
   value = value_in suite.booleans.items a.booleans.items (made.t suite a p of rows fit)
 
-  abbrev off : ℕ → Bool
+  abbrev pub off : ℕ → Bool
   off = off_in suite.booleans.items a.booleans.items (made.t suite a p of rows fit) a.disabling
 
   abbrev atoms : ℕ → List Bool
@@ -83,13 +83,13 @@ module _ (suite : Suite) (a : Assertion) (p : ProgramData) (of : IsProgramOf sui
       subst (λ x. Follows value (kernel One w) (automaton_of x atoms)) (sym is)
       (law-section_follows atom_of One atoms value w ordered (λ k b occurs. told-at k b (occurs-listed (length a.booleans.items) w b listed occurs)))
 
-  watches : Watches p atoms value (shape a.antecedent) (shape a.consequent)
+  pub watches : Watches p atoms value (shape a.antecedent) (shape a.consequent)
   watches = record {
     antecedent = follows (written_form a.antecedent) p.antecedent a.antecedent_ordered of.antecedent_listed of.antecedent;
     consequent = follows (written_form a.consequent) p.consequent a.consequent_ordered of.consequent_listed of.consequent;
   }
 
-  fills : Fills value (shape a.consequent)
+  pub fills : Fills value (shape a.consequent)
   fills e m =
       of.fills (empty-Matches Boolean always One (written_form a.consequent) 0 a.consequent_ordered
       (Matches-empty Boolean value One (written_form a.consequent) e a.consequent_ordered m))
@@ -100,7 +100,7 @@ module _ (suite : Suite) (a : Assertion) (p : ProgramData) (of : IsProgramOf sui
   disabled-at (Some One) h k = absurd h
   disabled-at (Some (Listed i)) h k = ap (λ o. unwrap_or o false) (atom-at k i h)
 
-  same-off : off ≡ (monitor_of p atoms).off
+  pub same-off : off ≡ (monitor_of p atoms).off
   same-off = fun_ext (λ k. sym (ap (λ d. unwrap_or (disabling d (atoms k)) false) of.disable ∙ disabled-at a.disabling of.disabling_listed k))
 
   decides : IsAccepted p → (verdicts : List Verdict) → AreVerdictsOver suite rows a verdicts →

@@ -6,6 +6,8 @@ use Rattle.bytecode.specs.Values.{SlotData}
 use Rattle.vcd_reader.specs.Variables.{Declared, variable_named}
 use Rattle.vcd_reader.specs.Dump.{Contents}
 use Rattle.vcd_reader.specs.Held.{HoldsContents, variables_of}
+use Rattle.vcd_reader.proofs.HeldLaws.{says-something as dump-says}
+use Rattle.std.proofs.Math.Logic.{∥∥₁_map}
 use Rattle.cycle_window.specs.declared.columns.Columns.{Columns}
 use Rattle.cycle_window.specs.Bound.{places_of}
 use Rattle.cycle_window.specs.Ticks.{ticks_of, row_of}
@@ -63,6 +65,10 @@ sees j f c h says i m is =
 
 pub holds : (j : Job) (c : Contents) → Says (job_value j) c → HoldsContents j.dump c
 holds j c h = record { variables = h.variables; steps = h.steps }
+
+-- a job's dump has some contents
+pub says-something : (j : Job) → ∥ ((c : Contents) × Says (job_value j) c) ∥₁
+says-something j = ∥∥₁_map (dump-says j.dump) (λ s. (s.0, record { variables = s.1.variables; steps = s.1.steps }))
 
 -- what a step answers, of the value that the parts stand for
 abbrev AnswersTo : CoreValue → Step → CoreState → Reply → Type 0

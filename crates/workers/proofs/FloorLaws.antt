@@ -24,7 +24,7 @@ use Rattle.workers.specs.Opening.{Part, part_of}
 use Rattle.bytecode.specs.Values.{ProgramData}
 use Rattle.std.proofs.lemmas.List.{length-set}
 use Rattle.workers.proofs.PlaceLaws.{same-part, unmoved-same, right-same, stands-unmoved}
-use Rattle.batches.specs.Batches.{HasCome}
+use Rattle.batches.specs.Batches.{HasCome, batch_of, decided_in}
 use Rattle.batches.proofs.JoinLaws.{come-anew}
 
 -- what holds of each place of a list holds after a write
@@ -232,12 +232,12 @@ right-taken w m i b h is =
     let decided : b.decided.items ≡ m.decided.items = ap (λ (x : BatchState). x.decided) is in
     record {
       order = omega (arith, first, end, h.lately);
-      come = λ c over. ∣ (
-        m.machine.state,
-        subst (λ (n : ℕ). HasCome m.machine.program (seen w c m) n b.end b.decided.items m.machine.state) (sym first)
-            (subst (λ (n : ℕ). HasCome m.machine.program (seen w c m) m.since n b.decided.items m.machine.state) (sym end)
-            (subst (λ (ds : List Decided). HasCome m.machine.program (seen w c m) m.since m.machine.state.standing.now ds m.machine.state) (sym decided) (h.come c over))),
-      ) ∣₁;
+      inside = omega (arith, end, h.high);
+      decided = λ c over.
+          decided
+          ∙ sym (ap decided_in (h.come c over).ran)
+          ∙ ap (λ (n : ℕ). batch_of m.machine.program (seen w c m) n m.machine.state.standing.now) (sym first)
+          ∙ ap (batch_of m.machine.program (seen w c m) b.first) (sym end);
     }
 
 -- with its batch taken, a monitor stands where it stood
@@ -274,7 +274,7 @@ right-cleared w m new b u h =
     let like : Monitor = record { machine = new.machine; from = new.from; to = new.to; attempts = new.attempts; since = m.since; decided = new.decided } in
     let same : IsSame m like = record { program = ap (λ (x : Running). x.program) u.machine; from = u.from; to = u.to; attempts = u.attempts; since = refl } in
     let r = right-same w m like b same h in
-    record { order = r.order; come = r.come }
+    record { order = r.order; inside = r.inside; decided = r.decided }
 
 pub right-more : (w : Window) (ms : List Monitor) (bs : List Batch) (i : ℕ) (m new : Monitor) (b : Batch) → slice_get ms i ≡ Some m → Stands w m → IsCleared m new →
     batch_state b ≡ batch i (monitor_state m) → EachIsRight w ms bs → EachIsRight w (slice_set ms i new) (bs ++ b ∷ [])

@@ -1,25 +1,30 @@
 -- What every core has.
-use Rattle.std.proofs.Common.{◌≡◌, ℕ, zero, suc, ◌+◌, ◌<◌, List, [], ◌∷◌, length, take, map, Some, refl, sym, ap, ◌∙◌, subst, arith}
+use Rattle.std.proofs.Common.{◌≡◌, ℕ, zero, suc, ◌+◌, ◌<◌, ◌≤◌, ◌++◌, List, [], ◌∷◌, length, take, map, Some, refl, sym, ap, ◌∙◌, subst, arith}
 use Rattle.std.specs.Prelude.{slice_get}
-use Rattle.std.proofs.Math.Logic.{∥∥₁_map}
 use Rattle.bytecode.specs.Values.{ProgramData}
 use Rattle.vcd_reader.specs.Dump.{Contents}
 use Rattle.checked_machine.specs.Machine.{opening, clocks}
 use Rattle.batches.specs.declared.batch.Batch.{Batch}
-use Rattle.batches.specs.Batches.{run_between, decided_in}
+use Rattle.batches.specs.Batches.{batch_of}
 use Rattle.batches.proofs.JoinLaws.{ends-in}
 use Rattle.workers.specs.declared.job.Job.{Job}
 use Rattle.workers.specs.declared.floor.Floor.{Floor}
 use Rattle.workers.specs.declared.monitor.Monitor.{Monitor}
-use Rattle.workers.specs.States.{MonitorState, BatchState}
+use Rattle.workers.specs.States.{MonitorState, BatchState, place}
 use Rattle.workers.specs.Standing.{monitor_state, seen}
 use Rattle.workers.specs.Floors.{batch_state}
 use Rattle.workers.specs.Opening.{Part, part_of, parts_from}
 use Rattle.workers.specs.Cores.{IsCore}
 use Rattle.workers.specs.Values.{Says, job_value, value_of}
-use Rattle.workers.specs.Following.{IsInState, IsBatchOf, FollowsMachine}
+use Rattle.workers.specs.Following.{IsInState, IsBatchOf, IsWhole, FollowsMachine}
 use Rattle.workers.proofs.FloorLaws.{get-mapped}
 use Rattle.workers.proofs.CoreLaws.{holds, sees}
+use Rattle.workers.proofs.RunLaws.{all-up-to}
+use Rattle.verifier.specs.Programs.{IsAccepted}
+use Rattle.signals.specs.declared.verdict.Decided.{Decided}
+use Rattle.cycle_window.specs.Ticks.{ticks_of}
+use Rattle.cycle_window.specs.Held.{end_in}
+use Rattle.cycle_window.proofs.HeldLaws.{over-end}
 
 -- what stands in a mapped list
 record Found {A : Type 0} {B : Type 0} (f : A → B) (xs : List A) (i : ℕ) (y : B) : Type 0 where
@@ -58,8 +63,23 @@ module _ (j : Job) (f : Floor) (c : Contents) (core : IsCore j f) (says : Says (
       ap (λ (rows : List (List ℕ)). clocks p (opening p) (take now rows)) (sees j f c core says i m at)
       ∙ ends-in p (seen f.window c m) m.since now m.machine.state m.decided.items stands.lately (stands.come c (core.window.over c (holds j c says)))
 
-  batch-of : (n : ℕ) (b : Batch) → slice_get f.board.items n ≡ Some b → ∥ ((p : ProgramData) × IsBatchOf (job_value j) c p (batch_state b)) ∥₁
-  batch-of n b at =
+  -- the window ends within the trace
+  ticks-left : end_in f.window ≤ length (ticks_of c (job_value j).code)
+  ticks-left =
+      subst (λ (n : ℕ). end_in f.window ≤ length (ticks_of c n)) (sym core.window.same_clock) (over-end f.window c (core.window.over c (holds j c says)))
+
+  whole-at : (i : ℕ) (m : Monitor) → slice_get f.monitors.items i ≡ Some m → IsWhole (value_of j f) c i (monitor_state m)
+  whole-at i m at =
+      let p = m.machine.program in
+      let now = m.machine.state.standing.now in
+      let stands = core.sound.monitors i m at in
+      let over = core.window.over c (holds j c says) in
+      ap (λ (ds : List Decided). ds ++ m.decided.items) (core.sound.told i m at c over)
+      ∙ all-up-to p (seen f.window c m) m.since now m.machine.state m.decided.items stands.lately (stands.come c over)
+      ∙ ap (λ (rows : List (List ℕ)). batch_of p rows 0 now) (sym (sees j f c core says i m at))
+
+  batch-at : (n : ℕ) (b : Batch) → slice_get f.board.items n ≡ Some b → (p : ProgramData) × IsBatchOf (job_value j) c p (batch_state b)
+  batch-at n b at =
       let ms = f.monitors.items in
       let found = there ms b.monitor (core.sound.known n b at) in
       let m = found.0 in
@@ -67,21 +87,31 @@ module _ (j : Job) (f : Floor) (c : Contents) (core : IsCore j f) (says : Says (
       let right = core.sound.batches n b m at found.1 in
       let program : slice_get j.programs.items b.monitor ≡ Some p =
       ap (λ (ps : List ProgramData). slice_get ps b.monitor) (sym programs-are)
-      ∙ get-mapped (λ (s : MonitorState). s.program) (map monitor_state ms) b.monitor (monitor_state m) (get-mapped monitor_state ms b.monitor m found.1) in
-      ∥∥₁_map (right.come c (core.window.over c (holds j c says))) (λ h. (
+      ∙ get-mapped (λ (s : MonitorState). s.program) (map monitor_state ms) b.monitor (monitor_state m) (get-mapped monitor_state ms b.monitor m found.1) in (
         p,
         record {
           program = program;
           order = right.order;
-          decided = sym (ap (λ (rows : List (List ℕ)). decided_in (run_between p rows b.first b.end)) (sees j f c core says b.monitor m found.1) ∙ ap decided_in h.1.ran);
+          within = omega (arith, right.inside, ticks-left);
+          decided = right.decided c (core.window.over c (holds j c says)) ∙ ap (λ (rows : List (List ℕ)). batch_of p rows b.first b.end) (sym (sees j f c core says b.monitor m found.1));
         },
-      ))
+      )
 
   pub core-follows : FollowsMachine (value_of j f) c
   core-follows = record {
     programs = programs-are;
+    accepted = λ i s is.
+        let r = found monitor_state f.monitors.items i s is in
+        subst (λ (x : MonitorState). IsAccepted x.program) r.is (core.sound.monitors i r.item r.at).accepted;
+    within = λ i s is.
+        let r = found monitor_state f.monitors.items i s is in
+        let high = (core.sound.monitors i r.item r.at).high in
+        subst (λ (x : MonitorState). place x ≤ length (ticks_of c (job_value j).code)) r.is (omega (arith, high, ticks-left));
+    whole = λ i s is.
+        let r = found monitor_state f.monitors.items i s is in
+        subst (IsWhole (value_of j f) c i) r.is (whole-at i r.item r.at);
     monitors = λ i s is. let r = found monitor_state f.monitors.items i s is in subst (IsInState (job_value j) c) r.is (in-state i r.item r.at);
     batches = λ n s is.
         let r = found batch_state f.board.items n s is in
-        subst (λ (b : BatchState). ∥ ((p : ProgramData) × IsBatchOf (job_value j) c p b) ∥₁) r.is (batch-of n r.item r.at);
+        subst (λ (b : BatchState). (p : ProgramData) × IsBatchOf (job_value j) c p b) r.is (batch-at n r.item r.at);
   }

@@ -1,5 +1,7 @@
 pub mod PlaceLaws
 pub mod FloorLaws
+pub mod RunLaws
+pub mod ToldLaws
 pub mod JobLaws
 pub mod OpeningLaws
 pub mod PartLaws

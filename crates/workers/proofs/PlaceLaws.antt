@@ -19,7 +19,7 @@ use Rattle.checked_machine.specs.Outcomes.{done}
 use Rattle.checked_machine.specs.Machine.{State, Outcome, clock}
 use Rattle.checked_machine.specs.Runs.{run_from}
 use Rattle.program_runs.proofs.BatchLaws.{run-more}
-use Rattle.batches.specs.Batches.{rows_between, HasCome}
+use Rattle.batches.specs.Batches.{rows_between, batch_of, HasCome}
 use Rattle.verifier.specs.Programs.{IsAccepted, least_attempts, least_obligations}
 use Rattle.checked_machine.specs.Outcomes.{Meets}
 use Rattle.checked_machine.proofs.Machine.{never-count}
@@ -259,7 +259,7 @@ stands-unmoved w old new h u =
     stands-on w old new now h same (ap (λ (m : Running). m.state.standing.now) u.machine) (omega arith) h.high
     (λ c over. unmoved-gone (seen w c old) old new u)
 
-same-seen : (v w : Window) (c : Contents) (m : Monitor) → columns_in w ≡ columns_in v → seen v c m ≡ seen w c m
+pub same-seen : (v w : Window) (c : Contents) (m : Monitor) → columns_in w ≡ columns_in v → seen v c m ≡ seen w c m
 same-seen v w c m is = ap (λ (cs : Columns). map (row_of c (part m (places_in cs))) (ticks_of c (clock_in cs))) (sym is)
 
 -- a monitor at the end of a window stands at the first clock of the next
@@ -281,18 +281,21 @@ stands-slid v w m is first longer at h =
           (h.come c (over-same v w c is over));
     }
 
-pub right-slid : (v w : Window) (m : Monitor) (b : Batch) → columns_in w ≡ columns_in v → IsRight v m b → IsRight w m b
-right-slid v w m b is h = record {
+pub right-slid : (v w : Window) (m : Monitor) (b : Batch) → columns_in w ≡ columns_in v → end_in v ≤ end_in w → IsRight v m b → IsRight w m b
+right-slid v w m b is longer h = record {
   order = h.order;
-  come = λ c over. subst (λ (rows : List (List ℕ)). ∥ ((last : State) × HasCome m.machine.program rows b.first b.end b.decided.items last) ∥₁) (same-seen v w c m is) (h.come c (over-same v w c is over));
+  inside = omega (arith, h.inside, longer);
+  decided = λ c over.
+      h.decided c (over-same v w c is over) ∙ ap (λ (rows : List (List ℕ)). batch_of m.machine.program rows b.first b.end) (same-seen v w c m is);
 }
 
 pub right-same : (w : Window) (old new : Monitor) (b : Batch) → IsSame old new → IsRight w old b → IsRight w new b
 right-same w old new b same h = record {
   order = h.order;
-  come = λ c over.
-      let vs = places_in (columns_in w) in
+  inside = h.inside;
+  decided = λ c over.
       let ticks = ticks_of c (clock_in (columns_in w)) in
-      subst (λ (p : ProgramData). ∥ ((last : State) × HasCome p (seen w c new) b.first b.end b.decided.items last) ∥₁) (sym same.program)
-      (subst (λ (ps : List ℕ). ∥ ((last : State) × HasCome old.machine.program (map (row_of c ps) ticks) b.first b.end b.decided.items last) ∥₁) (sym (same-part vs old new same)) (h.come c over));
+      h.decided c over
+      ∙ ap (λ (p : ProgramData). batch_of p (seen w c old) b.first b.end) (sym same.program)
+      ∙ ap (λ (ps : List ℕ). batch_of new.machine.program (map (row_of c ps) ticks) b.first b.end) (sym (same-part (places_in (columns_in w)) old new same));
 }

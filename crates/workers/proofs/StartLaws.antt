@@ -24,13 +24,14 @@ use Rattle.batches.proofs.JoinLaws.{come-first}
 use Rattle.workers.specs.declared.job.Job.{Job}
 use Rattle.workers.specs.declared.floor.Floor.{Floor}
 use Rattle.workers.specs.declared.monitor.Monitor.{Monitor}
-use Rattle.workers.specs.States.{CoreState, MonitorState, WorkerState, BatchState}
+use Rattle.workers.specs.States.{CoreState, MonitorState, WorkerState, BatchState, published_by}
 use Rattle.workers.specs.Standing.{monitor_state, variables_in, seen, Stands}
-use Rattle.workers.specs.Floors.{worker_state, batch_state}
+use Rattle.workers.specs.Floors.{worker_state, batch_state, AreAllBefore}
 use Rattle.workers.specs.Opening.{Part, IsNew, part_of, parts_from, opened_monitor}
 use Rattle.workers.specs.Wanted.{wanted_in}
 use Rattle.workers.specs.Cores.{IsFirstWindow, IsOpened}
 use Rattle.workers.proofs.FloorLaws.{get-mapped}
+use Rattle.workers.proofs.ToldLaws.{none-told}
 use Rattle.workers.proofs.PartLaws.{IsPlaced, each-placed, each-accepted}
 
 -- the window of columns that are bound to the signals
@@ -107,6 +108,9 @@ opened j n most f h states parts new waiting workers board =
           monitors = λ i m is. stands-new j most f.window m i h (sym (ap (λ (qs : List Part). slice_get qs i) parts) ∙ get-mapped part_of ms i m is) (new i m is);
           known = λ i b is. absurd (cc (is, board));
           batches = λ i b m is there. absurd (cc (is, board));
+          told = λ i m is.
+              subst (λ (bs : List Batch). AreAllBefore f.window m (published_by (map batch_state bs) i)) (sym board)
+              (none-told f.window m (new i m is));
         };
         window = h.of;
         places = h.places;

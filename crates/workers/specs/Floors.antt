@@ -3,13 +3,13 @@ use Rattle.std.specs.Prelude.{◌≡◌, ◌<◌, ◌≤◌, ℕ, List, Some, le
 use Rattle.vcd_reader.specs.Dump.{Contents}
 use Rattle.cycle_window.specs.declared.window.Window.{Window}
 use Rattle.cycle_window.specs.Held.{first_in, end_in, columns_in, size_in, IsOver}
-use Rattle.checked_machine.specs.Machine.{State}
+use Rattle.signals.specs.declared.verdict.Decided.{Decided}
 use Rattle.batches.specs.declared.batch.Batch.{Batch}
-use Rattle.batches.specs.Batches.{HasCome}
+use Rattle.batches.specs.Batches.{batch_of}
 use Rattle.workers.specs.declared.monitor.Monitor.{Monitor}
 use Rattle.workers.specs.declared.worker.Worker.{Worker}
 use Rattle.workers.specs.declared.floor.Floor.{Floor}
-use Rattle.workers.specs.States.{CoreState, WorkerState, BatchState, Setting}
+use Rattle.workers.specs.States.{CoreState, WorkerState, BatchState, Setting, published_by}
 use Rattle.workers.specs.Standing.{monitor_state, seen, Stands}
 use Rattle.workers.specs.Opening.{part_of}
 
@@ -41,9 +41,9 @@ EachStands w ms = (i : ℕ) (m : Monitor) → slice_get ms i ≡ Some m → Stan
 -- the batch is that of its monitor for its clocks
 pub record IsRight (w : Window) (m : Monitor) (b : Batch) : Type 0 where
   pub order : b.first ≤ b.end
-  pub come : (c : Contents) → IsOver w c →
-      ∥ ((last : State)
-      × HasCome m.machine.program (seen w c m) b.first b.end b.decided.items last) ∥₁
+  pub inside : b.end ≤ end_in w
+  pub decided : (c : Contents) → IsOver w c →
+      b.decided.items ≡ batch_of m.machine.program (seen w c m) b.first b.end
 
 abbrev pub EachIsRight : Window → List Monitor → List Batch → Type 0
 EachIsRight w ms bs =
@@ -54,11 +54,23 @@ EachIsRight w ms bs =
 abbrev pub EachIsKnown : List Monitor → List Batch → Type 0
 EachIsKnown ms bs = (n : ℕ) (b : Batch) → slice_get bs n ≡ Some b → b.monitor < length ms
 
--- each monitor stands in the window, and each batch is right
+-- these are all that the monitor's program decides before the clock since which it keeps them
+abbrev pub AreAllBefore : Window → Monitor → List Decided → Type 0
+AreAllBefore w m decided =
+    (c : Contents) → IsOver w c → decided ≡ batch_of m.machine.program (seen w c m) 0 m.since
+
+-- each monitor has published all that it doesn't keep
+abbrev pub EachIsTold : Window → List Monitor → List Batch → Type 0
+EachIsTold w ms bs =
+    (i : ℕ) (m : Monitor) → slice_get ms i ≡ Some m →
+    AreAllBefore w m (published_by (map batch_state bs) i)
+
+-- each monitor stands in the window, each batch is right, and none is missing
 pub record IsSound (f : Floor) : Type 0 where
   pub monitors : EachStands f.window f.monitors.items
   pub known : EachIsKnown f.monitors.items f.board.items
   pub batches : EachIsRight f.window f.monitors.items f.board.items
+  pub told : EachIsTold f.window f.monitors.items f.board.items
 
 -- What every step keeps: the window's columns and size, and each monitor's program and part of a
 -- row.

@@ -1,8 +1,5 @@
 -- What every core has, whatever its steps were.
-use Rattle.std.specs.Prelude.{◌≡◌, ℕ, ◌≤◌, List, [], ◌++◌, Some, length, map, take, slice_get}
-use Rattle.std.specs.Prelude.{◌==◌, if◌then◌else◌}
-use Rattle.std.specs.List.{flat_map}
-use Rattle.signals.specs.declared.verdict.Decided.{Decided}
+use Rattle.std.specs.Prelude.{◌≡◌, ℕ, ◌≤◌, ◌++◌, Some, length, map, take, slice_get}
 use Rattle.bytecode.specs.Values.{ProgramData}
 use Rattle.verifier.specs.Programs.{IsAccepted}
 use Rattle.vcd_reader.specs.Dump.{Contents}
@@ -10,7 +7,7 @@ use Rattle.cycle_window.specs.Ticks.{ticks_of}
 use Rattle.checked_machine.specs.Outcomes.{done}
 use Rattle.checked_machine.specs.Machine.{opening, clocks}
 use Rattle.batches.specs.Batches.{batch_of}
-use Rattle.workers.specs.States.{MonitorState, BatchState, place}
+use Rattle.workers.specs.States.{MonitorState, BatchState, place, published_by}
 use Rattle.workers.specs.Values.{JobValue, CoreValue, rows_over}
 
 -- The monitor is in the state of the checked machine over the trace's first rows up to its place,
@@ -28,16 +25,11 @@ pub record IsBatchOf (j : JobValue) (c : Contents) (p : ProgramData) (b : BatchS
   pub within : b.end ≤ length (ticks_of c j.code)
   pub decided : b.decided ≡ batch_of p (rows_over j c p) b.first b.end
 
--- what a monitor has published, in the order in which it did
-abbrev pub published : List BatchState → ℕ → List Decided
-published board number =
-    flat_map (λ b. if b.monitor == number then b.decided else []) board
-
 -- What the monitor of a number has published, and behind it what it has not yet, is all that its
 -- program decides at the clocks up to its place. So nothing is lost, or told twice.
 abbrev pub IsWhole : CoreValue → Contents → ℕ → MonitorState → Type 0
 IsWhole v c number m =
-    published v.state.board number ++ m.decided
+    published_by v.state.board number ++ m.decided
     ≡ batch_of m.program (rows_over v.job c m.program) 0 (place m)
 
 -- The core's monitors are the job's programs, in order, each accepted by the verifier; each is in
@@ -53,6 +45,6 @@ pub record FollowsMachine (v : CoreValue) (c : Contents) : Type 0 where
   pub monitors : (i : ℕ) (m : MonitorState) → slice_get v.state.monitors i ≡ Some m →
       IsInState v.job c m
   pub batches : (n : ℕ) (b : BatchState) → slice_get v.state.board n ≡ Some b →
-      ∥ ((p : ProgramData) × IsBatchOf v.job c p b) ∥₁
+      (p : ProgramData) × IsBatchOf v.job c p b
   pub whole : (i : ℕ) (m : MonitorState) → slice_get v.state.monitors i ≡ Some m →
       IsWhole v c i m

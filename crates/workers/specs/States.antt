@@ -2,7 +2,7 @@
 use Rattle.std.specs.Prelude.{◌≡◌, ℕ, ◌+◌, ◌-◌, ◌==◌, ◌&&◌, nat_le, nat_lt, min, Bool, true, false}
 use Rattle.std.specs.Prelude.{if◌then◌else◌, List, [], ◌∷◌, ◌++◌, Option, Some, None, is_some, map}
 use Rattle.std.specs.Prelude.{slice_get, slice_set, drop}
-use Rattle.std.specs.List.{list_all}
+use Rattle.std.specs.List.{list_all, flat_map}
 use Rattle.signals.specs.declared.verdict.Decided.{Decided}
 use Rattle.bytecode.specs.Values.{ProgramData}
 use Rattle.checked_machine.specs.Outcomes.{Ran, done, trapped}
@@ -62,6 +62,11 @@ pub record CoreState : Type 0 where
   pub waiting : List ℕ
   pub workers : List WorkerState
   pub board : List BatchState
+
+-- what a monitor has published, in the order in which it did
+abbrev pub published_by : List BatchState → ℕ → List Decided
+published_by board number =
+    flat_map (λ b. if b.monitor == number then b.decided else []) board
 
 -- What doesn't change: the number of the trace's clocks, the core's window size, and the trace's
 -- rows of a program's signals.

@@ -126,6 +126,8 @@ impl<'j> Core<'j> {
     /// board is that of its monitor for its clocks, and a monitor's batches leave nothing out.
     pub fn follows_machine(&self)
         ensures follows { (c : Contents) → Says self.now.job c → FollowsMachine self.now c }
+        // The dump has contents.
+        ensures says { ∥ ((c : Contents) × Says self.now.job c) ∥₁ }
     {
         let _ = &self.floor;
     }

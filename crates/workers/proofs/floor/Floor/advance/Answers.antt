@@ -7,6 +7,7 @@ use Rattle.workers.specs.Standing.{monitor_state}
 use Rattle.workers.specs.Floors.{core_state, worker_state}
 use Rattle.workers.proofs.PlaceLaws as places
 use Rattle.workers.proofs.FloorLaws as laws
+use Rattle.workers.proofs.ToldLaws as told
 use Rattle.workers.proofs.floor.Floor.advance.Goals as goal
 
 pub returns-then-is_err-clause-reply : goal.returns-then-is_err-clause-reply
@@ -42,6 +43,7 @@ returns-then-is_err-clause-sound c =
       monitors = laws.stands-set f.window ms number r c.requires.sound.monitors (places.stands-unmoved f.window m r stands c.reserve.ensures.same);
       known = laws.known-set ms f.board.items number r c.requires.sound.known;
       batches = laws.right-set f.window ms f.board.items number m r at (places.unmoved-same m r c.reserve.ensures.same) c.requires.sound.batches;
+      told = told.told-set f.window ms f.board.items number m r at (places.unmoved-same m r c.reserve.ensures.same) c.requires.sound.told;
     }
 
 pub advance-requires-clause-stands : goal.advance-requires-clause-stands
@@ -113,6 +115,7 @@ returns-clause-sound c =
       monitors = laws.stands-set f.window ms number new c.requires.sound.monitors c.advance.ensures.stands;
       known = laws.known-set ms f.board.items number new c.requires.sound.known;
       batches = laws.right-set f.window ms f.board.items number m new at same c.requires.sound.batches;
+      told = told.told-set f.window ms f.board.items number m new at same c.requires.sound.told;
     }
 
 pub returns-then-is_err-clause-kept : goal.returns-then-is_err-clause-kept

@@ -7,8 +7,9 @@ use Rattle.batches.specs.declared.batch.Batch.{Batch}
 use Rattle.workers.specs.declared.worker.Worker.{Worker}
 use Rattle.workers.specs.States.{WorkerState, BatchState, held, done_of}
 use Rattle.workers.specs.Standing.{monitor_state}
-use Rattle.workers.specs.Floors.{core_state, worker_state, batch_state, EachIsRight, EachIsKnown}
+use Rattle.workers.specs.Floors.{core_state, worker_state, batch_state, EachIsRight, EachIsKnown, EachIsTold}
 use Rattle.workers.proofs.FloorLaws as laws
+use Rattle.workers.proofs.ToldLaws as told
 use Rattle.workers.proofs.floor.Floor.publish.Goals as goal
 
 pub returns-then-is_err-2-clause-reply : goal.returns-then-is_err-2-clause-reply
@@ -75,6 +76,8 @@ returns-clause-sound c =
           (laws.known-more ms f.board.items number new taken below (ap (λ (x : BatchState). x.monitor) c.take_batch-batch.ensures.batch) c.requires.sound.known);
       batches = subst (λ (bs : List Batch). EachIsRight f.window (slice_set ms number new) bs) (sym pushed)
           (laws.right-more f.window ms f.board.items number m new taken at stands c.take_batch-batch.ensures.cleared c.take_batch-batch.ensures.batch c.requires.sound.batches);
+      told = subst (λ (bs : List Batch). EachIsTold f.window (slice_set ms number new) bs) (sym pushed)
+          (told.told-more f.window ms f.board.items number m new taken at stands c.take_batch-batch.ensures.cleared c.take_batch-batch.ensures.batch c.requires.sound.told);
     }
 
 pub returns-clause-kept : goal.returns-clause-kept

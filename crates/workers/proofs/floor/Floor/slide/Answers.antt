@@ -5,6 +5,7 @@ use Rattle.workers.specs.States.{is_at}
 use Rattle.workers.specs.Standing.{monitor_state}
 use Rattle.workers.proofs.PlaceLaws as places
 use Rattle.workers.proofs.FloorLaws as laws
+use Rattle.workers.proofs.ToldLaws as told
 use Rattle.workers.proofs.floor.Floor.slide.Goals as goal
 
 pub returns-clause-sound : goal.returns-clause-sound
@@ -17,5 +18,6 @@ returns-clause-sound c = λ sound.
     record {
       monitors = λ i m is. places.stands-slid v w m c.slide.ensures.columns c.slide.ensures.first longer (laws.at-each (end_in v) f.monitors.items i m all is) (sound.monitors i m is);
       known = sound.known;
-      batches = λ n b m bs ms. places.right-slid v w m b c.slide.ensures.columns (sound.batches n b m bs ms);
+      batches = λ n b m bs ms. places.right-slid v w m b c.slide.ensures.columns longer (sound.batches n b m bs ms);
+      told = λ i m is. told.slid v w m _ c.slide.ensures.columns (sound.told i m is);
     }

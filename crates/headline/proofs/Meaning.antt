@@ -1,0 +1,131 @@
+-- The batches of a program of an assertion have its verdicts.
+use Rattle.std.proofs.Common.{◌≡◌, ◌∙◌, ℕ, zero, suc, ◌<◌, ◌≤◌, Bool, List, [], ◌∷◌, length, take, map, Option, Some, slice_get, refl, sym, ap, subst, arith}
+use Rattle.std.specs.List.{AllByRecursion, AllZip, filter_map}
+use Rattle.std.proofs.lemmas.List.{length-map}
+use Rattle.signals.specs.declared.verdict.Verdict.{Verdict}
+use Rattle.assertions.specs.declared.sequence.Boolean.{Boolean}
+use Rattle.assertions.specs.declared.assertion.Assertion.{Assertion}
+use Rattle.assertions.specs.declared.suite.Suite.{Suite}
+use Rattle.assertions.specs.Attempts.{IsVerdict, verdict}
+use Rattle.assertions.specs.Shapes.{shape}
+use Rattle.assertions.proofs.Verdicts.{IsVerdict-only}
+use Rattle.bytecode.specs.Values.{ProgramData, SlotData}
+use Rattle.verifier.specs.Programs.{IsAccepted}
+use Rattle.vcd_reader.specs.Variables.{Declared, variable_named}
+use Rattle.vcd_reader.specs.Dump.{Contents}
+use Rattle.cycle_window.specs.Ticks.{ticks_of}
+use Rattle.monitors.specs.Monitors.{monitor_of}
+use Rattle.monitors.specs.History.{SamplesAs}
+use Rattle.monitors.specs.Laws.{open_starts, starts_of}
+use Rattle.checked_machine.specs.Outcomes.{done}
+use Rattle.checked_machine.specs.Machine.{State, opening, clocks}
+use Rattle.batches.specs.Batches.{batch_of}
+use Rattle.verdict_lines.specs.Laws.{row_of}
+use Rattle.compiler.specs.Programs.{IsSlotOf, IsProgramOf}
+use Rattle.compiler.proofs.ListLaws.{some-one}
+use Rattle.assertion_programs.specs.Laws.{AreRowsOf, picked}
+use Rattle.assertion_programs.proofs.Samples as made
+use Rattle.assertion_programs.proofs.Decides as decides
+use Rattle.compiled_lines.specs.Lines.{IsWatched, AreVariables, rows_at}
+use Rattle.compiled_lines.proofs.RowLaws.{found, are-picked, picked-rows, are-rows}
+use Rattle.workers.specs.States.{MonitorState, BatchState, place}
+use Rattle.workers.specs.Jobs.{sampled}
+use Rattle.workers.specs.Values.{CoreValue, rows_over}
+use Rattle.workers.specs.Following.{FollowsMachine}
+use Rattle.headline.specs.Headline.{AreVerdictsOf, fallen_between, PublishesVerdicts, DecidesAsMeant}
+use Rattle.headline.proofs.Cuts as cuts
+
+-- the variables that slots name
+all-named : (c : Contents) (suite : Suite) (signals : List ℕ) → AreVariables c suite signals → AllByRecursion (IsWatched c.variables) suite.names.items →
+    (places : List ℕ) (slots : List SlotData) → AllZip (IsSlotOf suite) places slots →
+    map (λ (s : SlotData). variable_named c.variables s.path) slots ≡ map (λ (x : ℕ). Some x) (filter_map (λ (s : SlotData). variable_named c.variables s.path) slots)
+all-named c suite signals named watched [] [] h = refl
+all-named c suite signals named watched [] (s ∷ slots) h = absurd h
+all-named c suite signals named watched (p ∷ places) [] h = absurd h
+all-named c suite signals named watched (p ∷ places) (s ∷ slots) h =
+    let one = found c.variables suite.names.items signals named watched p h.0.signal h.0.is in
+    let is : variable_named c.variables s.path ≡ Some one.variable = ap (variable_named c.variables) h.0.path ∙ one.named in
+    rw is (ap (λ (xs : List (Option ℕ)). Some one.variable ∷ xs) (all-named c suite signals named watched places slots h.1))
+
+module _ (suite : Suite) (a : Assertion) (p : ProgramData) (of : IsProgramOf suite a p) (rows : List (List ℕ)) (fit : AreRowsOf suite rows) (accepted : IsAccepted p)
+  (verdict_at : ℕ → Verdict) (are : AreVerdictsOf suite rows a verdict_at) where
+  abbrev own : List (List ℕ)
+  own = map (picked of.layout.signals) rows
+
+  long : length rows ≡ length own
+  long = sym (length-map rows (picked of.layout.signals))
+
+  abbrev value : Boolean → ℕ → Bool
+  value = decides.value suite a p of rows fit
+
+  abbrev atoms : ℕ → List Bool
+  atoms = made.atoms suite a p of rows fit
+
+  samples : SamplesAs p (row_of own) (made.counters suite a p of rows fit) atoms (length own)
+  samples = subst (λ n. SamplesAs p (row_of own) (made.counters suite a p of rows fit) atoms n) long (made.samples suite a p of rows fit accepted)
+
+  -- the verdict that is computed
+  abbrev meant : ℕ → Verdict
+  meant = verdict value (monitor_of p atoms).off (shape a.antecedent) (shape a.consequent) (length own)
+
+  same : (c : ℕ) → c < length own → meant c ≡ verdict_at c
+  same c below =
+      IsVerdict-only Boolean value (monitor_of p atoms).off (shape a.antecedent) (shape a.consequent) (length own) c (verdict_at c)
+      (subst (λ n. IsVerdict value (monitor_of p atoms).off (shape a.antecedent) (shape a.consequent) n c (verdict_at c)) long
+      (subst (λ (off : ℕ → Bool). IsVerdict value off (shape a.antecedent) (shape a.consequent) (length rows) c (verdict_at c)) (decides.same-off suite a p of rows fit)
+      (are c (omega (arith, below, long)))))
+
+  pub batch-is : (x y : ℕ) → x ≤ y → y ≤ length rows → batch_of p own x y ≡ fallen_between verdict_at (length rows) x y
+  batch-is x y le within =
+      cuts.batch-falls p own (made.counters suite a p of rows fit) atoms value (shape a.antecedent) (shape a.consequent) accepted samples
+      (decides.watches suite a p of rows fit) (decides.fills suite a p of rows fit) x y le (omega (arith, within, long))
+      ∙ cuts.between-same meant verdict_at (length own) x y same
+      ∙ ap (λ n. fallen_between verdict_at n x y) (sym long)
+
+  pub live-is : (n : ℕ) (last : State) → n ≡ length rows → clocks p (opening p) (take n own) ≡ done last 0 → starts_of last.standing.attempts ≡ open_starts verdict_at (length rows)
+  live-is n last is h =
+      cuts.open-live p own (made.counters suite a p of rows fit) atoms value (shape a.antecedent) (shape a.consequent) accepted samples
+      (decides.watches suite a p of rows fit) (decides.fills suite a p of rows fit) n last (is ∙ long) h
+      ∙ cuts.open-same meant verdict_at (length own) same
+      ∙ ap (open_starts verdict_at) (sym long)
+
+-- the monitor of a program
+record Runs (ms : List MonitorState) (i : ℕ) (p : ProgramData) : Type 0 where
+  monitor : MonitorState
+  at : slice_get ms i ≡ Some monitor
+  is : monitor.program ≡ p
+
+runs : (ms : List MonitorState) (i : ℕ) (p : ProgramData) → slice_get (map (λ (m : MonitorState). m.program) ms) i ≡ Some p → Runs ms i p
+runs [] i p h = absurd cc
+runs (m ∷ ms) zero p h = let e : m.program ≡ p = cc in record { monitor = m; at = refl; is = e }
+runs (m ∷ ms) (suc i) p h = let r = runs ms i p h in record { monitor = r.monitor; at = r.at; is = r.is }
+
+pub as-meant : (v : CoreValue) (c : Contents) → FollowsMachine v c → DecidesAsMeant v c
+as-meant v c follows number p is suite a of signals named watched verdict_at are =
+    let code = v.job.code in
+    let rows = rows_at c signals code in
+    let run = runs v.state.monitors number p (ap (λ (ps : List ProgramData). slice_get ps number) follows.programs ∙ is) in
+    let accepted : IsAccepted p = subst IsAccepted run.is (follows.accepted number run.monitor run.at) in
+    let fit = are-rows c suite signals code named watched in
+    let named_slots = all-named c suite signals named watched of.layout.signals p.signals of.slots in
+    let own : rows_over v.job c p ≡ map (picked of.layout.signals) rows =
+    picked-rows c code signals of.layout.signals (sampled c.variables p)
+    (are-picked c.variables suite signals named watched of.layout.signals p.signals (sampled c.variables p) of.slots named_slots) in
+    let ticks : length rows ≡ length (ticks_of c code) = length-map (ticks_of c code) _ in
+    record {
+      batches = λ n b at mine.
+          let found = follows.batches n b at in
+          let q : ProgramData = found.0 in
+          let program : q ≡ p = some-one q p (sym found.1.program ∙ ap (slice_get v.job.programs) mine ∙ is) in
+          found.1.decided
+          ∙ ap (λ (x : ProgramData). batch_of x (rows_over v.job c x) b.first b.end) program
+          ∙ ap (λ (rs : List (List ℕ)). batch_of p rs b.first b.end) own
+          ∙ batch-is suite a p of rows fit accepted verdict_at are b.first b.end found.1.order (omega (arith, found.1.within, ticks));
+      live = λ m at here.
+          let one : run.monitor ≡ m = some-one run.monitor m (sym run.at ∙ at) in
+          let program : m.program ≡ p = ap (λ (x : MonitorState). x.program) (sym one) ∙ run.is in
+          live-is suite a p of rows fit accepted verdict_at are (place m) m.state here
+          (ap (λ (rs : List (List ℕ)). clocks p (opening p) (take (place m) rs)) (sym own)
+          ∙ ap (λ (x : ProgramData). clocks x (opening x) (take (place m) (rows_over v.job c x))) (sym program)
+          ∙ follows.monitors number m at);
+    }
