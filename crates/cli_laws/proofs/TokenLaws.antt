@@ -20,10 +20,10 @@ AreApart from [] = Unit {0}
 AreApart from (c ∷ cs) = (from ≤ c.at) × AreApart (suc c.at) cs
 
 -- Tokens of a text do, since each but the last has a byte.
-cut-apart : {place : ℕ} {bytes : List ℕ} {cs : List Cut} → IsCut place bytes cs → (from : ℕ) → from ≤ place → AreApart from cs
+cut-apart : {at : ℕ} {bytes : List ℕ} {cs : List Cut} → IsCut at bytes cs → (from : ℕ) → from ≤ at → AreApart from cs
 cut-apart at_end from le = (le, tt)
 cut-apart (over_gap some inside g more) from le = cut-apart more from (omega arith)
-cut-apart (over_token {place = place} apart longest is more) from le = (le, cut-apart more (suc place) (omega (arith, longest.some)))
+cut-apart (over_token {at = at} apart longest is more) from le = (le, cut-apart more (suc at) (omega (arith, longest.some)))
 
 -- the texts of the tokens lie where the function says of their bytes
 abbrev LieAt : (ℕ → ℕ × ℕ) → List Token → Type 0
