@@ -1,0 +1,4 @@
+pub mod RunLaws
+pub mod RoundLaws
+pub mod CoreLaws
+pub mod LineLaws

@@ -1,0 +1,66 @@
+-- The line of a program, of what a core published and left open.
+use Rattle.std.proofs.Common.{◌≡◌, ℕ, ◌+◌, ◌≤◌, List, [], ◌∷◌, ◌++◌, length, map, Some, refl, sym, ap, ◌∙◌, subst, arith, length-append}
+use Rattle.std.specs.Prelude.{slice_get}
+use Rattle.std.proofs.lemmas.List.{length-map, append-nil}
+use Rattle.std.proofs.lemmas.Option.{slice_get_within}
+use Rattle.signals.specs.declared.verdict.Decided.{Decided}
+use Rattle.bytecode.specs.Values.{ProgramData}
+use Rattle.vcd_reader.specs.Dump.{Contents}
+use Rattle.cycle_window.specs.Ticks.{ticks_of}
+use Rattle.checked_machine.specs.Clocks.{Attempt}
+use Rattle.machine.specs.Running.{open_ones}
+use Rattle.verdicts.specs.Lines.{LineData}
+use Rattle.program_runs.specs.Lines.{line_over, IsLineOver}
+use Rattle.workers.specs.States.{CoreState, MonitorState, place, published_by}
+use Rattle.workers.specs.Values.{JobValue, CoreValue, Says, rows_over}
+use Rattle.workers.specs.Following.{FollowsMachine}
+use Rattle.workers.proofs.FloorLaws.{get-mapped}
+use Rattle.core_runs.specs.Rounds.{IsAt, IsResting, IsHeld, Rests}
+use Rattle.core_runs.proofs.RunLaws.{ComesTo, comes-to}
+use Rattle.core_runs.proofs.RoundLaws.{There, there, many-rows}
+
+-- A monitor behind the last clock, with what it told.
+pub record IsOver (v : CoreValue) (c : Contents) (i : ℕ) (p : ProgramData) : Type 0 where
+  pub monitor : MonitorState
+  pub at : slice_get v.state.monitors i ≡ Some monitor
+  pub came : ComesTo p (rows_over v.job c p) monitor.state (published_by v.state.board i)
+
+pub over : (v : CoreValue) (c : Contents) (i : ℕ) (p : ProgramData) → v.job.ticks ≡ ticks_of c v.job.code → FollowsMachine v c →
+    IsResting (length v.job.programs) (length v.job.ticks) v.state → length v.job.ticks ≤ v.state.end → slice_get v.job.programs i ≡ Some p → IsOver v c i p
+over v c i p ticks f h all is =
+    let s = v.state in
+    let one = there s.monitors i (omega (arith, h.many, slice_get_within v.job.programs i p is)) in
+    let m = one.monitor in
+    let rows = rows_over v.job c m.program in
+    let at : IsAt s.end m = h.monitors i m one.is in
+    let long : length rows ≡ length v.job.ticks = many-rows v.job c m.program ticks in
+    let named : Some m.program ≡ Some p =
+    sym (get-mapped (λ (x : MonitorState). x.program) s.monitors i m one.is) ∙ ap (λ (ps : List ProgramData). slice_get ps i) f.programs ∙ is in
+    let same : m.program ≡ p = cc in
+    let all_told = sym (append-nil (published_by s.board i)) ∙ ap (λ (ds : List Decided). published_by s.board i ++ ds) (sym at.told) ∙ f.whole i m one.is in
+    record {
+      monitor = m;
+      at = one.is;
+      came = subst (λ (q : ProgramData). ComesTo q (rows_over v.job c q) m.state (published_by s.board i)) same
+          (comes-to m.program (f.accepted i m one.is) rows (place m) m.state (published_by s.board i) (omega (arith, long, at.at, h.inside, all)) (f.monitors i m one.is) all_told);
+    }
+
+-- the line of all its attempts
+pub over-line : (v : CoreValue) (c : Contents) (i : ℕ) (p : ProgramData) (l : LineData) (ds : List Decided) → (h : IsOver v c i p) →
+    ds ≡ published_by v.state.board i ++ open_ones h.monitor.state.standing.attempts → l ≡ line_over p.header.name ds → IsLineOver p (rows_over v.job c p) l
+over-line v c i p l ds h are is =
+    record {
+      decided = published_by v.state.board i;
+      last = h.monitor.state;
+      ran = h.came.decides;
+      is = is ∙ ap (line_over p.header.name) are;
+    }
+
+-- an attempt for each clock
+pub over-count : (v : CoreValue) (c : Contents) (i : ℕ) (p : ProgramData) (ds : List Decided) → v.job.ticks ≡ ticks_of c v.job.code → (h : IsOver v c i p) →
+    ds ≡ published_by v.state.board i ++ open_ones h.monitor.state.standing.attempts → length ds ≡ length v.job.ticks
+over-count v c i p ds ticks h are =
+    let live = h.monitor.state.standing.attempts in
+    let long : length (published_by v.state.board i ++ open_ones live) ≡ length (published_by v.state.board i) + length (open_ones live) = length-append (published_by v.state.board i) (open_ones live) in
+    let opened : length (open_ones live) ≡ length live = length-map live _ in
+    omega (arith, ap length are, long, opened, h.came.count, many-rows v.job c p ticks)
