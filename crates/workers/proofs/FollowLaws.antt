@@ -37,6 +37,9 @@ found f [] i y h = absurd cc
 found f (x ∷ xs) zero y h = let e : f x ≡ y = cc in record { item = x; at = refl; is = e }
 found f (x ∷ xs) (suc i) y h = let r = found f xs i y h in record { item = r.item; at = r.at; is = r.is }
 
+pub some-state : (x y : MonitorState) → Some x ≡ Some y → x ≡ y
+some-state x y h = cc
+
 -- something stands below the length
 there : (ms : List Monitor) (i : ℕ) → i < length ms → (m : Monitor) × (slice_get ms i ≡ Some m)
 there [] i h = absurd (omega (arith, h))
