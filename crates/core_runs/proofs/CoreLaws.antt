@@ -24,6 +24,12 @@ ForContents j P = (c : Contents) → Says j c → P c
 pub less-held : (j : JobValue) (a b : ℕ) → IsHeld j → ForContents j (λ c. a ≤ b) → a ≤ b
 less-held j a b held h = ∥∥₁_elim held.says le_prop (λ s. h s.0 s.1)
 
+pub same-held : (j : JobValue) (a b : ℕ) → IsHeld j → ForContents j (λ c. a ≡ b) → a ≡ b
+same-held j a b held h =
+    let low : a ≤ b = less-held j a b held (λ c says. let e : a ≡ b = h c says in omega arith) in
+    let high : b ≤ a = less-held j b a held (λ c says. let e : a ≡ b = h c says in omega arith) in
+    omega arith
+
 -- an allowed step is not refused
 refuses-none : (old new : CoreState) (after : Option CoreState) (reply : Reply) → is_some after ≡ true → Replies old after new reply → reply ≡ replies.Refused → 1 ≤ 0
 refuses-none old new after replies.Done some h is = absurd cc
@@ -101,3 +107,16 @@ opening-rests j size = λ c says. record {
   workers = refl;
   monitors = at-first j.programs;
 }
+
+-- behind a slide the window's clocks are further ones
+pub opened-window : (v new : CoreValue) → IsHeld v.job → Rests v → v.state.end < length v.job.ticks → 1 ≤ v.size → LeadsTo v steps.Slide new.state → new.job ≡ v.job →
+    (new.state.first ≤ new.state.end) × (v.state.end < new.state.end)
+opened-window v new held rests more some led same =
+    let held_new : IsHeld new.job = subst IsHeld (sym same) held in
+    let open_now = behind (Opened v.state) v new steps.Slide (sliding v rests more some) led same in (
+      less-held new.job new.state.first new.state.end held_new (λ c says. omega (arith, (open_now c says).0.some)),
+      less-held new.job (suc v.state.end) new.state.end held_new (λ c says. omega (arith, (open_now c says).1)),
+    )
+
+pub begun : (v new : CoreValue) → Rests v → v.state.end < length v.job.ticks → 1 ≤ v.size → LeadsTo v steps.Slide new.state → new.job ≡ v.job → HasDone 0 new
+begun v new rests more some led same = λ c says. (behind (Opened v.state) v new steps.Slide (sliding v rests more some) led same c says).0

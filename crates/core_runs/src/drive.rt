@@ -100,7 +100,7 @@ pub(crate) fn drive(alloc: Global, core: &mut Core<'_>, count: usize) -> Result<
     ensures end { OnOk result (length core.old.job.ticks ≤ core.new.state.end) }
     ensures job { core.new.job ≡ core.old.job }
 {
-    while core.window().1 < core.clocks() {
+    'rounds: while core.window().1 < core.clocks() {
         run_round(alloc, core, count)?;
     }
     Ok(())
