@@ -1,5 +1,5 @@
 -- A core of one worker, step by step, whatever the dump's contents are.
-use Rattle.std.proofs.Common.{◌≡◌, ℕ, zero, suc, ◌+◌, ◌-◌, ◌<◌, ◌≤◌, List, [], ◌∷◌, length, map, Option, Some, None, true, refl, sym, ap, ◌∙◌, subst, arith}
+use Rattle.std.proofs.Common.{◌≡◌, ℕ, zero, suc, ◌+◌, ◌<◌, ◌≤◌, List, [], ◌∷◌, length, map, Option, Some, true, refl, sym, ap, subst, arith}
 use Rattle.std.specs.Prelude.{slice_get, is_some}
 use Rattle.std.proofs.Math.Logic.{∥∥₁_elim}
 use Rattle.std.proofs.Math.Bridge.{le_prop}
@@ -11,10 +11,10 @@ use Rattle.workers.specs.declared.step.Step.TheVariants as steps
 use Rattle.workers.specs.declared.step.Reply.{Reply}
 use Rattle.workers.specs.declared.step.Reply.TheVariants as replies
 use Rattle.workers.specs.Opening.{opened_monitor}
-use Rattle.workers.specs.States.{CoreState, MonitorState, Replies, next, next_slide, next_claim, next_advance, next_publish, next_gather}
+use Rattle.workers.specs.States.{CoreState, MonitorState, Replies, next}
 use Rattle.workers.specs.Values.{JobValue, CoreValue, Says, setting_of, opening_core}
 use Rattle.workers.specs.Following.{FollowsMachine}
-use Rattle.core_runs.specs.Rounds.{IsAt, IsResting, IsAmid, IsHeld, Rests, HasDone, IsSameWindow, KeepsWindow, Allows, LeadsTo}
+use Rattle.core_runs.specs.Rounds.{IsAt, IsResting, IsAmid, IsHeld, Rests, HasDone, IsSameWindow, Allows, LeadsTo}
 use Rattle.core_runs.proofs.RoundLaws.{Comes, allowed, reached, IsClaimed, IsThrough, slides, gathers, claims, advances, publishes}
 
 -- what holds of some contents' sake

@@ -1,5 +1,5 @@
 -- The line of a program, of what a core published and left open.
-use Rattle.std.proofs.Common.{◌≡◌, ℕ, ◌+◌, ◌<◌, ◌≤◌, List, [], ◌∷◌, ◌++◌, length, get_or, take, map, Some, refl, sym, ap, ◌∙◌, subst, arith, length-append}
+use Rattle.std.proofs.Common.{◌≡◌, ℕ, ◌+◌, ◌<◌, ◌≤◌, List, [], ◌∷◌, ◌++◌, length, get_or, take, map, Some, sym, ap, ◌∙◌, subst, arith, length-append}
 use Rattle.std.specs.Prelude.{slice_get, Result, Ok, Err, IfOk}
 use Rattle.std.specs.declared.alloc.AllocError.{AllocError}
 use Rattle.std.specs.List.{AllZip}
@@ -9,21 +9,20 @@ use Rattle.signals.specs.declared.verdict.Decided.{Decided}
 use Rattle.bytecode.specs.Values.{ProgramData}
 use Rattle.vcd_reader.specs.Dump.{Contents}
 use Rattle.cycle_window.specs.Ticks.{ticks_of}
-use Rattle.checked_machine.specs.Clocks.{Attempt}
 use Rattle.machine.specs.Running.{open_ones}
 use Rattle.verdicts.specs.declared.line.Line.{Line}
 use Rattle.verdicts.specs.Lines.{LineData, line}
 use Rattle.program_runs.specs.Lines.{line_over, attempts_of, IsLineOver}
 use Rattle.workers.specs.declared.job.Job.{Job}
-use Rattle.workers.specs.States.{CoreState, MonitorState, place, published_by}
-use Rattle.workers.specs.Values.{JobValue, CoreValue, Says, job_value, rows_over}
+use Rattle.workers.specs.States.{MonitorState, place, published_by}
+use Rattle.workers.specs.Values.{CoreValue, job_value, rows_over}
 use Rattle.workers.specs.Following.{FollowsMachine}
 use Rattle.workers.proofs.CoreLaws.{holds, says-something}
 use Rattle.workers.proofs.FloorLaws.{get-mapped}
-use Rattle.core_runs.specs.Rounds.{IsAt, IsResting, IsHeld, Rests}
+use Rattle.core_runs.specs.Rounds.{IsAt, IsResting, IsHeld}
 use Rattle.core_runs.proofs.CoreLaws.{ForContents, same-held}
 use Rattle.core_runs.proofs.RunLaws.{ComesTo, comes-to}
-use Rattle.core_runs.proofs.RoundLaws.{There, there, many-rows}
+use Rattle.core_runs.proofs.RoundLaws.{there, many-rows}
 
 -- A monitor behind the last clock, with what it told.
 pub record IsOver (v : CoreValue) (c : Contents) (i : ℕ) (p : ProgramData) : Type 0 where

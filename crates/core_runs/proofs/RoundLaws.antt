@@ -1,22 +1,21 @@
 -- The steps of a round of a core of one worker.
-use Rattle.std.proofs.Common.{◌≡◌, ℕ, zero, suc, ◌+◌, ◌-◌, ◌<◌, ◌≤◌, List, [], ◌∷◌, ◌++◌, length, drop, map, Option, Some, None, Bool, true, false, cond, refl, sym, ap, ◌∙◌, subst, arith}
-use Rattle.std.specs.Prelude.{slice_get, slice_set, ◌&&◌, ◌==◌, nat_le, nat_lt, min, is_some}
+use Rattle.std.proofs.Common.{◌≡◌, ℕ, zero, suc, ◌+◌, ◌-◌, ◌<◌, ◌≤◌, List, [], ◌∷◌, ◌++◌, length, map, Option, Some, None, Bool, true, false, cond, refl, sym, ap, ◌∙◌, subst, arith}
+use Rattle.std.specs.Prelude.{slice_get, slice_set, ◌&&◌, ◌==◌, nat_lt, min, is_some}
 use Rattle.std.specs.List.{list_all, range_with_len}
 use Rattle.std.proofs.lemmas.List.{length-set, length-map}
 use Rattle.std.proofs.lemmas.Option.{slice_get_within}
 use Rattle.vcd_reader.specs.Dump.{Contents}
 use Rattle.cycle_window.specs.Ticks.{ticks_of, row_of}
-use Rattle.checked_machine.specs.Outcomes.{Ran, done}
+use Rattle.checked_machine.specs.Outcomes.{Ran}
 use Rattle.checked_machine.specs.Machine.{Outcome}
-use Rattle.checked_machine.specs.Runs.{run_from}
 use Rattle.batches.specs.Batches.{rows_between}
 use Rattle.bytecode.specs.Values.{ProgramData}
-use Rattle.workers.specs.States.{CoreState, WorkerState, MonitorState, BatchState, Setting, place, is_at, is_idle, is_free, is_free_one, is_none, is_below, held, done_of, cleared, batch, advanced, moved, with_monitor, put, put_each, put_done, emptied, next_slide, next_claim, next_advance, next_publish, next_gather}
+use Rattle.workers.specs.States.{CoreState, WorkerState, MonitorState, Setting, place, is_at, is_idle, is_free, is_free_one, is_none, is_below, held, done_of, cleared, batch, advanced, moved, with_monitor, put, put_each, put_done, emptied, next_slide, next_claim, next_advance, next_publish, next_gather}
 use Rattle.workers.proofs.FloorLaws.{claimed, advancing, publishing}
 use Rattle.workers.specs.Jobs.{sampled}
 use Rattle.workers.specs.Values.{JobValue, CoreValue, rows_over, setting_of}
 use Rattle.workers.specs.Following.{FollowsMachine}
-use Rattle.core_runs.proofs.RunLaws.{Runs, accepted-on, length-between}
+use Rattle.core_runs.proofs.RunLaws.{accepted-on, length-between}
 use Rattle.core_runs.specs.Rounds.{one_worker, IsAt, IsResting, IsAmid, IsSameWindow}
 
 -- there is a next state, and this holds of it
@@ -154,16 +153,19 @@ module _ (g : Setting) (count : ℕ) where
         is = ap (λ (b : Bool). cond (b && list_all (is_at s.end) s.monitors && nat_lt s.end g.clocks) (Some next) None) idle
             ∙ ap (λ (b : Bool). cond (b && nat_lt s.end g.clocks) (Some next) None) at
             ∙ ap (λ (b : Bool). cond b (Some next) None) left;
-        holds = (record {
-          many = h.many;
-          some = further;
-          inside = omega arith;
-          few = omega arith;
-          waiting = h.waiting ∙ ap (range_with_len 0) (sym e);
-          workers = h.workers;
-          front = λ i m is lt. absurd (omega (arith, lt));
-          rest = λ i m is le. h.monitors i m is;
-        }, further);
+        holds = (
+          record {
+            many = h.many;
+            some = further;
+            inside = omega arith;
+            few = omega arith;
+            waiting = h.waiting ∙ ap (range_with_len 0) (sym e);
+            workers = h.workers;
+            front = λ i m is lt. absurd (omega (arith, lt));
+            rest = λ i m is le. h.monitors i m is;
+          },
+          further,
+        );
       }
 
   -- the round ends
@@ -176,13 +178,16 @@ module _ (g : Setting) (count : ℕ) where
       record {
         next = next;
         is = ap (λ (b : Bool). cond (b && list_all is_free s.workers) (Some next) None) empty ∙ ap (λ (b : Bool). cond b (Some next) None) free;
-        holds = (record {
-          many = h.many;
-          inside = h.inside;
-          waiting = ap (λ (ws : List WorkerState). put_done ws []) h.workers ∙ puts-all count;
-          workers = ap (map emptied) h.workers;
-          monitors = λ i m is. h.front i m is (omega (arith, slice_get_within s.monitors i m is, h.many));
-        }, record { first = refl; end = refl });
+        holds = (
+          record {
+            many = h.many;
+            inside = h.inside;
+            waiting = ap (λ (ws : List WorkerState). put_done ws []) h.workers ∙ puts-all count;
+            workers = ap (map emptied) h.workers;
+            monitors = λ i m is. h.front i m is (omega (arith, slice_get_within s.monitors i m is, h.many));
+          },
+          record { first = refl; end = refl },
+        );
       }
 
   -- the next monitor goes into the worker's hand
@@ -199,16 +204,19 @@ module _ (g : Setting) (count : ℕ) where
       record {
         next = record { first = s.first; end = s.end; monitors = s.monitors; waiting = rest; workers = taken s.workers; board = s.board };
         is = claimed s 0 behind rest (taken s.workers) (h.waiting ∙ range-front behind count lt) free below refl;
-        holds = (record {
-          many = h.many;
-          some = h.some;
-          inside = h.inside;
-          few = lt;
-          waiting = refl;
-          workers = ap taken h.workers;
-          front = h.front;
-          rest = h.rest;
-        }, record { first = refl; end = refl });
+        holds = (
+          record {
+            many = h.many;
+            some = h.some;
+            inside = h.inside;
+            few = lt;
+            waiting = refl;
+            workers = ap taken h.workers;
+            front = h.front;
+            rest = h.rest;
+          },
+          record { first = refl; end = refl },
+        );
       }
 
   -- its batch is published, and it goes into the done list
@@ -222,20 +230,23 @@ module _ (g : Setting) (count : ℕ) where
       record {
         next = record { first = s.first; end = s.end; monitors = slice_set s.monitors behind (cleared m); waiting = s.waiting; workers = down s.workers; board = s.board ++ batch behind m ∷ [] };
         is = publishing s 0 behind m hand h.held h.at;
-        holds = (record {
-          many = length-set s.monitors behind (cleared m) ∙ h.many;
-          some = h.some;
-          inside = h.inside;
-          few = omega (arith, h.few);
-          waiting = h.waiting;
-          workers = ap down h.workers ∙ ap (one_worker None) (range-next behind);
-          front = λ i x is lt.
-              each-other (λ n y. n < behind + 1 → IsAt s.end y) s.monitors behind (cleared m)
-              (λ n y ne e le. h.front n y e (omega (arith, ne, le))) (λ le. quiet) i x is lt;
-          rest = λ i x is le.
-              each-other (λ n y. behind + 1 ≤ n → IsAt s.first y) s.monitors behind (cleared m)
-              (λ n y ne e more. h.rest n y e (omega (arith, more))) (λ more. absurd (omega (arith, more))) i x is le;
-        }, record { first = refl; end = refl });
+        holds = (
+          record {
+            many = length-set s.monitors behind (cleared m) ∙ h.many;
+            some = h.some;
+            inside = h.inside;
+            few = omega (arith, h.few);
+            waiting = h.waiting;
+            workers = ap down h.workers ∙ ap (one_worker None) (range-next behind);
+            front = λ i x is lt.
+                each-other (λ n y. n < behind + 1 → IsAt s.end y) s.monitors behind (cleared m)
+                (λ n y ne e le. h.front n y e (omega (arith, ne, le))) (λ le. quiet) i x is lt;
+            rest = λ i x is le.
+                each-other (λ n y. behind + 1 ≤ n → IsAt s.first y) s.monitors behind (cleared m)
+                (λ n y ne e more. h.rest n y e (omega (arith, more))) (λ more. absurd (omega (arith, more))) i x is le;
+          },
+          record { first = refl; end = refl },
+        );
       }
 
 -- there is a row for each tick
@@ -263,21 +274,24 @@ advances v c count behind k ticks f h all =
     record {
       next = with_monitor s behind new;
       is = advancing (setting_of v c) s 0 k behind m hand one.is (omega (arith, all, h.some)) (omega (arith, all, here));
-      holds = (record {
-        many = length-set s.monitors behind new ∙ h.many;
-        some = h.some;
-        inside = h.inside;
-        few = h.few;
-        waiting = h.waiting;
-        workers = h.workers;
-        monitor = new;
-        held = written s.monitors behind m new one.is;
-        at = at;
-        front = λ i x is lt.
-            each-other (λ n y. n < behind → IsAt s.end y) s.monitors behind new
-            (λ n y ne e less. h.front n y e less) (λ less. absurd (omega (arith, less))) i x is lt;
-        rest = λ i x is lt.
-            each-other (λ n y. behind < n → IsAt s.first y) s.monitors behind new
-            (λ n y ne e more. h.rest n y e (omega (arith, more))) (λ more. absurd (omega (arith, more))) i x is lt;
-      }, record { first = refl; end = refl });
+      holds = (
+        record {
+          many = length-set s.monitors behind new ∙ h.many;
+          some = h.some;
+          inside = h.inside;
+          few = h.few;
+          waiting = h.waiting;
+          workers = h.workers;
+          monitor = new;
+          held = written s.monitors behind m new one.is;
+          at = at;
+          front = λ i x is lt.
+              each-other (λ n y. n < behind → IsAt s.end y) s.monitors behind new
+              (λ n y ne e less. h.front n y e less) (λ less. absurd (omega (arith, less))) i x is lt;
+          rest = λ i x is lt.
+              each-other (λ n y. behind < n → IsAt s.first y) s.monitors behind new
+              (λ n y ne e more. h.rest n y e (omega (arith, more))) (λ more. absurd (omega (arith, more))) i x is lt;
+        },
+        record { first = refl; end = refl },
+      );
     }

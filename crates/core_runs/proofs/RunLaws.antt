@@ -1,5 +1,5 @@
 -- Runs of the checked machine that meet no trap.
-use Rattle.std.proofs.Common.{◌≡◌, ℕ, zero, suc, ◌+◌, ◌-◌, ◌≤◌, List, [], ◌∷◌, ◌++◌, length, take, drop, refl, sym, ap, ◌∙◌, subst, arith, length-append}
+use Rattle.std.proofs.Common.{◌≡◌, ℕ, ◌+◌, ◌-◌, ◌≤◌, List, [], ◌∷◌, ◌++◌, length, take, drop, refl, sym, ap, ◌∙◌, subst, arith, length-append}
 use Rattle.std.proofs.lemmas.List.{length-drop, length-take-le, take_all}
 use Rattle.signals.specs.declared.verdict.Decided.{Decided}
 use Rattle.bytecode.specs.Values.{ProgramData}
@@ -12,7 +12,7 @@ use Rattle.checked_machine.proofs.Machine.{never}
 use Rattle.program_runs.proofs.BatchLaws.{joined, later}
 use Rattle.program_runs.proofs.CutLaws.{ends-as}
 use Rattle.program_runs.proofs.CountLaws.{CountsAll, clock-counts}
-use Rattle.batches.specs.Batches.{rows_between, run_between, decided_in, batch_of}
+use Rattle.batches.specs.Batches.{rows_between, decided_in, batch_of}
 use Rattle.batches.proofs.JoinLaws.{clocks-append, split-at}
 
 -- A run without a trap: a clock for each row, and each attempt that was live or began there is

@@ -83,11 +83,7 @@ fn failures_of(alloc: Global, attempts: &[Decided]) -> Result<Vec<Failure>, Allo
 }
 
 /// The line of a program with that name, of these attempts.
-pub(crate) fn line_of(
-    alloc: Global,
-    name: String,
-    attempts: &[Decided],
-) -> Result<Line, AllocError>
+pub(crate) fn line_of(alloc: Global, name: String, attempts: &[Decided]) -> Result<Line, AllocError>
     ensures line { IfOk result (λ l. line l ≡ line_over (string_bytes name) attempts.now) }
     ensures count { IfOk result (λ l. attempts_of l.counts ≡ length attempts.now) }
 {

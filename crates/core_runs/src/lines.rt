@@ -38,11 +38,7 @@ fn program_line(
 }
 
 /// The lines of all programs, behind the last clock.
-fn lines_of(
-    alloc: Global,
-    core: &Core<'_>,
-    programs: &[Verified],
-) -> Result<Vec<Line>, AllocError>
+fn lines_of(alloc: Global, core: &Core<'_>, programs: &[Verified]) -> Result<Vec<Line>, AllocError>
     requires held { IsHeld core.now.job }
     requires rests { Rests core.now }
     requires end { length core.now.job.ticks ≤ core.now.state.end }

@@ -1,4 +1,4 @@
-use Rattle.std.proofs.Common.{◌≤◌, arith}
+use Rattle.std.proofs.Common.{arith}
 use Rattle.workers.specs.declared.step.Step.TheVariants as steps
 use Rattle.core_runs.proofs.CoreLaws as laws
 use Rattle.core_runs.proofs.drive.open_round.Goals as goal

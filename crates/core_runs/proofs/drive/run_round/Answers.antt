@@ -1,5 +1,4 @@
 use Rattle.std.proofs.Common.{ℕ, ◌∙◌, ap, length, sym, subst}
-use Rattle.workers.specs.declared.step.Step.TheVariants as steps
 use Rattle.workers.specs.Values.{JobValue}
 use Rattle.core_runs.specs.Rounds.{IsHeld, HasDone}
 use Rattle.core_runs.proofs.TurnLaws as turns

@@ -1,4 +1,4 @@
-use Rattle.std.proofs.Common.{◌+◌, ◌++◌, List, length, ap, ◌∙◌, arith, suc}
+use Rattle.std.proofs.Common.{length, ap, ◌∙◌, arith, suc}
 use Rattle.std.proofs.lemmas.Option.{slice_get_within}
 use Rattle.bytecode.specs.Values.{ProgramData}
 use Rattle.core_runs.proofs.CoreLaws.{less-held}
