@@ -14,20 +14,20 @@ use Rattle.workers.specs.Opening.{opened_monitor}
 use Rattle.workers.specs.States.{CoreState, MonitorState, Replies, next}
 use Rattle.workers.specs.Values.{JobValue, CoreValue, Says, setting_of, opening_core}
 use Rattle.workers.specs.Following.{FollowsMachine}
-use Rattle.core_runs.specs.Rounds.{IsAt, IsResting, IsAmid, IsHeld, Rests, HasDone, IsSameWindow, Allows, LeadsTo}
+use Rattle.core_runs.specs.Rounds.{IsAt, IsResting, IsAmid, HasTrace, Rests, HasDone, IsSameWindow, Allows, LeadsTo}
 use Rattle.core_runs.proofs.RoundLaws.{Comes, allowed, reached, IsClaimed, IsThrough, slides, gathers, claims, advances, publishes}
 
 -- what holds of some contents' sake
 abbrev pub ForContents : JobValue → (Contents → Type 0) → Type 0
 ForContents j P = (c : Contents) → Says j c → P c
 
-pub less-held : (j : JobValue) (a b : ℕ) → IsHeld j → ForContents j (λ c. a ≤ b) → a ≤ b
-less-held j a b held h = ∥∥₁_elim held.says le_prop (λ s. h s.0 s.1)
+pub less-traced : (j : JobValue) (a b : ℕ) → HasTrace j → ForContents j (λ c. a ≤ b) → a ≤ b
+less-traced j a b trace h = ∥∥₁_elim trace.says le_prop (λ s. h s.0 s.1)
 
-pub same-held : (j : JobValue) (a b : ℕ) → IsHeld j → ForContents j (λ c. a ≡ b) → a ≡ b
-same-held j a b held h =
-    let low : a ≤ b = less-held j a b held (λ c says. let e : a ≡ b = h c says in omega arith) in
-    let high : b ≤ a = less-held j b a held (λ c says. let e : a ≡ b = h c says in omega arith) in
+pub same-traced : (j : JobValue) (a b : ℕ) → HasTrace j → ForContents j (λ c. a ≡ b) → a ≡ b
+same-traced j a b trace h =
+    let low : a ≤ b = less-traced j a b trace (λ c says. let e : a ≡ b = h c says in omega arith) in
+    let high : b ≤ a = less-traced j b a trace (λ c says. let e : a ≡ b = h c says in omega arith) in
     omega arith
 
 -- an allowed step is not refused
@@ -36,10 +36,10 @@ refuses-none old new after replies.Done some h is = absurd cc
 refuses-none old new after replies.Refused some h is = absurd (cc (some, ap is_some h.0))
 refuses-none old new after replies.Memory some h is = absurd cc
 
-pub not-refused : (v : CoreValue) (step : Step) (new : CoreState) (reply : Reply) → IsHeld v.job → Allows v step →
+pub not-refused : (v : CoreValue) (step : Step) (new : CoreState) (reply : Reply) → HasTrace v.job → Allows v step →
     ForContents v.job (λ c. Replies v.state (next (setting_of v c) v.state step) new reply) → reply ≡ replies.Refused → ⊥
-not-refused v step new reply held may h is =
-    let no : 1 ≤ 0 = less-held v.job 1 0 held (λ c says. refuses-none v.state new (next (setting_of v c) v.state step) reply (may c says) (h c says) is) in
+not-refused v step new reply trace may h is =
+    let no : 1 ≤ 0 = less-traced v.job 1 0 trace (λ c says. refuses-none v.state new (next (setting_of v c) v.state step) reply (may c says) (h c says) is) in
     omega (arith, no)
 
 pub led-to : (v : CoreValue) (step : Step) (new : CoreState) (reply : Reply) →
@@ -75,9 +75,9 @@ claiming v n less h = λ c says. claims (setting_of v c) (length v.job.programs)
 abbrev pub Through : ℕ → CoreState → JobValue → CoreState → Type 0
 Through n old j t = IsThrough (length j.programs) (length j.ticks) n t × IsSameWindow old t
 
-pub advancing : (v : CoreValue) (n k : ℕ) → IsHeld v.job → ForContents v.job (FollowsMachine v) → ForContents v.job (λ c. IsClaimed (length v.job.programs) (length v.job.ticks) n v.state) →
+pub advancing : (v : CoreValue) (n k : ℕ) → HasTrace v.job → ForContents v.job (FollowsMachine v) → ForContents v.job (λ c. IsClaimed (length v.job.programs) (length v.job.ticks) n v.state) →
     ForContents v.job (λ c. v.state.first + k ≡ v.state.end) → Steps v (steps.Advance 0 k) (Through n v.state)
-advancing v n k held follows h all = λ c says. advances v c (length v.job.programs) n k (held.ticks c says) (follows c says) (h c says) (all c says)
+advancing v n k trace follows h all = λ c says. advances v c (length v.job.programs) n k (trace.ticks c says) (follows c says) (h c says) (all c says)
 
 abbrev pub Published : ℕ → CoreState → JobValue → CoreState → Type 0
 Published n old j t = IsAmid (length j.programs) (length j.ticks) (n + 1) t × IsSameWindow old t
@@ -109,13 +109,13 @@ opening-rests j size = λ c says. record {
 }
 
 -- behind a slide the window's clocks are further ones
-pub opened-window : (v new : CoreValue) → IsHeld v.job → Rests v → v.state.end < length v.job.ticks → 1 ≤ v.size → LeadsTo v steps.Slide new.state → new.job ≡ v.job →
+pub opened-window : (v new : CoreValue) → HasTrace v.job → Rests v → v.state.end < length v.job.ticks → 1 ≤ v.size → LeadsTo v steps.Slide new.state → new.job ≡ v.job →
     (new.state.first ≤ new.state.end) × (v.state.end < new.state.end)
-opened-window v new held rests more some led same =
-    let held_new : IsHeld new.job = subst IsHeld (sym same) held in
+opened-window v new trace rests more some led same =
+    let trace_new : HasTrace new.job = subst HasTrace (sym same) trace in
     let open_now = behind (Opened v.state) v new steps.Slide (sliding v rests more some) led same in (
-      less-held new.job new.state.first new.state.end held_new (λ c says. omega (arith, (open_now c says).0.some)),
-      less-held new.job (suc v.state.end) new.state.end held_new (λ c says. omega (arith, (open_now c says).1)),
+      less-traced new.job new.state.first new.state.end trace_new (λ c says. omega (arith, (open_now c says).0.some)),
+      less-traced new.job (suc v.state.end) new.state.end trace_new (λ c says. omega (arith, (open_now c says).1)),
     )
 
 pub begun : (v new : CoreValue) → Rests v → v.state.end < length v.job.ticks → 1 ≤ v.size → LeadsTo v steps.Slide new.state → new.job ≡ v.job → HasDone 0 new

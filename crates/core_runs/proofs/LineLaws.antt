@@ -19,8 +19,8 @@ use Rattle.workers.specs.Values.{CoreValue, job_value, rows_over}
 use Rattle.workers.specs.Following.{FollowsMachine}
 use Rattle.workers.proofs.CoreLaws.{holds, says-something}
 use Rattle.workers.proofs.FloorLaws.{get-mapped}
-use Rattle.core_runs.specs.Rounds.{IsAt, IsResting, IsHeld}
-use Rattle.core_runs.proofs.CoreLaws.{ForContents, same-held}
+use Rattle.core_runs.specs.Rounds.{IsAt, IsResting, HasTrace}
+use Rattle.core_runs.proofs.CoreLaws.{ForContents, same-traced}
 use Rattle.core_runs.proofs.RunLaws.{ComesTo, comes-to}
 use Rattle.core_runs.proofs.RoundLaws.{there, many-rows}
 
@@ -76,10 +76,10 @@ pub lined : (v : CoreValue) (c : Contents) (i : ℕ) (p : ProgramData) (r : Resu
 lined v c i p (Ok l) ds h are named is = over-line v c i p (line l) ds h are (is ∙ ap (λ (n : List ℕ). line_over n ds) named)
 lined v c i p (Err e) ds h are named is = tt
 
-pub counted : (v : CoreValue) (r : Result Line AllocError) (ds : List Decided) → IsHeld v.job → ForContents v.job (λ c. length ds ≡ length v.job.ticks) →
+pub counted : (v : CoreValue) (r : Result Line AllocError) (ds : List Decided) → HasTrace v.job → ForContents v.job (λ c. length ds ≡ length v.job.ticks) →
     IfOk r (λ l. attempts_of l.counts ≡ length ds) → IfOk r (λ l. attempts_of l.counts ≡ length v.job.ticks)
-counted v (Ok l) ds held all is = is ∙ same-held v.job (length ds) (length v.job.ticks) held all
-counted v (Err e) ds held all is = tt
+counted v (Ok l) ds trace all is = is ∙ same-traced v.job (length ds) (length v.job.ticks) trace all
+counted v (Err e) ds trace all is = tt
 
 -- one more of each
 zip-push : {A B : Type 0} (R : A → B → Type 0) (xs : List A) (ys : List B) (x : A) (y : B) → AllZip R xs ys → R x y → AllZip R (xs ++ x ∷ []) (ys ++ y ∷ [])
@@ -98,5 +98,5 @@ line-more R f ps i p ls new l lt is pushed h r =
     (subst (λ ys. AllZip R (take i ps ++ p ∷ []) ys) (sym second) (zip-push R (take i ps) (map f ls) p (f l) h r))
 
 -- a job holds its ticks
-pub job-held : (j : Job) → IsHeld (job_value j)
-job-held j = record { says = says-something j; ticks = λ c says. j.ticks c (holds j c says) }
+pub job-traced : (j : Job) → HasTrace (job_value j)
+job-traced j = record { says = says-something j; ticks = λ c says. j.ticks c (holds j c says) }

@@ -6,8 +6,9 @@ use Rattle.std.proofs.lemmas.List.{length-set, length-map}
 use Rattle.std.proofs.lemmas.Option.{slice_get_within}
 use Rattle.vcd_reader.specs.Dump.{Contents}
 use Rattle.cycle_window.specs.Ticks.{ticks_of, row_of}
-use Rattle.checked_machine.specs.Outcomes.{Ran}
+use Rattle.checked_machine.specs.Outcomes.{Ran, done}
 use Rattle.checked_machine.specs.Machine.{Outcome}
+use Rattle.checked_machine.specs.Runs.{run_from}
 use Rattle.batches.specs.Batches.{rows_between}
 use Rattle.bytecode.specs.Values.{ProgramData}
 use Rattle.workers.specs.States.{CoreState, WorkerState, MonitorState, Setting, place, is_at, is_idle, is_free, is_free_one, is_none, is_below, held, done_of, cleared, batch, advanced, moved, with_monitor, put, put_each, put_done, emptied, next_slide, next_claim, next_advance, next_publish, next_gather}
@@ -253,6 +254,10 @@ module _ (g : Setting) (count : ℕ) where
 pub many-rows : (j : JobValue) (c : Contents) (p : ProgramData) → j.ticks ≡ ticks_of c j.code → length (rows_over j c p) ≡ length j.ticks
 many-rows j c p ticks = length-map (ticks_of c j.code) (row_of c (sampled c.variables p)) ∙ sym (ap length ticks)
 
+-- a monitor behind a run without a trap
+moved-to : (m : MonitorState) (r : Ran Outcome) (o : Outcome) (to : ℕ) → r ≡ done o 0 → o.state.standing.now ≡ to → place (moved m r) ≡ to
+moved-to m r o to is at = ap (λ (x : Ran Outcome). place (moved m x)) is ∙ at
+
 -- the monitor in the hand runs to the window's end
 pub advances : (v : CoreValue) (c : Contents) (count behind k : ℕ) → v.job.ticks ≡ ticks_of c v.job.code → FollowsMachine v c →
     IsClaimed count (length v.job.ticks) behind v.state → v.state.first + k ≡ v.state.end →
@@ -269,7 +274,7 @@ advances v c count behind k ticks f h all =
     length-between rows (place m) (place m + k) (omega arith) (omega (arith, here, all, h.inside, long)) in
     let new : MonitorState = advanced rows k m in
     let at : place new ≡ s.end =
-    ap (λ (x : Ran Outcome). place (moved m x)) r.ran ∙ (omega (arith, r.now, between, here, all)) in
+    moved-to m (run_from m.program m.state (rows_between rows (place m) (place m + k))) r.outcome s.end r.ran (omega (arith, r.now, between, here, all)) in
     let hand : held s.workers 0 ≡ Some behind = ap (λ (ws : List WorkerState). held ws 0) h.workers in
     record {
       next = with_monitor s behind new;

@@ -5,22 +5,22 @@ use Rattle.vcd_reader.specs.Dump.{Contents}
 use Rattle.workers.specs.declared.step.Step.TheVariants as steps
 use Rattle.workers.specs.Values.{JobValue, CoreValue, Says}
 use Rattle.workers.specs.Following.{FollowsMachine}
-use Rattle.core_runs.specs.Rounds.{IsHeld, Rests, HasDone, IsSameWindow, KeepsWindow, LeadsTo}
-use Rattle.core_runs.proofs.CoreLaws.{ForContents, Steps, behind, Claimed, claiming, Through, advancing, Published, publishing, Gathered, gathering, less-held}
+use Rattle.core_runs.specs.Rounds.{HasTrace, Rests, HasDone, IsSameWindow, KeepsWindow, LeadsTo}
+use Rattle.core_runs.proofs.CoreLaws.{ForContents, Steps, behind, Claimed, claiming, Through, advancing, Published, publishing, Gathered, gathering, less-traced}
 
 -- so many monitors are done in a window of so many clocks, and one is left
 pub record IsTurn (first v : CoreValue) (n k : ℕ) : Type 0 where
-  pub held : IsHeld first.job
+  pub trace : HasTrace first.job
   pub job : v.job ≡ first.job
   pub less : n < length first.job.programs
   pub clocks : first.state.first + k ≡ first.state.end
   pub done : HasDone n v
   pub window : KeepsWindow first v
 
-pub turn : (first v : CoreValue) (n k count : ℕ) → IsHeld first.job → v.job ≡ first.job → count ≡ length first.job.programs → n < count → first.state.first + k ≡ first.state.end →
+pub turn : (first v : CoreValue) (n k count : ℕ) → HasTrace first.job → v.job ≡ first.job → count ≡ length first.job.programs → n < count → first.state.first + k ≡ first.state.end →
     HasDone n v → KeepsWindow first v → IsTurn first v n k
-turn first v n k count held job all less clocks done window =
-    record { held = held; job = job; less = omega (arith, all, less); clocks = clocks; done = done; window = window }
+turn first v n k count trace job all less clocks done window =
+    record { trace = trace; job = job; less = omega (arith, all, less); clocks = clocks; done = done; window = window }
 
 module _ (first v : CoreValue) (n k : ℕ) (turn : IsTurn first v n k) where
   pub claim-steps : Steps v (steps.Claim 0) (Claimed n v.state)
@@ -41,7 +41,7 @@ module _ (first v : CoreValue) (n k : ℕ) (turn : IsTurn first v n k) where
 
     pub advance-steps : ForContents v1.job (FollowsMachine v1) → Steps v1 (steps.Advance 0 k) (Through n v1.state)
     advance-steps follows =
-        advancing v1 n k (subst IsHeld (sym (same ∙ turn.job)) turn.held) follows (λ c says. (claimed c says).0)
+        advancing v1 n k (subst HasTrace (sym (same ∙ turn.job)) turn.trace) follows (λ c says. (claimed c says).0)
         (λ c says. let w = in-window c says in omega (arith, w.first, w.end, turn.clocks))
 
     module _ (follows : ForContents v1.job (FollowsMachine v1)) (v2 : CoreValue) (led2 : LeadsTo v1 (steps.Advance 0 k) v2.state) (same2 : v2.job ≡ v1.job) where
@@ -79,9 +79,9 @@ module _ (v new : CoreValue) (done : HasDone (length v.job.programs) v) (same : 
   pub rests-again : LeadsTo v steps.Gather new.state → Rests new
   rests-again led c says = (gathered led c says).0
 
-  pub further : (old first : CoreValue) → IsHeld first.job → v.job ≡ first.job → old.state.end < first.state.end → KeepsWindow first v → LeadsTo v steps.Gather new.state → old.state.end < new.state.end
-  further old first held is less kept led =
-      less-held first.job (suc old.state.end) new.state.end held (λ c says.
+  pub further : (old first : CoreValue) → HasTrace first.job → v.job ≡ first.job → old.state.end < first.state.end → KeepsWindow first v → LeadsTo v steps.Gather new.state → old.state.end < new.state.end
+  further old first trace is less kept led =
+      less-traced first.job (suc old.state.end) new.state.end trace (λ c says.
       let w = kept c says in
       let g = (gathered led c (subst (λ (j : JobValue). Says j c) (sym (same ∙ is)) says)).1 in
       omega (arith, less, w.end, g.end))

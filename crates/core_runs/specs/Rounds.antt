@@ -41,7 +41,7 @@ pub record IsAmid (count clocks behind : ℕ) (s : CoreState) : Type 0 where
       IsAt s.first m
 
 -- The job's dump has some contents, and whatever they are, the job's ticks are those of its clock.
-pub record IsHeld (j : JobValue) : Type 0 where
+pub record HasTrace (j : JobValue) : Type 0 where
   pub says : ∥ ((c : Contents) × Says j c) ∥₁
   pub ticks : (c : Contents) → Says j c → j.ticks ≡ ticks_of c j.code
 

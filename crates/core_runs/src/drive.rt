@@ -3,7 +3,7 @@
 ghost use Rattle.std.specs.Prelude.{◌≡◌, ◌≢◌, ◌+◌, ◌<◌, ◌≤◌, OnOk, IfOk, length};
 ghost use Rattle.workers.specs.declared.step.Step.TheVariants as steps;
 ghost use Rattle.workers.specs.declared.step.Reply.TheVariants as replies;
-ghost use Rattle.core_runs.specs.Rounds.{IsHeld, Rests, HasDone, KeepsWindow, Allows, LeadsTo};
+ghost use Rattle.core_runs.specs.Rounds.{HasTrace, Rests, HasDone, KeepsWindow, Allows, LeadsTo};
 
 use std::alloc::{AllocError, Global};
 use workers::{Core, Reply, Step};
@@ -22,7 +22,7 @@ fn done(reply: Reply) -> Result<(), AllocError>
 
 /// An allowed step. For want of memory nothing changes.
 fn take(alloc: Global, core: &mut Core<'_>, step: Step) -> Result<(), AllocError>
-    requires held { IsHeld core.old.job }
+    requires trace { HasTrace core.old.job }
     requires allowed { Allows core.old step }
     ensures led { OnOk result (LeadsTo core.old step core.new.state) }
     ensures job { core.new.job ≡ core.old.job }
@@ -33,7 +33,7 @@ fn take(alloc: Global, core: &mut Core<'_>, step: Step) -> Result<(), AllocError
 
 /// The next window, and how many clocks it has.
 fn open_round(alloc: Global, core: &mut Core<'_>) -> Result<u64, AllocError>
-    requires held { IsHeld core.old.job }
+    requires trace { HasTrace core.old.job }
     requires rests { Rests core.old }
     requires some { 1 ≤ core.old.size }
     requires more { core.old.state.end < length core.old.job.ticks }
@@ -55,7 +55,7 @@ fn run_monitors(
     count: usize,
     clocks: u64,
 ) -> Result<(), AllocError>
-    requires held { IsHeld core.old.job }
+    requires trace { HasTrace core.old.job }
     requires count { count ≡ length core.old.job.programs }
     requires begun { HasDone 0 core.old }
     requires clocks { core.old.state.first + clocks ≡ core.old.state.end }
@@ -75,7 +75,7 @@ fn run_monitors(
 
 /// A round: all monitors through the next window.
 fn run_round(alloc: Global, core: &mut Core<'_>, count: usize) -> Result<(), AllocError>
-    requires held { IsHeld core.old.job }
+    requires trace { HasTrace core.old.job }
     requires count { count ≡ length core.old.job.programs }
     requires rests { Rests core.old }
     requires some { 1 ≤ core.old.size }
@@ -92,7 +92,7 @@ fn run_round(alloc: Global, core: &mut Core<'_>, count: usize) -> Result<(), All
 
 /// All rounds, up to the trace's end.
 pub(crate) fn drive(alloc: Global, core: &mut Core<'_>, count: usize) -> Result<(), AllocError>
-    requires held { IsHeld core.old.job }
+    requires trace { HasTrace core.old.job }
     requires count { count ≡ length core.old.job.programs }
     requires rests { Rests core.old }
     requires some { 1 ≤ core.old.size }

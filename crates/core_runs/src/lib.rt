@@ -9,7 +9,6 @@
 //! ```text
 //! let job = Job::new(alloc, programs, dump, "top.clk")?;
 //! let lines = job_lines(alloc, &job, 1024)?;    // a line for each program, in source order
-//! let report = Report::new(ticks, lines);
 //! ```
 //!
 //! The faults are C3 of the size and want of memory; there is one worker, so U1 never comes.

@@ -6,7 +6,7 @@ ghost use Rattle.verdicts.specs.Lines.{line};
 ghost use Rattle.program_runs.specs.Lines.{IsLineOver, attempts_of};
 ghost use Rattle.workers.specs.Values.{Says, WhyNoCore, job_value, rows_over};
 ghost use Rattle.core_runs.specs.Lines.{AreLinesOf};
-ghost use Rattle.core_runs.specs.Rounds.{IsHeld, Rests};
+ghost use Rattle.core_runs.specs.Rounds.{HasTrace, Rests};
 
 use crate::attempts::attempts_of;
 use crate::drive::drive;
@@ -23,7 +23,7 @@ fn program_line(
     number: usize,
     verified: &Verified,
 ) -> Result<Line, AllocError>
-    requires held { IsHeld core.now.job }
+    requires trace { HasTrace core.now.job }
     requires rests { Rests core.now }
     requires end { length core.now.job.ticks ≤ core.now.state.end }
     requires program { slice_get core.now.job.programs number ≡ Some verified.now }
@@ -39,7 +39,7 @@ fn program_line(
 
 /// The lines of all programs, behind the last clock.
 fn lines_of(alloc: Global, core: &Core<'_>, programs: &[Verified]) -> Result<Vec<Line>, AllocError>
-    requires held { IsHeld core.now.job }
+    requires trace { HasTrace core.now.job }
     requires rests { Rests core.now }
     requires end { length core.now.job.ticks ≤ core.now.state.end }
     requires programs { programs.now ≡ core.now.job.programs }

@@ -10,7 +10,7 @@ take-requires-clause-allowed c =
 
 pub overflow_sub-result : goal.overflow_sub-result
 overflow_sub-result c =
-    let w = laws.opened-window c.args.core.now c.take.new.core c.requires.held c.requires.rests c.requires.more c.requires.some c.in_ok-take.ensures.led c.take.ensures.job in
+    let w = laws.opened-window c.args.core.now c.take.new.core c.requires.trace c.requires.rests c.requires.more c.requires.some c.in_ok-take.ensures.led c.take.ensures.job in
     omega (arith, w.0, c.window-first.ensures.first, c.window-first.ensures.end)
 
 pub returns-clause-begun : goal.returns-clause-begun
@@ -19,9 +19,9 @@ returns-clause-begun c =
 
 pub returns-clause-clocks : goal.returns-clause-clocks
 returns-clause-clocks c =
-    let w = laws.opened-window c.args.core.now c.take.new.core c.requires.held c.requires.rests c.requires.more c.requires.some c.in_ok-take.ensures.led c.take.ensures.job in
+    let w = laws.opened-window c.args.core.now c.take.new.core c.requires.trace c.requires.rests c.requires.more c.requires.some c.in_ok-take.ensures.led c.take.ensures.job in
     omega (arith, w.0, c.window-first.ensures.first, c.window-first.ensures.end)
 
 pub returns-clause-further : goal.returns-clause-further
 returns-clause-further c =
-    (laws.opened-window c.args.core.now c.take.new.core c.requires.held c.requires.rests c.requires.more c.requires.some c.in_ok-take.ensures.led c.take.ensures.job).1
+    (laws.opened-window c.args.core.now c.take.new.core c.requires.trace c.requires.rests c.requires.more c.requires.some c.in_ok-take.ensures.led c.take.ensures.job).1

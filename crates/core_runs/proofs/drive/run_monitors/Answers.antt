@@ -11,7 +11,7 @@ take-requires-clause-allowed c =
     let n = c.loop-monitor._monitor in
     let k = c.args.clocks in
     let inv = c.loop-monitor.invariant in
-    let turn = turns.turn first v n k c.args.count c.requires.held inv.job c.requires.count c.loop-monitor-test.true c.requires.clocks inv.behind inv.window in
+    let turn = turns.turn first v n k c.args.count c.requires.trace inv.job c.requires.count c.loop-monitor-test.true c.requires.clocks inv.behind inv.window in
     allows (Claimed n v.state) v (steps.Claim 0) (turns.claim-steps first v n k turn)
 
 pub take-requires-in-loop-monitor-clause-allowed : goal.take-requires-in-loop-monitor-clause-allowed
@@ -21,7 +21,7 @@ take-requires-in-loop-monitor-clause-allowed c =
     let n = c.loop-monitor._monitor in
     let k = c.args.clocks in
     let inv = c.loop-monitor.invariant in
-    let turn = turns.turn first v n k c.args.count c.requires.held inv.job c.requires.count c.loop-monitor-test.true c.requires.clocks inv.behind inv.window in
+    let turn = turns.turn first v n k c.args.count c.requires.trace inv.job c.requires.count c.loop-monitor-test.true c.requires.clocks inv.behind inv.window in
     let v1 = c.take.new.core in
     allows (Through n v1.state) v1 (steps.Advance 0 k)
     (turns.advance-steps first v n k turn v1 c.in_ok-take.ensures.led c.take.ensures.job c.follows_machine.ensures.follows)
@@ -33,7 +33,7 @@ take-requires-in-loop-monitor-2-clause-allowed c =
     let n = c.loop-monitor._monitor in
     let k = c.args.clocks in
     let inv = c.loop-monitor.invariant in
-    let turn = turns.turn first v n k c.args.count c.requires.held inv.job c.requires.count c.loop-monitor-test.true c.requires.clocks inv.behind inv.window in
+    let turn = turns.turn first v n k c.args.count c.requires.trace inv.job c.requires.count c.loop-monitor-test.true c.requires.clocks inv.behind inv.window in
     let v1 = c.take.new.core in
     let v2 = c.take-in-loop-monitor.new.core in
     allows (Published n v2.state) v2 (steps.Publish 0)
@@ -46,7 +46,7 @@ loop-monitor-preserved c =
     let n = c.loop-monitor._monitor in
     let k = c.args.clocks in
     let inv = c.loop-monitor.invariant in
-    let turn = turns.turn first v n k c.args.count c.requires.held inv.job c.requires.count c.loop-monitor-test.true c.requires.clocks inv.behind inv.window in
+    let turn = turns.turn first v n k c.args.count c.requires.trace inv.job c.requires.count c.loop-monitor-test.true c.requires.clocks inv.behind inv.window in
     let v1 = c.take.new.core in
     let v2 = c.take-in-loop-monitor.new.core in
     record {

@@ -1,5 +1,5 @@
-use Rattle.std.proofs.Common.{◌≡◌, length, arith, sym, subst, All}
-use Rattle.std.proofs.lemmas.List.Elements.{All-push}
+use Rattle.std.proofs.Common.{◌≡◌, ◌++◌, ◌∷◌, [], length, arith}
+use Rattle.std.proofs.lemmas.List.Elements.{All-push, All-same}
 use Rattle.bytecode.specs.Values.{ProgramData}
 use Rattle.verdicts.specs.declared.line.Line.{Line}
 use Rattle.verdicts.specs.Lines.{LineData, line}
@@ -21,5 +21,5 @@ loop-number-preserved c =
       lines = λ k says.
           line-more (λ (q : ProgramData) (x : LineData). IsLineOver q (rows_over j k q) x) line ps c.loop-number.number p ls new l (omega arith) c.index-programs-number.is c.in_ok-push.ensures.items
           (c.loop-number.invariant.lines k says) (c.in_ok-program_line.ensures.line k says);
-      count = subst (All count) (sym c.in_ok-push.ensures.items) (All-push count ls l c.loop-number.invariant.count c.in_ok-program_line.ensures.count);
+      count = All-same count new (ls ++ l ∷ []) c.in_ok-push.ensures.items (All-push count ls l c.loop-number.invariant.count c.in_ok-program_line.ensures.count);
     }
