@@ -48,7 +48,7 @@ all-named c suite signals named watched (p ∷ places) (s ∷ slots) h =
     rw is (ap (λ (xs : List (Option ℕ)). Some one.variable ∷ xs) (all-named c suite signals named watched places slots h.1))
 
 module _ (suite : Suite) (a : Assertion) (p : ProgramData) (of : IsProgramOf suite a p) (rows : List (List ℕ)) (fit : AreRowsOf suite rows) (accepted : IsAccepted p)
-  (verdict_at : ℕ → Verdict) (are : AreVerdictsOf suite rows a verdict_at) where
+    (verdict_at : ℕ → Verdict) (are : AreVerdictsOf suite rows a verdict_at) where
   abbrev own : List (List ℕ)
   own = map (picked of.layout.signals) rows
 
