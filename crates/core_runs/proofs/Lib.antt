@@ -1,0 +1,5 @@
+pub mod RunLaws
+pub mod RoundLaws
+pub mod CoreLaws
+pub mod TurnLaws
+pub mod LineLaws

@@ -1,0 +1,83 @@
+//! The lines of a job's programs.
+
+ghost use Rattle.std.specs.Prelude.{◌≡◌, ◌≤◌, All, IfOk, IfErr, Some, length, map, slice_get};
+ghost use Rattle.vcd_reader.specs.Dump.{Contents};
+ghost use Rattle.verdicts.specs.Lines.{line};
+ghost use Rattle.program_runs.specs.Lines.{IsLineOver, attempts_of};
+ghost use Rattle.workers.specs.Values.{Says, WhyNoCore, job_value, rows_over};
+ghost use Rattle.core_runs.specs.Lines.{AreLinesOf};
+ghost use Rattle.core_runs.specs.Rounds.{HasTrace, Rests};
+
+use crate::attempts::attempts_of;
+use crate::drive::drive;
+use crate::line::line_of;
+use std::alloc::{AllocError, Global};
+use verdicts::Line;
+use verifier::Verified;
+use workers::{Core, Job, RunFault};
+
+/// The line of the program of a number, behind the last clock.
+fn program_line(
+    alloc: Global,
+    core: &Core<'_>,
+    number: usize,
+    verified: &Verified,
+) -> Result<Line, AllocError>
+    requires trace { HasTrace core.now.job }
+    requires rests { Rests core.now }
+    requires end { length core.now.job.ticks ≤ core.now.state.end }
+    requires program { slice_get core.now.job.programs number ≡ Some verified.now }
+    ensures line { (c : Contents) → Says core.now.job c → IfOk result (λ l.
+        IsLineOver verified.now (rows_over core.now.job c verified.now) (line l)) }
+    ensures count { IfOk result (λ l. attempts_of l.counts ≡ length core.now.job.ticks) }
+{
+    core.follows_machine();
+    let attempts = attempts_of(alloc, core, number)?;
+    let name = String::from_str(alloc, verified.program().name.as_str())?;
+    line_of(alloc, name, attempts.as_slice())
+}
+
+/// The lines of all programs, behind the last clock.
+fn lines_of(alloc: Global, core: &Core<'_>, programs: &[Verified]) -> Result<Vec<Line>, AllocError>
+    requires trace { HasTrace core.now.job }
+    requires rests { Rests core.now }
+    requires end { length core.now.job.ticks ≤ core.now.state.end }
+    requires programs { programs.now ≡ core.now.job.programs }
+    ensures lines { (c : Contents) → Says core.now.job c
+        → IfOk result (λ ls. AreLinesOf core.now.job c (map line ls.items)) }
+    ensures count { IfOk result (λ ls.
+        All (λ l. attempts_of l.counts ≡ length core.now.job.ticks) ls.items) }
+{
+    let mut lines = Vec::with_capacity(alloc, programs.len())?;
+    for (number, verified) in programs.iter().enumerate() {
+        lines.push(program_line(alloc, core, number, verified)?)?;
+    }
+    Ok(lines)
+}
+
+/// The lines of a job's programs over its dump, in source order, by one worker through windows of
+/// so many clocks, 1 to 65,536. The size changes no line.
+pub fn job_lines(alloc: Global, job: &Job, size: usize) -> Result<Vec<Line>, RunFault>
+    ensures lines { (c : Contents) → Says (job_value job.now) c
+        → IfOk result (λ ls. AreLinesOf (job_value job.now) c (map line ls.items)) }
+    // Windows of no clock, or of more than 65,536, have no lines.
+    ensures some { IfOk result (λ _. 1 ≤ size) }
+    ensures most { IfOk result (λ _. size ≤ 65536) }
+    // One attempt begins at each clock, and each is counted once.
+    ensures count { IfOk result (λ ls.
+        All (λ l. attempts_of l.counts ≡ length (job_value job.now).ticks) ls.items) }
+    // The first cause that stands.
+    ensures fault { IfErr result (WhyNoCore 1 size) }
+{
+    let mut core = match Core::new(alloc, job, 1, size) {
+        Err(fault) => return Err(fault),
+        Ok(core) => core,
+    };
+    if drive(alloc, &mut core, job.programs().len()).is_err() {
+        return Err(RunFault::Memory);
+    }
+    match lines_of(alloc, &core, job.programs()) {
+        Err(_) => Err(RunFault::Memory),
+        Ok(lines) => Ok(lines),
+    }
+}
