@@ -15,7 +15,7 @@ use Rattle.vcd_reader.specs.declared.fault.VcdFault.{VcdFault}
 use Rattle.vcd_reader.specs.declared.fault.VcdFault.TheVariants as dumps
 use Rattle.vcd_reader.specs.Dump.{Contents, GaveDump, Stands}
 use Rattle.cli.specs.declared.fault.Fault.{Fault}
-use Rattle.cli.specs.declared.fault.Fault.TheVariants.{Vcd, Lex, Parse, Typing, Compile, Window, Port, Report, Code, Refused, NoAssertion, NotText, Words, File, Memory}
+use Rattle.cli.specs.declared.fault.Fault.TheVariants.{Vcd, Lex, Parse, Typing, Compile, BadJob, Window, Port, Report, Code, Refused, NoAssertion, NotText, Words, File, Memory}
 use Rattle.cli.specs.Faults.{vcd_fault, type_fault, compile_fault}
 use Rattle.cli.specs.Reported.{HasItems, SaysSuite}
 use Rattle.cli.specs.Outcomes.{WhyNoItems, WhyNotTyped, IsMistyped, WhyNoReport}
@@ -54,6 +54,7 @@ module _ (c : Contents) (text name : List ℕ) where
   without_items (Parse e) h = formless e h
   without_items (Typing e) h = absurd h
   without_items (Compile e) h = absurd h
+  without_items BadJob h = absurd h
   without_items (Window e) h = absurd h
   without_items (Port e) h = absurd h
   without_items (Report e) h = absurd h
@@ -88,6 +89,7 @@ module _ (c : Contents) (text name : List ℕ) where
   without_program suite (Parse e) says h = absurd h
   without_program suite (Typing e) says h = absurd h
   without_program suite (Compile e) says h = record { suite = suite; says = says; why = h }
+  without_program suite BadJob says h = absurd h
   without_program suite (Window e) says h = absurd h
   without_program suite (Port e) says h = absurd h
   without_program suite (Report e) says h = absurd h
@@ -110,6 +112,7 @@ module _ (b : Build) (c : Contents) (gave : GaveDump b.given_old b.given_new c) 
   refused_build (Parse e) h = refused (Parse e) h
   refused_build (Typing e) h = refused (Typing e) h
   refused_build (Compile e) h = refused (Compile e) h
+  refused_build BadJob h = absurd h
   refused_build (Window e) h = absurd h
   refused_build (Port e) h = absurd h
   refused_build (Report e) h = absurd h

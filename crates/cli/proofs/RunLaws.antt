@@ -9,7 +9,7 @@ use Rattle.vcd_reader.specs.declared.fault.VcdFault.TheVariants as dumps
 use Rattle.vcd_reader.specs.Dump.{Contents, GaveDump, Stands}
 use Rattle.cli.specs.Faults.{vcd_fault}
 use Rattle.cli.specs.declared.fault.Fault.{Fault}
-use Rattle.cli.specs.declared.fault.Fault.TheVariants.{Vcd, Lex, Parse, Typing, Compile, Window, Port, Report, Code, Refused, NoAssertion, NotText, Words, File, Memory}
+use Rattle.cli.specs.declared.fault.Fault.TheVariants.{Vcd, Lex, Parse, Typing, Compile, BadJob, Window, Port, Report, Code, Refused, NoAssertion, NotText, Words, File, Memory}
 use Rattle.cli.specs.Outcomes.{Run, WhyNoReport, IsRefusedReport, IsUnwritten, WhyRunRefused, IsNotCompiled, WhyNoneByPrograms, IsUncompiled, WhyCheckRefused}
 
 module _ (r : Run) (c : Contents) (gave : GaveDump r.given_old r.given_new c) (reads : r.reads_new ≡ r.reads_old) (unwritten : IsUnwritten r) where
@@ -30,6 +30,7 @@ module _ (r : Run) (c : Contents) (gave : GaveDump r.given_old r.given_new c) (r
   refused_run (Parse e) h = refused_form e h
   refused_run (Typing e) h = refused (Typing e) h
   refused_run (Compile e) h = absurd h
+  refused_run BadJob h = absurd h
   refused_run (Window e) h = refused (Window e) h
   refused_run (Port e) h = absurd h
   refused_run (Report e) h = absurd h
@@ -54,6 +55,7 @@ module _ (r : Run) (c : Contents) (gave : GaveDump r.given_old r.given_new c) (r
   -- a fault of the text or of an assertion refuses the check
   pub refused_check : (e : Fault) → WhyNoneByPrograms c r.text e → WhyCheckRefused r e
   refused_check (Compile e) h = refused_program e h
+  refused_check BadJob h = record { contents = c; gave = gave; why = h; reads = reads; unwritten = unwritten }
   refused_check e h = refused_run e h
 
 -- a dump that wasn't read refuses the run

@@ -24,7 +24,9 @@ use Rattle.types.specs.declared.fault.TypeFault.TheVariants as types
 use Rattle.types.specs.Faults as faults
 use Rattle.types.specs.Faults.{IsFirst, IsFaultless}
 use Rattle.types_suites.specs.Suites.{AreSignals, IsSuite}
-use Rattle.compiler.specs.declared.fault.CompileFault.{CompileFault}
+use Rattle.compiled_lines.specs.declared.fault.LinesFault.{LinesFault}
+use Rattle.compiled_lines.specs.declared.fault.LinesFault.TheVariants.{Program}
+use Rattle.compiled_lines.specs.declared.fault.LinesFault.TheVariants as lines
 use Rattle.compiler.specs.declared.fault.CompileFault.TheVariants as compiles
 use Rattle.compiled_lines.specs.Faults.{WhyNoLines}
 use Rattle.vcd_reader.specs.Variables.{Declared, variable_named, size_of}
@@ -33,9 +35,9 @@ use Rattle.cycle_window.specs.declared.fault.WindowFault.{WindowFault}
 use Rattle.cycle_window.specs.declared.fault.WindowFault.TheVariants as windows
 use Rattle.cycle_window.specs.Bound.{IsClockFault, OtherWidth, misfit}
 use Rattle.cli.specs.declared.fault.Fault.{Fault}
-use Rattle.cli.specs.declared.fault.Fault.TheVariants.{Vcd, Lex, Parse, Typing, Compile, Window, Port, Report, Code, Refused, NoAssertion, NotText, Words, File, Memory}
+use Rattle.cli.specs.declared.fault.Fault.TheVariants.{Vcd, Lex, Parse, Typing, Compile, BadJob, Window, Port, Report, Code, Refused, NoAssertion, NotText, Words, File, Memory}
 use Rattle.cli.specs.Named.{width_named, scope_over, AreNamed}
-use Rattle.cli.specs.Faults.{lex_fault, parse_fault, type_fault, window_fault, compile_fault}
+use Rattle.cli.specs.Faults.{lex_fault, parse_fault, type_fault, window_fault, lines_fault}
 use Rattle.cli.specs.Reported.{AreTokens, HasItems, IsTyped, SaysSuite}
 use Rattle.cli.specs.Outcomes.{HasNoItems, IsMistyped, WhyNoItems, WhyNotTyped, WhyNoReport, IsNotCompiled, WhyNoneByPrograms}
 
@@ -133,6 +135,7 @@ without_items c text (Lex e) h = h
 without_items c text (Parse e) h = form_kept c text e h
 without_items c text (Typing e) h = elim h [ ]
 without_items c text (Compile e) h = elim h [ ]
+without_items c text BadJob h = elim h [ ]
 without_items c text (Window e) h = elim h [ ]
 without_items c text (Port e) h = elim h [ ]
 without_items c text (Report e) h = elim h [ ]
@@ -175,12 +178,15 @@ err_is (Err f) e Why h why = subst Why (sym h) why
 -- a text that has no report at all has none by programs
 pub none_by_programs : (c : Contents) (text : List ℕ) (e : Fault) → WhyNoReport c text e → WhyNoneByPrograms c text e
 none_by_programs c text (Compile e) h = absurd h
+none_by_programs c text BadJob h = absurd h
 none_by_programs c text e h = h
 
-pub uncompiled : (c : Contents) (text : List ℕ) (suite : Suite) (e : CompileFault) → SaysSuite c text suite → misfit c.variables (variable_named c.variables (string_bytes suite.clock)) 1 ≡ None
-    → WhyNoLines suite e → WhyNoneByPrograms c text (compile_fault e)
-uncompiled c text suite compiles.TooManyAtoms says clock h = record { suite = suite; says = says; clock = clock; why = h }
-uncompiled c text suite compiles.CodeTooLong says clock h = record { suite = suite; says = says; clock = clock; why = h }
-uncompiled c text suite compiles.TooManySlots says clock h = record { suite = suite; says = says; clock = clock; why = h }
-uncompiled c text suite compiles.TextTooLong says clock h = record { suite = suite; says = says; clock = clock; why = h }
-uncompiled c text suite compiles.Memory says clock h = tt
+pub uncompiled : (c : Contents) (text : List ℕ) (suite : Suite) (e : LinesFault) → SaysSuite c text suite → misfit c.variables (variable_named c.variables (string_bytes suite.clock)) 1 ≡ None
+    → WhyNoLines suite e → WhyNoneByPrograms c text (lines_fault e)
+uncompiled c text suite (Program compiles.TooManyAtoms) says clock h = record { suite = suite; says = says; clock = clock; why = h }
+uncompiled c text suite (Program compiles.CodeTooLong) says clock h = record { suite = suite; says = says; clock = clock; why = h }
+uncompiled c text suite (Program compiles.TooManySlots) says clock h = record { suite = suite; says = says; clock = clock; why = h }
+uncompiled c text suite (Program compiles.TextTooLong) says clock h = record { suite = suite; says = says; clock = clock; why = h }
+uncompiled c text suite (Program compiles.Memory) says clock h = absurd h
+uncompiled c text suite lines.BadJob says clock h = record { suite = suite; says = says; clock = clock; why = h }
+uncompiled c text suite lines.Memory says clock h = tt

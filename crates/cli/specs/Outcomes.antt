@@ -16,7 +16,7 @@ use Rattle.types.specs.declared.fault.TypeFault.TheVariants as types
 use Rattle.types.specs.Faults.{IsFirst}
 use Rattle.compiler.specs.declared.fault.CompileFault.{CompileFault}
 use Rattle.compiler.specs.declared.fault.CompileFault.TheVariants as compiles
-use Rattle.compiled_lines.specs.Faults.{HasNoProgram}
+use Rattle.compiled_lines.specs.Faults.{HasNoProgram, HasBadCount}
 use Rattle.vcd_reader.specs.declared.fault.VcdFault.{VcdFault}
 use Rattle.vcd_reader.specs.declared.fault.VcdFault.TheVariants as dumps
 use Rattle.vcd_reader.specs.Variables.{variable_named}
@@ -29,7 +29,7 @@ use Rattle.verdicts.specs.declared.write.ReportFault.TheVariants as reports
 use Rattle.verdicts.specs.Lines.{ReportData}
 use Rattle.verdicts.specs.Texts.{report_text}
 use Rattle.cli.specs.declared.fault.Fault.{Fault}
-use Rattle.cli.specs.declared.fault.Fault.TheVariants.{Vcd, Lex, Parse, Typing, Compile}
+use Rattle.cli.specs.declared.fault.Fault.TheVariants.{Vcd, Lex, Parse, Typing, Compile, BadJob}
 use Rattle.cli.specs.declared.fault.Fault.TheVariants.{Window, Report, Memory}
 use Rattle.cli.specs.Named.{scope_over}
 use Rattle.cli.specs.Reported.{AreTokens, HasItems, SaysSuite, IsReport}
@@ -131,10 +131,19 @@ pub record IsNotCompiled (c : Contents) (text : List ℕ) (fault : CompileFault)
   pub clock : misfit c.variables (variable_named c.variables (string_bytes suite.clock)) 1 ≡ None
   pub why : HasNoProgram suite fault
 
--- why a text has no report by programs: it has none at all, or one of its assertions has no program
+-- The text says a suite that has a clock and whose assertions have programs, but too many.
+pub record HasNoJob (c : Contents) (text : List ℕ) : Type 0 where
+  pub suite : Suite
+  pub says : SaysSuite c text suite
+  pub clock : misfit c.variables (variable_named c.variables (string_bytes suite.clock)) 1 ≡ None
+  pub why : HasBadCount suite
+
+-- why a text has no report by programs: it has none at all, one of its assertions has no program,
+-- or there are too many
 abbrev pub WhyNoneByPrograms : Contents → List ℕ → Fault → Type 0
 WhyNoneByPrograms c text (Compile compiles.Memory) = ⊥
 WhyNoneByPrograms c text (Compile e) = IsNotCompiled c text e
+WhyNoneByPrograms c text BadJob = HasNoJob c text
 WhyNoneByPrograms c text fault = WhyNoReport c text fault
 
 -- the source gave a dump over which the text has no report, and nothing was written
@@ -187,10 +196,19 @@ pub record IsUncompiled (r : Run) (fault : CompileFault) : Type 0 where
   pub reads : r.reads_new ≡ r.reads_old
   pub unwritten : IsUnwritten r
 
+-- the source gave a dump over which the text has too many assertions, and nothing was written
+pub record IsWithoutJob (r : Run) : Type 0 where
+  pub contents : Contents
+  pub gave : GaveDump r.given_old r.given_new contents
+  pub why : HasNoJob contents r.text
+  pub reads : r.reads_new ≡ r.reads_old
+  pub unwritten : IsUnwritten r
+
 -- why there is no report by programs, or not all of it
 abbrev pub WhyCheckRefused : Run → Fault → Type 0
 WhyCheckRefused r (Compile compiles.Memory) = ⊥
 WhyCheckRefused r (Compile e) = IsUncompiled r e
+WhyCheckRefused r BadJob = IsWithoutJob r
 WhyCheckRefused r fault = WhyRunRefused r fault
 
 -- the window's size is out of range, and nothing was read or written

@@ -22,9 +22,9 @@ use std::alloc::Global;
 /// # Errors
 ///
 /// C3 where `window` is out of its range, before anything is read; then what is wrong with the dump (V1 to V8), with the text
-/// (L1 to L3, P1 to P4, then Y1 to Y9), with its clock (C1, C2), and with the first of its assertions that has no program (K1 to
-/// K4), all before anything is written; G1 where the sink failed, which
-/// then holds a beginning of the report behind what it held before; and want of memory.
+/// (L1 to L3, P1 to P4, then Y1 to Y9), with its clock (C1, C2), with the first of its assertions that has no program (K1 to K4),
+/// and with their number (U3: more than 4,096), all before anything is written; G1 where the sink failed, which then holds a
+/// beginning of the report behind what it held before; and want of memory.
 ///
 /// IEEE 1800-2017, clauses 11, 16.5 to 16.9, 16.12 to 16.15; IEEE 1364-2005, clause 18.2.
 pub fn check_one<'a, S: Source, W: Sink>(
@@ -48,7 +48,7 @@ pub fn check_one<'a, S: Source, W: Sink>(
 ///
 /// # Errors
 ///
-/// Those of [`check_one`], but for C3 and K1 to K4.
+/// Those of [`check_one`], but for C3, K1 to K4 and U3.
 pub fn judge_one<'a, S: Source, W: Sink>(
     alloc: Global,
     source: &mut S,

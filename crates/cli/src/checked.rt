@@ -21,16 +21,16 @@ use verdicts::{Report, ReportFault, write_report};
 /// The report on a text over a dump, by its assertions' programs.
 fn report_checked<'a>(
     alloc: Global,
-    dump: &Dump,
+    dump: Dump,
     text: &'a str,
     size: usize,
 ) -> Result<Report, Fault<'a>>
     requires some { 1 ≤ size }
     requires most { size ≤ 65536 }
-    requires held { (c : Contents) × HoldsContents dump.now c }
-    ensures ok { (c : Contents) → HoldsContents dump.now c
+    requires held { (c : Contents) × HoldsContents dump c }
+    ensures ok { (c : Contents) → HoldsContents dump c
         → IfOk result (λ r. HasReport c text.entry.now (data_of r)) }
-    ensures err { (c : Contents) → HoldsContents dump.now c
+    ensures err { (c : Contents) → HoldsContents dump c
         → IfErr result (WhyNoneByPrograms c text.entry.now) }
 {
     suite_law();
@@ -38,9 +38,9 @@ fn report_checked<'a>(
         Ok(file) => file,
         Err(fault) => return Err(fault),
     };
-    let suite = suite_of(alloc, dump, &file)?;
-    let clocks = Clocks::of(alloc, dump, suite.clock())?;
-    Ok(report_by_programs(alloc, dump, &clocks, &suite, size)?)
+    let suite = suite_of(alloc, &dump, &file)?;
+    let clocks = Clocks::of(alloc, &dump, suite.clock())?;
+    Ok(report_by_programs(alloc, dump, clocks, &suite, size)?)
 }
 
 /// Reads the dump that a source gives, runs the programs of a text's assertions over it through
@@ -64,7 +64,7 @@ pub(crate) fn check_through<'a, S: Source, W: Sink>(
         (W.contents out.old) (W.contents out.new) (W.failures out.old) (W.failures out.new))) }
 {
     let dump = read_dump(alloc, source)?;
-    let report = match report_checked(alloc, &dump, text, size) {
+    let report = match report_checked(alloc, dump, text, size) {
         Ok(report) => report,
         Err(fault) => return Err(fault),
     };

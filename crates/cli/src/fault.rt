@@ -7,6 +7,7 @@ use crate::code_lines::{code_line, compile_line, port_line, refusal_line};
 use axi4_rules::PortFault;
 use bytecode::CodeFault;
 use command_line::WordsFault;
+use compiled_lines::LinesFault;
 use compiler::CompileFault;
 use cycle_window::WindowFault;
 use lexer::LexFault;
@@ -27,6 +28,8 @@ pub enum Fault<'a> {
     Typing(TypeFault),
     /// An assertion has no program.
     Compile(CompileFault),
+    /// U3: the text has more assertions than a job may have programs, 4,096.
+    BadJob,
     Window(WindowFault),
     /// The port file.
     Port(PortFault),
@@ -131,6 +134,20 @@ impl From<ReportFault> for Fault<'_> {
         match fault {
             ReportFault::Memory => Fault::Memory,
             other => Fault::Report(other),
+        }
+    }
+}
+
+impl From<LinesFault> for Fault<'_> {
+    ghost use Rattle.cli.specs.Faults.{lines_fault};
+
+    ghost from_gives = { λ f e. e ≡ lines_fault f };
+
+    fn from(fault: LinesFault) -> Self {
+        match fault {
+            LinesFault::Program(fault) => Fault::from(fault),
+            LinesFault::BadJob => Fault::BadJob,
+            LinesFault::Memory => Fault::Memory,
         }
     }
 }
@@ -282,6 +299,7 @@ pub fn fault_line(alloc: Global, fault: &Fault) -> Result<String, AllocError> {
         Fault::Parse(fault) => parse_line(alloc, fault),
         Fault::Typing(fault) => type_line(alloc, fault),
         Fault::Compile(fault) => compile_line(alloc, *fault),
+        Fault::BadJob => String::from_str(alloc, "svamon: U3 BadJob"),
         Fault::Window(fault) => window_line(alloc, fault),
         Fault::Port(fault) => port_line(alloc, *fault),
         Fault::Report(ReportFault::Write) => String::from_str(alloc, "svamon: G1 Write"),

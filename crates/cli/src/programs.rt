@@ -12,8 +12,7 @@ ghost use Rattle.compiled_lines.specs.Faults.{WhyNoLines};
 ghost use Rattle.cli.specs.Reported.{OverRows};
 
 use assertions::Suite;
-use compiled_lines::lines_of;
-use compiler::CompileFault;
+use compiled_lines::{LinesFault, lines_of};
 use cycle_window::Clocks;
 use std::alloc::Global;
 use vcd_reader::Dump;
@@ -22,22 +21,23 @@ use verdicts::Report;
 /// The report on a suite at the ticks of its clock, through windows of so many clocks.
 pub(crate) fn report_by_programs(
     alloc: Global,
-    dump: &Dump,
-    clocks: &Clocks,
+    dump: Dump,
+    clocks: Clocks,
     suite: &Suite,
     size: usize,
-) -> Result<Report, CompileFault>
+) -> Result<Report, LinesFault>
     requires some { 1 ≤ size }
     requires most { size ≤ 65536 }
-    requires clocks { AreClocksOf dump.now clocks.now }
-    requires watched { AllByRecursion (IsWatched (variables_of dump.now)) suite.now.names.items }
+    requires clocks { AreClocksOf dump clocks }
+    requires watched { AllByRecursion (IsWatched (variables_of dump)) suite.now.names.items }
     requires fit { AllByRecursion (IsFit suite.now) suite.now.assertions.items }
-    ensures ok { (c : Contents) (signals : List ℕ) → HoldsContents dump.now c
+    ensures ok { (c : Contents) (signals : List ℕ) → HoldsContents dump c
         → AreVariables c suite.now signals
-        → IfOk result (λ r. OverRows suite.now (rows_at c signals (code_in clocks.now))
+        → IfOk result (λ r. OverRows suite.now (rows_at c signals (code_in clocks))
         (data_of r)) }
     ensures err { IfErr result (WhyNoLines suite.now) }
 {
+    let count = clocks.len();
     let lines = lines_of(alloc, dump, clocks, suite, size)?;
-    Ok(Report::new(clocks.len(), lines))
+    Ok(Report::new(count, lines))
 }

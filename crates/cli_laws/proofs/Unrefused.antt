@@ -18,7 +18,7 @@ use Rattle.cycle_window.specs.declared.fault.WindowFault.TheVariants as windows
 use Rattle.cycle_window.specs.Bound.{Misfit, Missing, OtherWidth, misfit}
 use Rattle.verdicts.specs.Lines.{ReportData}
 use Rattle.cli.specs.declared.fault.Fault.{Fault}
-use Rattle.cli.specs.declared.fault.Fault.TheVariants.{Vcd, Lex, Parse, Typing, Compile, Window, Port, Report, Code, Refused, NoAssertion, NotText, Words, File, Memory}
+use Rattle.cli.specs.declared.fault.Fault.TheVariants.{Vcd, Lex, Parse, Typing, Compile, BadJob, Window, Port, Report, Code, Refused, NoAssertion, NotText, Words, File, Memory}
 use Rattle.cli.proofs.TextLaws.{itemless}
 use Rattle.cli.specs.Reported.{AreTokens, SaysSuite, IsBound, HasReport}
 use Rattle.cli.specs.Outcomes.{HasNoItems, IsMistyped, WhyNoReport}
@@ -64,6 +64,7 @@ unrefused c text report (Lex e) h k = absurd (tokens_faultless text h.says.spell
 unrefused c text report (Parse e) h k = absurd (not_itemless c text h.suite e h.says (itemless c text e k))
 unrefused c text report (Typing e) h k = absurd (not_mistyped c text h.suite e h.says k)
 unrefused c text report (Compile e) h k = absurd k
+unrefused c text report BadJob h k = absurd k
 unrefused c text report (Window e) h k = absurd (not_clockless c text report e h k)
 unrefused c text report (Port e) h k = absurd k
 unrefused c text report (Report e) h k = absurd k

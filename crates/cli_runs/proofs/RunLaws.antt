@@ -14,6 +14,7 @@ use Rattle.program_runs.specs.Reported.{WhyNoRun}
 use Rattle.cli.specs.Faults.{vcd_fault, window_fault}
 use Rattle.cli.specs.declared.fault.Fault.{Fault}
 use Rattle.cli.specs.declared.fault.Fault.TheVariants.{Vcd, Lex, Parse, Typing, Compile, Window, Port}
+use Rattle.cli.specs.declared.fault.Fault.TheVariants.{BadJob}
 use Rattle.cli.specs.declared.fault.Fault.TheVariants.{Report, Code}
 use Rattle.cli.specs.declared.fault.Fault.TheVariants.{Refused, NoAssertion, NotText, Words, File}
 use Rattle.cli.specs.declared.fault.Fault.TheVariants.{Memory}
@@ -31,6 +32,7 @@ no_program c code size (Lex e) h = absurd h
 no_program c code size (Parse e) h = absurd h
 no_program c code size (Typing e) h = absurd h
 no_program c code size (Compile e) h = absurd h
+no_program c code size BadJob h = absurd h
 no_program c code size (Window e) h = absurd h
 no_program c code size (Port e) h = absurd h
 no_program c code size (Report e) h = absurd h
@@ -98,6 +100,7 @@ module _ (size : ℕ) (r : Run) (c : Contents) (gave : GaveDump r.given_old r.gi
   refused_run (Parse e) h = absurd h
   refused_run (Typing e) h = absurd h
   refused_run (Compile e) h = absurd h
+  refused_run BadJob h = absurd h
   refused_run (Port e) h = absurd h
   refused_run (Report e) h = absurd h
   refused_run (NoAssertion n) h = absurd h

@@ -1,7 +1,7 @@
 -- The line of a program is that of its assertion.
 use Rattle.std.proofs.Common.{◌≡◌, ◌∙◌, inl, inr, ℕ, ◌≤◌, Bool, List, [], ◌∷◌, ◌++◌, length, map, Option, Some, None, refl, ap, sym, subst, arith}
 use Rattle.std.specs.Prelude.{string_bytes}
-use Rattle.std.specs.List.{AllByRecursion, range_with_len}
+use Rattle.std.specs.List.{AllByRecursion, AllZip, range_with_len}
 use Rattle.std.specs.Option.{option_map}
 use Rattle.std.proofs.lemmas.List.FromFn.{get_or-map-range_with_len, length-map-range_with_len}
 use Rattle.signals.specs.declared.verdict.Verdict.TheVariants as outcome
@@ -23,19 +23,27 @@ use Rattle.checked_machine.specs.Machine.{Outcome}
 use Rattle.machine.specs.Running.{open_ones}
 use Rattle.vcd_reader.specs.Variables.{Declared, variable_named, size_of}
 use Rattle.vcd_reader.specs.Dump.{Contents}
-use Rattle.cycle_window.specs.declared.fault.WindowFault.{WindowFault}
-use Rattle.cycle_window.specs.declared.fault.WindowFault.TheVariants as windows
 use Rattle.cycle_window.specs.Bound.{first_refused}
 use Rattle.verdicts.specs.Lines.{LineData, line_data_of}
 use Rattle.verdict_lines.specs.Laws.{AreVerdicts}
 use Rattle.program_runs.specs.Lines.{line_over, IsLineOver}
-use Rattle.program_runs.specs.Reported.{RunsOn, wanted_slot}
-use Rattle.program_runs.specs.Working.{IsWindowFault}
+use Rattle.cycle_window.specs.Ticks.{ticks_of, row_of}
+use Rattle.vcd_reader.specs.declared.dump.Dump.{Dump}
+use Rattle.vcd_reader.specs.Held.{HoldsContents, variables_of, steps_in, high_of}
+use Rattle.vcd_reader.specs.Stored.{stored_step}
+use Rattle.cycle_window.specs.declared.clocks.Clocks.{Clocks}
+use Rattle.cycle_window.specs.Held.{code_in}
+use Rattle.workers.specs.declared.job.Job.{Job}
+use Rattle.workers.specs.Values.{Says, job_value}
+use Rattle.core_runs.specs.Lines.{AreLinesOf}
+use Rattle.workers.specs.Jobs.{sampled}
+use Rattle.workers.specs.Wanted.{wanted_in}
 use Rattle.compiler.specs.Programs.{IsProgramOf}
 use Rattle.assertion_programs.specs.Laws.{AreVerdictsOver}
 use Rattle.assertion_programs.proofs.Decides.{programs-decide}
 use Rattle.compiled_lines.specs.Lines.{IsWatched, AreVariables, rows_at, IsLineOf}
-use Rattle.compiled_lines.proofs.RowLaws.{are-picked, picked-rows, are-rows, none-refused}
+use Rattle.compiled_lines.specs.Faults.{IsMadeOf}
+use Rattle.compiled_lines.proofs.RowLaws.{own-rows, are-rows, none-refused}
 
 -- what a run says, if it meets no trap
 outcome_or : Outcome → Ran Outcome → Outcome
@@ -64,25 +72,37 @@ verdicts-are value off r s count = record {
 }
 
 -- the line of a program of the assertion is the assertion's
-pub is-line : (c : Contents) (code : ℕ) (suite : Suite) (a : Assertion) (p : ProgramData) (signals : List ℕ) (l : LineData) →
-    IsProgramOf suite a p → IsAccepted p → AreVariables c suite signals → AllByRecursion (IsWatched c.variables) suite.names.items →
-    RunsOn c code p l → IsLineOf suite (rows_at c signals code) a l
-is-line c code suite a p signals l of accepted named watched ran =
+is-line : (c : Contents) (code : ℕ) (suite : Suite) (a : Assertion) (p : ProgramData) (signals : List ℕ) (l : LineData) →
+    IsMadeOf suite a p → AreVariables c suite signals → AllByRecursion (IsWatched c.variables) suite.names.items →
+    IsLineOver p (map (row_of c (sampled c.variables p)) (ticks_of c code)) l → IsLineOf suite (rows_at c signals code) a l
+is-line c code suite a p signals l made named watched ran =
+    let of = made.of in
     let rows = rows_at c signals code in
     let read : Samples = counter_samples (column rows) suite.counters.items in
     let value : Boolean → ℕ → Bool = value_in suite.booleans.items a.booleans.items read in
     let off : ℕ → Bool = off_in suite.booleans.items a.booleans.items read a.disabling in
     let verdicts = map (verdict value off (shape a.antecedent) (shape a.consequent) (length rows)) (range_with_len 0 (length rows)) in
     let judged : AreVerdictsOver suite rows a verdicts = verdicts-are value off (shape a.antecedent) (shape a.consequent) (length rows) in
-    let picked = are-picked c.variables suite signals named watched of.layout.signals p.signals ran.variables of.slots ran.bound.named in
     record {
       verdicts = verdicts;
       judged = judged;
-      is = one-line p (rows_at c ran.variables code) l (line_data_of (string_bytes a.name) verdicts) ran.ran
+      is = one-line p (rows_at c (sampled c.variables p) code) l (line_data_of (string_bytes a.name) verdicts) ran
           (subst (λ (rs : List (List ℕ)). IsLineOver p rs (line_data_of (string_bytes a.name) verdicts))
-          (sym (picked-rows c code signals of.layout.signals ran.variables picked))
-          (programs-decide suite a p accepted of rows (are-rows c suite signals code named watched) verdicts judged));
+          (sym (own-rows c code suite p signals of.layout.signals named watched of.slots))
+          (programs-decide suite a p made.accepted of rows (are-rows c suite signals code named watched) verdicts judged));
     }
+
+-- the lines of the programs of assertions are the assertions'
+pub are-lines : (c : Contents) (code : ℕ) (suite : Suite) (signals : List ℕ) → AreVariables c suite signals → AllByRecursion (IsWatched c.variables) suite.names.items →
+    (all : List Assertion) (ps : List ProgramData) (ls : List LineData) → AllZip (IsMadeOf suite) all ps →
+    AllZip (λ p l. IsLineOver p (map (row_of c (sampled c.variables p)) (ticks_of c code)) l) ps ls → AllZip (IsLineOf suite (rows_at c signals code)) all ls
+are-lines c code suite signals named watched [] [] [] made ran = tt
+are-lines c code suite signals named watched [] [] (l ∷ ls) made ran = absurd ran
+are-lines c code suite signals named watched [] (p ∷ ps) ls made ran = absurd made
+are-lines c code suite signals named watched (a ∷ all) [] ls made ran = absurd made
+are-lines c code suite signals named watched (a ∷ all) (p ∷ ps) [] made ran = absurd ran
+are-lines c code suite signals named watched (a ∷ all) (p ∷ ps) (l ∷ ls) made ran =
+    (is-line c code suite a p signals l made.0 named watched ran.0, are-lines c code suite signals named watched all ps ls made.1 ran.1)
 
 -- signals that are watched have variables
 pub record HaveVariables (vs : List Declared) (ss : List Signal) : Type 0 where
@@ -107,18 +127,29 @@ have-variables vs (s ∷ ss) h =
       are = ap (λ (o : Option ℕ). o ∷ map (λ (s : Signal). variable_named vs (string_bytes s.path)) ss) first.is ∙ ap (λ (os : List (Option ℕ)). Some first.place ∷ os) rest.are;
     }
 
--- so only memory can lack
-only-memory : (vs : List Declared) (p : ProgramData) (size : ℕ) (e : WindowFault) → first_refused vs (map wanted_slot p.signals) ≡ None →
-    1 ≤ size → size ≤ 65536 → IsWindowFault vs p size e → e ≡ windows.Memory
-only-memory vs p size windows.NoClock none some most h = absurd h
-only-memory vs p size windows.ClockWidth none some most h = absurd h
-only-memory vs p size windows.BadSize none some most h = elim h.1 [ inl zero ↦ absurd (omega (arith, zero, some)) | inr over ↦ absurd (omega (arith, over, most)) ]
-only-memory vs p size (windows.NoSignal path) none some most h = absurd cc
-only-memory vs p size (windows.SignalWidth path) none some most h = absurd cc
-only-memory vs p size windows.Memory none some most h = refl
+-- no signal of the programs is refused
+pub none-unfit : (vs : List Declared) (suite : Suite) (signals : List ℕ) →
+    map (λ (s : Signal). variable_named vs (string_bytes s.path)) suite.names.items ≡ map (λ (v : ℕ). Some v) signals →
+    AllByRecursion (IsWatched vs) suite.names.items → (all : List Assertion) (ps : List ProgramData) → AllZip (IsMadeOf suite) all ps →
+    first_refused vs (wanted_in ps) ≡ None
+none-unfit vs suite signals named watched [] [] made = refl
+none-unfit vs suite signals named watched [] (p ∷ ps) made = absurd made
+none-unfit vs suite signals named watched (a ∷ all) [] made = absurd made
+none-unfit vs suite signals named watched (a ∷ all) (p ∷ ps) made =
+    none-refused vs suite signals named watched made.0.of.layout.signals p.signals (wanted_in ps) made.0.of.slots
+    ∙ none-unfit vs suite signals named watched all ps made.1
 
-pub memory-alone : (vs : List Declared) (suite : Suite) (a : Assertion) (p : ProgramData) (size : ℕ) (e : WindowFault) → IsProgramOf suite a p →
-    AllByRecursion (IsWatched vs) suite.names.items → 1 ≤ size → size ≤ 65536 → IsWindowFault vs p size e → e ≡ windows.Memory
-memory-alone vs suite a p size e of watched some most h =
-    let have = have-variables vs suite.names.items watched in
-    only-memory vs p size e (none-refused vs suite have.variables have.are watched of.layout.signals p.signals of.slots) some most h
+-- the lines of a job of a suite's programs are the suite's
+pub all-lines : (j : Job) (d : Dump) (k : Clocks) (suite : Suite) (ps : List ProgramData) (ls : List LineData) (c : Contents) (signals : List ℕ) →
+    j.programs.items ≡ ps → j.dump ≡ d → j.clocks ≡ k → AllZip (IsMadeOf suite) suite.assertions.items ps → AllByRecursion (IsWatched (variables_of d)) suite.names.items →
+    HoldsContents d c → AreVariables c suite signals → (Says (job_value j) c → AreLinesOf (job_value j) c ls) →
+    AllZip (IsLineOf suite (rows_at c signals (code_in k))) suite.assertions.items ls
+all-lines j d k suite ps ls c signals programs dump clocks made watched holds named lines =
+    let says : Says (job_value j) c = record {
+      variables = ap variables_of dump ∙ holds.variables;
+      steps = ap (λ (x : Dump). map (stored_step (high_of x)) (steps_in x)) dump ∙ holds.steps;
+    } in
+    let seen = subst (λ (vs : List Declared). AllByRecursion (IsWatched vs) suite.names.items) holds.variables watched in
+    let own = subst (AllZip (IsMadeOf suite) suite.assertions.items) (sym programs) made in
+    subst (λ (x : Clocks). AllZip (IsLineOf suite (rows_at c signals (code_in x))) suite.assertions.items ls) clocks
+    (are-lines c (code_in j.clocks) suite signals named seen suite.assertions.items j.programs.items ls own (lines says))

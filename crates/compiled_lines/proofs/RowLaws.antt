@@ -1,7 +1,7 @@
 -- The rows of a program's signals, and of its suite's.
-use Rattle.std.proofs.Common.{◌≡◌, ◌∙◌, inl, inr, ℕ, zero, suc, ◌%◌, ◌^◌, ◌<◌, ◌≤◌, Bool, List, [], ◌∷◌, length, map, cond, Option, Some, None, slice_get, refl, ap, sym, subst, arith, pow_pos}
+use Rattle.std.proofs.Common.{◌≡◌, ◌∙◌, inl, inr, ℕ, zero, suc, ◌%◌, ◌^◌, ◌<◌, ◌≤◌, Bool, List, [], ◌∷◌, ◌++◌, length, map, cond, Option, Some, None, slice_get, refl, ap, sym, subst, arith, pow_pos}
 use Rattle.std.specs.Prelude.{slice_index, slice_index_or, string_bytes}
-use Rattle.std.specs.List.{AllByRecursion, AllZip}
+use Rattle.std.specs.List.{AllByRecursion, AllZip, filter_map}
 use Rattle.std.specs.Option.{option_map}
 use Rattle.std.proofs.Math.Nat.{mod-lt}
 use Rattle.std.proofs.lemmas.Bool.{cases_lt, eq-eqb}
@@ -9,13 +9,14 @@ use Rattle.std.proofs.lemmas.List.{length-map, get_or-map, get_or_past}
 use Rattle.std.proofs.lemmas.Option.{slice_get_within}
 use Rattle.assertions.specs.declared.signal.Signal.{Signal}
 use Rattle.assertions.specs.declared.suite.Suite.{Suite}
-use Rattle.bytecode.specs.Values.{SlotData}
+use Rattle.bytecode.specs.Values.{SlotData, ProgramData}
 use Rattle.vcd_reader.specs.Numbers.{bits_value}
 use Rattle.vcd_reader.specs.Values.{value_or_zero, value_at, digits_value, last_digits, changes_before}
 use Rattle.vcd_reader.specs.Variables.{Declared, variable_named, size_of, code_number}
 use Rattle.vcd_reader.specs.Dump.{Contents}
 use Rattle.vcd_reader.proofs.ValueLaws.{digits}
-use Rattle.cycle_window.specs.Bound.{Misfit, misfit, or_refused, first_refused}
+use Rattle.cycle_window.specs.Bound.{Misfit, Wanted, misfit, or_refused, first_refused}
+use Rattle.workers.specs.Jobs.{sampled}
 use Rattle.cycle_window.specs.Ticks.{ticks_of, sample, row_of}
 use Rattle.program_runs.specs.Reported.{wanted_slot}
 use Rattle.compiler.specs.Programs.{IsSlotOf}
@@ -131,13 +132,35 @@ fits vs o w v is wide = ap (λ (o : Option ℕ). misfit vs o w) is ∙ ap (λ (b
 
 pub none-refused : (vs : List Declared) (suite : Suite) (signals : List ℕ) →
     map (λ (s : Signal). variable_named vs (string_bytes s.path)) suite.names.items ≡ map (λ (v : ℕ). Some v) signals →
-    AllByRecursion (IsWatched vs) suite.names.items → (places : List ℕ) (slots : List SlotData) → AllZip (IsSlotOf suite) places slots →
-    first_refused vs (map wanted_slot slots) ≡ None
-none-refused vs suite signals named watched [] [] h = refl
-none-refused vs suite signals named watched [] (s ∷ slots) h = absurd h
-none-refused vs suite signals named watched (p ∷ places) [] h = absurd h
-none-refused vs suite signals named watched (p ∷ places) (s ∷ slots) h =
+    AllByRecursion (IsWatched vs) suite.names.items → (places : List ℕ) (slots : List SlotData) (more : List Wanted) → AllZip (IsSlotOf suite) places slots →
+    first_refused vs (map wanted_slot slots ++ more) ≡ first_refused vs more
+none-refused vs suite signals named watched [] [] more h = refl
+none-refused vs suite signals named watched [] (s ∷ slots) more h = absurd h
+none-refused vs suite signals named watched (p ∷ places) [] more h = absurd h
+none-refused vs suite signals named watched (p ∷ places) (s ∷ slots) more h =
     let one = found vs suite.names.items signals named watched p h.0.signal h.0.is in
-    ap (λ (m : Option Misfit). or_refused m s.path (first_refused vs (map wanted_slot slots)))
+    ap (λ (m : Option Misfit). or_refused m s.path (first_refused vs (map wanted_slot slots ++ more)))
     (fits vs (variable_named vs s.path) s.width one.variable (ap (variable_named vs) h.0.path ∙ one.named) (one.wide ∙ sym h.0.width))
-    ∙ none-refused vs suite signals named watched places slots h.1
+    ∙ none-refused vs suite signals named watched places slots more h.1
+
+-- the variables that slots name
+all-named : (vs : List Declared) (suite : Suite) (signals : List ℕ) →
+    map (λ (s : Signal). variable_named vs (string_bytes s.path)) suite.names.items ≡ map (λ (v : ℕ). Some v) signals →
+    AllByRecursion (IsWatched vs) suite.names.items → (places : List ℕ) (slots : List SlotData) → AllZip (IsSlotOf suite) places slots →
+    map (λ (s : SlotData). variable_named vs s.path) slots ≡ map (λ (x : ℕ). Some x) (filter_map (λ (s : SlotData). variable_named vs s.path) slots)
+all-named vs suite signals named watched [] [] h = refl
+all-named vs suite signals named watched [] (s ∷ slots) h = absurd h
+all-named vs suite signals named watched (p ∷ places) [] h = absurd h
+all-named vs suite signals named watched (p ∷ places) (s ∷ slots) h =
+    let one = found vs suite.names.items signals named watched p h.0.signal h.0.is in
+    let is : variable_named vs s.path ≡ Some one.variable = ap (variable_named vs) h.0.path ∙ one.named in
+    rw is (ap (λ (xs : List (Option ℕ)). Some one.variable ∷ xs) (all-named vs suite signals named watched places slots h.1))
+
+-- the rows of the variables that a program's signals name are picked from those of its suite's
+pub own-rows : (c : Contents) (code : ℕ) (suite : Suite) (p : ProgramData) (signals places : List ℕ) → AreVariables c suite signals →
+    AllByRecursion (IsWatched c.variables) suite.names.items → AllZip (IsSlotOf suite) places p.signals →
+    rows_at c (sampled c.variables p) code ≡ map (picked places) (rows_at c signals code)
+own-rows c code suite p signals places named watched slots =
+    picked-rows c code signals places (sampled c.variables p)
+    (are-picked c.variables suite signals named watched places p.signals (sampled c.variables p) slots
+    (all-named c.variables suite signals named watched places p.signals slots))

@@ -61,7 +61,7 @@ pub open-same : (v w : ℕ → Verdict) (n : ℕ) → ((c : ℕ) → c < n → v
 open-same v w n same =
     select-same (λ c. is_open (v c)) (λ c. is_open (w c)) (λ c. c) (λ c. c) 0 n
     (λ c low high. ap is_open (same c (omega arith)))
-    (λ c low high open. refl)
+    (λ c low high on. refl)
 
 module _ (p : ProgramData) (rows : List (List ℕ)) (counters : ℕ → List ℕ) (atoms : ℕ → List Bool) (value : Boolean → ℕ → Bool) (r s : Seq Boolean) (accepted : IsAccepted p)
   (samples : SamplesAs p (row_of rows) counters atoms (length rows)) (watches : Watches p atoms value r s) (fills : Fills value s) where
@@ -135,7 +135,7 @@ module _ (p : ProgramData) (rows : List (List ℕ)) (counters : ℕ → List ℕ
   open-live n last is h =
       let le : n ≤ length rows = omega (arith, is) in
       let c = comes n le in
-      let same : done {State} c.last 0 ≡ done last 0 = sym (ends n le) ∙ h in
+      let same : done c.last 0 ≡ done last 0 = sym (ends n le) ∙ h in
       let state : c.last ≡ last = cc in
       ap (λ (q : State). starts_of q.standing.attempts) (sym state)
       ∙ c.live

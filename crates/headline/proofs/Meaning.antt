@@ -27,7 +27,7 @@ use Rattle.assertion_programs.specs.Laws.{AreRowsOf, picked}
 use Rattle.assertion_programs.proofs.Samples as made
 use Rattle.assertion_programs.proofs.Decides as decides
 use Rattle.compiled_lines.specs.Lines.{IsWatched, AreVariables, rows_at}
-use Rattle.compiled_lines.proofs.RowLaws.{found, are-picked, picked-rows, are-rows}
+use Rattle.compiled_lines.proofs.RowLaws.{own-rows, are-rows}
 use Rattle.workers.specs.States.{MonitorState, BatchState, place}
 use Rattle.workers.specs.Jobs.{sampled}
 use Rattle.workers.specs.Values.{CoreValue, rows_over}
@@ -35,20 +35,8 @@ use Rattle.workers.specs.Following.{FollowsMachine}
 use Rattle.headline.specs.Headline.{AreVerdictsOf, fallen_between, PublishesVerdicts, DecidesAsMeant}
 use Rattle.headline.proofs.Cuts as cuts
 
--- the variables that slots name
-all-named : (c : Contents) (suite : Suite) (signals : List ℕ) → AreVariables c suite signals → AllByRecursion (IsWatched c.variables) suite.names.items →
-    (places : List ℕ) (slots : List SlotData) → AllZip (IsSlotOf suite) places slots →
-    map (λ (s : SlotData). variable_named c.variables s.path) slots ≡ map (λ (x : ℕ). Some x) (filter_map (λ (s : SlotData). variable_named c.variables s.path) slots)
-all-named c suite signals named watched [] [] h = refl
-all-named c suite signals named watched [] (s ∷ slots) h = absurd h
-all-named c suite signals named watched (p ∷ places) [] h = absurd h
-all-named c suite signals named watched (p ∷ places) (s ∷ slots) h =
-    let one = found c.variables suite.names.items signals named watched p h.0.signal h.0.is in
-    let is : variable_named c.variables s.path ≡ Some one.variable = ap (variable_named c.variables) h.0.path ∙ one.named in
-    rw is (ap (λ (xs : List (Option ℕ)). Some one.variable ∷ xs) (all-named c suite signals named watched places slots h.1))
-
 module _ (suite : Suite) (a : Assertion) (p : ProgramData) (of : IsProgramOf suite a p) (rows : List (List ℕ)) (fit : AreRowsOf suite rows) (accepted : IsAccepted p)
-  (verdict_at : ℕ → Verdict) (are : AreVerdictsOf suite rows a verdict_at) where
+    (verdict_at : ℕ → Verdict) (are : AreVerdictsOf suite rows a verdict_at) where
   abbrev own : List (List ℕ)
   own = map (picked of.layout.signals) rows
 
@@ -107,10 +95,7 @@ as-meant v c follows number p is suite a of signals named watched verdict_at are
     let run = runs v.state.monitors number p (ap (λ (ps : List ProgramData). slice_get ps number) follows.programs ∙ is) in
     let accepted : IsAccepted p = subst IsAccepted run.is (follows.accepted number run.monitor run.at) in
     let fit = are-rows c suite signals code named watched in
-    let named_slots = all-named c suite signals named watched of.layout.signals p.signals of.slots in
-    let own : rows_over v.job c p ≡ map (picked of.layout.signals) rows =
-    picked-rows c code signals of.layout.signals (sampled c.variables p)
-    (are-picked c.variables suite signals named watched of.layout.signals p.signals (sampled c.variables p) of.slots named_slots) in
+    let own : rows_over v.job c p ≡ map (picked of.layout.signals) rows = own-rows c code suite p signals of.layout.signals named watched of.slots in
     let ticks : length rows ≡ length (ticks_of c code) = length-map (ticks_of c code) _ in
     record {
       batches = λ n b at mine.

@@ -1,5 +1,6 @@
 -- The signals of programs, and why there is no job.
-use Rattle.std.proofs.Common.{◌≡◌, ℕ, ◌+◌, ◌<◌, Bool, cond, List, [], ◌∷◌, ◌++◌, length, get_or, take, map, Option, Some, None, ap, ◌∙◌}
+use Rattle.std.proofs.Common.{◌≡◌, ℕ, ◌+◌, ◌<◌, Bool, cond, List, [], ◌∷◌, ◌++◌, length, get_or, take, map, Option, Some, None, Result, Ok, Err, ap, ◌∙◌}
+use Rattle.std.specs.Prelude.{IfErr}
 use Rattle.std.proofs.lemmas.Bool.{eq-eqb}
 use Rattle.std.proofs.lemmas.List.{take_more, append-nil}
 use Rattle.std.proofs.lemmas.Grind.{flat_map-append}
@@ -9,7 +10,7 @@ use Rattle.cycle_window.specs.Bound.{Wanted, OtherWidth, IsClock, misfit, first_
 use Rattle.program_runs.specs.Reported.{wanted_slot}
 use Rattle.workers.specs.declared.job_fault.JobFault.{JobFault}
 use Rattle.workers.specs.declared.job_fault.JobFault.TheVariants as faults
-use Rattle.workers.specs.Wanted.{wanted_in, HasClock, IsGoodCount, SaysRefused, WhyNoJob}
+use Rattle.workers.specs.Wanted.{wanted_in, HasClock, IsGoodCount, SaysRefused, WhyNoJob, WhyUnfit}
 
 abbrev signals_wanted : ProgramData → List Wanted
 signals_wanted p = map wanted_slot p.signals
@@ -26,11 +27,24 @@ pub has-clock : (vs : List Declared) (path : List ℕ) (code : ℕ) → IsClock 
 has-clock vs path code (v, named, bit, is) =
     ap (λ (o : Option ℕ). misfit vs o 1) named ∙ ap (λ (b : Bool). cond b None (Some OtherWidth)) (eq-eqb (size_of vs v) 1 bit)
 
--- why there is no job, behind the clock and the number of programs
-pub refused-why : (vs : List Declared) (path : List ℕ) (ps : List ProgramData) (e : JobFault) → HasClock vs path → IsGoodCount ps → SaysRefused (first_refused vs (wanted_in ps)) e → WhyNoJob vs path ps e
-refused-why vs path ps faults.NoClock clock count h = absurd h
-refused-why vs path ps faults.ClockWidth clock count h = absurd h
-refused-why vs path ps faults.BadJob clock count h = absurd h
-refused-why vs path ps (faults.NoSignal p) clock count h = (clock, count, h)
-refused-why vs path ps (faults.SignalWidth p) clock count h = (clock, count, h)
-refused-why vs path ps faults.Memory clock count h = tt
+-- why programs can't run, behind their number
+pub refused-why : (vs : List Declared) (ps : List ProgramData) (e : JobFault) → IsGoodCount ps → SaysRefused (first_refused vs (wanted_in ps)) e → WhyUnfit vs ps e
+refused-why vs ps faults.NoClock count h = absurd h
+refused-why vs ps faults.ClockWidth count h = absurd h
+refused-why vs ps faults.BadJob count h = absurd h
+refused-why vs ps (faults.NoSignal p) count h = (count, h)
+refused-why vs ps (faults.SignalWidth p) count h = (count, h)
+refused-why vs ps faults.Memory count h = tt
+
+-- why there is no job, behind the clock
+pub unfit-why : (vs : List Declared) (path : List ℕ) (ps : List ProgramData) (e : JobFault) → HasClock vs path → WhyUnfit vs ps e → WhyNoJob vs path ps e
+unfit-why vs path ps faults.NoClock clock h = absurd h
+unfit-why vs path ps faults.ClockWidth clock h = absurd h
+unfit-why vs path ps faults.BadJob clock h = (clock, h)
+unfit-why vs path ps (faults.NoSignal p) clock h = (clock, h.0, h.1)
+unfit-why vs path ps (faults.SignalWidth p) clock h = (clock, h.0, h.1)
+unfit-why vs path ps faults.Memory clock h = tt
+
+pub all-unfit : {X : Type 0} (vs : List Declared) (path : List ℕ) (ps : List ProgramData) (r : Result X JobFault) → HasClock vs path → IfErr r (WhyUnfit vs ps) → IfErr r (WhyNoJob vs path ps)
+all-unfit vs path ps (Ok x) clock h = tt
+all-unfit vs path ps (Err e) clock h = unfit-why vs path ps e clock h

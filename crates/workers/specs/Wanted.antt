@@ -40,6 +40,17 @@ pub record IsGoodCount (ps : List ProgramData) : Type 0 where
   pub some : 1 ≤ length ps
   pub most : length ps ≤ 4096
 
+-- Why programs can't run over a dump: first their number, then the signals by program and signal.
+-- Memory may lack anywhere.
+abbrev pub WhyUnfit : List Declared → List ProgramData → JobFault → Type 0
+WhyUnfit vs ps faults.BadJob = IsBadCount ps
+WhyUnfit vs ps (faults.NoSignal p) =
+    IsGoodCount ps × (first_refused vs (wanted_in ps) ≡ Some (At (string_bytes p) Missing))
+WhyUnfit vs ps (faults.SignalWidth p) =
+    IsGoodCount ps × (first_refused vs (wanted_in ps) ≡ Some (At (string_bytes p) OtherWidth))
+WhyUnfit vs ps faults.Memory = Unit {0}
+WhyUnfit vs ps e = ⊥
+
 -- Why there is no job: first the clock, then the number of programs, then the signals by program
 -- and signal. Memory may lack anywhere.
 abbrev pub WhyNoJob : List Declared → List ℕ → List ProgramData → JobFault → Type 0

@@ -2,10 +2,10 @@
 
 ghost use Rattle.std.specs.Prelude.{◌≡◌, ◌≤◌, IfOk, IfErr, None, length};
 ghost use Rattle.vcd_reader.specs.Held.{variables_of};
-ghost use Rattle.cycle_window.specs.Bound.{IsClock, first_refused};
+ghost use Rattle.cycle_window.specs.Bound.{first_refused};
 ghost use Rattle.cycle_window.specs.Held.{code_in, AreClocksOf};
 
-use crate::clock_of_job::clocks_for;
+use crate::against::{check_job, clock_fault};
 use crate::job_fault::JobFault;
 use cycle_window::Clocks;
 use std::alloc::Global;
@@ -26,7 +26,7 @@ pub struct Job {
 
 impl Job {
     ghost use Rattle.workers.specs.Jobs.{IsJobOf};
-    ghost use Rattle.workers.specs.Wanted.{WhyNoJob};
+    ghost use Rattle.workers.specs.Wanted.{wanted_in, WhyNoJob, WhyUnfit};
     ghost use Rattle.workers.specs.Values.{job_value};
 
     /// A job of 1 to 4,096 programs on the clock that a path names. Each signal of each program
@@ -41,9 +41,33 @@ impl Job {
         // The first cause that stands.
         ensures fault { IfErr result (WhyNoJob (variables_of dump) clock.now programs.items) }
     {
-        match clocks_for(alloc, &dump, programs.as_slice(), clock) {
+        let clocks = match Clocks::of(alloc, &dump, clock) {
+            Err(fault) => return Err(clock_fault(fault)),
+            Ok(clocks) => clocks,
+        };
+        Job::over(alloc, programs, dump, clocks)
+    }
+
+    /// A job of 1 to 4,096 programs at the ticks of these clocks of the dump. Each signal of each
+    /// program names a variable of its width.
+    pub fn over(
+        alloc: Global,
+        programs: Vec<Verified>,
+        dump: Dump,
+        clocks: Clocks,
+    ) -> Result<Job, JobFault>
+        requires { AreClocksOf dump clocks }
+        ensures programs { IfOk result (λ j. j.programs.items ≡ programs.items) }
+        ensures dump { IfOk result (λ j. j.dump ≡ dump) }
+        ensures clocks { IfOk result (λ j. j.clocks ≡ clocks) }
+        ensures fits { IfOk result (λ _.
+            first_refused (variables_of dump) (wanted_in programs.items) ≡ None) }
+        // The first cause that stands.
+        ensures fault { IfErr result (WhyUnfit (variables_of dump) programs.items) }
+    {
+        match check_job(alloc, &dump, programs.as_slice()) {
             Err(fault) => Err(fault),
-            Ok(clocks) => Ok(Job {
+            Ok(()) => Ok(Job {
                 programs,
                 dump,
                 clocks,

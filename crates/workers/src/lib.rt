@@ -29,7 +29,7 @@
 //! Not promised: that any monitor is ever claimed, or that a foreign program means anything.
 #![tactic(auto)]
 
-mod clock_of_job;
+mod against;
 mod cores;
 mod floor;
 mod job;

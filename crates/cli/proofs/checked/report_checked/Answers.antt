@@ -5,7 +5,7 @@ use Rattle.vcd_reader.specs.Held.{variables_of}
 use Rattle.cycle_window.specs.Bound.{IsClock, IsClockFault}
 use Rattle.cycle_window.specs.Held.{code_in}
 use Rattle.verdicts.specs.Shown.{data_of}
-use Rattle.cli.specs.Faults.{window_fault, compile_fault}
+use Rattle.cli.specs.Faults.{window_fault, lines_fault}
 use Rattle.cli.specs.Reported.{SaysSuite}
 use Rattle.cli.specs.Outcomes.{WhyNoneByPrograms}
 use Rattle.cli.proofs.TextLaws.{are_named, unclocked, uncompiled, none_by_programs, err_is}
@@ -14,7 +14,7 @@ use Rattle.cli.proofs.checked.report_checked.Goals as goal
 
 pub returns-in_err-clocks-clause-err : goal.returns-in_err-clocks-clause-err
 returns-in_err-clocks-clause-err c = λ k holds.
-    let d = c.args.dump.now in
+    let d = c.args.dump in
     let text = c.args.text.now in
     let suite = c.in_ok-suite.suite in
     let says : SaysSuite k text suite = record { items = items_of c.in-Ok.file; spelled = c.in-Ok.ensures.ok; typed = c.in_ok-suite.ensures.ok k holds } in
@@ -28,8 +28,8 @@ report_by_programs-requires-clause-watched c =
     let k = c.requires.held.0 in
     let holds = c.requires.held.1 in
     let suite = c.in_ok-suite.suite in
-    all_watched (variables_of c.args.dump.now) suite.names.items
-    (are_named k (variables_of c.args.dump.now) (items_of c.in-Ok.file) suite holds.variables (c.in_ok-suite.ensures.ok k holds))
+    all_watched (variables_of c.args.dump) suite.names.items
+    (are_named k (variables_of c.args.dump) (items_of c.in-Ok.file) suite holds.variables (c.in_ok-suite.ensures.ok k holds))
 
 pub report_by_programs-requires-clause-fit : goal.report_by_programs-requires-clause-fit
 report_by_programs-requires-clause-fit c =
@@ -39,18 +39,18 @@ report_by_programs-requires-clause-fit c =
 
 pub returns-in_err-report_by_programs-clause-err : goal.returns-in_err-report_by_programs-clause-err
 returns-in_err-report_by_programs-clause-err c = λ k holds.
-    let d = c.args.dump.now in
+    let d = c.args.dump in
     let text = c.args.text.now in
     let suite = c.in_ok-suite.suite in
     let says : SaysSuite k text suite = record { items = items_of c.in-Ok.file; spelled = c.in-Ok.ensures.ok; typed = c.in_ok-suite.ensures.ok k holds } in
     let fault = c.in_err-report_by_programs.field-0.0 in
     let clock = clock_of d k c.clock.result.now (string_bytes suite.clock) (λ vs p. IsClock vs p (code_in c.in_ok-clocks.clocks)) holds c.clock.ensures c.in_ok-clocks.ensures.clock in
-    err_is c.from_residual-in_err-report_by_programs.result (compile_fault fault) (WhyNoneByPrograms k text) c.from_residual-in_err-report_by_programs.ensures.1
+    err_is c.from_residual-in_err-report_by_programs.result (lines_fault fault) (WhyNoneByPrograms k text) c.from_residual-in_err-report_by_programs.ensures.1
     (uncompiled k text suite fault says (has_clock k.variables (string_bytes suite.clock) (code_in c.in_ok-clocks.clocks) clock) c.in_err-report_by_programs.ensures.err)
 
 pub returns-clause-ok : goal.returns-clause-ok
 returns-clause-ok c = λ k holds.
-    let d = c.args.dump.now in
+    let d = c.args.dump in
     let suite = c.in_ok-suite.suite in
     let items = items_of c.in-Ok.file in
     let typed = c.in_ok-suite.ensures.ok k holds in

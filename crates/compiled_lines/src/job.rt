@@ -1,0 +1,50 @@
+//! The job of a suite's programs.
+
+ghost use Rattle.std.specs.Prelude.{◌≡◌, List, None, IfOk, IfErr};
+ghost use Rattle.bytecode.specs.Values.{ProgramData};
+ghost use Rattle.vcd_reader.specs.Variables.{Declared};
+ghost use Rattle.vcd_reader.specs.Held.{variables_of};
+ghost use Rattle.cycle_window.specs.Bound.{first_refused};
+ghost use Rattle.cycle_window.specs.Held.{AreClocksOf};
+ghost use Rattle.workers.specs.Wanted.{wanted_in, WhyUnfit};
+ghost use Rattle.compiled_lines.specs.Faults.{IsNoMisfit, WhyNoJob};
+
+use crate::fault::LinesFault;
+use cycle_window::Clocks;
+use std::alloc::Global;
+use vcd_reader::Dump;
+use verifier::Verified;
+use workers::{Job, JobFault};
+
+/// The fault of a job whose signals all name variables of their widths, and whose clock is there.
+fn job_fault(fault: JobFault) -> LinesFault
+    requires { IsNoMisfit fault }
+    ensures { (vs : List Declared) (ps : List ProgramData)
+        → WhyUnfit vs ps fault → WhyNoJob ps result }
+{
+    match fault {
+        JobFault::BadJob => LinesFault::BadJob,
+        JobFault::Memory => LinesFault::Memory,
+        _ => unreachable!(),
+    }
+}
+
+/// The job of programs whose signals all name variables of their widths.
+pub(crate) fn job_of(
+    alloc: Global,
+    programs: Vec<Verified>,
+    dump: Dump,
+    clocks: Clocks,
+) -> Result<Job, LinesFault>
+    requires clocks { AreClocksOf dump clocks }
+    requires fits { first_refused (variables_of dump) (wanted_in programs.items) ≡ None }
+    ensures programs { IfOk result (λ j. j.programs.items ≡ programs.items) }
+    ensures dump { IfOk result (λ j. j.dump ≡ dump) }
+    ensures clocks { IfOk result (λ j. j.clocks ≡ clocks) }
+    ensures fault { IfErr result (WhyNoJob programs.items) }
+{
+    match Job::over(alloc, programs, dump, clocks) {
+        Ok(job) => Ok(job),
+        Err(fault) => Err(job_fault(fault)),
+    }
+}

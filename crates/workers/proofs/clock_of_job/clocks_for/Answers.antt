@@ -1,5 +1,0 @@
-use Rattle.vcd_reader.specs.Held.{variables_of}
-use Rattle.workers.proofs.clock_of_job.clocks_for.Goals as goal
-
-pub returns-in-Err-clause-fault : goal.returns-in-Err-clause-fault
-returns-in-Err-clause-fault c = c.clock_fault.ensures (variables_of c.args.dump.now) c.args.clock.now c.args.programs.now c.in-Err.ensures.fault
