@@ -66,8 +66,9 @@ impl Monitor {
         })
     }
 
-    /// A clock over a row of all signals. There is room for what it decides.
-    fn clock(&mut self, row: &[u128])
+    /// A clock over a row of all signals. There is room for what it decides, which stands in the
+    /// buffer, too.
+    fn clock(&mut self, row: &[u128], decided: &mut ArrayVec<Decided, 1024>)
         requires parted { self.old.from ≤ self.old.to }
         requires inside { self.old.to ≤ length row.now }
         requires row { IsRowOf self.old.machine.program (part self.old row.now) }
@@ -77,8 +78,8 @@ impl Monitor {
         requires more { self.old.machine.state.standing.now + 1 < 2 ^ 64 }
         ensures { IsOneMore self.old (part self.old row.now) self.new }
     {
-        let mut decided: ArrayVec<Decided, 1024> = ArrayVec::new();
-        self.machine.clock(&row[self.from..self.to], &mut decided);
+        decided.clear();
+        self.machine.clock(&row[self.from..self.to], decided);
         let kept = self.decided.extend_from_slice(decided.as_slice());
         prove!(kept.is_ok());
     }
@@ -111,9 +112,10 @@ impl Monitor {
             (monitor_state self.old)
             ≡ monitor_state self.new }
     {
+        let mut decided = ArrayVec::new();
         for clock in self.machine.now()..to {
             let row = window.row(clock);
-            self.clock(row);
+            self.clock(row, &mut decided);
         }
     }
 
