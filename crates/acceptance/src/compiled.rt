@@ -25,7 +25,7 @@ fn assertion(rt: &impl AllocGlobal, name: &str, property: &str) -> Result<String
 /// The line of the fault of a check, or none; nothing is written beside a fault.
 fn check_line(rt: &impl AllocGlobal, dump: &str, text: &str) -> Result<String, Fail> {
     let mut source = Counted::new(dump.as_bytes());
-    let mut out = Counted::new(CutWriter::new(rt.alloc(), 200_000)?);
+    let mut out = Counted::new(CutWriter::new(rt.alloc(), 400_000)?);
     match check_one(rt.alloc(), &mut source, text, 7, &mut out) {
         Ok(_) => Ok(String::new(rt.alloc())),
         Err(fault) if out.inner.as_slice().is_empty() => Ok(fault_line(rt.alloc(), &fault)?),
@@ -98,6 +98,91 @@ fn names_at_the_border(rt: HostRuntime) -> Result<(), Fail> {
         let text = assertion(&rt, name.as_str(), "x |-> y")?;
         let told = check_line(&rt, DUMP, text.as_str())?;
         assert_eq!(rt; told.as_str(), line, "a name of {length} bytes");
+    }
+    Ok(())
+}
+
+#[test]
+fn assertions_at_the_border(rt: HostRuntime) -> Result<(), Fail> {
+    let piece = "assert property (@(posedge clk) x |-> y);\n";
+    for (count, line) in [(4096, ""), (4097, "svamon: U3 BadJob")] {
+        let text = joined(&rt, 0..count, "", piece)?;
+        let told = check_line(&rt, DUMP, text.as_str())?;
+        assert_eq!(rt; told.as_str(), line, "{count} assertions");
+    }
+    let fault = Err(Fault::BadJob);
+    assert_eq!(rt; status(&fault), 2);
+    Ok(())
+}
+
+/// A dump with so many ticks, of signals whose values change at each tick, every other one, and so
+/// on: bit b of the tick's number.
+fn counting_dump(rt: &impl AllocGlobal, ticks: usize) -> Result<String, AllocError> {
+    let mut dump = String::from_str(rt.alloc(), "$var wire 1 ! clk $end\n")?;
+    for bit in 0..8 {
+        let declared = format!(in rt.alloc(); "$var wire 1 s{bit} s_{bit} $end\n")?;
+        dump.push_str(declared.as_str())?;
+    }
+    dump.push_str("$enddefinitions $end\n")?;
+    for tick in 0..ticks {
+        let time = tick * 2;
+        let falls = format!(in rt.alloc(); "#{time}\n0!\n")?;
+        dump.push_str(falls.as_str())?;
+        for bit in 0..8u32 {
+            let value = (tick >> bit) & 1;
+            let change = format!(in rt.alloc(); "{value}s{bit}\n")?;
+            dump.push_str(change.as_str())?;
+        }
+        let next = time + 1;
+        let rises = format!(in rt.alloc(); "#{next}\n1!\n")?;
+        dump.push_str(rises.as_str())?;
+    }
+    Ok(dump)
+}
+
+/// Eight assertions: delays, ranges, repetition, a longer antecedent and a disabling signal.
+const EIGHT: &str = "m0: assert property (@(posedge clk) s_0 |=> !s_0);
+m1: assert property (@(posedge clk) s_1 && s_0 |=> !s_1);
+m2: assert property (@(posedge clk) s_2 && s_1 |-> ##[1:2] !s_2);
+m3: assert property (@(posedge clk) s_3 && s_2 |-> ##[1:4] !s_3);
+m4: assert property (@(posedge clk) s_4 && s_3 |-> ##[1:7] !s_4);
+m5: assert property (@(posedge clk) s_0 ##1 s_1 |-> s_1);
+m6: assert property (@(posedge clk) s_6[*2] |=> s_6);
+m7: assert property (@(posedge clk) disable iff (s_7) s_0 |-> ##2 s_0);
+";
+
+/// The lines of the eight over 2,000 ticks, worked out by arithmetic on the ticks' numbers.
+const EIGHT_LINES: [&str; 8] = [
+    "monitor m0 holds 999 vacuous 1000 fails 0 disabled 0 open 1",
+    "monitor m1 holds 499 vacuous 1500 fails 0 disabled 0 open 1",
+    "monitor m2 holds 498 vacuous 1500 fails 0 disabled 0 open 2",
+    "monitor m3 holds 496 vacuous 1500 fails 0 disabled 0 open 4",
+    "monitor m4 holds 434 vacuous 1504 fails 62 disabled 0 open 0",
+    "monitor m5 holds 500 vacuous 1499 fails 0 disabled 0 open 1",
+    "monitor m6 holds 944 vacuous 1039 fails 15 disabled 0 open 2",
+    "monitor m7 holds 504 vacuous 512 fails 0 disabled 984 open 0",
+];
+
+/// What it writes of the eight, through windows of so many clocks.
+fn eight_report(rt: &impl AllocGlobal, dump: &str, window: u64) -> Result<String, Fail> {
+    let mut source = Counted::new(dump.as_bytes());
+    let mut out = Counted::new(CutWriter::new(rt.alloc(), 50_000)?);
+    match check_one(rt.alloc(), &mut source, EIGHT, window, &mut out) {
+        Ok(_) => Ok(String::from_utf8_lossy(rt.alloc(), out.inner.as_slice())?),
+        Err(_) => Err(Fail::from("it is refused")),
+    }
+}
+
+#[test]
+fn eight_monitors_any_window(rt: HostRuntime) -> Result<(), Fail> {
+    let dump = counting_dump(&rt, 2000)?;
+    let first = eight_report(&rt, dump.as_str(), 1)?;
+    for line in EIGHT_LINES {
+        assert!(rt; first.as_str().contains(line), "{line}");
+    }
+    for window in [2, 1000, 65_536] {
+        let other = eight_report(&rt, dump.as_str(), window)?;
+        assert_eq!(rt; other.as_str(), first.as_str(), "windows of {window}");
     }
     Ok(())
 }
