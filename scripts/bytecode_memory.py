@@ -20,8 +20,11 @@ ROOM = 64
 
 def run_in(folder, words, **more):
     environment = os.environ | more
-    return subprocess.run(
-        words, cwd=folder, env=environment, capture_output=True, text=True, timeout=SECONDS)
+    try:
+        return subprocess.run(
+            words, cwd=folder, env=environment, capture_output=True, text=True, timeout=SECONDS)
+    except subprocess.TimeoutExpired:
+        sys.exit(f"{' '.join(words)} over {folder}/cases.txt takes over {SECONDS} s")
 
 
 def refuse_each(program, folder):

@@ -5,7 +5,7 @@ scripts/random_bytecode.py PROGRAM [MUTANTS [SEED]]
 PROGRAM is oracle_bytecode. So many mutants are made of the smallest program, and as many of the
 one with each instruction: bytes are replaced, removed and put in, and bits turned. The answers
 are those of bytecode_cases.py: all that a program holds, or its first fault. It stops at the
-first that differs.
+first that differs, or where so many take too long.
 """
 import os
 import random
@@ -20,10 +20,13 @@ PART = 5000
 SECONDS = 120
 
 
-def answers_of(program, files, folder):
+def answers_of(program, files, folder, named):
     cases.write_listed(files, f"{folder}/cases.txt")
-    ran = subprocess.run(
-        [program], cwd=folder, capture_output=True, text=True, timeout=SECONDS)
+    try:
+        ran = subprocess.run(
+            [program], cwd=folder, capture_output=True, text=True, timeout=SECONDS)
+    except subprocess.TimeoutExpired:
+        sys.exit(f"{named} take over {SECONDS} s")
     if ran.returncode:
         sys.exit(f"status {ran.returncode}: {ran.stderr}")
     return ran.stdout.splitlines()
@@ -40,12 +43,13 @@ def first_difference(files, answers):
     return None, programs
 
 
-def compare(program, whole, mutants, rng, folder):
+def compare(program, whole, mutants, seed, rng, folder):
     """How many of so many mutants are programs, all answers being the same."""
     programs = 0
     for done in range(0, mutants, PART):
         files = list(cases.mutants(whole, rng, min(PART, mutants - done)))
-        answers = answers_of(program, files, folder)
+        named = f"mutants {done} to {done + len(files) - 1} of {len(whole)} bytes, seed {seed},"
+        answers = answers_of(program, files, folder, named)
         if len(answers) != len(files):
             sys.exit(f"{len(answers)} answers to {len(files)} files")
         difference, found = first_difference(files, answers)
@@ -63,7 +67,7 @@ def main():
     rng = random.Random(seed)
     with tempfile.TemporaryDirectory() as folder:
         for whole in (cases.SMALL, cases.every_instruction()):
-            programs = compare(program, whole, mutants, rng, folder)
+            programs = compare(program, whole, mutants, seed, rng, folder)
             print(f"{mutants} mutants of {len(whole)} bytes, seed {seed},"
                   f" {programs} of them programs: all the same", flush=True)
 

@@ -9,7 +9,7 @@ Drawn are: each form of sequence; the operators and functions of expressions, an
 them, and now and then where it doesn't; zeros of a dump written as 0, x or z; changes before the edge and in its step; changes left out where
 the value stays; pulses between the steps; a clock that falls to x or z, or is 1 at first; two names of one variable, in other scopes. Not drawn are
 $dumpoff, faults but Y5, Y6 and Y9, and traces of more than 20 clocks. It stops at the first case whose report, refusal or status differs,
-and leaves its files in the working folder.
+or that takes over a minute, and leaves its files in the working folder.
 """
 import pathlib
 import re
@@ -395,7 +395,12 @@ def main():
         text_file.write_text(text)
         report_file.write_text(report)
         for command in (['check'], ['check', '--window', '3'], ['judge']):
-            ran = subprocess.run([program, *command, '--vcd', str(dump_file), '--sva', str(text_file)], capture_output=True, text=True, timeout=SECONDS)
+            words = [program, *command, '--vcd', str(dump_file), '--sva', str(text_file)]
+            try:
+                ran = subprocess.run(words, capture_output=True, text=True, timeout=SECONDS)
+            except subprocess.TimeoutExpired:
+                print('case %d of seed %d takes over %d s: %s' % (number, seed, SECONDS, ' '.join(words)))
+                return 1
             if (ran.stdout, ran.stderr, ran.returncode) != (report, refused, status):
                 print('case %d of seed %d differs (%s): status %d, not %d' % (number, seed, ' '.join(command), ran.returncode, status))
                 print(text + '--- svamon\n' + ran.stdout + ran.stderr + '--- by the definition\n' + report + refused)

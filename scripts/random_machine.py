@@ -6,7 +6,7 @@ PROGRAM is oracle_machine. So many programs are made that are accepted (10,000),
 rows (100). The answers are those of machine_model.py: for each clock the ticks and what was
 decided, then the open starts. Then the same for each file with one byte changed of the smallest
 monitor that an independent verifier accepts; no clock of it may spend more than its budget. It
-stops at the first that differs.
+stops at the first that differs, or where so many take too long.
 """
 import collections
 import os
@@ -57,7 +57,11 @@ def texts_of(case):
 def answers_of(oracle, asked):
     """What the program answers to each case."""
     text = "".join(f"{line}\n" for it in asked for line in it)
-    ran = subprocess.run([oracle], input=text, capture_output=True, text=True, timeout=SECONDS)
+    try:
+        ran = subprocess.run([oracle], input=text, capture_output=True, text=True, timeout=SECONDS)
+    except subprocess.TimeoutExpired:
+        first, last = (it[0].removeprefix("case ") for it in (asked[0], asked[-1]))
+        sys.exit(f"the cases {first} to {last} take over {SECONDS} s")
     if ran.returncode:
         sys.exit(f"status {ran.returncode}: {ran.stderr}")
     return [f"case {it}".splitlines() for it in ran.stdout.split("case ")[1:]]

@@ -4,7 +4,8 @@ scripts/random_verifier.py PROGRAM [CASES [SEED]]
 
 PROGRAM is oracle_verifier. So many programs are made that are accepted, and four mutants of each,
 and where a changed byte still spells a program, that one too. The answers are those of
-verifier_model.py: least limits and lives, or the first fault. It stops at the first that differs.
+verifier_model.py: least limits and lives, or the first fault. It stops at the first that differs,
+or where so many take too long.
 """
 import collections
 import os
@@ -30,18 +31,21 @@ def some_programs(rng, count):
         yield from byte_mutants(rng, whole, 2)
 
 
-def answers_of(oracle, programs, folder):
+def answers_of(oracle, programs, folder, named):
     with open(f"{folder}/cases.txt", "w") as file:
         file.writelines(f"{encode(it).hex()}\n" for it in programs)
-    ran = subprocess.run([oracle], cwd=folder, capture_output=True, text=True, timeout=SECONDS)
+    try:
+        ran = subprocess.run([oracle], cwd=folder, capture_output=True, text=True, timeout=SECONDS)
+    except subprocess.TimeoutExpired:
+        sys.exit(f"{named} take over {SECONDS} s")
     if ran.returncode:
         sys.exit(f"status {ran.returncode}: {ran.stderr}")
     return ran.stdout.splitlines()
 
 
-def compare(oracle, programs, folder):
+def compare(oracle, programs, folder, named):
     """How often each answer came, all being the same."""
-    answers = answers_of(oracle, programs, folder)
+    answers = answers_of(oracle, programs, folder, named)
     if len(answers) != len(programs):
         sys.exit(f"{len(answers)} answers to {len(programs)} programs")
     for program, answer in zip(programs, answers):
@@ -61,7 +65,9 @@ def main():
     with tempfile.TemporaryDirectory() as folder:
         for done in range(0, cases, PART):
             programs = list(some_programs(rng, min(PART, cases - done)))
-            counts += compare(oracle, programs, folder)
+            last = min(cases, done + PART) - 1
+            named = f"the programs {done} to {last} of seed {seed}, with their mutants,"
+            counts += compare(oracle, programs, folder, named)
     listed = ", ".join(f"{count} {name}" for name, count in counts.most_common())
     print(f"{cases} programs and mutants of them, seed {seed}: all the same ({listed})")
 
