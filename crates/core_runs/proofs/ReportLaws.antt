@@ -122,6 +122,6 @@ counted j clocks p n ls r programs at many below lines all is =
     let same : length (ticks_in j.clocks) ≡ n = ap (λ (k : Clocks). length (ticks_in k)) at ∙ sym many in
     let each = subst (λ (k : ℕ). All (λ (l : Line). attempts_of l.counts ≡ k) ls) same all in
     let total : attempts_of (total_of (map line ls)) ≡ n = same-traced (job_value j) (attempts_of (total_of (map line ls))) n (job-traced j) (λ c said.
-        let rule : ProgramData → LineData → Type 0 = λ q l. IsLineOver q (rows_over (job_value j) c q) l in
-        all-counted rule p ls n below (subst (λ (ps : List ProgramData). AllZip rule ps (map line ls)) programs (lines c said)) each) in
+    let rule : ProgramData → LineData → Type 0 = λ q l. IsLineOver q (rows_over (job_value j) c q) l in
+    all-counted rule p ls n below (subst (λ (ps : List ProgramData). AllZip rule ps (map line ls)) programs (lines c said)) each) in
     ap (λ (d : ReportData). attempts_of d.total) is ∙ total ∙ sym (ap (λ (d : ReportData). d.clocks) is)
