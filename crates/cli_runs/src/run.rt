@@ -12,18 +12,18 @@ ghost use Rattle.cli_runs.specs.Outcomes.{HasRunReport, WhyNoRunReport, IsRunAns
 ghost use Rattle.cli_runs.specs.Outcomes.{WhyRunFails, WhyNotRun};
 
 use cli::{Fault, verified_of};
+use core_runs::report_run;
 use cycle_window::WindowFault;
-use program_runs::report_run;
 use signals::{Sink, Source};
 use std::alloc::Global;
 use vcd_reader::{Dump, read_dump};
 use verdicts::{Report, ReportFault, write_report};
 
 /// The report of the program that bytes spell, over a dump.
-fn report_of(alloc: Global, dump: &Dump, code: &[u8], size: usize) -> Result<Report, Fault<'static>>
-    ensures ok { (c : Contents) → HoldsContents dump.now c
+fn report_of(alloc: Global, dump: Dump, code: &[u8], size: usize) -> Result<Report, Fault<'static>>
+    ensures ok { (c : Contents) → HoldsContents dump c
         → IfOk result (λ r. HasRunReport c code.now (data_of r)) }
-    ensures err { (c : Contents) → HoldsContents dump.now c
+    ensures err { (c : Contents) → HoldsContents dump c
         → IfErr result (WhyNoRunReport c code.now size) }
 {
     let verified = match verified_of(alloc, code) {
@@ -67,7 +67,7 @@ fn run_through<S: Source, W: Sink>(
         (W.contents out.old) (W.contents out.new) (W.failures out.old) (W.failures out.new))) }
 {
     let dump = read_dump(alloc, source)?;
-    let report = match report_of(alloc, &dump, code, size) {
+    let report = match report_of(alloc, dump, code, size) {
         Ok(report) => report,
         Err(fault) => return Err(fault),
     };

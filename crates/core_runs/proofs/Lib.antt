@@ -3,3 +3,4 @@ pub mod RoundLaws
 pub mod CoreLaws
 pub mod TurnLaws
 pub mod LineLaws
+pub mod ReportLaws

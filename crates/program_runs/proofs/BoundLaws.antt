@@ -1,17 +1,11 @@
--- The signals of a program in a dump, and why there is no run.
+-- The clock and the signals of a program in a dump.
 use Rattle.std.proofs.Common.{◌≡◌, inl, inr, ℕ, Bool, eqb, List, [], ◌∷◌, Option, Some, None, map, cond, refl, sym, ap, ◌∙◌}
 use Rattle.std.proofs.lemmas.Bool.{eq-eqb}
 use Rattle.std.proofs.lemmas.Bool.Decides.{eqb_tells}
-use Rattle.std.specs.Prelude.{Result, Ok, Err, IfOk}
 use Rattle.bytecode.specs.Values.{SlotData, ProgramData}
-use Rattle.cycle_window.specs.declared.columns.Columns.{Columns}
-use Rattle.cycle_window.specs.Held.{places_in}
 use Rattle.vcd_reader.specs.Variables.{Declared, variable_named, size_of}
-use Rattle.cycle_window.specs.declared.fault.WindowFault.{WindowFault}
-use Rattle.cycle_window.specs.declared.fault.WindowFault.TheVariants as faults
-use Rattle.cycle_window.specs.Bound.{Wanted, OtherWidth, Refused, misfit, or_refused, first_refused, places_of, IsClock, IsClockFault, IsSignalFault}
-use Rattle.program_runs.specs.Reported.{AreBound, HasClock, WhyNoRun, wanted_slot}
-use Rattle.program_runs.specs.Working.{IsWindowFault}
+use Rattle.cycle_window.specs.Bound.{Wanted, OtherWidth, Refused, misfit, or_refused, first_refused, places_of, IsClock}
+use Rattle.program_runs.specs.Reported.{AreBound, HasClock, wanted_slot}
 
 -- the variables that the paths of signals name
 named-places : (vs : List Declared) (ss : List SlotData) → places_of vs (map wanted_slot ss) ≡ map (λ (s : SlotData). variable_named vs s.path) ss
@@ -60,33 +54,3 @@ bound vs ss asked ps is are none =
 pub has-clock : (vs : List Declared) (p : ProgramData) (code : ℕ) → IsClock vs p.header.clock code → HasClock vs p
 has-clock vs p code (v, named, bit, is) =
     ap (λ (o : Option ℕ). misfit vs o 1) named ∙ ap (λ (b : Bool). cond b None (Some OtherWidth)) (eq-eqb (size_of vs v) 1 bit)
-
--- why there is no window
-pub signal-fault : (vs : List Declared) (p : ProgramData) (size : ℕ) (e : WindowFault) → IsSignalFault vs (map wanted_slot p.signals) e → IsWindowFault vs p size e
-signal-fault vs p size faults.NoClock h = h
-signal-fault vs p size faults.ClockWidth h = h
-signal-fault vs p size faults.BadSize h = absurd h
-signal-fault vs p size (faults.NoSignal path) h = h
-signal-fault vs p size (faults.SignalWidth path) h = h
-signal-fault vs p size faults.Memory h = h
-
--- why there is no run
-pub clock-fault : (vs : List Declared) (p : ProgramData) (size : ℕ) (e : WindowFault) → IsClockFault vs p.header.clock e → WhyNoRun vs p size e
-clock-fault vs p size faults.NoClock h = h
-clock-fault vs p size faults.ClockWidth h = h
-clock-fault vs p size faults.BadSize h = absurd h
-clock-fault vs p size (faults.NoSignal path) h = absurd h
-clock-fault vs p size (faults.SignalWidth path) h = absurd h
-clock-fault vs p size faults.Memory h = h
-
-pub window-fault : (vs : List Declared) (p : ProgramData) (size : ℕ) (e : WindowFault) → HasClock vs p → IsWindowFault vs p size e → WhyNoRun vs p size e
-window-fault vs p size faults.NoClock clock h = absurd h
-window-fault vs p size faults.ClockWidth clock h = absurd h
-window-fault vs p size faults.BadSize clock h = (clock, h.0, h.1)
-window-fault vs p size (faults.NoSignal path) clock h = (clock, h)
-window-fault vs p size (faults.SignalWidth path) clock h = (clock, h)
-window-fault vs p size faults.Memory clock h = h
-
-pub all-bound : (vs : List Declared) (ss : List SlotData) (asked : List Wanted) (r : Result Columns WindowFault) → asked ≡ map wanted_slot ss → IfOk r (λ cs. map Some (places_in cs) ≡ places_of vs asked) → IfOk r (λ cs. first_refused vs asked ≡ None) → IfOk r (λ cs. AreBound vs ss (places_in cs))
-all-bound vs ss asked (Ok cs) is are none = bound vs ss asked (places_in cs) is are none
-all-bound vs ss asked (Err e) is are none = tt

@@ -3,5 +3,3 @@ pub mod CutLaws
 pub mod CountLaws
 pub mod RowLaws
 pub mod BoundLaws
-pub mod RunLaws
-pub mod ReportLaws

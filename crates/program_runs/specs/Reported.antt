@@ -37,13 +37,6 @@ pub record Reports (c : Contents) (p : ProgramData) (report : ReportData) : Type
   pub ran : IsLineOver p (rows_of c clock variables) line
   pub is : report ≡ report_of (length (rows_of c clock variables)) (line ∷ [])
 
--- The line of a program over the contents of a dump on a clock of another's choosing: over the rows
--- of its signals at the ticks of the clock with that code.
-pub record RunsOn (c : Contents) (code : ℕ) (p : ProgramData) (line : LineData) : Type 0 where
-  pub variables : List ℕ
-  pub bound : AreBound c.variables p.signals variables
-  pub ran : IsLineOver p (map (row_of c variables) (ticks_of c code)) line
-
 -- a signal of a program, as it is bound
 abbrev pub wanted_slot : SlotData → Wanted
 wanted_slot s = record { path = s.path; width = s.width }

@@ -1,19 +1,19 @@
-//! The report of one program over a dump, by a machine on one thread.
+//! What is reported of a program over a dump, by the definitions alone.
 //!
-//! The program names a clock and its signals. The machine takes the row of the signals at each tick
-//! of the clock, through windows of so many clocks that slide over the dump. What it decides is
-//! counted as it comes, and the attempts that failed are kept; the attempts that are still live
-//! behind the last clock are counted as open. The windows' size changes no report.
+//! A program names a clock and its signals. Its rows are the values of the signals at each tick of
+//! the clock. Its line counts what the checked machine decides over these rows, and has the attempts
+//! that failed, by clock, then start; the attempts that are still live behind the last clock are
+//! counted as open. Its report has that one line. The crates above say by these definitions what
+//! they report: those that run programs, as `core_runs`, and those that have the laws of programs
+//! of assertions, as `verdict_lines`.
+//!
+//! There is no report where the clock (C1, C2), then a signal (C4, C5, in their order), then the
+//! size of the windows (C3) is not as it should be. That the windows' size changes no report comes
+//! from the one law that is called here: rows that are cut anywhere decide the same.
 //!
 //! ```text
-//! let dump = read_dump(alloc, &mut file)?;
-//! let verified = verify(alloc, decode(alloc, bytes)?)?;
-//! let report = report_run(alloc, &dump, verified, 1024)?;
-//! write_report(alloc, &report, &mut out)?;
+//! batches_law();    // does nothing; what it ensures holds of all programs and rows
 //! ```
-//!
-//! The faults are C1 and C2 of the clock, C4 and C5 of the signals in their order, and C3 of the
-//! size, in this order.
 //!
 //! The definitions: the report over the contents of a dump, and why there is none, in
 //! `specs/Reported.antt`; the line of a program over rows in `specs/Lines.antt`; that rows may be
@@ -21,14 +21,9 @@
 //! `checked_machine`, in its `specs/Runs.antt`, ticks and rows are those of `cycle_window`, and
 //! reports those of `verdicts`.
 //!
-//! Not promised: that memory suffices, or that a program of unknown origin means anything.
+//! Not promised: that a program of unknown origin means anything.
 #![tactic(auto)]
 
 mod laws;
-mod line_so_far;
-mod report;
-mod run;
-mod window;
 
 pub use laws::batches_law;
-pub use report::{line_run, report_run};

@@ -1,4 +1,4 @@
-//! Tests of `program_runs`: reports of files of bytecode over dumps, worked out by hand.
+//! Tests of `core_runs`: reports of files of bytecode over dumps, worked out by hand.
 #![tactic(auto)]
 
 #[cfg(test)]

@@ -3,7 +3,7 @@
 ghost use Rattle.std.specs.Prelude.{◌<◌};
 
 use bytecode::decode;
-use program_runs::report_run;
+use core_runs::report_run;
 use signals::{Counted, CutWriter};
 use std::alloc::{AllocError, Global};
 use vcd_reader::{Dump, read_dump};
@@ -55,10 +55,12 @@ fn text_of(alloc: Global, report: &Report) -> Result<String, AllocError> {
 }
 
 /// What a run over a dump tells.
-fn told_over(alloc: Global, dump: &Dump, code: &str, size: usize) -> Result<String, AllocError> {
-    let Some(verified) = verified_of(alloc, code)? else {
-        return String::from_str(alloc, "no program");
-    };
+fn told_over(
+    alloc: Global,
+    dump: Dump,
+    verified: Verified,
+    size: usize,
+) -> Result<String, AllocError> {
     match report_run(alloc, dump, verified, size) {
         Ok(report) => text_of(alloc, &report),
         Err(fault) => format!(in alloc; "{fault}"),
@@ -72,9 +74,12 @@ pub(crate) fn told(
     code: &str,
     size: usize,
 ) -> Result<String, AllocError> {
+    let Some(verified) = verified_of(alloc, code)? else {
+        return String::from_str(alloc, "no program");
+    };
     let mut source = Counted::new(dump.as_bytes());
     match read_dump(alloc, &mut source) {
-        Ok(dump) => told_over(alloc, &dump, code, size),
+        Ok(dump) => told_over(alloc, dump, verified, size),
         Err(_) => String::from_str(alloc, "no dump"),
     }
 }

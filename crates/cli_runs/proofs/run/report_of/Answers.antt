@@ -1,8 +1,7 @@
-use Rattle.std.proofs.Common.{◌≡◌}
 use Rattle.cli.specs.Faults.{window_fault}
 use Rattle.cli.proofs.TextLaws.{err_is}
 use Rattle.cli_runs.specs.Outcomes.{WhyNoRunReport}
-use Rattle.cli_runs.proofs.RunLaws.{no_program, unbound}
+use Rattle.cli_runs.proofs.RunLaws.{unbound}
 use Rattle.cli_runs.proofs.run.report_of.Goals as goal
 
 pub returns-in_err-report_run-clause-err : goal.returns-in_err-report_run-clause-err

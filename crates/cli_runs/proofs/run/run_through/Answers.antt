@@ -1,4 +1,4 @@
-use Rattle.std.proofs.Common.{◌≡◌, subst}
+use Rattle.std.proofs.Common.{subst}
 use Rattle.verdicts.specs.Shown.{data_of}
 use Rattle.verdicts.specs.Texts.{report_text}
 use Rattle.verdicts.specs.Written.{WhyUnwritten}

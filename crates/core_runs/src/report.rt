@@ -1,0 +1,114 @@
+//! The report of one program.
+
+ghost use Rattle.std.specs.Prelude.{◌≡◌, ◌≢◌, ℕ, ◌∷◌, ◌≤◌, [], List, IfOk, IfErr, map};
+ghost use Rattle.bytecode.specs.Values.{ProgramData};
+ghost use Rattle.vcd_reader.specs.Variables.{Declared};
+ghost use Rattle.vcd_reader.specs.Dump.{Contents};
+ghost use Rattle.vcd_reader.specs.Held.{HoldsContents, variables_of};
+ghost use Rattle.cycle_window.specs.Bound.{IsClock, IsClockFault, IsSignalFault};
+ghost use Rattle.cycle_window.specs.Held.{code_in, AreClocksOf};
+ghost use Rattle.verdicts.specs.Shown.{data_of};
+ghost use Rattle.program_runs.specs.Lines.{attempts_of};
+ghost use Rattle.program_runs.specs.Reported.{HasClock, HasSignals, Reports, WhyNoRun, wanted_slot};
+ghost use Rattle.workers.specs.declared.run_fault.RunFault.TheVariants as runs;
+ghost use Rattle.workers.specs.Values.{WhyNoCore};
+ghost use Rattle.workers.specs.Wanted.{WhyUnfit};
+ghost use Rattle.core_runs.specs.Faults.{IsOfSignals};
+
+use crate::lines::job_lines;
+use cycle_window::{Clocks, WindowFault};
+use std::alloc::Global;
+use vcd_reader::Dump;
+use verdicts::Report;
+use verifier::Verified;
+use workers::{Job, JobFault, RunFault};
+
+/// The clock that a program names.
+fn clocks_of(alloc: Global, dump: &Dump, verified: &Verified) -> Result<Clocks, WindowFault>
+    ensures clock { IfOk result (λ k.
+        IsClock (variables_of dump.now) verified.now.header.clock (code_in k)) }
+    ensures ticks { IfOk result (AreClocksOf dump.now) }
+    ensures fault { IfErr result
+        (IsClockFault (variables_of dump.now) verified.now.header.clock) }
+{
+    Clocks::of(alloc, dump, verified.program().clock.as_str())
+}
+
+/// The fault of a job of one program, on a clock that is there.
+fn signal_fault(fault: JobFault) -> WindowFault
+    requires { IsOfSignals fault }
+    ensures { (vs : List Declared) (p : ProgramData) → WhyUnfit vs (p ∷ []) fault
+        → IsSignalFault vs (map wanted_slot p.signals) result }
+{
+    match fault {
+        JobFault::NoSignal(path) => WindowFault::NoSignal(path),
+        JobFault::SignalWidth(path) => WindowFault::SignalWidth(path),
+        JobFault::Memory => WindowFault::Memory,
+        _ => unreachable!(),
+    }
+}
+
+/// The job of one program, at the ticks of these clocks of the dump.
+fn job_of(alloc: Global, dump: Dump, verified: Verified, clocks: Clocks) -> Result<Job, WindowFault>
+    requires { AreClocksOf dump clocks }
+    ensures programs { IfOk result (λ j. j.programs.items ≡ verified ∷ []) }
+    ensures dump { IfOk result (λ j. j.dump ≡ dump) }
+    ensures clocks { IfOk result (λ j. j.clocks ≡ clocks) }
+    ensures fits { IfOk result (λ _. HasSignals (variables_of dump) verified) }
+    ensures fault { IfErr result
+        (IsSignalFault (variables_of dump) (map wanted_slot verified.signals)) }
+{
+    let mut programs = Vec::new(alloc);
+    programs.push(verified)?;
+    match Job::over(alloc, programs, dump, clocks) {
+        Ok(job) => Ok(job),
+        Err(fault) => Err(signal_fault(fault)),
+    }
+}
+
+/// The fault of a run of one worker, over a dump that has the program's clock and signals.
+fn size_fault(fault: RunFault) -> WindowFault
+    requires { fault ≢ runs.BadWorkers }
+    ensures { (vs : List Declared) (p : ProgramData) (size : ℕ) → HasClock vs p → HasSignals vs p
+        → WhyNoCore 1 size fault → WhyNoRun vs p size result }
+{
+    match fault {
+        RunFault::BadSize => WindowFault::BadSize,
+        RunFault::Memory => WindowFault::Memory,
+        RunFault::BadWorkers => unreachable!(),
+    }
+}
+
+/// The report of a verified program over a dump, on the clock that it names, by a core of one
+/// worker through windows of so many clocks, 1 to 65,536. The size changes no report.
+pub fn report_run(
+    alloc: Global,
+    dump: Dump,
+    verified: Verified,
+    size: usize,
+) -> Result<Report, WindowFault>
+    ensures report { (c : Contents) → HoldsContents dump c
+        → IfOk result (λ r. Reports c verified (data_of r)) }
+    // A window of no clock, or of more than 65,536, has no report.
+    ensures some { IfOk result (λ _. 1 ≤ size) }
+    ensures most { IfOk result (λ _. size ≤ 65536) }
+    // One attempt begins at each clock, and each is counted once.
+    ensures count { IfOk result (λ r. attempts_of r.total ≡ r.clocks) }
+    // The first cause that stands.
+    ensures refused { (c : Contents) → HoldsContents dump c
+        → IfErr result (WhyNoRun c.variables verified size) }
+{
+    let clocks = match clocks_of(alloc, &dump, &verified) {
+        Err(fault) => return Err(fault),
+        Ok(clocks) => clocks,
+    };
+    let count = clocks.len();
+    let job = match job_of(alloc, dump, verified, clocks) {
+        Err(fault) => return Err(fault),
+        Ok(job) => job,
+    };
+    match job_lines(alloc, &job, size) {
+        Err(fault) => Err(size_fault(fault)),
+        Ok(lines) => Ok(Report::new(count, lines)),
+    }
+}
