@@ -64,7 +64,7 @@ open-same v w n same =
     (λ c low high on. refl)
 
 module _ (p : ProgramData) (rows : List (List ℕ)) (counters : ℕ → List ℕ) (atoms : ℕ → List Bool) (value : Boolean → ℕ → Bool) (r s : Seq Boolean) (accepted : IsAccepted p)
-  (samples : SamplesAs p (row_of rows) counters atoms (length rows)) (watches : Watches p atoms value r s) (fills : Fills value s) where
+    (samples : SamplesAs p (row_of rows) counters atoms (length rows)) (watches : Watches p atoms value r s) (fills : Fills value s) where
   abbrev v : ℕ → ℕ → Verdict
   v = verdict value (monitor_of p atoms).off r s
 

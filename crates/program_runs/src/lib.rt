@@ -1,7 +1,7 @@
 //! What is reported of a program over a dump, by the definitions alone.
 //!
 //! A program names a clock and its signals. Its rows are the values of the signals at each tick of
-//! the clock. Its line counts what the checked machine decides over these rows, and has the attempts
+//! the clock. Its line counts what the checked machine decides over these rows, and the attempts
 //! that failed, by clock, then start; the attempts that are still live behind the last clock are
 //! counted as open. Its report has that one line. The crates above say by these definitions what
 //! they report: those that run programs, as `core_runs`, and those that have the laws of programs

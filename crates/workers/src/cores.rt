@@ -52,7 +52,8 @@ impl<'j> Core<'j> {
         workers: usize,
         size: usize,
     ) -> Result<Core<'j>, RunFault>
-        ensures opened { IfOk result (λ core. core ≡ opening_core (job_value job.now) workers size) }
+        ensures opened { IfOk result (λ core.
+            core ≡ opening_core (job_value job.now) workers size) }
         ensures size { IfOk result (λ _. (1 ≤ size) × (size ≤ 65536)) }
         ensures workers { IfOk result (λ _. (1 ≤ workers) × (workers ≤ 64)) }
         // The first cause that stands.
