@@ -69,6 +69,7 @@ bench: svamon oracle_bytecode oracle_verifier oracle_machine
 	bench/judge
 	bench/check
 	bench/machine
+	bench/core
 
 allocations: svamon oracle_bytecode oracle_verifier oracle_core
 	scripts/bytecode_memory.py $(BYTECODE)
