@@ -125,16 +125,14 @@ fn counting_dump(rt: &impl AllocGlobal, ticks: usize) -> Result<String, AllocErr
     }
     dump.push_str("$enddefinitions $end\n")?;
     for tick in 0..ticks {
-        let time = tick * 2;
-        let falls = format!(in rt.alloc(); "#{time}\n0!\n")?;
+        let falls = format!(in rt.alloc(); "#{tick}0\n0!\n")?;
         dump.push_str(falls.as_str())?;
         for bit in 0..8u32 {
             let value = (tick >> bit) & 1;
             let change = format!(in rt.alloc(); "{value}s{bit}\n")?;
             dump.push_str(change.as_str())?;
         }
-        let next = time + 1;
-        let rises = format!(in rt.alloc(); "#{next}\n1!\n")?;
+        let rises = format!(in rt.alloc(); "#{tick}5\n1!\n")?;
         dump.push_str(rises.as_str())?;
     }
     Ok(dump)
