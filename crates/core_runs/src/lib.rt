@@ -27,11 +27,11 @@
 //! Not promised: that memory suffices, or that a program of unknown origin means anything.
 #![tactic(auto)]
 
-mod attempts;
 mod drive;
-mod line;
+mod line_so_far;
 mod lines;
 mod report;
+mod taken;
 
 pub use lines::job_lines;
 pub use report::report_run;

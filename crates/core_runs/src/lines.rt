@@ -6,35 +6,44 @@ ghost use Rattle.verdicts.specs.Lines.{line};
 ghost use Rattle.program_runs.specs.Lines.{IsLineOver, attempts_of};
 ghost use Rattle.workers.specs.Values.{Says, WhyNoCore, job_value, rows_over};
 ghost use Rattle.core_runs.specs.Lines.{AreLinesOf};
+ghost use Rattle.workers.specs.States.{published_by};
 ghost use Rattle.core_runs.specs.Rounds.{HasTrace, Rests};
+ghost use Rattle.core_runs.specs.Taken.{TookIn};
 
-use crate::attempts::attempts_of;
 use crate::drive::drive;
-use crate::line::line_of;
+use crate::line_so_far::LineSoFar;
+use crate::taken::lines_published;
 use std::alloc::{AllocError, Global};
+use std::mem;
 use verdicts::Line;
 use verifier::Verified;
 use workers::{Core, Job, RunFault};
 
-/// The line of the program of a number, behind the last clock.
+/// The line of the program of a number, behind the last clock, of what its monitor published and
+/// of the attempts that are live.
 fn program_line(
     alloc: Global,
     core: &Core<'_>,
     number: usize,
     verified: &Verified,
+    published: LineSoFar,
 ) -> Result<Line, AllocError>
     requires trace { HasTrace core.now.job }
     requires rests { Rests core.now }
     requires end { length core.now.job.ticks ≤ core.now.state.end }
     requires program { slice_get core.now.job.programs number ≡ Some verified.now }
+    requires took { TookIn published (published_by core.now.state.board number) }
     ensures line { (c : Contents) → Says core.now.job c → IfOk result (λ l.
         IsLineOver verified.now (rows_over core.now.job c verified.now) (line l)) }
     ensures count { IfOk result (λ l. attempts_of l.counts ≡ length core.now.job.ticks) }
 {
     core.follows_machine();
-    let attempts = attempts_of(alloc, core, number)?;
+    let _clocks = core.clocks();
     let name = String::from_str(alloc, verified.program().name.as_str())?;
-    line_of(alloc, name, attempts.as_slice())
+    let live = core.open_attempts(number);
+    let mut all = published;
+    all.take_in(live.as_slice())?;
+    Ok(all.into_line(name))
 }
 
 /// The lines of all programs, behind the last clock.
@@ -48,9 +57,13 @@ fn lines_of(alloc: Global, core: &Core<'_>, programs: &[Verified]) -> Result<Vec
     ensures count { IfOk result (λ ls.
         All (λ l. attempts_of l.counts ≡ length core.now.job.ticks) ls.items) }
 {
+    core.follows_machine();
+    let _clocks = core.clocks();
+    let mut published = lines_published(alloc, core.board(), programs.len())?;
     let mut lines = Vec::with_capacity(alloc, programs.len())?;
     for (number, verified) in programs.iter().enumerate() {
-        lines.push(program_line(alloc, core, number, verified)?)?;
+        let own = mem::replace(&mut published[number], LineSoFar::new(alloc));
+        lines.push(program_line(alloc, core, number, verified, own)?)?;
     }
     Ok(lines)
 }
