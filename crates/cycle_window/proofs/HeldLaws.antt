@@ -19,7 +19,8 @@ use Rattle.vcd_reader.specs.Held.{HoldsContents, steps_in, high_of, value_of_cha
 use Rattle.vcd_reader.specs.Variables.{code_number, size_of}
 use Rattle.cycle_window.specs.Ticks.{is_tick, sample, row_of, ticks_of}
 use Rattle.cycle_window.specs.declared.window.Window.{Window}
-use Rattle.cycle_window.specs.Held.{changes_to, last_of, columns_in, clock_in, end_in, IsOver}
+use Rattle.cycle_window.specs.Changes.{changes_to, last_of}
+use Rattle.cycle_window.specs.Held.{columns_in, clock_in, end_in, IsOver}
 
 last_stored : ℕ → List StoredChange → Option ℕ
 last_stored code [] = None

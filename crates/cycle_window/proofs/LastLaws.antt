@@ -9,7 +9,7 @@ use Rattle.std.proofs.lemmas.Grind.{flat_map-append}
 use Rattle.vcd_reader.specs.declared.step.Step.{Step}
 use Rattle.vcd_reader.specs.declared.step.Change.{Change}
 use Rattle.vcd_reader.specs.Values.{or_else}
-use Rattle.cycle_window.specs.Held.{changes_to, last_of, IsTable}
+use Rattle.cycle_window.specs.Changes.{changes_to, last_of, IsTable}
 
 or_else-assoc : {A : Type 0} (a b c : Option A) → or_else a (or_else b c) ≡ or_else (or_else a b) c
 or_else-assoc None b c = refl

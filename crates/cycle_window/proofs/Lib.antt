@@ -3,3 +3,4 @@ pub mod TickLaws
 pub mod HeldLaws
 pub mod BoundLaws
 pub mod PickLaws
+pub mod WindowLaws

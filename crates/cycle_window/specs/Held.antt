@@ -1,16 +1,15 @@
 -- What clocks, columns and windows hold of a dump.
-use Rattle.std.specs.Prelude.{◌≡◌, ℕ, ◌<◌, ◌==◌, List, [], ◌∷◌, map, take, length, get_or, Option, Some, None, if◌then◌else◌}
-use Rattle.std.specs.List.{flat_map}
+use Rattle.std.specs.Prelude.{◌≡◌, ℕ, List, length}
 use Rattle.vcd_reader.specs.declared.dump.Dump.{Dump}
-use Rattle.vcd_reader.specs.declared.step.Step.{Step}
-use Rattle.vcd_reader.specs.declared.step.Change.{Change}
-use Rattle.vcd_reader.specs.Values.{or_else}
 use Rattle.vcd_reader.specs.Dump.{Contents}
 use Rattle.vcd_reader.specs.Held.{HoldsContents}
 use Rattle.cycle_window.specs.declared.clocks.Clocks.{Clocks}
 use Rattle.cycle_window.specs.declared.columns.Columns.{Columns}
 use Rattle.cycle_window.specs.declared.window.Window.{Window}
-use Rattle.cycle_window.specs.Ticks.{ticks_of, row_of}
+use Rattle.cycle_window.specs.Variables.{places}
+use Rattle.cycle_window.specs.Rows.{IsBefore}
+use Rattle.cycle_window.specs.Cursors.{IsCursorOf}
+use Rattle.cycle_window.specs.Ticks.{ticks_of}
 
 -- the steps of the ticks
 unfoldable pub ticks_in : Clocks → List ℕ
@@ -24,17 +23,20 @@ code_in k = k.code
 abbrev pub AreClocksOf : Dump → Clocks → Type 0
 AreClocksOf d k = (c : Contents) → HoldsContents d c → ticks_in k ≡ ticks_of c (code_in k)
 
--- the places of the columns' variables, and the code of their clock
+-- the columns' dump, the places of their variables, and the code of their clock
+unfoldable pub dump_in : Columns → Dump
+dump_in cs = cs.dump.now
+
 unfoldable pub places_in : Columns → List ℕ
-places_in cs = map (λ v. v.place) cs.variables.items
+places_in cs = places cs.variables.items
 
 unfoldable pub clock_in : Columns → ℕ
 clock_in cs = cs.code
 
--- the columns are of these contents: the rows of the ticks of their clock, one behind the other
+-- the columns are of these contents: those of their dump, with a row at each tick of their clock
 pub record AreColumnsOf (cs : Columns) (c : Contents) : Type 0 where
   pub many : cs.count ≡ length (ticks_of c (clock_in cs))
-  pub rows : cs.values.items ≡ flat_map (row_of c (places_in cs)) (ticks_of c (clock_in cs))
+  pub held : HoldsContents (dump_in cs) c
 
 unfoldable pub columns_in : Window → Columns
 columns_in w = w.columns
@@ -53,21 +55,12 @@ end_in w = w.end
 unfoldable pub IsOver : Window → Contents → Type 0
 IsOver w c = AreColumnsOf w.columns c
 
--- the dump and the clocks are those of the window's columns
+-- The dump and the clocks are those of the window's columns, and the dump is read up to the next
+-- tick at most.
 pub record IsWindowOf (w : Window) (d : Dump) (k : Clocks) : Type 0 where
+  pub same_dump : dump_in (columns_in w) ≡ d
   pub same_clock : code_in k ≡ clock_in (columns_in w)
   pub clocks : AreClocksOf d k
   pub over : (c : Contents) → HoldsContents d c → IsOver w c
-
--- all changes of the steps before the step k, as they are stored
-unfoldable pub changes_to : List Step → ℕ → List Change
-changes_to steps k = flat_map (λ s. s.changes.items) (take k steps)
-
--- the last change of a code
-unfoldable pub last_of : ℕ → List Change → Option Change
-last_of code [] = None
-last_of code (c ∷ cs) = or_else (last_of code cs) (if c.code == code then Some c else None)
-
--- a table of the last change of each code up to its length
-abbrev pub IsTable : List (Option Change) → List Change → Type 0
-IsTable last changes = (code : ℕ) → code < length last → get_or last code None ≡ last_of code changes
+  pub cursor : IsCursorOf d w.columns.shared.variables.items w.cursor
+  pub before : IsBefore d (code_in k) w.cursor.at (end_in w)

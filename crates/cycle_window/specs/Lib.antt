@@ -1,5 +1,9 @@
 pub mod Ticks
 pub mod Picks
+pub mod Variables
+pub mod Changes
+pub mod Rows
+pub mod Cursors
 pub mod Held
 pub mod Bound
 pub mod Signals

@@ -7,7 +7,7 @@ ghost use Rattle.vcd_reader.specs.Numbers.{bits_value};
 ghost use Rattle.vcd_reader.specs.Values.{value_or_zero};
 ghost use Rattle.vcd_reader.specs.Variables.{size_of};
 ghost use Rattle.vcd_reader.specs.Held.{variables_of, value_of_change, IsOf, IsChangeOf};
-ghost use Rattle.cycle_window.specs.Held.{changes_to, last_of, IsTable};
+ghost use Rattle.cycle_window.specs.Changes.{changes_to, last_of, IsTable};
 
 use vcd_reader::{Change, Dump, Step, VarId};
 
@@ -39,7 +39,9 @@ pub(crate) fn value_behind(dump: &Dump, last: Option<Change>, var: VarId) -> u12
 
 /// Enters the changes of a step into the table.
 fn enter(last: &mut [Option<Change>], changes: &[Change])
-    ensures { (earlier : List Change) → IsTable last.old earlier → IsTable last.new (earlier ++ changes.now) }
+    ensures long { length last.new ≡ length last.old }
+    ensures table { (earlier : List Change) → IsTable last.old earlier
+        → IsTable last.new (earlier ++ changes.now) }
 {
     for change in changes {
         let code = change.code as usize;
@@ -54,7 +56,9 @@ pub(crate) fn advance(last: &mut [Option<Change>], steps: &[Step], at: usize, to
     requires { at ≤ length steps.now }
     ensures reached { at ≤ to → to ≤ length steps.now → result ≡ to }
     ensures inside { result ≤ length steps.now }
-    ensures table { IsTable last.old (changes_to steps.now at) → IsTable last.new (changes_to steps.now result) }
+    ensures long { length last.new ≡ length last.old }
+    ensures table { IsTable last.old (changes_to steps.now at)
+        → IsTable last.new (changes_to steps.now result) }
 {
     let mut at = at;
     while at < to && at < steps.len() {

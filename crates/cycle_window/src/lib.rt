@@ -3,12 +3,15 @@
 
 mod clocks;
 mod columns;
+mod cursor;
 mod fault;
+mod filling;
 mod last;
 mod laws;
 mod picks;
 mod rows;
 mod sampling;
+mod shared;
 mod window;
 
 pub use clocks::Clocks;

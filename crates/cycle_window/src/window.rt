@@ -1,57 +1,91 @@
 //! A run of clocks with their rows.
 
-ghost use Rattle.std.specs.Prelude.{◌≡◌, ℕ, ◌+◌, ◌<◌, ◌≤◌, IfOk, IfErr, length, min, slice_index};
+ghost use Rattle.std.specs.Prelude.{◌≡◌, ◌+◌, ◌-◌, ◌*◌, ◌<◌, ◌≤◌, IfOk, IfErr, length, min};
+ghost use Rattle.std.specs.Prelude.{slice_index, vec_capacity};
 ghost use Rattle.vcd_reader.specs.Dump.{Contents};
+ghost use Rattle.vcd_reader.specs.declared.dump.Dump.{Dump};
 ghost use Rattle.vcd_reader.specs.Held.{HoldsContents};
-ghost use Rattle.cycle_window.specs.declared.fault.WindowFault.TheVariants.{BadSize};
 ghost use Rattle.cycle_window.specs.Ticks.{ticks_of, row_of};
-ghost use Rattle.cycle_window.specs.Bound.{IsBadSize};
+ghost use Rattle.cycle_window.specs.Bound.{IsBadSize, WhyNoWindow};
+ghost use Rattle.cycle_window.specs.Variables.{places};
+ghost use Rattle.cycle_window.specs.Rows.{AreRowsOf};
 
 use crate::clocks::Clocks;
 use crate::columns::Columns;
+use crate::cursor::Cursor;
 use crate::fault::WindowFault;
+use crate::filling::fill_rows;
+use std::alloc::Global;
 use vcd_reader::Dump;
 
 /// The most clocks of a window.
 const MOST: usize = 65_536;
 
-/// A run of clocks with their rows.
+/// A run of clocks with their rows. It holds no rows but these, and the dump is read up to the last
+/// of them.
 #[derive(Drop)]
-pub struct Window {
-    pub(crate) columns: Columns,
+pub struct Window<'d> {
+    pub(crate) columns: Columns<'d>,
     pub(crate) size: usize,
     pub(crate) first: usize,
     pub(crate) end: usize,
+    pub(crate) cursor: Cursor,
+    /// The rows, one behind the other: a value for each variable.
+    pub(crate) values: Vec<u128>,
     ghost ordered: { first ≤ end },
     ghost inside: { end ≤ columns.count },
+    ghost few: { end - first ≤ size },
+    ghost rows: { AreRowsOf columns.dump.now columns.code (places columns.variables.items)
+        first end values.items },
+    ghost full: { length values.items ≡ (end - first) * length columns.variables.items },
+    ghost room: { min size columns.count * length columns.variables.items ≤ vec_capacity values },
 }
 
-impl Window {
-    ghost use Rattle.cycle_window.specs.Held.{ticks_in, places_in, clock_in, columns_in, size_in, first_in, end_in, AreColumnsOf, IsOver, IsWindowOf};
+impl<'d> Window<'d> {
+    ghost use Rattle.cycle_window.specs.Held.{ticks_in, code_in, dump_in, places_in, clock_in};
+    ghost use Rattle.cycle_window.specs.Held.{columns_in, size_in, first_in, end_in};
+    ghost use Rattle.cycle_window.specs.Held.{AreClocksOf, AreColumnsOf, IsOver, IsWindowOf};
+    ghost use Rattle.cycle_window.specs.declared.clocks.Clocks.{Clocks};
 
     /// An empty window before the first clock, which will hold up to `size` clocks, 1 to 65,536.
-    pub fn new(size: usize, columns: Columns) -> Result<Window, WindowFault>
-        ensures columns { IfOk result (λ w. columns_in w ≡ columns) }
+    pub fn new(
+        alloc: Global,
+        size: usize,
+        columns: Columns<'d>,
+    ) -> Result<Window<'d>, WindowFault>
+        ensures columns { IfOk result (λ w. columns_in w ≡ columns.entry) }
         ensures size { IfOk result (λ w. size_in w ≡ size) }
         ensures first { IfOk result (λ w. first_in w ≡ 0) }
         ensures end { IfOk result (λ w. end_in w ≡ 0) }
-        ensures over { (c : Contents) → AreColumnsOf columns c → IfOk result (λ w. IsOver w c) }
-        ensures fault { IfErr result (λ e. e ≡ BadSize) }
-        ensures bad { IfErr result (λ _. IsBadSize size) }
+        ensures over { (c : Contents) → AreColumnsOf columns.entry c
+            → IfOk result (λ w. IsOver w c) }
+        ensures of { (d : Dump) (k : Clocks) → dump_in columns.entry ≡ d
+            → code_in k ≡ clock_in columns.entry → AreClocksOf d k
+            → ((c : Contents) → HoldsContents d c → AreColumnsOf columns.entry c)
+            → IfOk result (λ w. IsWindowOf w d k) }
+        ensures fault { IfErr result (WhyNoWindow size) }
         ensures good { IfOk result (λ _. (1 ≤ size) × (size ≤ 65536)) }
     {
         if size == 0 || size > MOST {
             return Err(WindowFault::BadSize);
         }
+        let Some(room) = size.min(columns.count).checked_mul(columns.variables.len()) else {
+            return Err(WindowFault::Memory);
+        };
+        let cursor = Cursor::new(alloc, columns.dump, columns.shared.variables.as_slice())?;
+        let values = Vec::with_capacity(alloc, room)?;
         Ok(Window {
             columns,
             size,
             first: 0,
             end: 0,
+            cursor,
+            values,
         })
     }
 
-    /// The next clocks: from the window's end up to its size, or up to the last clock. The dump and the clocks are those of its columns, and clocks remain.
+    /// The next clocks: from the window's end up to its size, or up to the last clock. The dump and
+    /// the clocks are those of its columns, and clocks remain.
     pub fn slide(&mut self, dump: &Dump, clocks: &Clocks)
         requires same { IsWindowOf self.old dump.now clocks.now }
         requires remain { end_in self.old < length (ticks_in clocks.now) }
@@ -59,10 +93,20 @@ impl Window {
         ensures columns { columns_in self.new ≡ columns_in self.old }
         ensures size { size_in self.new ≡ size_in self.old }
         ensures first { first_in self.new ≡ end_in self.old }
-        ensures end { end_in self.new ≡ min (length (ticks_in clocks.now)) (end_in self.old + size_in self.old) }
+        ensures end { end_in self.new
+            ≡ min (length (ticks_in clocks.now)) (end_in self.old + size_in self.old) }
     {
         let first = self.end;
         let end = first + self.size.min(clocks.ticks.len() - first);
+        let ticks = &clocks.ticks[first..end];
+        let columns = &self.columns;
+        fill_rows(
+            &mut self.values,
+            &mut self.cursor,
+            dump,
+            &columns.shared,
+            ticks,
+        );
         self.first = first;
         self.end = end;
     }
@@ -75,7 +119,9 @@ impl Window {
             (places_in (columns_in self.now))
             (slice_index (ticks_of c (clock_in (columns_in self.now))) tick) }
     {
-        self.columns.row(tick as usize)
+        let width = self.columns.variables.len();
+        let start = (tick as usize - self.first) * width;
+        &self.values[start..start + width]
     }
 
     /// The window's clocks: from the first up to the second, which is not in it.

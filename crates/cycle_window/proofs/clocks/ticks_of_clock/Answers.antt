@@ -4,7 +4,7 @@ use Rattle.vcd_reader.specs.declared.step.Step.{Step}
 use Rattle.vcd_reader.specs.Variables.{size_of}
 use Rattle.vcd_reader.specs.Held.{steps_in, variables_of}
 use Rattle.cycle_window.specs.Ticks.{is_tick, ticks_below, ticks_of}
-use Rattle.cycle_window.specs.Held.{changes_to, last_of}
+use Rattle.cycle_window.specs.Changes.{changes_to, last_of}
 use Rattle.cycle_window.proofs.LastLaws.{last_of-code, changes_to-more}
 use Rattle.cycle_window.proofs.TickLaws.{ticks-yes, ticks-no}
 use Rattle.cycle_window.proofs.HeldLaws.{held-length, edge-tick}

@@ -2,7 +2,7 @@ use Rattle.std.proofs.Common.{◌≡◌}
 use Rattle.vcd_reader.specs.Dump.{Contents}
 use Rattle.vcd_reader.specs.Held.{HoldsContents, steps_in}
 use Rattle.cycle_window.specs.Ticks.{ticks_below}
-use Rattle.cycle_window.specs.Held.{changes_to, last_of}
+use Rattle.cycle_window.specs.Changes.{changes_to, last_of}
 use Rattle.cycle_window.proofs.clocks.ticks_of_clock.Given as goal
 
 abbrev pub invariant-loop-k : goal.invariant-loop-k

@@ -1,6 +1,10 @@
-use Rattle.std.proofs.Common.{◌≡◌, ◌++◌, take}
+use Rattle.std.proofs.Common.{◌≡◌, ◌+◌, ◌++◌, take, vec_len, vec_capacity}
 use Rattle.cycle_window.specs.Picks.{picked}
 use Rattle.cycle_window.proofs.picks.push_picked.Given as goal
 
 abbrev pub invariant-loop-pick : goal.invariant-loop-pick
-invariant-loop-pick l = l.values.items ≡ l.fn.values.items ++ picked l.row (take l.pick-index l.picks)
+invariant-loop-pick l = record {
+  values : l.values.items ≡ l.fn.values.items ++ picked l.row (take l.pick-index l.picks);
+  len : vec_len l.values ≡ vec_len l.fn.values + l.pick-index;
+  capacity : vec_capacity l.values ≡ vec_capacity l.fn.values;
+}

@@ -1,6 +1,6 @@
 use Rattle.std.proofs.Common.{List, [], Option, subst, sym}
 use Rattle.vcd_reader.specs.declared.step.Change.{Change}
-use Rattle.cycle_window.specs.Held.{IsTable}
+use Rattle.cycle_window.specs.Changes.{IsTable}
 use Rattle.cycle_window.proofs.LastLaws.{table-blank}
 use Rattle.cycle_window.proofs.rows.blank_table.Goals as goal
 

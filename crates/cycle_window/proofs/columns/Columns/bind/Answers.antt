@@ -1,6 +1,23 @@
-use Rattle.std.proofs.Common.{Some, ap, map, ◌∙◌}
+use Rattle.std.proofs.Common.{Some, ap, map, ◌∙◌, length, refl}
+use Rattle.cycle_window.specs.Held.{ticks_in, code_in, dump_in, places_in, clock_in}
 use Rattle.cycle_window.proofs.BoundLaws.{map-map}
 use Rattle.cycle_window.proofs.columns.Columns.bind.Goals as goal
 
 pub returns-clause-places : goal.returns-clause-places
-returns-clause-places c = ap (map Some) c.in_ok-filled.ensures.variables ∙ map-map _ _ c.in-Ok.variables.items ∙ c.in-Ok.ensures.places
+unfolding places_in
+returns-clause-places c = map-map _ _ c.in-Ok.variables.items ∙ c.in-Ok.ensures.places
+
+pub returns-clause-rows : goal.returns-clause-rows
+unfolding ticks_in code_in clock_in dump_in
+returns-clause-rows c = λ c' h. record {
+  many = c.len.ensures ∙ c.args.clocks.now.ticks.ok.0 ∙ ap length (c.requires c' h);
+  held = h;
+}
+
+pub returns-clause-dump : goal.returns-clause-dump
+unfolding dump_in
+returns-clause-dump c = refl
+
+pub returns-clause-clock : goal.returns-clause-clock
+unfolding clock_in code_in
+returns-clause-clock c = refl

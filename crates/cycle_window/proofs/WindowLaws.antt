@@ -1,0 +1,64 @@
+-- A part of the ticks, and the rows there.
+use Rattle.std.proofs.Common.{◌≡◌, ℕ, ◌+◌, ◌-◌, ◌*◌, ◌<◌, ◌≤◌, List, length, get_or, take, drop}
+use Rattle.std.proofs.Common.{map, refl, sym, ap, ◌∙◌, arith, subst, slice_range}
+use Rattle.std.specs.List.{flat_map}
+use Rattle.std.proofs.lemmas.List.{get_or-take, get_or-drop, length-take-le, length-drop}
+use Rattle.vcd_reader.specs.Dump.{Contents}
+use Rattle.cycle_window.specs.Ticks.{ticks_of, row_of}
+use Rattle.cycle_window.specs.Rows.{AreAhead}
+use Rattle.cycle_window.proofs.TickLaws.{tick-order, tick-inside}
+use Rattle.cycle_window.proofs.HeldLaws.{row-at}
+
+pub slice-at : (xs : List ℕ) (a b n : ℕ) → n < b - a → get_or (slice_range xs a b) n 0 ≡ get_or xs (a + n) 0
+slice-at xs a b n lt = get_or-take (b - a) (drop a xs) n 0 lt ∙ get_or-drop a xs n 0
+
+pub slice-long : (xs : List ℕ) (a b : ℕ) → a ≤ b → b ≤ length xs → length (slice_range xs a b) ≡ b - a
+slice-long xs a b le inside =
+    let rest : length (drop a xs) ≡ length xs - a = length-drop a xs in
+    length-take-le (b - a) (drop a xs) (omega (arith, rest))
+
+-- the ticks from one on up to another are ahead, where all from the first on are
+pub ticks-ahead : (c : Contents) (code at long : ℕ) (ticks : List ℕ) → ticks ≡ ticks_of c code
+    → length c.steps ≡ long → (first end : ℕ) → first ≤ end → end ≤ length ticks
+    → ((n : ℕ) → first ≤ n → n < length ticks → at ≤ get_or ticks n 0)
+    → AreAhead at long (slice_range ticks first end)
+ticks-ahead c code at long ticks is steps first end le inside before =
+    let size = slice-long ticks first end le inside in
+    record {
+      low = λ n lt.
+          let here = slice-at ticks first end n (omega (arith, size)) in
+          let low = before (first + n) (omega arith) (omega (arith, size)) in
+          omega (arith, here, low);
+      high = λ n lt.
+          let here = slice-at ticks first end n (omega (arith, size)) in
+          let high = tick-inside c code ticks is (first + n) (omega (arith, size)) in
+          omega (arith, here, high, steps);
+      order = λ i n ile lt.
+          let one = slice-at ticks first end i (omega (arith, size)) in
+          let other = slice-at ticks first end n (omega (arith, size)) in
+          let order = tick-order c code ticks is (first + i) (first + n) (omega arith) (omega (arith, size)) in
+          omega (arith, one, other, order);
+    }
+
+-- none of them is behind a later tick
+pub ticks-behind : (c : Contents) (code : ℕ) (ticks : List ℕ) → ticks ≡ ticks_of c code
+    → (first end : ℕ) → first ≤ end → end ≤ length ticks → (n : ℕ) → end ≤ n → n < length ticks
+    → (m : ℕ) → m < length (slice_range ticks first end)
+    → get_or (slice_range ticks first end) m 0 ≤ get_or ticks n 0
+ticks-behind c code ticks is first end le inside n later lt m mlt =
+    let size = slice-long ticks first end le inside in
+    let here = slice-at ticks first end m (omega (arith, size)) in
+    let order = tick-order c code ticks is (first + m) n (omega (arith, size)) lt in
+    omega (arith, here, order)
+
+-- the row of a tick among the rows of a part of the ticks
+pub row-among : (row : ℕ → List ℕ) (w : ℕ) → ((k : ℕ) → length (row k) ≡ w) → (ticks : List ℕ)
+    → (first end tick : ℕ) → first ≤ tick → tick < end → end ≤ length ticks
+    → take w (drop ((tick - first) * w) (flat_map row (slice_range ticks first end)))
+    ≡ row (get_or ticks tick 0)
+row-among row w long ticks first end tick low high inside =
+    let size = slice-long ticks first end (omega arith) inside in
+    let here = slice-at ticks first end (tick - first) (omega arith) in
+    let sum : first + (tick - first) ≡ tick = omega arith in
+    row-at row w long (slice_range ticks first end) (tick - first) (omega (arith, size))
+    ∙ ap row (here ∙ ap (λ (n : ℕ). get_or ticks n 0) sum)
