@@ -1,5 +1,27 @@
 -- The line of a program is that of its assertion.
-use Rattle.std.proofs.Common.{◌≡◌, ◌∙◌, inl, inr, ℕ, ◌≤◌, Bool, List, [], ◌∷◌, ◌++◌, length, map, Option, Some, None, refl, ap, sym, subst, arith}
+use Rattle.std.proofs.Common.{
+  ◌≡◌,
+  ◌∙◌,
+  inl,
+  inr,
+  ℕ,
+  ◌≤◌,
+  Bool,
+  List,
+  [],
+  ◌∷◌,
+  ◌++◌,
+  length,
+  map,
+  Option,
+  Some,
+  None,
+  refl,
+  ap,
+  sym,
+  subst,
+  arith,
+}
 use Rattle.std.specs.Prelude.{string_bytes}
 use Rattle.std.specs.List.{AllByRecursion, AllZip, range_with_len}
 use Rattle.std.specs.Option.{option_map}
@@ -54,7 +76,8 @@ abbrev told : ProgramData → Outcome → LineData
 told p o = line_over p.header.name (o.decided ++ open_ones o.state.standing.attempts)
 
 -- a program has one line over rows
-one-line : (p : ProgramData) (rows : List (List ℕ)) (l m : LineData) → IsLineOver p rows l → IsLineOver p rows m → l ≡ m
+one-line : (p : ProgramData) (rows : List (List ℕ)) (l m : LineData) → IsLineOver p rows l
+    → IsLineOver p rows m → l ≡ m
 unfolding outcome_or
 one-line p rows l m a b =
     let first : Outcome = record { state = a.last; decided = a.decided } in
@@ -67,47 +90,64 @@ verdicts-are value off r s count = record {
   long = length-map-range_with_len (verdict value off r s count) 0 count;
   each = λ c below.
       subst (IsVerdict value off r s count c)
-      (sym (get_or-map-range_with_len (verdict value off r s count) 0 count c c outcome.Open below (omega arith)))
+      (sym (get_or-map-range_with_len (verdict value off r s count) 0 count c c outcome.Open below
+      (omega arith)))
       (IsVerdict-verdict Boolean value off r s count c);
 }
 
 -- the line of a program of the assertion is the assertion's
-is-line : (c : Contents) (code : ℕ) (suite : Suite) (a : Assertion) (p : ProgramData) (signals : List ℕ) (l : LineData) →
-    IsMadeOf suite a p → AreVariables c suite signals → AllByRecursion (IsWatched c.variables) suite.names.items →
-    IsLineOver p (map (row_of c (sampled c.variables p)) (ticks_of c code)) l → IsLineOf suite (rows_at c signals code) a l
+is-line : (c : Contents) (code : ℕ) (suite : Suite) (a : Assertion) (p : ProgramData)
+    (signals : List ℕ) (l : LineData) →
+    IsMadeOf suite a p → AreVariables c suite signals →
+    AllByRecursion (IsWatched c.variables) suite.names.items →
+    IsLineOver p (map (row_of c (sampled c.variables p)) (ticks_of c code)) l →
+    IsLineOf suite (rows_at c signals code) a l
 is-line c code suite a p signals l made named watched ran =
     let of = made.of in
     let rows = rows_at c signals code in
     let read : Samples = counter_samples (column rows) suite.counters.items in
     let value : Boolean → ℕ → Bool = value_in suite.booleans.items a.booleans.items read in
     let off : ℕ → Bool = off_in suite.booleans.items a.booleans.items read a.disabling in
-    let verdicts = map (verdict value off (shape a.antecedent) (shape a.consequent) (length rows)) (range_with_len 0 (length rows)) in
-    let judged : AreVerdictsOver suite rows a verdicts = verdicts-are value off (shape a.antecedent) (shape a.consequent) (length rows) in
+    let verdicts =
+    map (verdict value off (shape a.antecedent) (shape a.consequent) (length rows))
+    (range_with_len 0 (length rows)) in
+    let judged : AreVerdictsOver suite rows a verdicts =
+    verdicts-are value off (shape a.antecedent) (shape a.consequent) (length rows) in
     record {
       verdicts = verdicts;
       judged = judged;
-      is = one-line p (rows_at c (sampled c.variables p) code) l (line_data_of (string_bytes a.name) verdicts) ran
-          (subst (λ (rs : List (List ℕ)). IsLineOver p rs (line_data_of (string_bytes a.name) verdicts))
+      is =
+          one-line p (rows_at c (sampled c.variables p) code) l
+          (line_data_of (string_bytes a.name) verdicts) ran
+          (subst (λ (rs : List (List ℕ)).
+          IsLineOver p rs (line_data_of (string_bytes a.name) verdicts))
           (sym (own-rows c code suite p signals of.layout.signals named watched of.slots))
-          (programs-decide suite a p made.accepted of rows (are-rows c suite signals code named watched) verdicts judged));
+          (programs-decide suite a p made.accepted of rows
+          (are-rows c suite signals code named watched) verdicts judged));
     }
 
 -- the lines of the programs of assertions are the assertions'
-pub are-lines : (c : Contents) (code : ℕ) (suite : Suite) (signals : List ℕ) → AreVariables c suite signals → AllByRecursion (IsWatched c.variables) suite.names.items →
-    (all : List Assertion) (ps : List ProgramData) (ls : List LineData) → AllZip (IsMadeOf suite) all ps →
-    AllZip (λ p l. IsLineOver p (map (row_of c (sampled c.variables p)) (ticks_of c code)) l) ps ls → AllZip (IsLineOf suite (rows_at c signals code)) all ls
+pub are-lines : (c : Contents) (code : ℕ) (suite : Suite) (signals : List ℕ) →
+    AreVariables c suite signals → AllByRecursion (IsWatched c.variables) suite.names.items →
+    (all : List Assertion) (ps : List ProgramData) (ls : List LineData) →
+    AllZip (IsMadeOf suite) all ps →
+    AllZip (λ p l. IsLineOver p (map (row_of c (sampled c.variables p)) (ticks_of c code)) l) ps
+    ls → AllZip (IsLineOf suite (rows_at c signals code)) all ls
 are-lines c code suite signals named watched [] [] [] made ran = tt
 are-lines c code suite signals named watched [] [] (l ∷ ls) made ran = absurd ran
 are-lines c code suite signals named watched [] (p ∷ ps) ls made ran = absurd made
 are-lines c code suite signals named watched (a ∷ all) [] ls made ran = absurd made
 are-lines c code suite signals named watched (a ∷ all) (p ∷ ps) [] made ran = absurd ran
-are-lines c code suite signals named watched (a ∷ all) (p ∷ ps) (l ∷ ls) made ran =
-    (is-line c code suite a p signals l made.0 named watched ran.0, are-lines c code suite signals named watched all ps ls made.1 ran.1)
+are-lines c code suite signals named watched (a ∷ all) (p ∷ ps) (l ∷ ls) made ran = (
+  is-line c code suite a p signals l made.0 named watched ran.0,
+  are-lines c code suite signals named watched all ps ls made.1 ran.1,
+)
 
 -- signals that are watched have variables
 pub record HaveVariables (vs : List Declared) (ss : List Signal) : Type 0 where
   pub variables : List ℕ
-  pub are : map (λ (s : Signal). variable_named vs (string_bytes s.path)) ss ≡ map (λ (v : ℕ). Some v) variables
+  pub are : map (λ (s : Signal). variable_named vs (string_bytes s.path)) ss
+      ≡ map (λ (v : ℕ). Some v) variables
 
 record HasVariable (o : Option ℕ) : Type 0 where
   place : ℕ
@@ -117,39 +157,55 @@ has-variable : (f : ℕ → ℕ) (o : Option ℕ) (w : ℕ) → option_map f o �
 has-variable f None w e = absurd cc
 has-variable f (Some v) w e = record { place = v; is = refl }
 
-pub have-variables : (vs : List Declared) (ss : List Signal) → AllByRecursion (IsWatched vs) ss → HaveVariables vs ss
+pub have-variables : (vs : List Declared) (ss : List Signal) → AllByRecursion (IsWatched vs) ss
+    → HaveVariables vs ss
 have-variables vs [] h = record { variables = []; are = refl }
 have-variables vs (s ∷ ss) h =
     let first = has-variable (size_of vs) (variable_named vs (string_bytes s.path)) s.width h.0 in
     let rest = have-variables vs ss h.1 in
     record {
       variables = first.place ∷ rest.variables;
-      are = ap (λ (o : Option ℕ). o ∷ map (λ (s : Signal). variable_named vs (string_bytes s.path)) ss) first.is ∙ ap (λ (os : List (Option ℕ)). Some first.place ∷ os) rest.are;
+      are =
+          ap (λ (o : Option ℕ).
+          o ∷ map (λ (s : Signal). variable_named vs (string_bytes s.path)) ss) first.is
+          ∙ ap (λ (os : List (Option ℕ)). Some first.place ∷ os) rest.are;
     }
 
 -- no signal of the programs is refused
 pub none-unfit : (vs : List Declared) (suite : Suite) (signals : List ℕ) →
-    map (λ (s : Signal). variable_named vs (string_bytes s.path)) suite.names.items ≡ map (λ (v : ℕ). Some v) signals →
-    AllByRecursion (IsWatched vs) suite.names.items → (all : List Assertion) (ps : List ProgramData) → AllZip (IsMadeOf suite) all ps →
+    map (λ (s : Signal). variable_named vs (string_bytes s.path)) suite.names.items
+    ≡ map (λ (v : ℕ). Some v) signals →
+    AllByRecursion (IsWatched vs) suite.names.items →
+    (all : List Assertion) (ps : List ProgramData) → AllZip (IsMadeOf suite) all ps →
     first_refused vs (wanted_in ps) ≡ None
 none-unfit vs suite signals named watched [] [] made = refl
 none-unfit vs suite signals named watched [] (p ∷ ps) made = absurd made
 none-unfit vs suite signals named watched (a ∷ all) [] made = absurd made
 none-unfit vs suite signals named watched (a ∷ all) (p ∷ ps) made =
-    none-refused vs suite signals named watched made.0.of.layout.signals p.signals (wanted_in ps) made.0.of.slots
+    none-refused vs suite signals named watched made.0.of.layout.signals p.signals (wanted_in ps)
+    made.0.of.slots
     ∙ none-unfit vs suite signals named watched all ps made.1
 
 -- the lines of a job of a suite's programs are the suite's
-pub all-lines : (j : Job) (d : Dump) (k : Clocks) (suite : Suite) (ps : List ProgramData) (ls : List LineData) (c : Contents) (signals : List ℕ) →
-    j.programs.items ≡ ps → j.dump ≡ d → j.clocks ≡ k → AllZip (IsMadeOf suite) suite.assertions.items ps → AllByRecursion (IsWatched (variables_of d)) suite.names.items →
-    HoldsContents d c → AreVariables c suite signals → (Says (job_value j) c → AreLinesOf (job_value j) c ls) →
+pub all-lines :
+    (j : Job) (d : Dump) (k : Clocks) (suite : Suite) (ps : List ProgramData) (ls : List LineData)
+    (c : Contents) (signals : List ℕ) →
+    j.programs.items ≡ ps → j.dump ≡ d → j.clocks ≡ k →
+    AllZip (IsMadeOf suite) suite.assertions.items ps →
+    AllByRecursion (IsWatched (variables_of d)) suite.names.items →
+    HoldsContents d c → AreVariables c suite signals →
+    (Says (job_value j) c → AreLinesOf (job_value j) c ls) →
     AllZip (IsLineOf suite (rows_at c signals (code_in k))) suite.assertions.items ls
 all-lines j d k suite ps ls c signals programs dump clocks made watched holds named lines =
     let says : Says (job_value j) c = record {
       variables = ap variables_of dump ∙ holds.variables;
       steps = ap (λ (x : Dump). map (stored_step (high_of x)) (steps_in x)) dump ∙ holds.steps;
     } in
-    let seen = subst (λ (vs : List Declared). AllByRecursion (IsWatched vs) suite.names.items) holds.variables watched in
+    let seen =
+    subst (λ (vs : List Declared). AllByRecursion (IsWatched vs) suite.names.items)
+    holds.variables watched in
     let own = subst (AllZip (IsMadeOf suite) suite.assertions.items) (sym programs) made in
-    subst (λ (x : Clocks). AllZip (IsLineOf suite (rows_at c signals (code_in x))) suite.assertions.items ls) clocks
-    (are-lines c (code_in j.clocks) suite signals named seen suite.assertions.items j.programs.items ls own (lines says))
+    subst (λ (x : Clocks).
+    AllZip (IsLineOf suite (rows_at c signals (code_in x))) suite.assertions.items ls) clocks
+    (are-lines c (code_in j.clocks) suite signals named seen suite.assertions.items j.programs.items
+    ls own (lines says))

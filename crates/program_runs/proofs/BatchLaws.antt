@@ -14,7 +14,8 @@ record Came {A B : Type 0} (r : Ran A) (go : A → ℕ → Ran B) (b : B) (m : �
   is : r ≡ done first left
   then : go first left ≡ done b m
 
-came : {A B : Type 0} (r : Ran A) (go : A → ℕ → Ran B) (b : B) (m : ℕ) → and_then r go ≡ done b m → Came r go b m
+came : {A B : Type 0} (r : Ran A) (go : A → ℕ → Ran B) (b : B) (m : ℕ) → and_then r go ≡ done b m
+    → Came r go b m
 came (done a n) go b m h = record { first = a; left = n; is = refl; then = h }
 came (trapped t) go b m h = absurd cc
 
@@ -30,14 +31,18 @@ abbrev pub later : ProgramData → List (List ℕ) → Outcome → ℕ → Ran O
 later p rows first left = and_then (run_from p first.state rows) (joined first.decided)
 
 -- a clock more
-pub run-more : (p : ProgramData) (s : State) (rows : List (List ℕ)) (row : List ℕ) (o after : Outcome) (left : ℕ) →
+pub run-more :
+    (p : ProgramData) (s : State) (rows : List (List ℕ)) (row : List ℕ) (o after : Outcome)
+    (left : ℕ) →
     run_from p s rows ≡ done o 0 → clock p o.state row ≡ done after left →
     run_from p s (rows ++ row ∷ []) ≡ done (behind o.decided after) 0
 run-more p s [] row o after left ran next =
     let none : record { state = s; decided = [] } ≡ o = cc in
-    let here : clock p s row ≡ done after left = ap (λ (q : Outcome). clock p q.state row) none ∙ next in
+    let here : clock p s row ≡ done after left =
+    ap (λ (q : Outcome). clock p q.state row) none ∙ next in
     ap (λ (r : Ran Outcome). and_then r (later p [])) here
-    ∙ ap (ends_in after.state) (append-nil after.decided ∙ ap (λ (q : Outcome). q.decided ++ after.decided) none)
+    ∙ ap (ends_in after.state)
+    (append-nil after.decided ∙ ap (λ (q : Outcome). q.decided ++ after.decided) none)
 run-more p s (x ∷ xs) row o after left ran next =
     let a = came (clock p s x) (later p xs) o 0 ran in
     let b = came (run_from p a.first.state xs) (joined a.first.decided) o 0 a.then in
@@ -48,4 +53,5 @@ run-more p s (x ∷ xs) row o after left ran next =
     ap (λ (r : Ran Outcome). and_then r (later p (xs ++ row ∷ []))) a.is
     ∙ ap (λ (r : Ran Outcome). and_then r (joined a.first.decided)) rest
     ∙ ap (ends_in after.state)
-    (sym (append_assoc a.first.decided b.first.decided after.decided) ∙ ap (λ (q : Outcome). q.decided ++ after.decided) same)
+    (sym (append_assoc a.first.decided b.first.decided after.decided)
+    ∙ ap (λ (q : Outcome). q.decided ++ after.decided) same)

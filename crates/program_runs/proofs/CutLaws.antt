@@ -28,7 +28,8 @@ regroup p ys first (trapped t) = refl
 
 cut-step : (p : ProgramData) (xs ys : List (List ℕ)) →
     ((s : State) → run_from p s (xs ++ ys) ≡ and_then (run_from p s xs) (later p ys)) →
-    (r : Ran Outcome) → and_then r (later p (xs ++ ys)) ≡ and_then (and_then r (later p xs)) (later p ys)
+    (r : Ran Outcome) →
+    and_then r (later p (xs ++ ys)) ≡ and_then (and_then r (later p xs)) (later p ys)
 cut-step p xs ys rest (done o n) =
     ap (λ (r : Ran Outcome). and_then r (joined o.decided)) (rest o.state)
     ∙ regroup p ys o.decided (run_from p o.state xs)
@@ -50,7 +51,8 @@ alone first (trapped t) = refl
 
 end-step : (p : ProgramData) (xs : List (List ℕ)) →
     ((s : State) → clocks p s xs ≡ and_then (run_from p s xs) state_alone) →
-    (r : Ran Outcome) → and_then r (λ o left. clocks p o.state xs) ≡ and_then (and_then r (later p xs)) state_alone
+    (r : Ran Outcome) →
+    and_then r (λ o left. clocks p o.state xs) ≡ and_then (and_then r (later p xs)) state_alone
 end-step p xs rest (done o n) = rest o.state ∙ alone o.decided (run_from p o.state xs)
 end-step p xs rest (trapped t) = refl
 

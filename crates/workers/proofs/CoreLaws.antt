@@ -1,5 +1,20 @@
 -- What steps keep of a core.
-use Rattle.std.proofs.Common.{◌≡◌, ℕ, length, List, ◌∷◌, [], map, Some, refl, sym, ap, ◌∙◌, subst, arith}
+use Rattle.std.proofs.Common.{
+  ◌≡◌,
+  ℕ,
+  length,
+  List,
+  ◌∷◌,
+  [],
+  map,
+  Some,
+  refl,
+  sym,
+  ap,
+  ◌∙◌,
+  subst,
+  arith,
+}
 use Rattle.std.specs.Prelude.{slice_get}
 use Rattle.std.specs.List.{filter_map}
 use Rattle.bytecode.specs.Values.{SlotData}
@@ -11,7 +26,15 @@ use Rattle.std.proofs.Math.Logic.{∥∥₁_map}
 use Rattle.cycle_window.specs.declared.columns.Columns.{Columns}
 use Rattle.cycle_window.specs.Bound.{places_of}
 use Rattle.cycle_window.specs.Ticks.{ticks_of, row_of}
-use Rattle.cycle_window.specs.Held.{columns_in, places_in, clock_in, code_in, ticks_in, size_in, IsOver}
+use Rattle.cycle_window.specs.Held.{
+  columns_in,
+  places_in,
+  clock_in,
+  code_in,
+  ticks_in,
+  size_in,
+  IsOver,
+}
 use Rattle.program_runs.specs.Reported.{wanted_slot}
 use Rattle.workers.specs.declared.job.Job.{Job}
 use Rattle.workers.specs.declared.floor.Floor.{Floor}
@@ -29,7 +52,8 @@ use Rattle.workers.proofs.FloorLaws.{get-mapped}
 use Rattle.workers.proofs.PlaceLaws.{over-same}
 use Rattle.workers.proofs.PartLaws.{IsPlaced, each-placed}
 
-pub kept-core : (j : Job) (old new : Floor) → IsCore j old → IsSound new → IsKept old new → IsCore j new
+pub kept-core : (j : Job) (old new : Floor) → IsCore j old → IsSound new → IsKept old new
+    → IsCore j new
 kept-core j old new h sound kept = record {
   sound = sound;
   window = record {
@@ -42,7 +66,9 @@ kept-core j old new h sound kept = record {
 }
 
 -- the variables that signals name
-named-are : (vs : List Declared) (ss : List SlotData) (xs : List ℕ) → map Some xs ≡ places_of vs (map wanted_slot ss) → filter_map (λ (s : SlotData). variable_named vs s.path) ss ≡ xs
+named-are : (vs : List Declared) (ss : List SlotData) (xs : List ℕ)
+    → map Some xs ≡ places_of vs (map wanted_slot ss)
+    → filter_map (λ (s : SlotData). variable_named vs s.path) ss ≡ xs
 named-are vs [] [] are = refl
 named-are vs [] (x ∷ xs) are = absurd cc
 named-are vs (s ∷ ss) [] are = absurd cc
@@ -52,14 +78,18 @@ named-are vs (s ∷ ss) (x ∷ xs) are =
     rw (sym one) (ap (λ (ys : List ℕ). x ∷ ys) (named-are vs ss xs rest))
 
 -- a monitor sees the trace's rows of its program
-pub sees : (j : Job) (f : Floor) (c : Contents) → IsCore j f → Says (job_value j) c → SeeAs (setting_of (value_of j f) c) f.window c f.monitors.items
+pub sees : (j : Job) (f : Floor) (c : Contents) → IsCore j f → Says (job_value j) c
+    → SeeAs (setting_of (value_of j f) c) f.window c f.monitors.items
 sees j f c h says i m is =
     let vs = variables_of j.dump in
     let places = places_in (columns_in f.window) in
-    let part : IsPlaced vs places (part_of m) = each-placed vs places j.programs.items 0 (omega arith) h.places i (part_of m)
-    (sym (ap (λ (qs : List Part). slice_get qs i) h.parts) ∙ get-mapped part_of f.monitors.items i m is) in
+    let part : IsPlaced vs places (part_of m) =
+    each-placed vs places j.programs.items 0 (omega arith) h.places i (part_of m)
+    (sym (ap (λ (qs : List Part). slice_get qs i) h.parts)
+    ∙ get-mapped part_of f.monitors.items i m is) in
     let named : sampled c.variables m.machine.program ≡ variables_in f.window m =
-    ap (λ (ds : List Declared). sampled ds m.machine.program) (sym says.variables) ∙ named-are vs m.machine.program.signals (variables_in f.window m) part.are in
+    ap (λ (ds : List Declared). sampled ds m.machine.program) (sym says.variables)
+    ∙ named-are vs m.machine.program.signals (variables_in f.window m) part.are in
     ap (λ (ps : List ℕ). map (row_of c ps) (ticks_of c (code_in j.clocks))) named
     ∙ ap (λ (n : ℕ). map (row_of c (variables_in f.window m)) (ticks_of c n)) h.window.same_clock
 
@@ -68,22 +98,38 @@ holds j c h = record { variables = h.variables; steps = h.steps }
 
 -- a job's dump has some contents
 pub says-something : (j : Job) → ∥ ((c : Contents) × Says (job_value j) c) ∥₁
-says-something j = ∥∥₁_map (dump-says j.dump) (λ s. (s.0, record { variables = s.1.variables; steps = s.1.steps }))
+says-something j =
+    ∥∥₁_map (dump-says j.dump) (λ s. (s.0, record { variables = s.1.variables; steps = s.1.steps }))
 
 -- what a step answers, of the value that the parts stand for
 abbrev AnswersTo : CoreValue → Step → CoreState → Reply → Type 0
-AnswersTo v step new reply = (c : Contents) → Says v.job c → Replies v.state (next (setting_of v c) v.state step) new reply
+AnswersTo v step new reply =
+    (c : Contents) → Says v.job c → Replies v.state (next (setting_of v c) v.state step) new reply
 
-to-value : (v : CoreValue) (j : Job) (old : Floor) (step s : Step) (new : CoreState) (reply : Reply) → value_of j old ≡ v → step ≡ s → AnswersTo (value_of j old) s new reply → AnswersTo v step new reply
+to-value : (v : CoreValue) (j : Job) (old : Floor) (step s : Step) (new : CoreState) (reply : Reply)
+    → value_of j old ≡ v → step ≡ s → AnswersTo (value_of j old) s new reply
+    → AnswersTo v step new reply
 to-value v j old step s new reply is at h =
-    subst (λ (x : CoreValue). AnswersTo x step new reply) is (subst (λ (t : Step). AnswersTo (value_of j old) t new reply) (sym at) h)
+    subst (λ (x : CoreValue). AnswersTo x step new reply) is
+    (subst (λ (t : Step). AnswersTo (value_of j old) t new reply) (sym at) h)
 
-pub slide-reply : (v : CoreValue) (j : Job) (old : Floor) (step : Step) (new : CoreState) (reply : Reply) → value_of j old ≡ v → step ≡ steps.Slide →
-    ((g : Setting) → g.clocks ≡ length (ticks_in j.clocks) → g.size ≡ size_in old.window → Replies (core_state old) (next_slide g (core_state old)) new reply) → AnswersTo v step new reply
-slide-reply v j old step new reply is at h = to-value v j old step steps.Slide new reply is at (λ c says. h (setting_of (value_of j old) c) refl refl)
+pub slide-reply :
+    (v : CoreValue) (j : Job) (old : Floor) (step : Step) (new : CoreState) (reply : Reply) →
+    value_of j old ≡ v → step ≡ steps.Slide →
+    ((g : Setting) → g.clocks ≡ length (ticks_in j.clocks) → g.size ≡ size_in old.window →
+    Replies (core_state old) (next_slide g (core_state old)) new reply) →
+    AnswersTo v step new reply
+slide-reply v j old step new reply is at h =
+    to-value v j old step steps.Slide new reply is at
+    (λ c says. h (setting_of (value_of j old) c) refl refl)
 
-pub advance-reply : (v : CoreValue) (j : Job) (old : Floor) (step : Step) (w k : ℕ) (new : CoreState) (reply : Reply) → IsCore j old → value_of j old ≡ v → step ≡ steps.Advance w k →
-    ((g : Setting) (c : Contents) → IsOver old.window c → SeeAs g old.window c old.monitors.items → Replies (core_state old) (next_advance g (core_state old) w k) new reply) → AnswersTo v step new reply
+pub advance-reply :
+    (v : CoreValue) (j : Job) (old : Floor) (step : Step) (w k : ℕ) (new : CoreState)
+    (reply : Reply) → IsCore j old → value_of j old ≡ v → step ≡ steps.Advance w k →
+    ((g : Setting) (c : Contents) → IsOver old.window c → SeeAs g old.window c old.monitors.items →
+    Replies (core_state old) (next_advance g (core_state old) w k) new reply) →
+    AnswersTo v step new reply
 advance-reply v j old step w k new reply core is at h =
     to-value v j old step (steps.Advance w k) new reply is at
-    (λ c says. h (setting_of (value_of j old) c) c (core.window.over c (holds j c says)) (sees j old c core says))
+    (λ c says. h (setting_of (value_of j old) c) c (core.window.over c (holds j c says))
+    (sees j old c core says))

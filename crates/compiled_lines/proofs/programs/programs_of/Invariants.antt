@@ -6,6 +6,7 @@ use Rattle.compiled_lines.proofs.programs.programs_of.Given as goal
 -- the programs so far
 abbrev pub invariant-loop-assertion : goal.invariant-loop-assertion
 invariant-loop-assertion l = record {
-  made : AllZip (IsMadeOf l.suite) (take l.assertion-index l.suite.assertions.items) l.programs.items;
+  made : AllZip (IsMadeOf l.suite) (take l.assertion-index l.suite.assertions.items)
+      l.programs.items;
   programs : AllByRecursion (HasProgram l.suite) (take l.assertion-index l.suite.assertions.items);
 }

@@ -7,7 +7,8 @@ use Rattle.core_runs.proofs.lines.job_lines.Goals as goal
 
 pub drive-requires-clause-trace : goal.drive-requires-clause-trace
 drive-requires-clause-trace c =
-    subst (λ (v : CoreValue). HasTrace v.job) (sym c.in-Ok.ensures.opened) (job-traced c.args.job.now)
+    subst (λ (v : CoreValue). HasTrace v.job) (sym c.in-Ok.ensures.opened)
+    (job-traced c.args.job.now)
 
 pub drive-requires-clause-rests : goal.drive-requires-clause-rests
 drive-requires-clause-rests c =
@@ -15,4 +16,6 @@ drive-requires-clause-rests c =
 
 pub lines_of-requires-clause-trace : goal.lines_of-requires-clause-trace
 lines_of-requires-clause-trace c =
-    subst HasTrace (sym (c.drive.ensures.job ∙ ap (λ (v : CoreValue). v.job) c.in-Ok.ensures.opened)) (job-traced c.args.job.now)
+    subst HasTrace
+    (sym (c.drive.ensures.job ∙ ap (λ (v : CoreValue). v.job) c.in-Ok.ensures.opened))
+    (job-traced c.args.job.now)

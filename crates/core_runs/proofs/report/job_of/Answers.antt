@@ -8,5 +8,9 @@ pub returns-in-Err-clause-fault : goal.returns-in-Err-clause-fault
 returns-in-Err-clause-fault c =
     let vs = variables_of c.args.dump in
     let p = c.args.verified in
-    let one = c.in_ok-push.ensures.items ∙ ap (λ (ps : List ProgramData). ps ++ p ∷ []) c.new-programs.ensures.items in
-    c.signal_fault.ensures vs p (subst (λ (ps : List ProgramData). WhyUnfit vs ps c.in-Err.fault) one c.in-Err.ensures.fault)
+    let one =
+    c.in_ok-push.ensures.items
+    ∙ ap (λ (ps : List ProgramData). ps ++ p ∷ []) c.new-programs.ensures.items in
+    c.signal_fault.ensures vs p
+    (subst (λ (ps : List ProgramData). WhyUnfit vs ps c.in-Err.fault) one
+    c.in-Err.ensures.fault)

@@ -8,7 +8,8 @@ use Rattle.core_runs.proofs.taken.take_batch.Goals as goal
 
 pub returns-then-batch-lines-clause-took : goal.returns-then-batch-lines-clause-took
 returns-then-batch-lines-clause-took c = λ before all.
-    laws.taken-none c.args.lines.now c.args.batch.now before (omega (arith, c.if-batch-lines.true)) all
+    laws.taken-none c.args.lines.now c.args.batch.now before (omega (arith, c.if-batch-lines.true))
+    all
 
 pub take_in-requires : goal.take_in-requires
 take_in-requires c =
@@ -29,5 +30,7 @@ returns-clause-took c = λ before all.
     let below : b.monitor < length ls = omega (arith, c.if-batch-lines.false) in
     let at = get-some ls b.monitor d below in
     laws.ok-map c.take_in.result
-    (λ took. laws.taken-set ls b new before all (subst (λ (ds : List Decided). TookIn new (before b.monitor ++ ds)) c.as_slice.ensures.value took))
+    (λ took. laws.taken-set ls b new before all
+    (subst (λ (ds : List Decided). TookIn new (before b.monitor ++ ds)) c.as_slice.ensures.value
+    took))
     (c.take_in.ensures.took (before b.monitor) (all b.monitor (slice_index_or ls b.monitor d) at))

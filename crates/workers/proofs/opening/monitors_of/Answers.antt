@@ -32,8 +32,15 @@ loop-verified-preserved c =
     let part : part_of m ≡ part_at c.loop-verified.from p = one.part in
     let opened : monitor_state m ≡ opened_monitor p = one.opened in
     record {
-      opened = ap (map monitor_state) pushed ∙ map-append monitor_state old (m ∷ []) ∙ laws.opened-next ps i _ p (map monitor_state old) (monitor_state m) lt c.verified-item.is inv.opened opened;
-      parts = ap (map part_of) pushed ∙ map-append part_of old (m ∷ []) ∙ laws.parts-next ps i c.loop-verified.from _ p (map part_of old) (part_of m) lt c.verified-item.is inv.from inv.parts part;
-      from = laws.signals-next ps i c.loop-verified.from m.to _ p lt c.verified-item.is inv.from (ap (λ (q : Part). q.to) part);
-      new = λ n x is. each-push IsNew old m inv.new one.new n x (sym (ap (λ (ys : List Monitor). slice_get ys n) pushed) ∙ is);
+      opened = ap (map monitor_state) pushed ∙ map-append monitor_state old (m ∷ [])
+          ∙ laws.opened-next ps i _ p (map monitor_state old) (monitor_state m) lt
+          c.verified-item.is inv.opened opened;
+      parts = ap (map part_of) pushed ∙ map-append part_of old (m ∷ [])
+          ∙ laws.parts-next ps i c.loop-verified.from _ p (map part_of old) (part_of m) lt
+          c.verified-item.is inv.from inv.parts part;
+      from = laws.signals-next ps i c.loop-verified.from m.to _ p lt c.verified-item.is inv.from
+          (ap (λ (q : Part). q.to) part);
+      new = λ n x is.
+          each-push IsNew old m inv.new one.new n x
+          (sym (ap (λ (ys : List Monitor). slice_get ys n) pushed) ∙ is);
     }

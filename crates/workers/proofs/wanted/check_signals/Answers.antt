@@ -6,4 +6,6 @@ use Rattle.workers.proofs.wanted.check_signals.Goals as goal
 pub loop-signal-preserved : goal.loop-signal-preserved
 loop-signal-preserved c =
     let lt : c.loop-signal.signal-index < length c.args.signals.now = omega arith in
-    c.loop-signal.invariant ∙ refused-more (variables_of c.args.dump.now) c.args.signals.now c.loop-signal.signal-index _ lt c.in-Ok.ensures.fits
+    c.loop-signal.invariant
+    ∙ refused-more (variables_of c.args.dump.now) c.args.signals.now c.loop-signal.signal-index
+    _ lt c.in-Ok.ensures.fits

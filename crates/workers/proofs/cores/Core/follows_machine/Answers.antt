@@ -10,5 +10,6 @@ pub returns : goal.returns
 returns c = record {
   follows = λ k says. subst (λ (v : CoreValue). Says v.job k → FollowsMachine v k) c.self.view_is
       (λ (s : _). core-follows c.self.inside.job.now c.self.inside.floor k c.self.invariant s) says;
-  says = subst (λ (v : CoreValue). ∥ ((k : Contents) × Says v.job k) ∥₁) c.self.view_is (says-something c.self.inside.job.now);
+  says = subst (λ (v : CoreValue). ∥ ((k : Contents) × Says v.job k) ∥₁) c.self.view_is
+      (says-something c.self.inside.job.now);
 }

@@ -13,11 +13,27 @@ returns-clause-sound c = λ sound.
     let f = c.args.self.now in
     let v = f.window in
     let w = c.slide.new.self in
-    let all : list_all (is_at (end_in v)) (map monitor_state f.monitors.items) ≡ true = cc (c.if-not-at.false, c.are_at-at.ensures, c.as_slice-2.ensures.value, c.bounds-end.ensures.end) in
-    let longer : end_in v ≤ end_in w = omega (arith, c.slide.ensures.end, c.len.ensures, c.bounds-end.ensures.end, c.if-end-len.false) in
+    let all : list_all (is_at (end_in v)) (map monitor_state f.monitors.items) ≡ true =
+    cc (
+      c.if-not-at.false,
+      c.are_at-at.ensures,
+      c.as_slice-2.ensures.value,
+      c.bounds-end.ensures.end,
+    ) in
+    let longer : end_in v ≤ end_in w =
+    omega (
+      arith,
+      c.slide.ensures.end,
+      c.len.ensures,
+      c.bounds-end.ensures.end,
+      c.if-end-len.false,
+    ) in
     record {
-      monitors = λ i m is. places.stands-slid v w m c.slide.ensures.columns c.slide.ensures.first longer (laws.at-each (end_in v) f.monitors.items i m all is) (sound.monitors i m is);
+      monitors = λ i m is.
+          places.stands-slid v w m c.slide.ensures.columns c.slide.ensures.first longer
+          (laws.at-each (end_in v) f.monitors.items i m all is) (sound.monitors i m is);
       known = sound.known;
-      batches = λ n b m bs ms. places.right-slid v w m b c.slide.ensures.columns longer (sound.batches n b m bs ms);
+      batches = λ n b m bs ms.
+          places.right-slid v w m b c.slide.ensures.columns longer (sound.batches n b m bs ms);
       told = λ i m is. told.slid v w m _ c.slide.ensures.columns (sound.told i m is);
     }

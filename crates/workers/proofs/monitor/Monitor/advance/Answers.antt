@@ -19,7 +19,9 @@ clock-requires-clause-inside c =
     let row = c.row-row.result.now in
     ∥∥₁_elim c.requires.stands.fits le_prop (λ f.
     let tick = slice_index (ticks_of f.0 (clock_in (columns_in w))) c.loop-clock.clock in
-    let long : length row ≡ length (places_in (columns_in w)) = ap length (c.row-row.ensures f.0 f.1) ∙ laws.row-length f.0 (places_in (columns_in w)) tick in
+    let long : length row ≡ length (places_in (columns_in w)) =
+    ap length (c.row-row.ensures f.0 f.1)
+    ∙ laws.row-length f.0 (places_in (columns_in w)) tick in
     omega (arith, long, c.requires.stands.inside, c.loop-clock.invariant.same.to))
 
 pub clock-requires-clause-row : goal.clock-requires-clause-row
@@ -34,8 +36,10 @@ clock-requires-clause-row c =
     (∥∥₁_elim c.requires.stands.fits (values-prop widths row) (λ f.
     let tick = slice_index (ticks_of f.0 (clock_in (columns_in w))) c.loop-clock.clock in
     row-values f.0 tick (variables_in w old) row widths
-    (laws.part-seen w f.0 old mid c.row-row.result.now tick c.loop-clock.invariant.same (c.row-row.ensures f.0 f.1)) f.2
-    (laws.low-part (2 ^ 128) mid.from mid.to c.row-row.result.now some (λ i. (c.type_inv.row i).fits))))
+    (laws.part-seen w f.0 old mid c.row-row.result.now tick c.loop-clock.invariant.same
+    (c.row-row.ensures f.0 f.1)) f.2
+    (laws.low-part (2 ^ 128) mid.from mid.to c.row-row.result.now some
+    (λ i. (c.type_inv.row i).fits))))
 
 pub loop-clock-init : goal.loop-clock-init
 loop-clock-init c =
@@ -48,7 +52,9 @@ loop-clock-init c =
       ahead = omega (arith, c.now-clock.ensures);
       most = omega (arith, c.now-clock.ensures, c.requires.ahead);
       spare = omega (arith, c.now-clock.ensures, c.requires.spare);
-      gone = λ k over. subst (λ (n : ℕ). HasGone (rows_between (seen w k old) now n) old old) (sym c.now-clock.ensures) (laws.gone-none (seen w k old) now old);
+      gone = λ k over.
+          subst (λ (n : ℕ). HasGone (rows_between (seen w k old) now n) old old)
+          (sym c.now-clock.ensures) (laws.gone-none (seen w k old) now old);
     }
 
 pub loop-clock-preserved : goal.loop-clock-preserved
@@ -66,9 +72,11 @@ loop-clock-preserved c =
       spare = omega (arith, step.live, step.capacity, inv.spare, c.loop-clock-test.true);
       gone = λ k over.
           let ticks = ticks_of k (clock_in (columns_in w)) in
-          laws.gone-more (row_of k (variables_in w old)) ticks old.machine.state.standing.now c.loop-clock.clock (part mid c.row-row.result.now) old mid c.clock.new.self
+          laws.gone-more (row_of k (variables_in w old)) ticks old.machine.state.standing.now
+          c.loop-clock.clock (part mid c.row-row.result.now) old mid c.clock.new.self
           inv.ahead (omega (arith, over-end w k over, c.requires.inside, c.loop-clock-test.true))
-          (laws.part-seen w k old mid c.row-row.result.now (slice_index ticks c.loop-clock.clock) inv.same (c.row-row.ensures k over))
+          (laws.part-seen w k old mid c.row-row.result.now (slice_index ticks c.loop-clock.clock)
+          inv.same (c.row-row.ensures k over))
           inv.same (inv.gone k over) step;
     }
 
@@ -78,8 +86,11 @@ returns-clause-stands c =
     let old = c.args.self.now in
     let inv = c.loop-clock.invariant in
     let end : c.loop-clock.clock ≡ c.args.to = omega (arith, inv.most, c.loop-clock-test.false) in
-    laws.stands-on w old c.loop-clock.self c.args.to c.requires.stands inv.same (inv.now ∙ end) c.requires.ahead c.requires.inside
-    (λ k over. subst (λ (n : ℕ). HasGone (rows_between (seen w k old) old.machine.state.standing.now n) old c.loop-clock.self) end (inv.gone k over))
+    laws.stands-on w old c.loop-clock.self c.args.to c.requires.stands inv.same (inv.now ∙ end)
+    c.requires.ahead c.requires.inside
+    (λ k over. subst
+    (λ (n : ℕ). HasGone (rows_between (seen w k old) old.machine.state.standing.now n) old
+    c.loop-clock.self) end (inv.gone k over))
 
 pub returns-clause-moved : goal.returns-clause-moved
 returns-clause-moved c = λ k over.
@@ -89,5 +100,7 @@ returns-clause-moved c = λ k over.
     let now = old.machine.state.standing.now in
     let end : c.loop-clock.clock ≡ c.args.to = omega (arith, inv.most, c.loop-clock-test.false) in
     let back : now + (c.args.to - now) ≡ c.loop-clock.clock = omega (arith, inv.ahead, end) in
-    laws.gone-moved (rows_between (seen w k old) now (now + (c.args.to - now))) old c.loop-clock.self inv.same
-    (subst (λ (n : ℕ). HasGone (rows_between (seen w k old) now n) old c.loop-clock.self) (sym back) (inv.gone k over))
+    laws.gone-moved (rows_between (seen w k old) now (now + (c.args.to - now))) old
+    c.loop-clock.self inv.same
+    (subst (λ (n : ℕ). HasGone (rows_between (seen w k old) now n) old c.loop-clock.self) (sym back)
+    (inv.gone k over))

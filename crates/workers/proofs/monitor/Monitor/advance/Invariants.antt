@@ -16,6 +16,7 @@ invariant-loop-clock l = record {
   spare : vec_len l.self.decided + length l.self.machine.state.standing.attempts + (l.to - l.clock)
       ≤ vec_capacity l.self.decided;
   gone : (c : Contents) → IsOver l.window c →
-      HasGone (rows_between (seen l.window c l.fn.self) l.fn.self.machine.state.standing.now l.clock)
+      HasGone (rows_between (seen l.window c l.fn.self) l.fn.self.machine.state.standing.now
+      l.clock)
       l.fn.self l.self;
 }
