@@ -86,7 +86,7 @@ fn print_rows<R: Print + AllocGlobal>(
         Ok(columns) => columns,
         Err(fault) => bail!("{fault}"),
     };
-    let mut window = match Window::new(65_536, columns) {
+    let mut window = match Window::new(rt.alloc(), 65_536, columns) {
         Ok(window) => window,
         Err(fault) => bail!("{fault}"),
     };

@@ -68,7 +68,7 @@ fn values_in(
 ) -> Result<Vec<u128>, WindowFault> {
     let clocks = Clocks::of(alloc, dump, clock)?;
     let columns = Columns::bind(alloc, dump, &clocks, signals)?;
-    let mut window = Window::new(size, columns)?;
+    let mut window = Window::new(alloc, size, columns)?;
     let mut values = Vec::new(alloc);
     for _ in 0..clocks.len() {
         let (_, end) = window.bounds();

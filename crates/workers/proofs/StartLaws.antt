@@ -7,14 +7,17 @@ use Rattle.std.proofs.lemmas.List.{length-map}
 use Rattle.signals.specs.declared.verdict.Decided.{Decided}
 use Rattle.bytecode.specs.Values.{SlotData}
 use Rattle.vcd_reader.specs.Variables.{Declared, size_of}
+use Rattle.vcd_reader.specs.declared.dump.Dump.{Dump}
 use Rattle.vcd_reader.specs.Dump.{Contents}
 use Rattle.vcd_reader.specs.Held.{HoldsContents, variables_of}
 use Rattle.vcd_reader.proofs.HeldLaws.{says-something}
+use Rattle.cycle_window.specs.declared.clocks.Clocks.{Clocks}
 use Rattle.cycle_window.specs.declared.columns.Columns.{Columns}
 use Rattle.cycle_window.specs.declared.fault.WindowFault.{WindowFault}
 use Rattle.cycle_window.specs.declared.window.Window.{Window}
 use Rattle.cycle_window.specs.Bound.{Wanted, first_refused, places_of}
-use Rattle.cycle_window.specs.Held.{columns_in, places_in, clock_in, code_in, size_in, first_in, end_in, IsOver, AreColumnsOf}
+use Rattle.cycle_window.specs.Held.{columns_in, dump_in, places_in, clock_in, code_in, size_in, first_in, end_in, IsOver}
+use Rattle.cycle_window.specs.Held.{AreColumnsOf, AreClocksOf, IsWindowOf}
 use Rattle.checked_machine.specs.Machine.{State, opening}
 use Rattle.program_runs.specs.Reported.{wanted_slot}
 use Rattle.program_runs.proofs.BoundLaws.{bound}
@@ -35,29 +38,28 @@ use Rattle.workers.proofs.ToldLaws.{none-told}
 use Rattle.workers.proofs.PartLaws.{IsPlaced, each-placed, each-accepted}
 
 -- the window of columns that are bound to the signals
-over-bound : (w : Window) (cs : Columns) (c : Contents) → columns_in w ≡ cs → AreColumnsOf cs c → IsOver w c
-unfolding IsOver columns_in
-over-bound w cs c is h = subst (λ (x : Columns). AreColumnsOf x c) (sym is) h
-
-pub first-window : (j : Job) (n : ℕ) (cs : Columns) (asked : List Wanted) (r : Result Window WindowFault) → asked ≡ wanted_in j.programs.items →
-    map Some (places_in cs) ≡ places_of (variables_of j.dump) asked → first_refused (variables_of j.dump) asked ≡ None → clock_in cs ≡ code_in j.clocks →
-    ((c : Contents) → HoldsContents j.dump c → AreColumnsOf cs c) → IfOk r (λ w. columns_in w ≡ cs) → IfOk r (λ w. size_in w ≡ n) → IfOk r (λ w. first_in w ≡ 0) → IfOk r (λ w. end_in w ≡ 0) →
-    IfOk r (IsFirstWindow j n)
-first-window j n cs asked (Ok w) is places fits clock rows columns size first end =
+pub first-window : (j : Job) (n : ℕ) (cs : Columns) (asked : List Wanted) (r : Result Window WindowFault)
+    → asked ≡ wanted_in j.programs.items
+    → map Some (places_in cs) ≡ places_of (variables_of j.dump) asked
+    → first_refused (variables_of j.dump) asked ≡ None
+    → dump_in cs ≡ j.dump → clock_in cs ≡ code_in j.clocks
+    → ((c : Contents) → HoldsContents j.dump c → AreColumnsOf cs c)
+    → IfOk r (λ w. columns_in w ≡ cs) → IfOk r (λ w. size_in w ≡ n)
+    → IfOk r (λ w. first_in w ≡ 0) → IfOk r (λ w. end_in w ≡ 0)
+    → ((d : Dump) (k : Clocks) → dump_in cs ≡ d → code_in k ≡ clock_in cs → AreClocksOf d k
+      → ((c : Contents) → HoldsContents d c → AreColumnsOf cs c) → IfOk r (λ w. IsWindowOf w d k))
+    → IfOk r (IsFirstWindow j n)
+first-window j n cs asked (Ok w) is places fits dump clock rows columns size first end of =
     let vs = variables_of j.dump in
     record {
-      of = record {
-        same_clock = sym (ap clock_in columns ∙ clock);
-        clocks = j.ticks;
-        over = λ c holds. over-bound w cs c columns (rows c holds);
-      };
+      of = of j.dump j.clocks dump (sym clock) j.ticks rows;
       places = ap (λ (x : Columns). map Some (places_in x)) columns ∙ places ∙ ap (places_of vs) is;
       fits = sym (ap (first_refused vs) is) ∙ fits;
       size = size;
       first = first;
       end = end;
     }
-first-window j n cs asked (Err e) is places fits clock rows columns size first end = tt
+first-window j n cs asked (Err e) is places fits dump clock rows columns size first end of = tt
 
 -- before its first clock a monitor stands in the first window
 pub stands-new : (j : Job) (n : ℕ) (w : Window) (m : Monitor) (i : ℕ) → IsFirstWindow j n w → slice_get (parts_from 0 j.programs.items) i ≡ Some (part_of m) → IsNew m → Stands w m

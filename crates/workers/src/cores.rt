@@ -25,7 +25,7 @@ const MOST_WORKERS: usize = 64;
 #[derive(Drop)]
 pub struct Core<'j> {
     job: &'j Job,
-    floor: Floor,
+    floor: Floor<'j>,
 }
 
 impl<'j> Model for Core<'j> {

@@ -23,8 +23,8 @@ use vcd_reader::Dump;
 
 /// The window, the monitors, who has which, and the board.
 #[derive(Drop)]
-pub(crate) struct Floor {
-    pub(crate) window: Window,
+pub(crate) struct Floor<'j> {
+    pub(crate) window: Window<'j>,
     /// In source order: a monitor's number is its place here.
     pub(crate) monitors: Vec<Monitor>,
     /// The numbers of those that wait, front first.
@@ -33,17 +33,17 @@ pub(crate) struct Floor {
     pub(crate) board: Vec<Batch>,
 }
 
-impl Floor {
+impl<'j> Floor<'j> {
     ghost use Rattle.workers.specs.Floors.{core_state, IsSound, IsKept, SeeAs};
     ghost use Rattle.workers.specs.Cores.{IsOpened};
 
     /// All monitors wait before the first clock, at an empty window of so many clocks, 1 to 65,536.
     pub(crate) fn new(
         alloc: Global,
-        job: &Job,
+        job: &'j Job,
         workers: usize,
         size: usize,
-    ) -> Result<Floor, AllocError>
+    ) -> Result<Floor<'j>, AllocError>
         ensures opened { IfOk result (IsOpened job.now workers size) }
     {
         let Ok(window) = window_of(alloc, job, size) else {

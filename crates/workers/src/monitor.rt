@@ -98,7 +98,7 @@ impl Monitor {
     }
 
     /// The clocks up to one of the window's. There is room for what they decide.
-    pub(crate) fn advance(&mut self, window: &Window, to: u64)
+    pub(crate) fn advance(&mut self, window: &Window<'_>, to: u64)
         requires stands { Stands window.now self.old }
         requires ahead { self.old.machine.state.standing.now ≤ to }
         requires inside { to ≤ end_in window.now }

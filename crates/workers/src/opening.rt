@@ -18,13 +18,17 @@ use std::alloc::{AllocError, Global};
 use verifier::Verified;
 
 /// An empty window before the first clock, over the rows of all programs' signals.
-pub(crate) fn window_of(alloc: Global, job: &Job, size: usize) -> Result<Window, WindowFault>
+pub(crate) fn window_of<'j>(
+    alloc: Global,
+    job: &'j Job,
+    size: usize,
+) -> Result<Window<'j>, WindowFault>
     ensures { IfOk result (IsFirstWindow job.now size) }
 {
     let signals = signals_of(alloc, job.programs.as_slice())?;
     match Columns::bind(alloc, &job.dump, &job.clocks, signals.as_slice()) {
         Err(fault) => Err(fault),
-        Ok(columns) => Window::new(size, columns),
+        Ok(columns) => Window::new(alloc, size, columns),
     }
 }
 
