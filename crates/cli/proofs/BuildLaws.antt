@@ -15,24 +15,52 @@ use Rattle.vcd_reader.specs.declared.fault.VcdFault.{VcdFault}
 use Rattle.vcd_reader.specs.declared.fault.VcdFault.TheVariants as dumps
 use Rattle.vcd_reader.specs.Dump.{Contents, GaveDump, Stands}
 use Rattle.cli.specs.declared.fault.Fault.{Fault}
-use Rattle.cli.specs.declared.fault.Fault.TheVariants.{Vcd, Lex, Parse, Typing, Compile, BadJob, Window, Port, Report, Code, Refused, NoAssertion, NotText, Words, File, Memory}
+use Rattle.cli.specs.declared.fault.Fault.TheVariants.{
+  Vcd,
+  Lex,
+  Parse,
+  Typing,
+  Compile,
+  BadJob,
+  Window,
+  Port,
+  Report,
+  Code,
+  Refused,
+  NoAssertion,
+  NotText,
+  Words,
+  File,
+  Memory,
+}
 use Rattle.cli.specs.Faults.{vcd_fault, type_fault, compile_fault}
 use Rattle.cli.specs.Reported.{HasItems, SaysSuite}
 use Rattle.cli.specs.Outcomes.{WhyNoItems, WhyNotTyped, IsMistyped, WhyNoReport}
-use Rattle.cli.specs.Builds.{IsNamed, WhyNoProgram, SaysNone, WhyNotBuilt, Build, IsRefusedBuild, WhyBuildRefused}
+use Rattle.cli.specs.Builds.{
+  IsNamed,
+  WhyNoProgram,
+  SaysNone,
+  WhyNotBuilt,
+  Build,
+  IsRefusedBuild,
+  WhyBuildRefused,
+}
 use Rattle.cli.proofs.TextLaws.{untyped}
 
 -- what an answer says, said otherwise
-pub ok_kept : {A E : Type 0} (r : Result A E) (P Q : A → Type 0) → ((x : A) → P x → Q x) → IfOk r P → IfOk r Q
+pub ok_kept : {A E : Type 0} (r : Result A E) (P Q : A → Type 0) → ((x : A) → P x → Q x) → IfOk r P
+    → IfOk r Q
 ok_kept (Ok x) P Q f h = f x h
 ok_kept (Err e) P Q f h = tt
 
-pub err_kept : {A E : Type 0} (r : Result A E) (P Q : E → Type 0) → ((e : E) → P e → Q e) → IfErr r P → IfErr r Q
+pub err_kept : {A E : Type 0} (r : Result A E) (P Q : E → Type 0) → ((e : E) → P e → Q e)
+    → IfErr r P → IfErr r Q
 err_kept (Ok x) P Q f h = tt
 err_kept (Err e) P Q f h = f e h
 
 -- the assertion of the name has no program
-pub unnamed : (suite : Suite) (name : List ℕ) (a : Assertion) (e : CompileFault) → IsNamed suite name a → WhyNotCompiled suite a e → WhyNoProgram suite name (compile_fault e)
+pub unnamed : (suite : Suite) (name : List ℕ) (a : Assertion) (e : CompileFault)
+    → IsNamed suite name a → WhyNotCompiled suite a e → WhyNoProgram suite name (compile_fault e)
 unnamed suite name a compiles.TooManyAtoms of why = record { assertion = a; of = of; why = why }
 unnamed suite name a compiles.CodeTooLong of why = record { assertion = a; of = of; why = why }
 unnamed suite name a compiles.TooManySlots of why = record { assertion = a; of = of; why = why }
@@ -67,10 +95,12 @@ module _ (c : Contents) (text name : List ℕ) where
   without_items Memory h = tt
 
   -- its items say no suite
-  pub without_types : (items : List ItemForm) (e : TypeFault) → HasItems text items → WhyNotTyped c items e → WhyNotBuilt c text name (type_fault e)
+  pub without_types : (items : List ItemForm) (e : TypeFault) → HasItems text items
+      → WhyNotTyped c items e → WhyNotBuilt c text name (type_fault e)
   without_types items e has h = by e (untyped c text items e has h)
     where
-      by : (f : TypeFault) → WhyNoReport c text (type_fault f) → WhyNotBuilt c text name (type_fault f)
+      by : (f : TypeFault) → WhyNoReport c text (type_fault f)
+          → WhyNotBuilt c text name (type_fault f)
       by (types.UnknownName at) k = k
       by (types.Duplicate at) k = k
       by (types.WiderThan128 at) k = k
@@ -83,7 +113,8 @@ module _ (c : Contents) (text name : List ℕ) where
       by types.Memory k = tt
 
   -- its suite has no program for the name
-  pub without_program : (suite : Suite) (e : Fault) → SaysSuite c text suite → WhyNoProgram suite name e → WhyNotBuilt c text name e
+  pub without_program : (suite : Suite) (e : Fault) → SaysSuite c text suite
+      → WhyNoProgram suite name e → WhyNotBuilt c text name e
   without_program suite (Vcd e) says h = absurd h
   without_program suite (Lex e) says h = absurd h
   without_program suite (Parse e) says h = absurd h
@@ -101,7 +132,8 @@ module _ (c : Contents) (text name : List ℕ) where
   without_program suite (File n) says h = absurd h
   without_program suite Memory says h = tt
 
-module _ (b : Build) (c : Contents) (gave : GaveDump b.given_old b.given_new c) (reads : b.reads_new ≡ b.reads_old) where
+module _ (b : Build) (c : Contents) (gave : GaveDump b.given_old b.given_new c)
+    (reads : b.reads_new ≡ b.reads_old) where
   refused : (e : Fault) → WhyNotBuilt c b.text b.name e → IsRefusedBuild b e
   refused e h = record { contents = c; gave = gave; why = h; reads = reads }
 
@@ -125,7 +157,8 @@ module _ (b : Build) (c : Contents) (gave : GaveDump b.given_old b.given_new c) 
   refused_build Memory h = reads
 
 -- a dump that wasn't read refuses the build
-pub unread_build : (b : Build) (e : VcdFault) → Stands b.given_old b.given_new b.reads_old b.reads_new e → WhyBuildRefused b (vcd_fault e)
+pub unread_build : (b : Build) (e : VcdFault)
+    → Stands b.given_old b.given_new b.reads_old b.reads_new e → WhyBuildRefused b (vcd_fault e)
 unread_build b (dumps.BadToken at) h = h
 unread_build b (dumps.UnknownCode at) h = h
 unread_build b (dumps.TimeBack at) h = h

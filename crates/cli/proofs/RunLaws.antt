@@ -9,16 +9,45 @@ use Rattle.vcd_reader.specs.declared.fault.VcdFault.TheVariants as dumps
 use Rattle.vcd_reader.specs.Dump.{Contents, GaveDump, Stands}
 use Rattle.cli.specs.Faults.{vcd_fault}
 use Rattle.cli.specs.declared.fault.Fault.{Fault}
-use Rattle.cli.specs.declared.fault.Fault.TheVariants.{Vcd, Lex, Parse, Typing, Compile, BadJob, Window, Port, Report, Code, Refused, NoAssertion, NotText, Words, File, Memory}
-use Rattle.cli.specs.Outcomes.{Run, WhyNoReport, IsRefusedReport, IsUnwritten, WhyRunRefused, IsNotCompiled, WhyNoneByPrograms, IsUncompiled, WhyCheckRefused}
+use Rattle.cli.specs.declared.fault.Fault.TheVariants.{
+  Vcd,
+  Lex,
+  Parse,
+  Typing,
+  Compile,
+  BadJob,
+  Window,
+  Port,
+  Report,
+  Code,
+  Refused,
+  NoAssertion,
+  NotText,
+  Words,
+  File,
+  Memory,
+}
+use Rattle.cli.specs.Outcomes.{
+  Run,
+  WhyNoReport,
+  IsRefusedReport,
+  IsUnwritten,
+  WhyRunRefused,
+  IsNotCompiled,
+  WhyNoneByPrograms,
+  IsUncompiled,
+  WhyCheckRefused,
+}
 
-module _ (r : Run) (c : Contents) (gave : GaveDump r.given_old r.given_new c) (reads : r.reads_new ≡ r.reads_old) (unwritten : IsUnwritten r) where
+module _ (r : Run) (c : Contents) (gave : GaveDump r.given_old r.given_new c)
+    (reads : r.reads_new ≡ r.reads_old) (unwritten : IsUnwritten r) where
   refused : (e : Fault) → WhyNoReport c r.text e → IsRefusedReport r e
   refused e h = record { contents = c; gave = gave; why = h; reads = reads; unwritten = unwritten }
 
   refused_form : (e : ParseFault) → WhyNoReport c r.text (Parse e) → WhyRunRefused r (Parse e)
   refused_form (parsing.Expected what at) h = refused (Parse (parsing.Expected what at)) h
-  refused_form (parsing.OutsideProfile word at) h = refused (Parse (parsing.OutsideProfile word at)) h
+  refused_form (parsing.OutsideProfile word at) h =
+      refused (Parse (parsing.OutsideProfile word at)) h
   refused_form (parsing.TooDeep at) h = refused (Parse (parsing.TooDeep at)) h
   refused_form (parsing.BadBound at) h = refused (Parse (parsing.BadBound at)) h
   refused_form parsing.Memory h = h
@@ -43,9 +72,11 @@ module _ (r : Run) (c : Contents) (gave : GaveDump r.given_old r.given_new c) (r
   refused_run Memory h = record { reads = reads; unwritten = unwritten }
 
   uncompiled : (e : CompileFault) → IsNotCompiled c r.text e → IsUncompiled r e
-  uncompiled e h = record { contents = c; gave = gave; why = h; reads = reads; unwritten = unwritten }
+  uncompiled e h =
+      record { contents = c; gave = gave; why = h; reads = reads; unwritten = unwritten }
 
-  refused_program : (e : CompileFault) → WhyNoneByPrograms c r.text (Compile e) → WhyCheckRefused r (Compile e)
+  refused_program : (e : CompileFault) → WhyNoneByPrograms c r.text (Compile e)
+      → WhyCheckRefused r (Compile e)
   refused_program compiles.TooManyAtoms h = uncompiled compiles.TooManyAtoms h
   refused_program compiles.CodeTooLong h = uncompiled compiles.CodeTooLong h
   refused_program compiles.TooManySlots h = uncompiled compiles.TooManySlots h
@@ -55,11 +86,13 @@ module _ (r : Run) (c : Contents) (gave : GaveDump r.given_old r.given_new c) (r
   -- a fault of the text or of an assertion refuses the check
   pub refused_check : (e : Fault) → WhyNoneByPrograms c r.text e → WhyCheckRefused r e
   refused_check (Compile e) h = refused_program e h
-  refused_check BadJob h = record { contents = c; gave = gave; why = h; reads = reads; unwritten = unwritten }
+  refused_check BadJob h =
+      record { contents = c; gave = gave; why = h; reads = reads; unwritten = unwritten }
   refused_check e h = refused_run e h
 
 -- a dump that wasn't read refuses the run
-pub unread : (r : Run) → IsUnwritten r → (e : VcdFault) → Stands r.given_old r.given_new r.reads_old r.reads_new e → WhyRunRefused r (vcd_fault e)
+pub unread : (r : Run) → IsUnwritten r → (e : VcdFault)
+    → Stands r.given_old r.given_new r.reads_old r.reads_new e → WhyRunRefused r (vcd_fault e)
 unread r unwritten (dumps.BadToken at) h = record { stands = h; unwritten = unwritten }
 unread r unwritten (dumps.UnknownCode at) h = record { stands = h; unwritten = unwritten }
 unread r unwritten (dumps.TimeBack at) h = record { stands = h; unwritten = unwritten }
@@ -71,6 +104,7 @@ unread r unwritten dumps.Read h = record { stands = h; unwritten = unwritten }
 unread r unwritten dumps.Memory h = record { reads = h.0; unwritten = unwritten }
 
 -- and the check
-pub unread_check : (r : Run) → IsUnwritten r → (e : VcdFault) → Stands r.given_old r.given_new r.reads_old r.reads_new e → WhyCheckRefused r (vcd_fault e)
+pub unread_check : (r : Run) → IsUnwritten r → (e : VcdFault)
+    → Stands r.given_old r.given_new r.reads_old r.reads_new e → WhyCheckRefused r (vcd_fault e)
 unread_check r unwritten dumps.Memory h = unread r unwritten dumps.Memory h
 unread_check r unwritten e h = unread r unwritten e h

@@ -1,5 +1,26 @@
 -- Why a text has no report.
-use Rattle.std.proofs.Common.{◌≡◌, ℕ, ◌<◌, Bool, true, false, cond, List, [], ◌∷◌, length, map, arith, Option, Some, None, sym, ap, ◌∙◌, subst}
+use Rattle.std.proofs.Common.{
+  ◌≡◌,
+  ℕ,
+  ◌<◌,
+  Bool,
+  true,
+  false,
+  cond,
+  List,
+  [],
+  ◌∷◌,
+  length,
+  map,
+  arith,
+  Option,
+  Some,
+  None,
+  sym,
+  ap,
+  ◌∙◌,
+  subst,
+}
 use Rattle.std.specs.Prelude.{Result, Ok, Err, IfErr, IsErrAnd, string_bytes}
 use Rattle.std.specs.Option.{option_map}
 use Rattle.std.specs.Str.{is_utf8}
@@ -35,21 +56,50 @@ use Rattle.cycle_window.specs.declared.fault.WindowFault.{WindowFault}
 use Rattle.cycle_window.specs.declared.fault.WindowFault.TheVariants as windows
 use Rattle.cycle_window.specs.Bound.{IsClockFault, OtherWidth, misfit}
 use Rattle.cli.specs.declared.fault.Fault.{Fault}
-use Rattle.cli.specs.declared.fault.Fault.TheVariants.{Vcd, Lex, Parse, Typing, Compile, BadJob, Window, Port, Report, Code, Refused, NoAssertion, NotText, Words, File, Memory}
+use Rattle.cli.specs.declared.fault.Fault.TheVariants.{
+  Vcd,
+  Lex,
+  Parse,
+  Typing,
+  Compile,
+  BadJob,
+  Window,
+  Port,
+  Report,
+  Code,
+  Refused,
+  NoAssertion,
+  NotText,
+  Words,
+  File,
+  Memory,
+}
 use Rattle.cli.specs.Named.{width_named, scope_over, AreNamed}
 use Rattle.cli.specs.Faults.{lex_fault, parse_fault, type_fault, window_fault, lines_fault}
 use Rattle.cli.specs.Reported.{AreTokens, HasItems, IsTyped, SaysSuite}
-use Rattle.cli.specs.Outcomes.{HasNoItems, IsMistyped, WhyNoItems, WhyNotTyped, WhyNoReport, IsNotCompiled, WhyNoneByPrograms}
+use Rattle.cli.specs.Outcomes.{
+  HasNoItems,
+  IsMistyped,
+  WhyNoItems,
+  WhyNotTyped,
+  WhyNoReport,
+  IsNotCompiled,
+  WhyNoneByPrograms,
+}
 
 -- why a text has no tokens, or no items
-pub unlexed : (text : List ℕ) (e : LexFault) → covering.IsLexFault text e → WhyNoItems text (lex_fault e)
+pub unlexed : (text : List ℕ) (e : LexFault) → covering.IsLexFault text e
+    → WhyNoItems text (lex_fault e)
 unlexed text (lexing.BadCharacter at) h = h
 unlexed text (lexing.BadNumber at) h = h
 unlexed text (lexing.UnclosedComment at) h = h
 unlexed text lexing.Memory h = tt
 
-no_items : (text : List ℕ) (tokens : List Token) (e : ParseFault) → AreTokens text tokens → (e ≡ parsing.Memory → ⊥) → parser_faults.IsParseFault tokens e → parser_faults.IsPlaced tokens e → HasNoItems text e
-no_items text tokens e cut other h at = record { tokens = tokens; cut = cut; none = h other; placed = at }
+no_items : (text : List ℕ) (tokens : List Token) (e : ParseFault) → AreTokens text tokens
+    → (e ≡ parsing.Memory → ⊥) → parser_faults.IsParseFault tokens e
+    → parser_faults.IsPlaced tokens e → HasNoItems text e
+no_items text tokens e cut other h at =
+    record { tokens = tokens; cut = cut; none = h other; placed = at }
 
 -- there is a token, that of the end
 cut_some : {place : ℕ} {bytes : List ℕ} {cs : List Cut} → IsCut place bytes cs → 0 < length cs
@@ -58,27 +108,45 @@ cut_some (over_gap some le gap more) = cut_some more
 cut_some (over_token apart long kind more) = omega arith
 
 tokens_some : (text : List ℕ) (tokens : List Token) → AreTokens text tokens → 0 < length tokens
-tokens_some text tokens cut = subst (λ (n : ℕ). 0 < n) (length-map tokens cut_of) (cut_some (tokens_of-covered text (map cut_of tokens) cut))
+tokens_some text tokens cut =
+    subst (λ (n : ℕ). 0 < n) (length-map tokens cut_of)
+    (cut_some (tokens_of-covered text (map cut_of tokens) cut))
 
-pub unparsed : (text : List ℕ) (tokens : List Token) (e : ParseFault) → AreTokens text tokens → parser_faults.IsParseFault tokens e → (0 < length tokens → parser_faults.IsPlaced tokens e) → WhyNoItems text (parse_fault e)
-unparsed text tokens (parsing.Expected what at) cut h p = no_items text tokens (parsing.Expected what at) cut (λ e. cc) h (p (tokens_some text tokens cut))
-unparsed text tokens (parsing.OutsideProfile word at) cut h p = no_items text tokens (parsing.OutsideProfile word at) cut (λ e. cc) h (p (tokens_some text tokens cut))
-unparsed text tokens (parsing.TooDeep at) cut h p = no_items text tokens (parsing.TooDeep at) cut (λ e. cc) h (p (tokens_some text tokens cut))
-unparsed text tokens (parsing.BadBound at) cut h p = no_items text tokens (parsing.BadBound at) cut (λ e. cc) h (p (tokens_some text tokens cut))
+pub unparsed : (text : List ℕ) (tokens : List Token) (e : ParseFault) → AreTokens text tokens
+    → parser_faults.IsParseFault tokens e → (0 < length tokens → parser_faults.IsPlaced tokens e)
+    → WhyNoItems text (parse_fault e)
+unparsed text tokens (parsing.Expected what at) cut h p =
+    no_items text tokens (parsing.Expected what at) cut (λ e. cc) h
+    (p (tokens_some text tokens cut))
+unparsed text tokens (parsing.OutsideProfile word at) cut h p =
+    no_items text tokens (parsing.OutsideProfile word at) cut (λ e. cc) h
+    (p (tokens_some text tokens cut))
+unparsed text tokens (parsing.TooDeep at) cut h p =
+    no_items text tokens (parsing.TooDeep at) cut (λ e. cc) h (p (tokens_some text tokens cut))
+unparsed text tokens (parsing.BadBound at) cut h p =
+    no_items text tokens (parsing.BadBound at) cut (λ e. cc) h (p (tokens_some text tokens cut))
 unparsed text tokens parsing.Memory cut h p = tt
 
 -- the same scope, under both spellings
-pub scope_is : (vs : List Declared) (names : List (List ℕ × ℕ)) (items : List ItemForm) → look_up names ≡ width_named vs → scope_for items names ≡ scope_over vs items
-scope_is vs names items e = ap (λ (dump : List ℕ → Option ℕ). let s : Scope = record { own = (scope_over vs items).own; dump = dump } in s) e
+pub scope_is : (vs : List Declared) (names : List (List ℕ × ℕ)) (items : List ItemForm)
+    → look_up names ≡ width_named vs → scope_for items names ≡ scope_over vs items
+scope_is vs names items e =
+    ap (λ (dump : List ℕ → Option ℕ). let s : Scope =
+    record { own = (scope_over vs items).own; dump = dump } in s) e
 
-pub why_not_typed : (c : Contents) (vs : List Declared) (names : List (List ℕ × ℕ)) (items : List ItemForm) (e : TypeFault) → vs ≡ c.variables → look_up names ≡ width_named vs
+pub why_not_typed :
+    (c : Contents) (vs : List Declared) (names : List (List ℕ × ℕ)) (items : List ItemForm)
+    (e : TypeFault) → vs ≡ c.variables → look_up names ≡ width_named vs
     → faults.IsTypeFault (scope_for items names) items e → WhyNotTyped c items e
 why_not_typed c vs names items e same dump h = by e moved
   where
     moved : faults.IsTypeFault (scope_over c.variables items) items e
-    moved = subst (λ (ds : List Declared). faults.IsTypeFault (scope_over ds items) items e) same (subst (λ (s : Scope). faults.IsTypeFault s items e) (scope_is vs names items dump) h)
+    moved =
+        subst (λ (ds : List Declared). faults.IsTypeFault (scope_over ds items) items e) same
+        (subst (λ (s : Scope). faults.IsTypeFault s items e) (scope_is vs names items dump) h)
 
-    by : (f : TypeFault) → faults.IsTypeFault (scope_over c.variables items) items f → WhyNotTyped c items f
+    by : (f : TypeFault) → faults.IsTypeFault (scope_over c.variables items) items f
+        → WhyNotTyped c items f
     by (types.UnknownName at) k = k
     by (types.Duplicate at) k = k
     by (types.WiderThan128 at) k = k
@@ -90,38 +158,55 @@ why_not_typed c vs names items e same dump h = by e moved
     by (types.TooWide at) k = k
     by types.Memory k = tt
 
-pub is_typed : (c : Contents) (vs : List Declared) (names : List (List ℕ × ℕ)) (items : List ItemForm) (suite : Suite) → vs ≡ c.variables → look_up names ≡ width_named vs
-    → IsFaultless (scope_for items names) items → IsSuite (scope_for items names) items suite → IsTyped c items suite
+pub is_typed :
+    (c : Contents) (vs : List Declared) (names : List (List ℕ × ℕ)) (items : List ItemForm)
+    (suite : Suite) → vs ≡ c.variables → look_up names ≡ width_named vs
+    → IsFaultless (scope_for items names) items → IsSuite (scope_for items names) items suite
+    → IsTyped c items suite
 is_typed c vs names items suite same dump clear is =
-    let e : scope_for items names ≡ scope_over c.variables items = scope_is vs names items dump ∙ ap (λ (ds : List Declared). scope_over ds items) same in
-    record { faultless = subst (λ (s : Scope). IsFaultless s items) e clear; says = subst (λ (s : Scope). IsSuite s items suite) e is }
+    let e : scope_for items names ≡ scope_over c.variables items =
+    scope_is vs names items dump ∙ ap (λ (ds : List Declared). scope_over ds items) same in
+    record {
+      faultless = subst (λ (s : Scope). IsFaultless s items) e clear;
+      says = subst (λ (s : Scope). IsSuite s items suite) e is;
+    }
 
 -- a suite's signals are variables of the dump
 text_named : (u : Bool) (o : Option ℕ) (w : ℕ) → cond u o None ≡ Some w → o ≡ Some w
 text_named true o w e = e
 text_named false o w e = absurd cc
 
-named_all : (vs : List Declared) (items : List ItemForm) (paths : List (List ℕ)) (signals : List Signal) → AreSignals (scope_over vs items) paths signals → AreNamed vs signals
+named_all : (vs : List Declared) (items : List ItemForm) (paths : List (List ℕ))
+    (signals : List Signal) → AreSignals (scope_over vs items) paths signals → AreNamed vs signals
 named_all vs items [] [] h = tt
 named_all vs items [] (x ∷ xs) h = elim h [ ]
 named_all vs items (p ∷ ps) [] h = elim h [ ]
 named_all vs items (p ∷ ps) (x ∷ xs) h =
-    let at : width_named vs (string_bytes x.path) ≡ Some x.width = ap (width_named vs) h.0 ∙ h.1 in
-    (text_named (is_utf8 (string_bytes x.path)) (option_map (size_of vs) (variable_named vs (string_bytes x.path))) x.width at, named_all vs items ps xs h.2)
+    let at : width_named vs (string_bytes x.path) ≡ Some x.width =
+    ap (width_named vs) h.0 ∙ h.1 in (
+      text_named (is_utf8 (string_bytes x.path))
+          (option_map (size_of vs) (variable_named vs (string_bytes x.path))) x.width at,
+      named_all vs items ps xs h.2,
+    )
 
-pub are_named : (c : Contents) (vs : List Declared) (items : List ItemForm) (suite : Suite) → vs ≡ c.variables → IsTyped c items suite → AreNamed vs suite.names.items
+pub are_named : (c : Contents) (vs : List Declared) (items : List ItemForm) (suite : Suite)
+    → vs ≡ c.variables → IsTyped c items suite → AreNamed vs suite.names.items
 are_named c vs items suite same typed =
-    subst (λ (ds : List Declared). AreNamed ds suite.names.items) (sym same) (named_all c.variables items (columns_of (scope_over c.variables items) items) suite.names.items typed.says.signals)
+    subst (λ (ds : List Declared). AreNamed ds suite.names.items) (sym same)
+    (named_all c.variables items (columns_of (scope_over c.variables items) items)
+    suite.names.items typed.says.signals)
 
 -- a fault of the text's form
-form_kept : (c : Contents) (text : List ℕ) (e : ParseFault) → WhyNoItems text (Parse e) → WhyNoReport c text (Parse e)
+form_kept : (c : Contents) (text : List ℕ) (e : ParseFault) → WhyNoItems text (Parse e)
+    → WhyNoReport c text (Parse e)
 form_kept c text (parsing.Expected what at) h = h
 form_kept c text (parsing.OutsideProfile word at) h = h
 form_kept c text (parsing.TooDeep at) h = h
 form_kept c text (parsing.BadBound at) h = h
 form_kept c text parsing.Memory h = h
 
-pub itemless : (c : Contents) (text : List ℕ) (e : ParseFault) → WhyNoReport c text (Parse e) → HasNoItems text e
+pub itemless : (c : Contents) (text : List ℕ) (e : ParseFault) → WhyNoReport c text (Parse e)
+    → HasNoItems text e
 itemless c text (parsing.Expected what at) h = h
 itemless c text (parsing.OutsideProfile word at) h = h
 itemless c text (parsing.TooDeep at) h = h
@@ -129,7 +214,8 @@ itemless c text (parsing.BadBound at) h = h
 itemless c text parsing.Memory h = absurd h
 
 -- each refusal as one of the text
-pub without_items : (c : Contents) (text : List ℕ) (e : Fault) → WhyNoItems text e → WhyNoReport c text e
+pub without_items : (c : Contents) (text : List ℕ) (e : Fault) → WhyNoItems text e
+    → WhyNoReport c text e
 without_items c text (Vcd e) h = elim h [ ]
 without_items c text (Lex e) h = h
 without_items c text (Parse e) h = form_kept c text e h
@@ -147,22 +233,30 @@ without_items c text (Words e) h = elim h [ ]
 without_items c text (File n) h = elim h [ ]
 without_items c text Memory h = tt
 
-mistyped : (c : Contents) (text : List ℕ) (items : List ItemForm) (e : TypeFault) → HasItems text items → IsFirst (scope_over c.variables items) items e → IsMistyped c text e
+mistyped : (c : Contents) (text : List ℕ) (items : List ItemForm) (e : TypeFault)
+    → HasItems text items → IsFirst (scope_over c.variables items) items e → IsMistyped c text e
 mistyped c text items e has first = record { items = items; spelled = has; first = first }
 
-pub untyped : (c : Contents) (text : List ℕ) (items : List ItemForm) (e : TypeFault) → HasItems text items → WhyNotTyped c items e → WhyNoReport c text (type_fault e)
-untyped c text items (types.UnknownName at) has h = mistyped c text items (types.UnknownName at) has h
+pub untyped : (c : Contents) (text : List ℕ) (items : List ItemForm) (e : TypeFault)
+    → HasItems text items → WhyNotTyped c items e → WhyNoReport c text (type_fault e)
+untyped c text items (types.UnknownName at) has h =
+    mistyped c text items (types.UnknownName at) has h
 untyped c text items (types.Duplicate at) has h = mistyped c text items (types.Duplicate at) has h
-untyped c text items (types.WiderThan128 at) has h = mistyped c text items (types.WiderThan128 at) has h
+untyped c text items (types.WiderThan128 at) has h =
+    mistyped c text items (types.WiderThan128 at) has h
 untyped c text items (types.SliceRange at) has h = mistyped c text items (types.SliceRange at) has h
 untyped c text items (types.Degenerate at) has h = mistyped c text items (types.Degenerate at) has h
-untyped c text items (types.AdmitsEmpty at) has h = mistyped c text items (types.AdmitsEmpty at) has h
+untyped c text items (types.AdmitsEmpty at) has h =
+    mistyped c text items (types.AdmitsEmpty at) has h
 untyped c text items (types.OtherClock at) has h = mistyped c text items (types.OtherClock at) has h
-untyped c text items (types.CyclicSequence at) has h = mistyped c text items (types.CyclicSequence at) has h
+untyped c text items (types.CyclicSequence at) has h =
+    mistyped c text items (types.CyclicSequence at) has h
 untyped c text items (types.TooWide at) has h = mistyped c text items (types.TooWide at) has h
 untyped c text items types.Memory has h = tt
 
-pub unclocked : (c : Contents) (text : List ℕ) (suite : Suite) (e : WindowFault) → SaysSuite c text suite → IsClockFault c.variables (string_bytes suite.clock) e → WhyNoReport c text (window_fault e)
+pub unclocked : (c : Contents) (text : List ℕ) (suite : Suite) (e : WindowFault)
+    → SaysSuite c text suite → IsClockFault c.variables (string_bytes suite.clock) e
+    → WhyNoReport c text (window_fault e)
 unclocked c text suite windows.NoClock says h = record { suite = suite; says = says; why = h }
 unclocked c text suite windows.ClockWidth says h = record { suite = suite; says = says; why = h }
 unclocked c text suite windows.BadSize says h = elim h [ ]
@@ -171,22 +265,31 @@ unclocked c text suite (windows.SignalWidth p) says h = elim h [ ]
 unclocked c text suite windows.Memory says h = tt
 
 -- what an error that is known says
-pub err_is : {X : Type 0} (r : Result X Fault) (e : Fault) (Why : Fault → Type 0) → IsErrAnd r (λ f. f ≡ e) → Why e → IfErr r Why
+pub err_is : {X : Type 0} (r : Result X Fault) (e : Fault) (Why : Fault → Type 0)
+    → IsErrAnd r (λ f. f ≡ e) → Why e → IfErr r Why
 err_is (Ok x) e Why h why = tt
 err_is (Err f) e Why h why = subst Why (sym h) why
 
 -- a text that has no report at all has none by programs
-pub none_by_programs : (c : Contents) (text : List ℕ) (e : Fault) → WhyNoReport c text e → WhyNoneByPrograms c text e
+pub none_by_programs : (c : Contents) (text : List ℕ) (e : Fault) → WhyNoReport c text e
+    → WhyNoneByPrograms c text e
 none_by_programs c text (Compile e) h = absurd h
 none_by_programs c text BadJob h = absurd h
 none_by_programs c text e h = h
 
-pub uncompiled : (c : Contents) (text : List ℕ) (suite : Suite) (e : LinesFault) → SaysSuite c text suite → misfit c.variables (variable_named c.variables (string_bytes suite.clock)) 1 ≡ None
+pub uncompiled : (c : Contents) (text : List ℕ) (suite : Suite) (e : LinesFault)
+    → SaysSuite c text suite
+    → misfit c.variables (variable_named c.variables (string_bytes suite.clock)) 1 ≡ None
     → WhyNoLines suite e → WhyNoneByPrograms c text (lines_fault e)
-uncompiled c text suite (Program compiles.TooManyAtoms) says clock h = record { suite = suite; says = says; clock = clock; why = h }
-uncompiled c text suite (Program compiles.CodeTooLong) says clock h = record { suite = suite; says = says; clock = clock; why = h }
-uncompiled c text suite (Program compiles.TooManySlots) says clock h = record { suite = suite; says = says; clock = clock; why = h }
-uncompiled c text suite (Program compiles.TextTooLong) says clock h = record { suite = suite; says = says; clock = clock; why = h }
+uncompiled c text suite (Program compiles.TooManyAtoms) says clock h =
+    record { suite = suite; says = says; clock = clock; why = h }
+uncompiled c text suite (Program compiles.CodeTooLong) says clock h =
+    record { suite = suite; says = says; clock = clock; why = h }
+uncompiled c text suite (Program compiles.TooManySlots) says clock h =
+    record { suite = suite; says = says; clock = clock; why = h }
+uncompiled c text suite (Program compiles.TextTooLong) says clock h =
+    record { suite = suite; says = says; clock = clock; why = h }
 uncompiled c text suite (Program compiles.Memory) says clock h = absurd h
-uncompiled c text suite lines.BadJob says clock h = record { suite = suite; says = says; clock = clock; why = h }
+uncompiled c text suite lines.BadJob says clock h =
+    record { suite = suite; says = says; clock = clock; why = h }
 uncompiled c text suite lines.Memory says clock h = tt

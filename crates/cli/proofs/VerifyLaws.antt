@@ -18,7 +18,8 @@ or_none none (inl a) = absurd (none a)
 or_none none (inr b) = b
 
 module _ (bytes : List ℕ) (program : ProgramData) (spells : Spells bytes program) where
-  not_accepted : (r : Refusal) → (r ≡ refusals.Memory → ⊥) → (r ≡ refusals.Memory) ⊎ (IsAccepted program → ⊥)
+  not_accepted : (r : Refusal) → (r ≡ refusals.Memory → ⊥)
+      → (r ≡ refusals.Memory) ⊎ (IsAccepted program → ⊥)
       → (r ≡ refusals.Memory) ⊎ IsFirstRefusal r (all_faults program) → IsNotAccepted bytes r
   not_accepted r other refused first = record {
     program = program;
@@ -29,27 +30,44 @@ module _ (bytes : List ℕ) (program : ProgramData) (spells : Spells bytes progr
 
   -- a program that the verifier refuses
   pub refused_code : (r : Refusal) → (r ≡ refusals.Memory) ⊎ (IsAccepted program → ⊥)
-      → (r ≡ refusals.Memory) ⊎ IsFirstRefusal r (all_faults program) → WhyNotAccepted bytes (refusal_fault r)
-  refused_code (refusals.Operand pc) refused first = not_accepted (refusals.Operand pc) (λ e. cc) refused first
-  refused_code (refusals.Underflow pc) refused first = not_accepted (refusals.Underflow pc) (λ e. cc) refused first
-  refused_code (refusals.Overflow pc) refused first = not_accepted (refusals.Overflow pc) (λ e. cc) refused first
-  refused_code (refusals.JumpRange pc) refused first = not_accepted (refusals.JumpRange pc) (λ e. cc) refused first
-  refused_code (refusals.BackwardJump pc) refused first = not_accepted (refusals.BackwardJump pc) (λ e. cc) refused first
-  refused_code (refusals.JoinMismatch pc) refused first = not_accepted (refusals.JoinMismatch pc) (λ e. cc) refused first
-  refused_code (refusals.Unreached pc) refused first = not_accepted (refusals.Unreached pc) (λ e. cc) refused first
+      → (r ≡ refusals.Memory) ⊎ IsFirstRefusal r (all_faults program)
+      → WhyNotAccepted bytes (refusal_fault r)
+  refused_code (refusals.Operand pc) refused first =
+      not_accepted (refusals.Operand pc) (λ e. cc) refused first
+  refused_code (refusals.Underflow pc) refused first =
+      not_accepted (refusals.Underflow pc) (λ e. cc) refused first
+  refused_code (refusals.Overflow pc) refused first =
+      not_accepted (refusals.Overflow pc) (λ e. cc) refused first
+  refused_code (refusals.JumpRange pc) refused first =
+      not_accepted (refusals.JumpRange pc) (λ e. cc) refused first
+  refused_code (refusals.BackwardJump pc) refused first =
+      not_accepted (refusals.BackwardJump pc) (λ e. cc) refused first
+  refused_code (refusals.JoinMismatch pc) refused first =
+      not_accepted (refusals.JoinMismatch pc) (λ e. cc) refused first
+  refused_code (refusals.Unreached pc) refused first =
+      not_accepted (refusals.Unreached pc) (λ e. cc) refused first
   refused_code refusals.NoHalt refused first = not_accepted refusals.NoHalt (λ e. cc) refused first
-  refused_code (refusals.SlotRange pc) refused first = not_accepted (refusals.SlotRange pc) (λ e. cc) refused first
-  refused_code (refusals.HistoryTooShort least) refused first = not_accepted (refusals.HistoryTooShort least) (λ e. cc) refused first
-  refused_code (refusals.StackTooShort least) refused first = not_accepted (refusals.StackTooShort least) (λ e. cc) refused first
-  refused_code (refusals.Cycle position) refused first = not_accepted (refusals.Cycle position) (λ e. cc) refused first
-  refused_code (refusals.PoolTooSmall pool least) refused first = not_accepted (refusals.PoolTooSmall pool least) (λ e. cc) refused first
-  refused_code (refusals.BudgetTooSmall least) refused first = not_accepted (refusals.BudgetTooSmall least) (λ e. cc) refused first
-  refused_code (refusals.LimitTooLarge field) refused first = not_accepted (refusals.LimitTooLarge field) (λ e. cc) refused first
+  refused_code (refusals.SlotRange pc) refused first =
+      not_accepted (refusals.SlotRange pc) (λ e. cc) refused first
+  refused_code (refusals.HistoryTooShort least) refused first =
+      not_accepted (refusals.HistoryTooShort least) (λ e. cc) refused first
+  refused_code (refusals.StackTooShort least) refused first =
+      not_accepted (refusals.StackTooShort least) (λ e. cc) refused first
+  refused_code (refusals.Cycle position) refused first =
+      not_accepted (refusals.Cycle position) (λ e. cc) refused first
+  refused_code (refusals.PoolTooSmall pool least) refused first =
+      not_accepted (refusals.PoolTooSmall pool least) (λ e. cc) refused first
+  refused_code (refusals.BudgetTooSmall least) refused first =
+      not_accepted (refusals.BudgetTooSmall least) (λ e. cc) refused first
+  refused_code (refusals.LimitTooLarge field) refused first =
+      not_accepted (refusals.LimitTooLarge field) (λ e. cc) refused first
   refused_code refusals.Memory refused first = tt
 
 -- a line that was not written, or not all of it
-pub unwritten_line : (v : Verification) (program : ProgramData) (f : ReportFault) → SpellsAccepted v.bytes program
-    → WhyUnwritten v.held_old v.held_new v.writes_old v.writes_new (limits_text program.header.limits) f
+pub unwritten_line : (v : Verification) (program : ProgramData) (f : ReportFault)
+    → SpellsAccepted v.bytes program
+    → WhyUnwritten v.held_old v.held_new v.writes_old v.writes_new
+    (limits_text program.header.limits) f
     → WhyNotTold v (report_fault f)
 unwritten_line v program reports.Write accepted h = record {
   program = program;

@@ -12,16 +12,18 @@ use Rattle.expressions.specs.Tables.{column}
 use Rattle.expressions.specs.Terms.{Samples}
 use Rattle.verdicts.specs.Lines.{LineData, line_data_of}
 
--- One verdict on an assertion for each tick, in order: that of the attempt that begins there, over so
--- many ticks, with the suite's expressions and what they read.
+-- One verdict on an assertion for each tick, in order: that of the attempt that begins there, over
+-- so many ticks, with the suite's expressions and what they read.
 pub record AreVerdictsOn
-    (booleans : List Expr) (read : Samples) (ticks : ℕ) (a : Assertion) (verdicts : List Verdict) : Type 0 where
+    (booleans : List Expr) (read : Samples) (ticks : ℕ) (a : Assertion) (verdicts : List Verdict) :
+    Type 0 where
   pub long : length verdicts ≡ ticks
   pub each : (tick : ℕ) → tick < ticks
       → IsVerdictOn booleans read ticks a tick (slice_index_or verdicts tick outcome.Open)
 
 -- An assertion's line: its name, and its verdicts.
-pub record IsLine (booleans : List Expr) (read : Samples) (ticks : ℕ) (a : Assertion) (line : LineData) : Type 0 where
+pub record IsLine (booleans : List Expr) (read : Samples) (ticks : ℕ) (a : Assertion)
+    (line : LineData) : Type 0 where
   pub verdicts : List Verdict
   pub judged : AreVerdictsOn booleans read ticks a verdicts
   pub is : line ≡ line_data_of (string_bytes a.name) verdicts
@@ -43,4 +45,5 @@ abbrev pub IsLineOver : Suite → List (List ℕ) → Assertion → LineData →
 IsLineOver suite signals = IsLine suite.booleans.items (read_over suite signals) (length signals)
 
 abbrev pub AreLinesOver : Suite → List (List ℕ) → List Assertion → List LineData → Type 0
-AreLinesOver suite signals = AreLines suite.booleans.items (read_over suite signals) (length signals)
+AreLinesOver suite signals =
+    AreLines suite.booleans.items (read_over suite signals) (length signals)

@@ -1,5 +1,16 @@
 -- The names of a text over a dump.
-use Rattle.std.specs.Prelude.{◌≡◌, ℕ, List, [], ◌∷◌, Option, Some, None, if◌then◌else◌, string_bytes}
+use Rattle.std.specs.Prelude.{
+  ◌≡◌,
+  ℕ,
+  List,
+  [],
+  ◌∷◌,
+  Option,
+  Some,
+  None,
+  if◌then◌else◌,
+  string_bytes,
+}
 use Rattle.std.specs.Option.{option_map}
 use Rattle.std.specs.Str.{is_utf8}
 use Rattle.grammar.specs.Trees.{ItemForm}
@@ -9,9 +20,11 @@ use Rattle.types_expressions.specs.Entries.{with_entry}
 use Rattle.vcd_reader.specs.Variables.{Declared, variable_named, size_of}
 use Rattle.cycle_window.specs.Bound.{Wanted}
 
--- The width of the variable that a path names, if it names one that can be bound. What is no text names nothing.
+-- The width of the variable that a path names, if it names one that can be bound. What is no text
+-- names nothing.
 abbrev pub width_named : List Declared → List ℕ → Option ℕ
-width_named vs path = if is_utf8 path then option_map (size_of vs) (variable_named vs path) else None
+width_named vs path =
+    if is_utf8 path then option_map (size_of vs) (variable_named vs path) else None
 
 -- The scope of a text over the variables of a dump: the text's own names, and the dump's paths.
 abbrev pub scope_over : List Declared → List ItemForm → Scope
@@ -20,7 +33,9 @@ scope_over vs items = record { own = look_up (owns items); dump = width_named vs
 -- Each signal's path names a variable of the signal's width.
 abbrev pub AreNamed : List Declared → List Signal → Type 0
 AreNamed vs [] = Unit {0}
-AreNamed vs (s ∷ ss) = (option_map (size_of vs) (variable_named vs (string_bytes s.path)) ≡ Some s.width) × AreNamed vs ss
+AreNamed vs (s ∷ ss) =
+    (option_map (size_of vs) (variable_named vs (string_bytes s.path)) ≡ Some s.width)
+    × AreNamed vs ss
 
 -- a signal as it is bound
 abbrev pub wanted_in_suite : Signal → Wanted

@@ -38,8 +38,8 @@ use Rattle.cli.specs.Reported.{AreTokens, HasItems, SaysSuite, IsReport}
 abbrev pub totals_of : Counts → List ℕ
 totals_of c = c.holds ∷ c.vacuous ∷ c.fails ∷ c.disabled ∷ c.still_open ∷ []
 
--- What a run was given and what it left: the text, the bytes that the source had left before and after, those that the
--- sink held, and how many calls of each had failed.
+-- What a run was given and what it left: the text, the bytes that the source had left before and
+-- after, those that the sink held, and how many calls of each had failed.
 pub record Run : Type 0 where
   pub text : List ℕ
   pub given_old : Option (List ℕ)
@@ -51,20 +51,23 @@ pub record Run : Type 0 where
   pub writes_old : ℕ
   pub writes_new : ℕ
 
-abbrev pub run_of : List ℕ → Option (List ℕ) → Option (List ℕ) → ℕ → ℕ → Option (List ℕ) → Option (List ℕ) → ℕ → ℕ → Run
-run_of text given_old given_new reads_old reads_new held_old held_new writes_old writes_new = record {
-  text = text;
-  given_old = given_old;
-  given_new = given_new;
-  reads_old = reads_old;
-  reads_new = reads_new;
-  held_old = held_old;
-  held_new = held_new;
-  writes_old = writes_old;
-  writes_new = writes_new;
-}
+abbrev pub run_of : List ℕ → Option (List ℕ) → Option (List ℕ) → ℕ → ℕ → Option (List ℕ)
+    → Option (List ℕ) → ℕ → ℕ → Run
+run_of text given_old given_new reads_old reads_new held_old held_new writes_old writes_new =
+    record {
+      text = text;
+      given_old = given_old;
+      given_new = given_new;
+      reads_old = reads_old;
+      reads_new = reads_new;
+      held_old = held_old;
+      held_new = held_new;
+      writes_old = writes_old;
+      writes_new = writes_new;
+    }
 
--- The source gave all its bytes, and the text of the report on them and on the text was written; the totals are its last line's. No call failed.
+-- The source gave all its bytes, and the text of the report on them and on the text was written;
+-- the totals are its last line's. No call failed.
 pub record IsAnswered (r : Run) (totals : List ℕ) : Type 0 where
   pub bytes : List ℕ
   pub gave : Gave r.given_old r.given_new bytes
@@ -188,7 +191,8 @@ WhyRunRefused r (Window e) = IsRefusedReport r (Window e)
 WhyRunRefused r Memory = IsOutOfMemory r
 WhyRunRefused r _ = ⊥
 
--- the source gave a dump over which an assertion of the text has no program, and nothing was written
+-- the source gave a dump over which an assertion of the text has no program, and nothing was
+-- written
 pub record IsUncompiled (r : Run) (fault : CompileFault) : Type 0 where
   pub contents : Contents
   pub gave : GaveDump r.given_old r.given_new contents

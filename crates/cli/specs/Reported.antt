@@ -39,14 +39,16 @@ pub record SaysSuite (c : Contents) (text : List ℕ) (suite : Suite) : Type 0 w
 pub record IsBound (c : Contents) (suite : Suite) (clock : ℕ) (signals : List ℕ) : Type 0 where
   pub clock_named : variable_named c.variables (string_bytes suite.clock) ≡ Some clock
   pub clock_bit : size_of c.variables clock ≡ 1
-  pub signals_named : map (λ s. variable_named c.variables (string_bytes s.path)) suite.names.items ≡ map (λ v. Some v) signals
+  pub signals_named : map (λ s. variable_named c.variables (string_bytes s.path)) suite.names.items
+      ≡ map (λ v. Some v) signals
 
 -- the rows of the signals at the clock's ticks
 abbrev pub rows_of : Contents → ℕ → List ℕ → List (List ℕ)
 rows_of c clock signals = map (row_of c signals) (ticks_of c (code_number c.variables clock))
 
--- The report on a suite over its rows: a line for each assertion, with the verdicts of the definition on the attempts at all ticks, over the
--- rows and what the suite's counters count over them.
+-- The report on a suite over its rows: a line for each assertion, with the verdicts of the
+-- definition on the attempts at all ticks, over the rows and what the suite's counters count over
+-- them.
 pub record OverRows (suite : Suite) (rows : List (List ℕ)) (report : ReportData) : Type 0 where
   pub lines : List LineData
   pub judged : AreLinesOver suite rows suite.assertions.items lines

@@ -13,7 +13,15 @@ use Rattle.inference.specs.declared.refusal.Refusal.TheVariants as refusals
 use Rattle.command_line.specs.declared.fault.WordsFault.TheVariants as words
 use Rattle.cli.specs.declared.fault.Fault.{Fault}
 use Rattle.cli.specs.declared.fault.Fault.TheVariants.{Vcd, Lex, Parse, Typing, Window, Report}
-use Rattle.cli.specs.declared.fault.Fault.TheVariants.{Port, Compile, Code, Refused, Words, File, Memory}
+use Rattle.cli.specs.declared.fault.Fault.TheVariants.{
+  Port,
+  Compile,
+  Code,
+  Refused,
+  Words,
+  File,
+  Memory,
+}
 
 -- 3 for memory, 4 for a file or a device, and 2 for all else
 abbrev pub fault_status_of : Fault → ℕ

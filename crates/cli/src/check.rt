@@ -13,18 +13,19 @@ use cycle_window::WindowFault;
 use signals::{Sink, Source};
 use std::alloc::Global;
 
-/// Judges the assertions of a text over the dump that a source gives, by their programs, through windows of so many clocks, and
-/// writes the report.
+/// Judges the assertions of a text over the dump that a source gives, by their programs, through
+/// windows of so many clocks, and writes the report.
 ///
-/// The answer is the report's totals: how many attempts held, were vacuous, failed, were disabled, and are open. `window` is from
-/// 1 to 65,536, and does not change what is written.
+/// The answer is the report's totals: how many attempts held, were vacuous, failed, were disabled,
+/// and are open. `window` is from 1 to 65,536, and does not change what is written.
 ///
 /// # Errors
 ///
-/// C3 where `window` is out of its range, before anything is read; then what is wrong with the dump (V1 to V8), with the text
-/// (L1 to L3, P1 to P4, then Y1 to Y9), with its clock (C1, C2), with the first of its assertions that has no program (K1 to K4),
-/// and with their number (U3: more than 4,096), all before anything is written; G1 where the sink failed, which then holds a
-/// beginning of the report behind what it held before; and want of memory.
+/// C3 where `window` is out of its range, before anything is read; then what is wrong with the dump
+/// (V1 to V8), with the text (L1 to L3, P1 to P4, then Y1 to Y9), with its clock (C1, C2), with the
+/// first of its assertions that has no program (K1 to K4), and with their number (U3: more than
+/// 4,096), all before anything is written; G1 where the sink failed, which then holds a beginning
+/// of the report behind what it held before; and want of memory.
 ///
 /// IEEE 1800-2017, clauses 11, 16.5 to 16.9, 16.12 to 16.15; IEEE 1364-2005, clause 18.2.
 pub fn check_one<'a, S: Source, W: Sink>(
@@ -34,8 +35,14 @@ pub fn check_one<'a, S: Source, W: Sink>(
     window: u64,
     out: &mut W,
 ) -> Result<[u64; 5], Fault<'a>>
-    ensures answered { IfOk result (IsAnswered (run_of text.entry.now (S.remaining source.old) (S.remaining source.new) (S.failures source.old) (S.failures source.new) (W.contents out.old) (W.contents out.new) (W.failures out.old) (W.failures out.new))) }
-    ensures refused { IfErr result (WhyNotChecked window (run_of text.entry.now (S.remaining source.old) (S.remaining source.new) (S.failures source.old) (S.failures source.new) (W.contents out.old) (W.contents out.new) (W.failures out.old) (W.failures out.new))) }
+    ensures answered { IfOk result (IsAnswered (run_of text.entry.now
+        (S.remaining source.old) (S.remaining source.new)
+        (S.failures source.old) (S.failures source.new)
+        (W.contents out.old) (W.contents out.new) (W.failures out.old) (W.failures out.new))) }
+    ensures refused { IfErr result (WhyNotChecked window (run_of text.entry.now
+        (S.remaining source.old) (S.remaining source.new)
+        (S.failures source.old) (S.failures source.new)
+        (W.contents out.old) (W.contents out.new) (W.failures out.old) (W.failures out.new))) }
     ensures bad_size { IsBadSize window ↔ (result ≡ Err (Window BadSize)) }
 {
     if window < 1 || window > 65_536 {
@@ -55,8 +62,14 @@ pub fn judge_one<'a, S: Source, W: Sink>(
     text: &'a str,
     out: &mut W,
 ) -> Result<[u64; 5], Fault<'a>>
-    ensures answered { IfOk result (IsAnswered (run_of text.entry.now (S.remaining source.old) (S.remaining source.new) (S.failures source.old) (S.failures source.new) (W.contents out.old) (W.contents out.new) (W.failures out.old) (W.failures out.new))) }
-    ensures refused { IfErr result (WhyRunRefused (run_of text.entry.now (S.remaining source.old) (S.remaining source.new) (S.failures source.old) (S.failures source.new) (W.contents out.old) (W.contents out.new) (W.failures out.old) (W.failures out.new))) }
+    ensures answered { IfOk result (IsAnswered (run_of text.entry.now
+        (S.remaining source.old) (S.remaining source.new)
+        (S.failures source.old) (S.failures source.new)
+        (W.contents out.old) (W.contents out.new) (W.failures out.old) (W.failures out.new))) }
+    ensures refused { IfErr result (WhyRunRefused (run_of text.entry.now
+        (S.remaining source.old) (S.remaining source.new)
+        (S.failures source.old) (S.failures source.new)
+        (W.contents out.old) (W.contents out.new) (W.failures out.old) (W.failures out.new))) }
 {
     run_through(alloc, source, text, 1024, out)
 }

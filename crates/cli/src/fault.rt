@@ -318,8 +318,8 @@ pub fn fault_line(alloc: Global, fault: &Fault) -> Result<String, AllocError> {
     }
 }
 
-/// The status that a shell sees: 0 where no attempt failed, 1 where some did, 2 where the input or the words are
-/// refused, 3 for memory, 4 for a file or a device.
+/// The status that a shell sees: 0 where no attempt failed, 1 where some did, 2 where the input or
+/// the words are refused, 3 for memory, 4 for a file or a device.
 pub fn status(outcome: &Result<[u64; 5], Fault>) -> u8
     ensures { result ≡ status_of outcome.now }
 {

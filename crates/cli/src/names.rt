@@ -13,7 +13,8 @@ use vcd_reader::Dump;
 
 /// Adds a path with the width of the variable that it names, if it is text and names one.
 fn add_path(alloc: Global, dump: &Dump, names: &mut Names, path: &[u8]) -> Result<(), AllocError>
-    ensures { OnOk result (names_in names.new ≡ with_named (names_in names.old) path.now (width_named (variables_of dump.now) path.now)) }
+    ensures { OnOk result (names_in names.new ≡ with_named (names_in names.old) path.now
+        (width_named (variables_of dump.now) path.now)) }
 {
     let Ok(text) = str::from_utf8(path) else {
         return Ok(());

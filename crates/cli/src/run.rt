@@ -25,8 +25,10 @@ fn report_judged<'a>(
     requires some { 1 ≤ size }
     requires most { size ≤ 65536 }
     requires held { (c : Contents) × HoldsContents dump.now c }
-    ensures ok { (c : Contents) → HoldsContents dump.now c → IfOk result (λ r. HasReport c text.entry.now (data_of r)) }
-    ensures err { (c : Contents) → HoldsContents dump.now c → IfErr result (WhyNoReport c text.entry.now) }
+    ensures ok { (c : Contents) → HoldsContents dump.now c
+        → IfOk result (λ r. HasReport c text.entry.now (data_of r)) }
+    ensures err { (c : Contents) → HoldsContents dump.now c
+        → IfErr result (WhyNoReport c text.entry.now) }
 {
     let file = match file_of(alloc, text) {
         Ok(file) => file,
@@ -50,7 +52,8 @@ pub(crate) fn totals(report: &Report) -> [u64; 5]
     ]
 }
 
-/// Reads the dump that a source gives, judges a text over it through windows of so many clocks, and writes the report.
+/// Reads the dump that a source gives, judges a text over it through windows of so many clocks, and
+/// writes the report.
 pub(crate) fn run_through<'a, S: Source, W: Sink>(
     alloc: Global,
     source: &mut S,
@@ -60,8 +63,14 @@ pub(crate) fn run_through<'a, S: Source, W: Sink>(
 ) -> Result<[u64; 5], Fault<'a>>
     requires some { 1 ≤ size }
     requires most { size ≤ 65536 }
-    ensures answered { IfOk result (IsAnswered (run_of text.entry.now (S.remaining source.old) (S.remaining source.new) (S.failures source.old) (S.failures source.new) (W.contents out.old) (W.contents out.new) (W.failures out.old) (W.failures out.new))) }
-    ensures refused { IfErr result (WhyRunRefused (run_of text.entry.now (S.remaining source.old) (S.remaining source.new) (S.failures source.old) (S.failures source.new) (W.contents out.old) (W.contents out.new) (W.failures out.old) (W.failures out.new))) }
+    ensures answered { IfOk result (IsAnswered (run_of text.entry.now
+        (S.remaining source.old) (S.remaining source.new)
+        (S.failures source.old) (S.failures source.new)
+        (W.contents out.old) (W.contents out.new) (W.failures out.old) (W.failures out.new))) }
+    ensures refused { IfErr result (WhyRunRefused (run_of text.entry.now
+        (S.remaining source.old) (S.remaining source.new)
+        (S.failures source.old) (S.failures source.new)
+        (W.contents out.old) (W.contents out.new) (W.failures out.old) (W.failures out.new))) }
 {
     let dump = read_dump(alloc, source)?;
     let report = match report_judged(alloc, &dump, text, size) {

@@ -27,8 +27,10 @@ pub(crate) fn file_of<'a>(alloc: Global, text: &'a str) -> Result<File<'a>, Faul
 
 /// The suite of a text's items over a dump.
 pub(crate) fn suite_of(alloc: Global, dump: &Dump, file: &File) -> Result<Suite, TypeFault>
-    ensures ok { (c : Contents) → HoldsContents dump.now c → IfOk result (IsTyped c (items_of file.now)) }
-    ensures err { (c : Contents) → HoldsContents dump.now c → IfErr result (WhyNotTyped c (items_of file.now)) }
+    ensures ok { (c : Contents) → HoldsContents dump.now c
+        → IfOk result (IsTyped c (items_of file.now)) }
+    ensures err { (c : Contents) → HoldsContents dump.now c
+        → IfErr result (WhyNotTyped c (items_of file.now)) }
 {
     let names = match names_of(alloc, dump) {
         Ok(names) => names,

@@ -25,9 +25,9 @@ pub fn verified_of(alloc: Global, bytes: &[u8]) -> Result<Verified, Fault<'stati
 ///
 /// # Errors
 ///
-/// What is wrong with the bytes (B1 to B6), or else with the program (F1 to F15), before anything is
-/// written; G1 where the sink failed, which then holds a beginning of the line behind what it held
-/// before; and want of memory.
+/// What is wrong with the bytes (B1 to B6), or else with the program (F1 to F15), before anything
+/// is written; G1 where the sink failed, which then holds a beginning of the line behind what it
+/// held before; and want of memory.
 pub fn verify_code<W: Sink>(alloc: Global, bytes: &[u8], out: &mut W) -> Result<(), Fault<'static>>
     ensures told { OnOk result (IsTold (verification_of bytes.now
         (W.contents out.old) (W.contents out.new) (W.failures out.old) (W.failures out.new))) }

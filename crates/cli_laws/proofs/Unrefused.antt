@@ -18,7 +18,24 @@ use Rattle.cycle_window.specs.declared.fault.WindowFault.TheVariants as windows
 use Rattle.cycle_window.specs.Bound.{Misfit, Missing, OtherWidth, misfit}
 use Rattle.verdicts.specs.Lines.{ReportData}
 use Rattle.cli.specs.declared.fault.Fault.{Fault}
-use Rattle.cli.specs.declared.fault.Fault.TheVariants.{Vcd, Lex, Parse, Typing, Compile, BadJob, Window, Port, Report, Code, Refused, NoAssertion, NotText, Words, File, Memory}
+use Rattle.cli.specs.declared.fault.Fault.TheVariants.{
+  Vcd,
+  Lex,
+  Parse,
+  Typing,
+  Compile,
+  BadJob,
+  Window,
+  Port,
+  Report,
+  Code,
+  Refused,
+  NoAssertion,
+  NotText,
+  Words,
+  File,
+  Memory,
+}
 use Rattle.cli.proofs.TextLaws.{itemless}
 use Rattle.cli.specs.Reported.{AreTokens, SaysSuite, IsBound, HasReport}
 use Rattle.cli.specs.Outcomes.{HasNoItems, IsMistyped, WhyNoReport}
@@ -27,41 +44,61 @@ use Rattle.cli_laws.proofs.ItemLaws.{file_of, other_stands}
 use Rattle.cli_laws.proofs.OneReport.{same_suites}
 
 -- A text that has tokens has no fault of its bytes.
-tokens_faultless : (text : List ℕ) (tokens : List Token) (fault : LexFault) → AreTokens text tokens → IsFaulty 0 text fault → ⊥
-tokens_faultless text tokens fault h = cut_faultless (tokens_of-covered text (map cut_of tokens) h) fault
+tokens_faultless : (text : List ℕ) (tokens : List Token) (fault : LexFault) → AreTokens text tokens
+    → IsFaulty 0 text fault → ⊥
+tokens_faultless text tokens fault h =
+    cut_faultless (tokens_of-covered text (map cut_of tokens) h) fault
 
 -- It has items.
-not_itemless : (c : Contents) (text : List ℕ) (suite : Suite) (fault : ParseFault) → SaysSuite c text suite → HasNoItems text fault → ⊥
-not_itemless c text suite fault h k = k.none (map (moved_item (lies_in k.tokens)) h.items) (file_of text h.items k.tokens h.spelled k.cut)
+not_itemless : (c : Contents) (text : List ℕ) (suite : Suite) (fault : ParseFault)
+    → SaysSuite c text suite → HasNoItems text fault → ⊥
+not_itemless c text suite fault h k =
+    k.none (map (moved_item (lies_in k.tokens)) h.items)
+    (file_of text h.items k.tokens h.spelled k.cut)
 
 -- No fault of types stands in them.
-not_mistyped : (c : Contents) (text : List ℕ) (suite : Suite) (fault : TypeFault) → SaysSuite c text suite → IsMistyped c text fault → ⊥
-not_mistyped c text suite fault h k = h.typed.faultless fault (other_stands c.variables text k.items h.items fault k.spelled h.spelled k.first.stands)
+not_mistyped : (c : Contents) (text : List ℕ) (suite : Suite) (fault : TypeFault)
+    → SaysSuite c text suite → IsMistyped c text fault → ⊥
+not_mistyped c text suite fault h k =
+    h.typed.faultless fault
+    (other_stands c.variables text k.items h.items fault k.spelled h.spelled k.first.stands)
 
 -- The suite's clock is one.
-clock_fits : (c : Contents) (suite : Suite) (clock : ℕ) (signals : List ℕ) → IsBound c suite clock signals → misfit c.variables (variable_named c.variables (string_bytes suite.clock)) 1 ≡ None
+clock_fits : (c : Contents) (suite : Suite) (clock : ℕ) (signals : List ℕ)
+    → IsBound c suite clock signals
+    → misfit c.variables (variable_named c.variables (string_bytes suite.clock)) 1 ≡ None
 clock_fits c suite clock signals h =
-    ap (λ (o : Option ℕ). misfit c.variables o 1) h.clock_named ∙ ap (λ (size : ℕ). if size == 1 then None else Some OtherWidth) h.clock_bit
+    ap (λ (o : Option ℕ). misfit c.variables o 1) h.clock_named
+    ∙ ap (λ (size : ℕ). if size == 1 then None else Some OtherWidth) h.clock_bit
 
-clock_misfits : (c : Contents) (text : List ℕ) (report : ReportData) (suite : Suite) (m : Misfit) → HasReport c text report → SaysSuite c text suite → misfit c.variables (variable_named c.variables (string_bytes suite.clock)) 1 ≡ Some m → ⊥
+clock_misfits : (c : Contents) (text : List ℕ) (report : ReportData) (suite : Suite) (m : Misfit)
+    → HasReport c text report → SaysSuite c text suite
+    → misfit c.variables (variable_named c.variables (string_bytes suite.clock)) 1 ≡ Some m → ⊥
 clock_misfits c text report suite m h k e =
     let same = same_suites c text suite h.suite k h.says in
     let fits : misfit c.variables (variable_named c.variables (string_bytes suite.clock)) 1 ≡ None =
-    ap (λ (p : List ℕ). misfit c.variables (variable_named c.variables p) 1) same.clock ∙ clock_fits c h.suite h.reports.clock h.reports.signals h.reports.bound in
+    ap (λ (p : List ℕ). misfit c.variables (variable_named c.variables p) 1) same.clock
+    ∙ clock_fits c h.suite h.reports.clock h.reports.signals h.reports.bound in
     absurd cc
 
-not_clockless : (c : Contents) (text : List ℕ) (report : ReportData) (fault : WindowFault) → HasReport c text report → WhyNoReport c text (Window fault) → ⊥
-not_clockless c text report windows.NoClock h k = clock_misfits c text report k.suite Missing h k.says k.why
-not_clockless c text report windows.ClockWidth h k = clock_misfits c text report k.suite OtherWidth h k.says k.why
+not_clockless : (c : Contents) (text : List ℕ) (report : ReportData) (fault : WindowFault)
+    → HasReport c text report → WhyNoReport c text (Window fault) → ⊥
+not_clockless c text report windows.NoClock h k =
+    clock_misfits c text report k.suite Missing h k.says k.why
+not_clockless c text report windows.ClockWidth h k =
+    clock_misfits c text report k.suite OtherWidth h k.says k.why
 not_clockless c text report (windows.NoSignal path) h k = k
 not_clockless c text report (windows.SignalWidth path) h k = k
 not_clockless c text report windows.BadSize h k = k
 not_clockless c text report windows.Memory h k = k
 
-pub unrefused : (c : Contents) (text : List ℕ) (report : ReportData) (fault : Fault) → HasReport c text report → WhyNoReport c text fault → fault ≡ Memory
+pub unrefused : (c : Contents) (text : List ℕ) (report : ReportData) (fault : Fault)
+    → HasReport c text report → WhyNoReport c text fault → fault ≡ Memory
 unrefused c text report (Vcd e) h k = absurd k
-unrefused c text report (Lex e) h k = absurd (tokens_faultless text h.says.spelled.tokens e h.says.spelled.cut k)
-unrefused c text report (Parse e) h k = absurd (not_itemless c text h.suite e h.says (itemless c text e k))
+unrefused c text report (Lex e) h k =
+    absurd (tokens_faultless text h.says.spelled.tokens e h.says.spelled.cut k)
+unrefused c text report (Parse e) h k =
+    absurd (not_itemless c text h.suite e h.says (itemless c text e k))
 unrefused c text report (Typing e) h k = absurd (not_mistyped c text h.suite e h.says k)
 unrefused c text report (Compile e) h k = absurd k
 unrefused c text report BadJob h k = absurd k

@@ -13,7 +13,15 @@ use Rattle.cycle_window.specs.declared.fault.WindowFault.TheVariants as windows
 use Rattle.program_runs.specs.Reported.{WhyNoRun}
 use Rattle.cli.specs.Faults.{vcd_fault, window_fault}
 use Rattle.cli.specs.declared.fault.Fault.{Fault}
-use Rattle.cli.specs.declared.fault.Fault.TheVariants.{Vcd, Lex, Parse, Typing, Compile, Window, Port}
+use Rattle.cli.specs.declared.fault.Fault.TheVariants.{
+  Vcd,
+  Lex,
+  Parse,
+  Typing,
+  Compile,
+  Window,
+  Port,
+}
 use Rattle.cli.specs.declared.fault.Fault.TheVariants.{BadJob}
 use Rattle.cli.specs.declared.fault.Fault.TheVariants.{Report, Code}
 use Rattle.cli.specs.declared.fault.Fault.TheVariants.{Refused, NoAssertion, NotText, Words, File}
@@ -23,7 +31,8 @@ use Rattle.cli.specs.Verifications.{SpellsAccepted, WhyNotAccepted}
 use Rattle.cli_runs.specs.Outcomes.{WhyNoRunReport, IsRefusedRun, WhyRunFails}
 
 -- bytes that spell no accepted program have no report
-pub no_program : (c : Contents) (code : List ℕ) (size : ℕ) (e : Fault) → WhyNotAccepted code e → WhyNoRunReport c code size e
+pub no_program : (c : Contents) (code : List ℕ) (size : ℕ) (e : Fault) → WhyNotAccepted code e
+    → WhyNoRunReport c code size e
 no_program c code size (Code e) h = h
 no_program c code size (Refused e) h = h
 no_program c code size Memory h = tt
@@ -42,19 +51,28 @@ no_program c code size (Words e) h = absurd h
 no_program c code size (File n) h = absurd h
 
 -- nor has a program whose clock or signals are not there
-pub unbound : (c : Contents) (code : List ℕ) (size : ℕ) (p : ProgramData) → SpellsAccepted code p → (e : WindowFault) → WhyNoRun c.variables p size e → WhyNoRunReport c code size (window_fault e)
-unbound c code size p accepted windows.NoClock h = record { program = p; accepted = accepted; why = h }
-unbound c code size p accepted windows.ClockWidth h = record { program = p; accepted = accepted; why = h }
-unbound c code size p accepted (windows.NoSignal path) h = record { program = p; accepted = accepted; why = h }
-unbound c code size p accepted (windows.SignalWidth path) h = record { program = p; accepted = accepted; why = h }
-unbound c code size p accepted windows.BadSize h = record { program = p; accepted = accepted; why = h }
+pub unbound : (c : Contents) (code : List ℕ) (size : ℕ) (p : ProgramData) → SpellsAccepted code p
+    → (e : WindowFault) → WhyNoRun c.variables p size e
+    → WhyNoRunReport c code size (window_fault e)
+unbound c code size p accepted windows.NoClock h =
+    record { program = p; accepted = accepted; why = h }
+unbound c code size p accepted windows.ClockWidth h =
+    record { program = p; accepted = accepted; why = h }
+unbound c code size p accepted (windows.NoSignal path) h =
+    record { program = p; accepted = accepted; why = h }
+unbound c code size p accepted (windows.SignalWidth path) h =
+    record { program = p; accepted = accepted; why = h }
+unbound c code size p accepted windows.BadSize h =
+    record { program = p; accepted = accepted; why = h }
 unbound c code size p accepted windows.Memory h = tt
 
-module _ (size : ℕ) (r : Run) (c : Contents) (gave : GaveDump r.given_old r.given_new c) (reads : r.reads_new ≡ r.reads_old) (unwritten : IsUnwritten r) where
+module _ (size : ℕ) (r : Run) (c : Contents) (gave : GaveDump r.given_old r.given_new c)
+    (reads : r.reads_new ≡ r.reads_old) (unwritten : IsUnwritten r) where
   refused : (e : Fault) → WhyNoRunReport c r.text size e → IsRefusedRun size r e
   refused e h = record { contents = c; gave = gave; why = h; reads = reads; unwritten = unwritten }
 
-  refused_window : (e : WindowFault) → WhyNoRunReport c r.text size (Window e) → WhyRunFails size r (Window e)
+  refused_window : (e : WindowFault) → WhyNoRunReport c r.text size (Window e)
+      → WhyRunFails size r (Window e)
   refused_window windows.NoClock h = refused (Window windows.NoClock) h
   refused_window windows.ClockWidth h = refused (Window windows.ClockWidth) h
   refused_window (windows.NoSignal path) h = refused (Window (windows.NoSignal path)) h
@@ -62,7 +80,8 @@ module _ (size : ℕ) (r : Run) (c : Contents) (gave : GaveDump r.given_old r.gi
   refused_window windows.BadSize h = refused (Window windows.BadSize) h
   refused_window windows.Memory h = absurd h
 
-  refused_code : (e : CodeFault) → WhyNoRunReport c r.text size (Code e) → WhyRunFails size r (Code e)
+  refused_code : (e : CodeFault) → WhyNoRunReport c r.text size (Code e)
+      → WhyRunFails size r (Code e)
   refused_code codes.Magic h = refused (Code codes.Magic) h
   refused_code codes.Version h = refused (Code codes.Version) h
   refused_code (codes.Truncated at) h = refused (Code (codes.Truncated at)) h
@@ -71,7 +90,8 @@ module _ (size : ℕ) (r : Run) (c : Contents) (gave : GaveDump r.given_old r.gi
   refused_code (codes.TrailingBytes at) h = refused (Code (codes.TrailingBytes at)) h
   refused_code codes.Memory h = absurd h
 
-  refused_program : (e : Refusal) → WhyNoRunReport c r.text size (Refused e) → WhyRunFails size r (Refused e)
+  refused_program : (e : Refusal) → WhyNoRunReport c r.text size (Refused e)
+      → WhyRunFails size r (Refused e)
   refused_program (refusals.Operand pc) h = refused (Refused (refusals.Operand pc)) h
   refused_program (refusals.Underflow pc) h = refused (Refused (refusals.Underflow pc)) h
   refused_program (refusals.Overflow pc) h = refused (Refused (refusals.Overflow pc)) h
@@ -80,12 +100,17 @@ module _ (size : ℕ) (r : Run) (c : Contents) (gave : GaveDump r.given_old r.gi
   refused_program (refusals.JoinMismatch pc) h = refused (Refused (refusals.JoinMismatch pc)) h
   refused_program (refusals.Unreached pc) h = refused (Refused (refusals.Unreached pc)) h
   refused_program (refusals.SlotRange pc) h = refused (Refused (refusals.SlotRange pc)) h
-  refused_program (refusals.HistoryTooShort least) h = refused (Refused (refusals.HistoryTooShort least)) h
-  refused_program (refusals.StackTooShort least) h = refused (Refused (refusals.StackTooShort least)) h
+  refused_program (refusals.HistoryTooShort least) h =
+      refused (Refused (refusals.HistoryTooShort least)) h
+  refused_program (refusals.StackTooShort least) h =
+      refused (Refused (refusals.StackTooShort least)) h
   refused_program (refusals.Cycle position) h = refused (Refused (refusals.Cycle position)) h
-  refused_program (refusals.PoolTooSmall pool least) h = refused (Refused (refusals.PoolTooSmall pool least)) h
-  refused_program (refusals.BudgetTooSmall least) h = refused (Refused (refusals.BudgetTooSmall least)) h
-  refused_program (refusals.LimitTooLarge field) h = refused (Refused (refusals.LimitTooLarge field)) h
+  refused_program (refusals.PoolTooSmall pool least) h =
+      refused (Refused (refusals.PoolTooSmall pool least)) h
+  refused_program (refusals.BudgetTooSmall least) h =
+      refused (Refused (refusals.BudgetTooSmall least)) h
+  refused_program (refusals.LimitTooLarge field) h =
+      refused (Refused (refusals.LimitTooLarge field)) h
   refused_program refusals.NoHalt h = refused (Refused refusals.NoHalt) h
   refused_program refusals.Memory h = absurd h
 
@@ -109,7 +134,8 @@ module _ (size : ℕ) (r : Run) (c : Contents) (gave : GaveDump r.given_old r.gi
   refused_run (File n) h = absurd h
 
 -- a dump that wasn't read refuses the run
-pub unread : (size : ℕ) (r : Run) → IsUnwritten r → (e : VcdFault) → Stands r.given_old r.given_new r.reads_old r.reads_new e → WhyRunFails size r (vcd_fault e)
+pub unread : (size : ℕ) (r : Run) → IsUnwritten r → (e : VcdFault)
+    → Stands r.given_old r.given_new r.reads_old r.reads_new e → WhyRunFails size r (vcd_fault e)
 unread size r unwritten (dumps.BadToken at) h = record { stands = h; unwritten = unwritten }
 unread size r unwritten (dumps.UnknownCode at) h = record { stands = h; unwritten = unwritten }
 unread size r unwritten (dumps.TimeBack at) h = record { stands = h; unwritten = unwritten }

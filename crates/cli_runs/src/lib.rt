@@ -1,7 +1,7 @@
 //! The call behind the command `run`: from the bytes of a dump and of a program to a report.
 //!
-//! The program is decoded, verified, and run by the machine over the dump's rows at the ticks of the
-//! clock that it names; the report has its one line.
+//! The program is decoded, verified, and run by the machine over the dump's rows at the ticks of
+//! the clock that it names; the report has its one line.
 //!
 //! ```text
 //! let totals = run_code(alloc, &mut dump, &code, 1024, &mut out)?;

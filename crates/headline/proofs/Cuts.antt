@@ -1,5 +1,29 @@
 -- What a program that runs by the meaning decides between two clocks.
-use Rattle.std.proofs.Common.{◌≡◌, ◌∙◌, ℕ, zero, suc, ◌+◌, ◌-◌, ◌<◌, ◌≤◌, Bool, true, List, [], ◌∷◌, ◌++◌, length, take, map, refl, sym, ap, subst, arith}
+use Rattle.std.proofs.Common.{
+  ◌≡◌,
+  ◌∙◌,
+  ℕ,
+  zero,
+  suc,
+  ◌+◌,
+  ◌-◌,
+  ◌<◌,
+  ◌≤◌,
+  Bool,
+  true,
+  List,
+  [],
+  ◌∷◌,
+  ◌++◌,
+  length,
+  take,
+  map,
+  refl,
+  sym,
+  ap,
+  subst,
+  arith,
+}
 use Rattle.std.specs.Prelude.{slice_index_or}
 use Rattle.std.specs.List.{range_with_len, flat_map}
 use Rattle.std.proofs.lemmas.List.{append_cancel_left, append_assoc, get_or-take, length-take-le}
@@ -29,14 +53,18 @@ use Rattle.verdict_lines.specs.Laws.{row_of}
 use Rattle.headline.specs.Headline.{fallen_between}
 
 -- lists of what falls, clock by clock, that are the same
-flat-same : (f g : ℕ → List Decided) (i k : ℕ) → ((j : ℕ) → i ≤ j → j < i + k → f j ≡ g j) → flat_map f (range_with_len i k) ≡ flat_map g (range_with_len i k)
+flat-same : (f g : ℕ → List Decided) (i k : ℕ) → ((j : ℕ) → i ≤ j → j < i + k → f j ≡ g j)
+    → flat_map f (range_with_len i k) ≡ flat_map g (range_with_len i k)
 flat-same f g i zero same = refl
 flat-same f g i (suc k) same =
     ap (λ x. x ++ flat_map f (range_with_len (i + 1) k)) (same i (omega arith) (omega arith))
-    ∙ ap (λ xs. g i ++ xs) (flat-same f g (i + 1) k (λ j from below. same j (omega arith) (omega arith)))
+    ∙ ap (λ xs. g i ++ xs)
+    (flat-same f g (i + 1) k (λ j from below. same j (omega arith) (omega arith)))
 
 -- the clocks from i on, cut behind so many
-flat-cut : (f : ℕ → List Decided) (i j k : ℕ) → flat_map f (range_with_len i j) ++ flat_map f (range_with_len (i + j) k) ≡ flat_map f (range_with_len i (j + k))
+flat-cut : (f : ℕ → List Decided) (i j k : ℕ)
+    → flat_map f (range_with_len i j) ++ flat_map f (range_with_len (i + j) k)
+    ≡ flat_map f (range_with_len i (j + k))
 flat-cut f i zero k =
     let e : i + zero ≡ i = omega arith in
     let n : k ≡ zero + k = omega arith in
@@ -44,27 +72,33 @@ flat-cut f i zero k =
 flat-cut f i (suc j) k =
     let e : i + suc j ≡ i + 1 + j = omega arith in
     let n : suc (j + k) ≡ suc j + k = omega arith in
-    append_assoc (f i) (flat_map f (range_with_len (i + 1) j)) (flat_map f (range_with_len (i + suc j) k))
+    append_assoc (f i) (flat_map f (range_with_len (i + 1) j))
+    (flat_map f (range_with_len (i + suc j) k))
     ∙ ap (λ m. f i ++ (flat_map f (range_with_len (i + 1) j) ++ flat_map f (range_with_len m k))) e
     ∙ ap (λ xs. f i ++ xs) (flat-cut f (i + 1) j k)
     ∙ ap (λ m. flat_map f (range_with_len i m)) n
 
-pub between-same : (v w : ℕ → Verdict) (n a b : ℕ) → ((c : ℕ) → c < n → v c ≡ w c) → fallen_between v n a b ≡ fallen_between w n a b
+pub between-same : (v w : ℕ → Verdict) (n a b : ℕ) → ((c : ℕ) → c < n → v c ≡ w c)
+    → fallen_between v n a b ≡ fallen_between w n a b
 between-same v w n a b same =
     flat-same (fallen v n) (fallen w n) a (b - a)
     (λ k from below.
-    select-same (λ c. falls_at k (v c)) (λ c. falls_at k (w c)) (λ c. record { start = c; verdict = v c }) (λ c. record { start = c; verdict = w c }) 0 n
+    select-same (λ c. falls_at k (v c)) (λ c. falls_at k (w c))
+    (λ c. record { start = c; verdict = v c }) (λ c. record { start = c; verdict = w c }) 0 n
     (λ c low high. ap (falls_at k) (same c (omega arith)))
     (λ c low high falls. ap (λ x. record { start = c; verdict = x }) (same c (omega arith))))
 
-pub open-same : (v w : ℕ → Verdict) (n : ℕ) → ((c : ℕ) → c < n → v c ≡ w c) → open_starts v n ≡ open_starts w n
+pub open-same : (v w : ℕ → Verdict) (n : ℕ) → ((c : ℕ) → c < n → v c ≡ w c)
+    → open_starts v n ≡ open_starts w n
 open-same v w n same =
     select-same (λ c. is_open (v c)) (λ c. is_open (w c)) (λ c. c) (λ c. c) 0 n
     (λ c low high. ap is_open (same c (omega arith)))
     (λ c low high on. refl)
 
-module _ (p : ProgramData) (rows : List (List ℕ)) (counters : ℕ → List ℕ) (atoms : ℕ → List Bool) (value : Boolean → ℕ → Bool) (r s : Seq Boolean) (accepted : IsAccepted p)
-    (samples : SamplesAs p (row_of rows) counters atoms (length rows)) (watches : Watches p atoms value r s) (fills : Fills value s) where
+module _ (p : ProgramData) (rows : List (List ℕ)) (counters : ℕ → List ℕ) (atoms : ℕ → List Bool)
+    (value : Boolean → ℕ → Bool) (r s : Seq Boolean) (accepted : IsAccepted p)
+    (samples : SamplesAs p (row_of rows) counters atoms (length rows))
+    (watches : Watches p atoms value r s) (fills : Fills value s) where
   abbrev v : ℕ → ℕ → Verdict
   v = verdict value (monitor_of p atoms).off r s
 
@@ -79,22 +113,28 @@ module _ (p : ProgramData) (rows : List (List ℕ)) (counters : ℕ → List ℕ
   first-rows : (n : ℕ) → n ≤ length rows → map (row_of rows) (range_with_len 0 n) ≡ take n rows
   first-rows n le =
       let long : length (take n rows) ≡ n = length-take-le n rows le in
-      map-same (row_of rows) (row_of (take n rows)) 0 n (λ k from below. sym (get_or-take n rows k [] (omega arith)))
+      map-same (row_of rows) (row_of (take n rows)) 0 n
+      (λ k from below. sym (get_or-take n rows k [] (omega arith)))
       ∙ ap (λ m. map (row_of (take n rows)) (range_with_len 0 m)) (sym long)
       ∙ listed (take n rows) []
 
   record Comes (n : ℕ) : Type 0 where
     last : State
-    ran : run_from p (opening p) (take n rows) ≡ done (record { state = last; decided = falls 0 n }) 0
+    ran : run_from p (opening p) (take n rows)
+        ≡ done (record { state = last; decided = falls 0 n }) 0
     live : starts_of last.standing.attempts ≡ open_starts (v n) n
 
   comes : (n : ℕ) → n ≤ length rows → Comes n
   comes n le =
-      let some : SamplesAs p (row_of rows) counters atoms n = record { opening = samples.opening; each = λ k below. samples.each k (omega arith) } in
-      let judged = by-meaning p (row_of rows) counters atoms value r s n accepted some watches fills in
+      let some : SamplesAs p (row_of rows) counters atoms n =
+      record { opening = samples.opening; each = λ k below. samples.each k (omega arith) } in
+      let judged =
+      by-meaning p (row_of rows) counters atoms value r s n accepted some watches fills in
       let all : all_fallen (v n) n ≡ falls 0 n =
       flat-same (fallen (v n) n) (fallen over (length rows)) 0 n (λ k from below.
-      sym (falling-fallen p atoms value r s accepted watches fills n k (omega arith)) ∙ falling-fallen p atoms value r s accepted watches fills (length rows) k (omega arith)) in
+      sym (falling-fallen p atoms value r s accepted watches fills n k (omega arith))
+      ∙ falling-fallen p atoms value r s accepted watches fills (length rows) k
+      (omega arith)) in
       record {
         last = judged.last;
         ran =
@@ -104,11 +144,15 @@ module _ (p : ProgramData) (rows : List (List ℕ)) (counters : ℕ → List ℕ
         live = judged.live;
       }
 
-  ends : (n : ℕ) (le : n ≤ length rows) → clocks p (opening p) (take n rows) ≡ done (comes n le).last 0
-  ends n le = ends-as p (opening p) (take n rows) ∙ ap (λ (x : Ran Outcome). and_then x (λ o left. done o.state left)) (comes n le).ran
+  ends : (n : ℕ) (le : n ≤ length rows)
+      → clocks p (opening p) (take n rows) ≡ done (comes n le).last 0
+  ends n le =
+      ends-as p (opening p) (take n rows)
+      ∙ ap (λ (x : Ran Outcome). and_then x (λ o left. done o.state left)) (comes n le).ran
 
   -- the batch of a run of clocks
-  pub batch-falls : (a b : ℕ) → a ≤ b → b ≤ length rows → batch_of p rows a b ≡ fallen_between over (length rows) a b
+  pub batch-falls : (a b : ℕ) → a ≤ b → b ≤ length rows
+      → batch_of p rows a b ≡ fallen_between over (length rows) a b
   batch-falls a b ab le =
       let la : a ≤ length rows = omega (arith, ab, le) in
       let part = rows_between rows a b in
@@ -128,10 +172,13 @@ module _ (p : ProgramData) (rows : List (List ℕ)) (counters : ℕ → List ℕ
       ap (λ (x : Ran State). decided_in (and_then x (λ q left. run_from p q part))) (ends a la)
       ∙ ap decided_in m.is
       ∙ append_cancel_left (falls 0 a) m.first.decided (falls a (b - a))
-      (told ∙ ap (falls 0) (sym e) ∙ sym (flat-cut (fallen over (length rows)) 0 a (b - a)) ∙ ap (λ i. falls 0 a ++ falls i (b - a)) z)
+      (told ∙ ap (falls 0) (sym e) ∙ sym (flat-cut (fallen over (length rows)) 0 a (b - a))
+      ∙ ap (λ i. falls 0 a ++ falls i (b - a)) z)
 
   -- the attempts that are live behind the last clock
-  pub open-live : (n : ℕ) (last : State) → n ≡ length rows → clocks p (opening p) (take n rows) ≡ done last 0 → starts_of last.standing.attempts ≡ open_starts over (length rows)
+  pub open-live : (n : ℕ) (last : State) → n ≡ length rows
+      → clocks p (opening p) (take n rows) ≡ done last 0
+      → starts_of last.standing.attempts ≡ open_starts over (length rows)
   open-live n last is h =
       let le : n ≤ length rows = omega (arith, is) in
       let c = comes n le in

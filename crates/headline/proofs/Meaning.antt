@@ -1,5 +1,28 @@
 -- The batches of a program of an assertion have its verdicts.
-use Rattle.std.proofs.Common.{◌≡◌, ◌∙◌, ℕ, zero, suc, ◌<◌, ◌≤◌, Bool, List, [], ◌∷◌, length, take, map, Option, Some, slice_get, refl, sym, ap, subst, arith}
+use Rattle.std.proofs.Common.{
+  ◌≡◌,
+  ◌∙◌,
+  ℕ,
+  zero,
+  suc,
+  ◌<◌,
+  ◌≤◌,
+  Bool,
+  List,
+  [],
+  ◌∷◌,
+  length,
+  take,
+  map,
+  Option,
+  Some,
+  slice_get,
+  refl,
+  sym,
+  ap,
+  subst,
+  arith,
+}
 use Rattle.std.specs.List.{AllByRecursion, AllZip, filter_map}
 use Rattle.std.proofs.lemmas.List.{length-map}
 use Rattle.signals.specs.declared.verdict.Verdict.{Verdict}
@@ -32,10 +55,16 @@ use Rattle.workers.specs.States.{MonitorState, BatchState, place}
 use Rattle.workers.specs.Jobs.{sampled}
 use Rattle.workers.specs.Values.{CoreValue, rows_over}
 use Rattle.workers.specs.Following.{FollowsMachine}
-use Rattle.headline.specs.Headline.{AreVerdictsOf, fallen_between, PublishesVerdicts, DecidesAsMeant}
+use Rattle.headline.specs.Headline.{
+  AreVerdictsOf,
+  fallen_between,
+  PublishesVerdicts,
+  DecidesAsMeant,
+}
 use Rattle.headline.proofs.Cuts as cuts
 
-module _ (suite : Suite) (a : Assertion) (p : ProgramData) (of : IsProgramOf suite a p) (rows : List (List ℕ)) (fit : AreRowsOf suite rows) (accepted : IsAccepted p)
+module _ (suite : Suite) (a : Assertion) (p : ProgramData) (of : IsProgramOf suite a p)
+    (rows : List (List ℕ)) (fit : AreRowsOf suite rows) (accepted : IsAccepted p)
     (verdict_at : ℕ → Verdict) (are : AreVerdictsOf suite rows a verdict_at) where
   abbrev own : List (List ℕ)
   own = map (picked of.layout.signals) rows
@@ -50,30 +79,44 @@ module _ (suite : Suite) (a : Assertion) (p : ProgramData) (of : IsProgramOf sui
   atoms = made.atoms suite a p of rows fit
 
   samples : SamplesAs p (row_of own) (made.counters suite a p of rows fit) atoms (length own)
-  samples = subst (λ n. SamplesAs p (row_of own) (made.counters suite a p of rows fit) atoms n) long (made.samples suite a p of rows fit accepted)
+  samples =
+      subst (λ n. SamplesAs p (row_of own) (made.counters suite a p of rows fit) atoms n) long
+      (made.samples suite a p of rows fit accepted)
 
   -- the verdict that is computed
   abbrev meant : ℕ → Verdict
-  meant = verdict value (monitor_of p atoms).off (shape a.antecedent) (shape a.consequent) (length own)
+  meant =
+      verdict value (monitor_of p atoms).off (shape a.antecedent) (shape a.consequent) (length own)
 
   same : (c : ℕ) → c < length own → meant c ≡ verdict_at c
   same c below =
-      IsVerdict-only Boolean value (monitor_of p atoms).off (shape a.antecedent) (shape a.consequent) (length own) c (verdict_at c)
-      (subst (λ n. IsVerdict value (monitor_of p atoms).off (shape a.antecedent) (shape a.consequent) n c (verdict_at c)) long
-      (subst (λ (off : ℕ → Bool). IsVerdict value off (shape a.antecedent) (shape a.consequent) (length rows) c (verdict_at c)) (decides.same-off suite a p of rows fit)
+      IsVerdict-only Boolean value (monitor_of p atoms).off (shape a.antecedent)
+      (shape a.consequent) (length own) c (verdict_at c)
+      (subst (λ n. IsVerdict value (monitor_of p atoms).off (shape a.antecedent)
+      (shape a.consequent) n c (verdict_at c)) long
+      (subst (λ (off : ℕ → Bool).
+      IsVerdict value off (shape a.antecedent) (shape a.consequent) (length rows) c
+      (verdict_at c)) (decides.same-off suite a p of rows fit)
       (are c (omega (arith, below, long)))))
 
-  pub batch-is : (x y : ℕ) → x ≤ y → y ≤ length rows → batch_of p own x y ≡ fallen_between verdict_at (length rows) x y
+  pub batch-is : (x y : ℕ) → x ≤ y → y ≤ length rows
+      → batch_of p own x y ≡ fallen_between verdict_at (length rows) x y
   batch-is x y le within =
-      cuts.batch-falls p own (made.counters suite a p of rows fit) atoms value (shape a.antecedent) (shape a.consequent) accepted samples
-      (decides.watches suite a p of rows fit) (decides.fills suite a p of rows fit) x y le (omega (arith, within, long))
+      cuts.batch-falls p own (made.counters suite a p of rows fit) atoms value (shape a.antecedent)
+      (shape a.consequent) accepted samples
+      (decides.watches suite a p of rows fit) (decides.fills suite a p of rows fit) x y le
+      (omega (arith, within, long))
       ∙ cuts.between-same meant verdict_at (length own) x y same
       ∙ ap (λ n. fallen_between verdict_at n x y) (sym long)
 
-  pub live-is : (n : ℕ) (last : State) → n ≡ length rows → clocks p (opening p) (take n own) ≡ done last 0 → starts_of last.standing.attempts ≡ open_starts verdict_at (length rows)
+  pub live-is : (n : ℕ) (last : State) → n ≡ length rows
+      → clocks p (opening p) (take n own) ≡ done last 0
+      → starts_of last.standing.attempts ≡ open_starts verdict_at (length rows)
   live-is n last is h =
-      cuts.open-live p own (made.counters suite a p of rows fit) atoms value (shape a.antecedent) (shape a.consequent) accepted samples
-      (decides.watches suite a p of rows fit) (decides.fills suite a p of rows fit) n last (is ∙ long) h
+      cuts.open-live p own (made.counters suite a p of rows fit) atoms value (shape a.antecedent)
+      (shape a.consequent) accepted samples
+      (decides.watches suite a p of rows fit) (decides.fills suite a p of rows fit) n last
+      (is ∙ long) h
       ∙ cuts.open-same meant verdict_at (length own) same
       ∙ ap (open_starts verdict_at) (sym long)
 
@@ -83,34 +126,43 @@ record Runs (ms : List MonitorState) (i : ℕ) (p : ProgramData) : Type 0 where
   at : slice_get ms i ≡ Some monitor
   is : monitor.program ≡ p
 
-runs : (ms : List MonitorState) (i : ℕ) (p : ProgramData) → slice_get (map (λ (m : MonitorState). m.program) ms) i ≡ Some p → Runs ms i p
+runs : (ms : List MonitorState) (i : ℕ) (p : ProgramData)
+    → slice_get (map (λ (m : MonitorState). m.program) ms) i ≡ Some p → Runs ms i p
 runs [] i p h = absurd cc
 runs (m ∷ ms) zero p h = let e : m.program ≡ p = cc in record { monitor = m; at = refl; is = e }
-runs (m ∷ ms) (suc i) p h = let r = runs ms i p h in record { monitor = r.monitor; at = r.at; is = r.is }
+runs (m ∷ ms) (suc i) p h =
+    let r = runs ms i p h in record { monitor = r.monitor; at = r.at; is = r.is }
 
 pub as-meant : (v : CoreValue) (c : Contents) → FollowsMachine v c → DecidesAsMeant v c
 as-meant v c follows number p is suite a of signals named watched verdict_at are =
     let code = v.job.code in
     let rows = rows_at c signals code in
-    let run = runs v.state.monitors number p (ap (λ (ps : List ProgramData). slice_get ps number) follows.programs ∙ is) in
-    let accepted : IsAccepted p = subst IsAccepted run.is (follows.accepted number run.monitor run.at) in
+    let run =
+    runs v.state.monitors number p
+    (ap (λ (ps : List ProgramData). slice_get ps number) follows.programs ∙ is) in
+    let accepted : IsAccepted p =
+    subst IsAccepted run.is (follows.accepted number run.monitor run.at) in
     let fit = are-rows c suite signals code named watched in
-    let own : rows_over v.job c p ≡ map (picked of.layout.signals) rows = own-rows c code suite p signals of.layout.signals named watched of.slots in
+    let own : rows_over v.job c p ≡ map (picked of.layout.signals) rows =
+    own-rows c code suite p signals of.layout.signals named watched of.slots in
     let ticks : length rows ≡ length (ticks_of c code) = length-map (ticks_of c code) _ in
     record {
       batches = λ n b at mine.
           let found = follows.batches n b at in
           let q : ProgramData = found.0 in
-          let program : q ≡ p = some-one q p (sym found.1.program ∙ ap (slice_get v.job.programs) mine ∙ is) in
+          let program : q ≡ p =
+          some-one q p (sym found.1.program ∙ ap (slice_get v.job.programs) mine ∙ is) in
           found.1.decided
           ∙ ap (λ (x : ProgramData). batch_of x (rows_over v.job c x) b.first b.end) program
           ∙ ap (λ (rs : List (List ℕ)). batch_of p rs b.first b.end) own
-          ∙ batch-is suite a p of rows fit accepted verdict_at are b.first b.end found.1.order (omega (arith, found.1.within, ticks));
+          ∙ batch-is suite a p of rows fit accepted verdict_at are b.first b.end found.1.order
+          (omega (arith, found.1.within, ticks));
       live = λ m at here.
           let one : run.monitor ≡ m = some-one run.monitor m (sym run.at ∙ at) in
           let program : m.program ≡ p = ap (λ (x : MonitorState). x.program) (sym one) ∙ run.is in
           live-is suite a p of rows fit accepted verdict_at are (place m) m.state here
           (ap (λ (rs : List (List ℕ)). clocks p (opening p) (take (place m) rs)) (sym own)
-          ∙ ap (λ (x : ProgramData). clocks x (opening x) (take (place m) (rows_over v.job c x))) (sym program)
+          ∙ ap (λ (x : ProgramData). clocks x (opening x) (take (place m) (rows_over v.job c x)))
+          (sym program)
           ∙ follows.monitors number m at);
     }

@@ -6,4 +6,5 @@ use Rattle.cli.proofs.build.assertion_named.Given as goal
 -- no assertion so far has the name
 abbrev pub invariant-loop-assertion : goal.invariant-loop-assertion
 invariant-loop-assertion l =
-    AllByRecursion (λ (a : Assertion). string_bytes a.name ≡ l.name → ⊥) (take l.assertion-index l.suite.assertions.items)
+    AllByRecursion (λ (a : Assertion). string_bytes a.name ≡ l.name → ⊥)
+    (take l.assertion-index l.suite.assertions.items)

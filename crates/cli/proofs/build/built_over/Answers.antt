@@ -9,15 +9,22 @@ pub program_named-requires : goal.program_named-requires
 program_named-requires c =
     let k = c.requires.held.0 in
     let holds = c.requires.held.1 in
-    all_fit c.suite_law.ensures k c.args.text.now (items_of c.in-Ok.file) c.in_ok-suite.suite c.in-Ok.ensures.ok (c.in_ok-suite.ensures.ok k holds)
+    all_fit c.suite_law.ensures k c.args.text.now (items_of c.in-Ok.file) c.in_ok-suite.suite
+    c.in-Ok.ensures.ok (c.in_ok-suite.ensures.ok k holds)
 
 pub returns-clause-ok : goal.returns-clause-ok
 returns-clause-ok c = λ k holds.
     let text = c.args.text.now in
     let name = c.args.name.now in
     let suite = c.in_ok-suite.suite in
-    let says : SaysSuite k text suite = record { items = items_of c.in-Ok.file; spelled = c.in-Ok.ensures.ok; typed = c.in_ok-suite.ensures.ok k holds } in
-    ok_kept c.program_named.result (λ v. IsSpelledProgram suite name v.items) (λ v. IsBuilt k text name v.items)
+    let says : SaysSuite k text suite =
+    record {
+      items = items_of c.in-Ok.file;
+      spelled = c.in-Ok.ensures.ok;
+      typed = c.in_ok-suite.ensures.ok k holds;
+    } in
+    ok_kept c.program_named.result (λ v. IsSpelledProgram suite name v.items)
+    (λ v. IsBuilt k text name v.items)
     (λ v h. record { suite = suite; says = says; is = h }) c.program_named.ensures.ok
 
 pub returns-clause-err : goal.returns-clause-err
@@ -25,6 +32,11 @@ returns-clause-err c = λ k holds.
     let text = c.args.text.now in
     let name = c.args.name.now in
     let suite = c.in_ok-suite.suite in
-    let says : SaysSuite k text suite = record { items = items_of c.in-Ok.file; spelled = c.in-Ok.ensures.ok; typed = c.in_ok-suite.ensures.ok k holds } in
+    let says : SaysSuite k text suite =
+    record {
+      items = items_of c.in-Ok.file;
+      spelled = c.in-Ok.ensures.ok;
+      typed = c.in_ok-suite.ensures.ok k holds;
+    } in
     err_kept c.program_named.result (WhyNoProgram suite name) (WhyNotBuilt k text name)
     (λ e h. without_program k text name suite e says h) c.program_named.ensures.err

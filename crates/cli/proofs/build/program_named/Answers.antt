@@ -12,15 +12,18 @@ use Rattle.cli.proofs.build.program_named.Goals as goal
 pub compile-requires : goal.compile-requires
 compile-requires c =
     let suite = c.args.suite.now in
-    all-at (IsFit suite) suite.assertions.items c.requires c.in-Some.ensures.place c.in-Some.assertion.now c.in-Some.ensures.is
+    all-at (IsFit suite) suite.assertions.items c.requires c.in-Some.ensures.place
+    c.in-Some.assertion.now c.in-Some.ensures.is
 
 pub returns-in_err-verified-clause-err : goal.returns-in_err-verified-clause-err
 returns-in_err-verified-clause-err c =
     let suite = c.args.suite.now in
     let name = c.args.name.now in
     let fault = c.in_err-verified.field-0.0 in
-    err_is c.from_residual-in_err-verified.result (compile_fault fault) (WhyNoProgram suite name) c.from_residual-in_err-verified.ensures.1
-    (unnamed suite name c.in-Some.assertion.now fault c.in-Some.ensures c.in_err-verified.ensures.refused)
+    err_is c.from_residual-in_err-verified.result (compile_fault fault) (WhyNoProgram suite name)
+    c.from_residual-in_err-verified.ensures.1
+    (unnamed suite name c.in-Some.assertion.now fault c.in-Some.ensures
+    c.in_err-verified.ensures.refused)
 
 pub returns-clause-ok : goal.returns-clause-ok
 returns-clause-ok c =

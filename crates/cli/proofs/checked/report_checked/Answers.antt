@@ -17,10 +17,18 @@ returns-in_err-clocks-clause-err c = λ k holds.
     let d = c.args.dump in
     let text = c.args.text.now in
     let suite = c.in_ok-suite.suite in
-    let says : SaysSuite k text suite = record { items = items_of c.in-Ok.file; spelled = c.in-Ok.ensures.ok; typed = c.in_ok-suite.ensures.ok k holds } in
+    let says : SaysSuite k text suite =
+    record {
+      items = items_of c.in-Ok.file;
+      spelled = c.in-Ok.ensures.ok;
+      typed = c.in_ok-suite.ensures.ok k holds;
+    } in
     let fault = c.in_err-clocks.field-0.0 in
-    let why = clock_of d k c.clock.result.now (string_bytes suite.clock) (λ vs p. IsClockFault vs p fault) holds c.clock.ensures c.in_err-clocks.ensures.fault in
-    err_is c.from_residual-in_err-clocks.result (window_fault fault) (WhyNoneByPrograms k text) c.from_residual-in_err-clocks.ensures.1
+    let why =
+    clock_of d k c.clock.result.now (string_bytes suite.clock) (λ vs p. IsClockFault vs p fault)
+    holds c.clock.ensures c.in_err-clocks.ensures.fault in
+    err_is c.from_residual-in_err-clocks.result (window_fault fault) (WhyNoneByPrograms k text)
+    c.from_residual-in_err-clocks.ensures.1
     (none_by_programs k text (window_fault fault) (unclocked k text suite fault says why))
 
 pub report_by_programs-requires-clause-watched : goal.report_by_programs-requires-clause-watched
@@ -29,24 +37,37 @@ report_by_programs-requires-clause-watched c =
     let holds = c.requires.held.1 in
     let suite = c.in_ok-suite.suite in
     all_watched (variables_of c.args.dump) suite.names.items
-    (are_named k (variables_of c.args.dump) (items_of c.in-Ok.file) suite holds.variables (c.in_ok-suite.ensures.ok k holds))
+    (are_named k (variables_of c.args.dump) (items_of c.in-Ok.file) suite holds.variables
+    (c.in_ok-suite.ensures.ok k holds))
 
 pub report_by_programs-requires-clause-fit : goal.report_by_programs-requires-clause-fit
 report_by_programs-requires-clause-fit c =
     let k = c.requires.held.0 in
     let holds = c.requires.held.1 in
-    all_fit c.suite_law.ensures k c.args.text.now (items_of c.in-Ok.file) c.in_ok-suite.suite c.in-Ok.ensures.ok (c.in_ok-suite.ensures.ok k holds)
+    all_fit c.suite_law.ensures k c.args.text.now (items_of c.in-Ok.file) c.in_ok-suite.suite
+    c.in-Ok.ensures.ok (c.in_ok-suite.ensures.ok k holds)
 
 pub returns-in_err-report_by_programs-clause-err : goal.returns-in_err-report_by_programs-clause-err
 returns-in_err-report_by_programs-clause-err c = λ k holds.
     let d = c.args.dump in
     let text = c.args.text.now in
     let suite = c.in_ok-suite.suite in
-    let says : SaysSuite k text suite = record { items = items_of c.in-Ok.file; spelled = c.in-Ok.ensures.ok; typed = c.in_ok-suite.ensures.ok k holds } in
+    let says : SaysSuite k text suite =
+    record {
+      items = items_of c.in-Ok.file;
+      spelled = c.in-Ok.ensures.ok;
+      typed = c.in_ok-suite.ensures.ok k holds;
+    } in
     let fault = c.in_err-report_by_programs.field-0.0 in
-    let clock = clock_of d k c.clock.result.now (string_bytes suite.clock) (λ vs p. IsClock vs p (code_in c.in_ok-clocks.clocks)) holds c.clock.ensures c.in_ok-clocks.ensures.clock in
-    err_is c.from_residual-in_err-report_by_programs.result (lines_fault fault) (WhyNoneByPrograms k text) c.from_residual-in_err-report_by_programs.ensures.1
-    (uncompiled k text suite fault says (has_clock k.variables (string_bytes suite.clock) (code_in c.in_ok-clocks.clocks) clock) c.in_err-report_by_programs.ensures.err)
+    let clock =
+    clock_of d k c.clock.result.now (string_bytes suite.clock)
+    (λ vs p. IsClock vs p (code_in c.in_ok-clocks.clocks)) holds c.clock.ensures
+    c.in_ok-clocks.ensures.clock in
+    err_is c.from_residual-in_err-report_by_programs.result (lines_fault fault)
+    (WhyNoneByPrograms k text) c.from_residual-in_err-report_by_programs.ensures.1
+    (uncompiled k text suite fault says
+    (has_clock k.variables (string_bytes suite.clock) (code_in c.in_ok-clocks.clocks) clock)
+    c.in_err-report_by_programs.ensures.err)
 
 pub returns-clause-ok : goal.returns-clause-ok
 returns-clause-ok c = λ k holds.
@@ -55,7 +76,9 @@ returns-clause-ok c = λ k holds.
     let items = items_of c.in-Ok.file in
     let typed = c.in_ok-suite.ensures.ok k holds in
     let code = code_in c.in_ok-clocks.clocks in
-    let clock = clock_of d k c.clock.result.now (string_bytes suite.clock) (λ vs p. IsClock vs p code) holds c.clock.ensures c.in_ok-clocks.ensures.clock in
+    let clock =
+    clock_of d k c.clock.result.now (string_bytes suite.clock) (λ vs p. IsClock vs p code) holds
+    c.clock.ensures c.in_ok-clocks.ensures.clock in
     record {
       suite = suite;
       says = record { items = items; spelled = c.in-Ok.ensures.ok; typed = typed };

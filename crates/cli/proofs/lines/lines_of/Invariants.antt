@@ -6,4 +6,5 @@ use Rattle.cli.proofs.lines.lines_of.Given as goal
 -- the lines so far
 abbrev pub invariant-loop-assertion : goal.invariant-loop-assertion
 invariant-loop-assertion l =
-    AreLinesOver l.suite l.rows.signals (take l.assertion-index l.suite.assertions.items) (map line l.lines.items)
+    AreLinesOver l.suite l.rows.signals (take l.assertion-index l.suite.assertions.items)
+    (map line l.lines.items)

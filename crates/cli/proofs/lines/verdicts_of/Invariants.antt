@@ -8,5 +8,7 @@ use Rattle.cli.proofs.lines.verdicts_of.Given as goal
 abbrev pub invariant-loop-tick : goal.invariant-loop-tick
 invariant-loop-tick l = record {
   long : length l.verdicts.items ≡ l.tick;
-  each : (k : ℕ) → k < l.tick → IsVerdictOver l.suite l.rows.signals l.assertion k (slice_index_or l.verdicts.items k outcome.Open);
+  each : (k : ℕ) → k < l.tick
+      → IsVerdictOver l.suite l.rows.signals l.assertion k
+      (slice_index_or l.verdicts.items k outcome.Open);
 }

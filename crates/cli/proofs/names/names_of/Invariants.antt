@@ -11,4 +11,7 @@ use Rattle.cli.proofs.names.names_of.Given as goal
 -- what is left decides
 abbrev pub invariant-loop-name : goal.invariant-loop-name
 invariant-loop-name l =
-    (q : List ℕ) → first_of (look_up (names_in l.names) q) (known (variables_of l.dump) (map (λ (n : Name). n.path.items) (drop l.name-index l.name-items)) q) ≡ width_named (variables_of l.dump) q
+    (q : List ℕ) → first_of (look_up (names_in l.names) q)
+    (known (variables_of l.dump)
+    (map (λ (n : Name). n.path.items) (drop l.name-index l.name-items)) q)
+    ≡ width_named (variables_of l.dump) q

@@ -13,9 +13,15 @@ returns-clause-ok c = λ k holds.
     let suite = c.args.suite.now in
     let names = suite.names.items in
     let code = code_in c.in-Ok.clocks in
-    let clock = subst (λ (p : List ℕ). IsClock (variables_of c.args.dump.now) p code) c.as_str.ensures.value c.in-Ok.ensures.clock in
+    let clock =
+    subst (λ (p : List ℕ). IsClock (variables_of c.args.dump.now) p code) c.as_str.ensures.value
+    c.in-Ok.ensures.clock in
     reports k suite code c.in_ok-rows.rows (data_of c.in_ok-report_over.field-0)
-    (subst (λ (vs : List Declared). IsClock vs (string_bytes suite.clock) code) holds.variables clock)
-    (have_places k.variables names (subst (λ (vs : List Declared). AreNamed vs names) holds.variables c.requires.named))
-    (λ signals named. c.in_ok-rows.ensures k signals holds (ap (λ (vs : List Declared). named_by vs names) holds.variables ∙ named))
+    (subst (λ (vs : List Declared). IsClock vs (string_bytes suite.clock) code) holds.variables
+    clock)
+    (have_places k.variables names
+    (subst (λ (vs : List Declared). AreNamed vs names) holds.variables c.requires.named))
+    (λ signals named.
+    c.in_ok-rows.ensures k signals holds
+    (ap (λ (vs : List Declared). named_by vs names) holds.variables ∙ named))
     c.in_ok-report_over.ensures

@@ -5,4 +5,5 @@ use Rattle.cli.proofs.report.signals_of.Given as goal
 
 -- the signals so far
 abbrev pub invariant-loop-name : goal.invariant-loop-name
-invariant-loop-name l = map wanted_of l.signals.items ≡ map wanted_in_suite (take l.name-index l.names)
+invariant-loop-name l =
+    map wanted_of l.signals.items ≡ map wanted_in_suite (take l.name-index l.names)

@@ -10,19 +10,31 @@ pub report_on-requires-clause-named : goal.report_on-requires-clause-named
 report_on-requires-clause-named c =
     let k = c.requires.held.0 in
     let holds = c.requires.held.1 in
-    are_named k (variables_of c.args.dump.now) (items_of c.in-Ok.file) c.in_ok-suite.suite holds.variables (c.in_ok-suite.ensures.ok k holds)
+    are_named k (variables_of c.args.dump.now) (items_of c.in-Ok.file) c.in_ok-suite.suite
+    holds.variables (c.in_ok-suite.ensures.ok k holds)
 
 pub returns-in_err-report_on-clause-err : goal.returns-in_err-report_on-clause-err
 returns-in_err-report_on-clause-err c = λ k holds.
     let suite = c.in_ok-suite.suite in
-    let says : SaysSuite k c.args.text.now suite = record { items = items_of c.in-Ok.file; spelled = c.in-Ok.ensures.ok; typed = c.in_ok-suite.ensures.ok k holds } in
+    let says : SaysSuite k c.args.text.now suite =
+    record {
+      items = items_of c.in-Ok.file;
+      spelled = c.in-Ok.ensures.ok;
+      typed = c.in_ok-suite.ensures.ok k holds;
+    } in
     let fault = c.in_err-report_on.field-0.0 in
-    err_is c.from_residual-in_err-report_on.result (window_fault fault) (WhyNoReport k c.args.text.now) c.from_residual-in_err-report_on.ensures.1
+    err_is c.from_residual-in_err-report_on.result (window_fault fault)
+    (WhyNoReport k c.args.text.now) c.from_residual-in_err-report_on.ensures.1
     (unclocked k c.args.text.now suite fault says (c.in_err-report_on.ensures.err k holds))
 
 pub returns-clause-ok : goal.returns-clause-ok
 returns-clause-ok c = λ k holds. record {
   suite = c.in_ok-suite.suite;
-  says = record { items = items_of c.in-Ok.file; spelled = c.in-Ok.ensures.ok; typed = c.in_ok-suite.ensures.ok k holds };
+  says =
+      record {
+        items = items_of c.in-Ok.file;
+        spelled = c.in-Ok.ensures.ok;
+        typed = c.in_ok-suite.ensures.ok k holds;
+      };
   reports = c.in_ok-report_on.ensures.ok k holds;
 }

@@ -10,5 +10,10 @@ pub returns-in_err-parse-clause-err : goal.returns-in_err-parse-clause-err
 returns-in_err-parse-clause-err c =
     let text = c.args.text.now in
     let fault = c.in_err-parse.field-0.0 in
-    let cut : AreTokens text c.as_slice.result.now = c.in_ok-tokens.ensures.tokens ∙ ap (λ ts. Ok (map cut_of ts)) (sym c.as_slice.ensures.value) in
-    err_is c.from_residual-in_err-parse.result (parse_fault fault) (WhyNoItems text) c.from_residual-in_err-parse.ensures.1 (unparsed text c.as_slice.result.now fault cut c.in_err-parse.ensures.err c.in_err-parse.ensures.placed)
+    let cut : AreTokens text c.as_slice.result.now =
+    c.in_ok-tokens.ensures.tokens
+    ∙ ap (λ ts. Ok (map cut_of ts)) (sym c.as_slice.ensures.value) in
+    err_is c.from_residual-in_err-parse.result (parse_fault fault) (WhyNoItems text)
+    c.from_residual-in_err-parse.ensures.1
+    (unparsed text c.as_slice.result.now fault cut c.in_err-parse.ensures.err
+    c.in_err-parse.ensures.placed)

@@ -16,6 +16,8 @@ returns-in_err-write_limits-clause-refused g c =
     let after = g.W.Sink.failures c.write_limits.new.out in
     let v = verification_of c.args.bytes.now old new before after in
     let fault = c.in_err-write_limits.field-0.0 in
-    err_is c.from_residual-in_err-write_limits.result (report_fault fault) (WhyNotTold v) c.from_residual-in_err-write_limits.ensures.1
+    err_is c.from_residual-in_err-write_limits.result (report_fault fault) (WhyNotTold v)
+    c.from_residual-in_err-write_limits.ensures.1
     (unwritten_line v c.in_ok-verified.verified fault c.in_ok-verified.ensures.ok
-    (subst (λ (l : Limits). WhyUnwritten old new before after (limits_text l) fault) c.limits.ensures c.in_err-write_limits.ensures.refused))
+    (subst (λ (l : Limits). WhyUnwritten old new before after (limits_text l) fault)
+    c.limits.ensures c.in_err-write_limits.ensures.refused))

@@ -26,7 +26,11 @@ returns-in-Ok-write_report-clause-answered g c =
 pub returns-clause-refused : goal.returns-clause-refused
 returns-clause-refused g c =
     let read = c.in_ok-dump.ensures.accepted in
-    let why = subst (λ e. WhyUnwritten (g.W.Sink.contents c.args.out.now) (g.W.Sink.contents c.write_report.new.out) (g.W.Sink.failures c.args.out.now) (g.W.Sink.failures c.write_report.new.out) (report_text (data_of c.in-Ok.report)) e) c.in-Err-Write.field-0-is c.in-Err-Write.ensures.refused in
+    let why =
+    subst (λ e. WhyUnwritten (g.W.Sink.contents c.args.out.now)
+    (g.W.Sink.contents c.write_report.new.out) (g.W.Sink.failures c.args.out.now)
+    (g.W.Sink.failures c.write_report.new.out) (report_text (data_of c.in-Ok.report)) e)
+    c.in-Err-Write.field-0-is c.in-Err-Write.ensures.refused in
     record {
       bytes = read.1.0;
       gave = read.1.1;
