@@ -2,7 +2,7 @@
 #![tactic(auto)]
 
 use anyhow::{Result, bail};
-use cycle_window::{Clocks, Columns, WatchedSignal};
+use cycle_window::{Clocks, Columns, WatchedSignal, Window};
 use signals::Counted;
 use std::alloc::Global;
 use std::fs::File;
@@ -33,7 +33,8 @@ fn signals_of(alloc: Global, names: &[Name]) -> Result<Vec<WatchedSignal<'_>>> {
     Ok(signals)
 }
 
-/// Builds the rows of all signals at the ticks of a clock, and says how many ticks there are.
+/// Reads the rows of all signals at the ticks of a clock, window by window, and says how many ticks
+/// there are.
 fn rows_of(alloc: Global, dump: &Dump, clock: &str) -> Result<u64> {
     let clocks = match Clocks::of(alloc, dump, clock) {
         Ok(clocks) => clocks,
@@ -41,10 +42,22 @@ fn rows_of(alloc: Global, dump: &Dump, clock: &str) -> Result<u64> {
     };
     let names = dump.names(alloc)?;
     let signals = signals_of(alloc, &names)?;
-    match Columns::bind(alloc, dump, &clocks, &signals) {
-        Ok(_columns) => Ok(clocks.len()),
+    let columns = match Columns::bind(alloc, dump, &clocks, &signals) {
+        Ok(columns) => columns,
         Err(fault) => bail!("{fault}"),
+    };
+    let mut window = match Window::new(alloc, 1024, columns) {
+        Ok(window) => window,
+        Err(fault) => bail!("{fault}"),
+    };
+    for _ in 0..clocks.len() {
+        let (_, end) = window.bounds();
+        if end >= clocks.len() {
+            break;
+        }
+        window.slide(dump, &clocks);
     }
+    Ok(clocks.len())
 }
 
 fn main(rt: HostRuntime) -> Result<()> {

@@ -9,12 +9,11 @@ ghost use Rattle.cycle_window.specs.Held.{AreClocksOf, code_in};
 ghost use Rattle.cycle_window.specs.Signals.{wanted_of};
 ghost use Rattle.cycle_window.specs.Ticks.{ticks_of, row_of};
 ghost use Rattle.verdicts.specs.Shown.{data_of};
-ghost use Rattle.cycle_window.specs.declared.fault.WindowFault.TheVariants.{Memory};
 ghost use Rattle.cli.specs.Named.{AreNamed, wanted_in_suite};
 ghost use Rattle.cli.specs.Reported.{OverRows, Reports};
 
 use crate::lines::lines_of;
-use crate::sampled::rows_through;
+use crate::sampled::{rows_through, want_of_memory};
 use assertions::Suite;
 use cycle_window::{Clocks, Columns, WatchedSignal, WindowFault};
 use expressions::{Table, count};
@@ -48,16 +47,6 @@ fn signals_of<'s>(
     Ok(signals)
 }
 
-/// The fault of signals that all name variables of their widths.
-fn want_of_memory(fault: WindowFault) -> AllocError
-    requires { fault ≡ Memory }
-{
-    match fault {
-        WindowFault::Memory => AllocError,
-        _ => unreachable!(),
-    }
-}
-
 /// The rows of a suite's signals at the ticks of its clock.
 fn rows_of(
     alloc: Global,
@@ -70,7 +59,9 @@ fn rows_of(
     requires most { size ≤ 65536 }
     requires clocks { AreClocksOf dump.now clocks.now }
     requires named { AreNamed (variables_of dump.now) suite.now.names.items }
-    ensures { (c : Contents) (signals : List ℕ) → HoldsContents dump.now c → map (λ s. variable_named (variables_of dump.now) (string_bytes s.path)) suite.now.names.items ≡ map (λ v. Some v) signals
+    ensures { (c : Contents) (signals : List ℕ) → HoldsContents dump.now c
+        → map (λ s. variable_named (variables_of dump.now) (string_bytes s.path))
+            suite.now.names.items ≡ map (λ v. Some v) signals
         → IfOk result (λ rows. rows ≡ map (row_of c signals) (ticks_of c (code_in clocks.now))) }
 {
     let signals = signals_of(alloc, suite.names.as_slice())?;
@@ -90,8 +81,10 @@ pub(crate) fn report_on(
     requires some { 1 ≤ size }
     requires most { size ≤ 65536 }
     requires named { AreNamed (variables_of dump.now) suite.now.names.items }
-    ensures ok { (c : Contents) → HoldsContents dump.now c → IfOk result (λ r. Reports c suite.now (data_of r)) }
-    ensures err { (c : Contents) → HoldsContents dump.now c → IfErr result (IsClockFault c.variables (string_bytes suite.now.clock)) }
+    ensures ok { (c : Contents) → HoldsContents dump.now c
+        → IfOk result (λ r. Reports c suite.now (data_of r)) }
+    ensures err { (c : Contents) → HoldsContents dump.now c
+        → IfErr result (IsClockFault c.variables (string_bytes suite.now.clock)) }
 {
     let clocks = match Clocks::of(alloc, dump, suite.clock.as_str()) {
         Ok(clocks) => clocks,

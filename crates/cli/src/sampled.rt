@@ -3,22 +3,37 @@
 ghost use Rattle.std.specs.Prelude.{◌≡◌, ℕ, ◌+◌, ◌<◌, ◌≤◌, IfOk, OnOk, map, take, length};
 ghost use Rattle.vcd_reader.specs.Dump.{Contents};
 ghost use Rattle.vcd_reader.specs.Held.{HoldsContents};
+ghost use Rattle.cycle_window.specs.declared.fault.WindowFault.TheVariants.{Memory};
 ghost use Rattle.cycle_window.specs.Ticks.{ticks_of, row_of};
-ghost use Rattle.cycle_window.specs.Held.{ticks_in, code_in, places_in, clock_in, columns_in, first_in, end_in, AreClocksOf, AreColumnsOf, IsOver};
+ghost use Rattle.cycle_window.specs.Held.{ticks_in, code_in, dump_in, places_in, clock_in};
+ghost use Rattle.cycle_window.specs.Held.{columns_in, first_in, end_in};
+ghost use Rattle.cycle_window.specs.Held.{AreClocksOf, AreColumnsOf, IsOver};
 
-use cycle_window::{Clocks, Columns, Window};
+use cycle_window::{Clocks, Columns, Window, WindowFault};
 use expressions::Table;
 use std::alloc::{AllocError, Global};
 use vcd_reader::Dump;
 
+/// The fault of signals that all name variables of their widths, and of a window of a good size.
+pub(crate) fn want_of_memory(fault: WindowFault) -> AllocError
+    requires { fault ≡ Memory }
+{
+    match fault {
+        WindowFault::Memory => AllocError,
+        _ => unreachable!(),
+    }
+}
+
 /// Adds the rows of a window behind those of the clocks before it.
-fn push_rows(alloc: Global, rows: &mut Table, window: &Window) -> Result<(), AllocError>
+fn push_rows(alloc: Global, rows: &mut Table, window: &Window<'_>) -> Result<(), AllocError>
     requires order { first_in window.now ≤ end_in window.now }
     requires behind { length rows.old ≡ first_in window.now }
     ensures long { OnOk result (length rows.new ≡ end_in window.now) }
     ensures rows { OnOk result ((c : Contents) → IsOver window.now c
-        → rows.old ≡ map (row_of c (places_in (columns_in window.now))) (take (first_in window.now) (ticks_of c (clock_in (columns_in window.now))))
-        → rows.new ≡ map (row_of c (places_in (columns_in window.now))) (take (end_in window.now) (ticks_of c (clock_in (columns_in window.now))))) }
+        → rows.old ≡ map (row_of c (places_in (columns_in window.now)))
+            (take (first_in window.now) (ticks_of c (clock_in (columns_in window.now))))
+        → rows.new ≡ map (row_of c (places_in (columns_in window.now)))
+            (take (end_in window.now) (ticks_of c (clock_in (columns_in window.now))))) }
 {
     let (first, end) = window.bounds();
     for clock in first..end {
@@ -28,23 +43,27 @@ fn push_rows(alloc: Global, rows: &mut Table, window: &Window) -> Result<(), All
     Ok(())
 }
 
-/// The rows of the columns at all ticks of their clock, read through windows of so many clocks, 1 to 65,536.
+/// The rows of the columns at all ticks of their clock, read through windows of so many clocks, 1
+/// to 65,536.
 pub(crate) fn rows_through(
     alloc: Global,
     dump: &Dump,
     clocks: &Clocks,
-    columns: Columns,
+    columns: Columns<'_>,
     size: usize,
 ) -> Result<Table, AllocError>
     requires some { 1 ≤ size }
     requires most { size ≤ 65536 }
     requires clocks { AreClocksOf dump.now clocks.now }
+    requires dump { dump_in columns ≡ dump.now }
     requires clock { clock_in columns ≡ code_in clocks.now }
     requires columns { (c : Contents) → HoldsContents dump.now c → AreColumnsOf columns c }
-    ensures { IfOk result (λ rows. (c : Contents) → HoldsContents dump.now c → rows ≡ map (row_of c (places_in columns)) (ticks_of c (code_in clocks.now))) }
+    ensures { IfOk result (λ rows. (c : Contents) → HoldsContents dump.now c
+        → rows ≡ map (row_of c (places_in columns.entry)) (ticks_of c (code_in clocks.now))) }
 {
-    let Ok(mut window) = Window::new(size, columns) else {
-        unreachable!()
+    let mut window = match Window::new(alloc, size, columns) {
+        Ok(window) => window,
+        Err(fault) => return Err(want_of_memory(fault)),
     };
     let mut rows = Table::new(alloc);
     while (rows.len() as u64) < clocks.len() {

@@ -12,7 +12,9 @@ invariant-loop-alloc l = record {
   columns : columns_in l.window ≡ l.fn.columns;
   size : size_in l.window ≡ l.fn.size;
   long : length l.rows ≡ end_in l.window;
-  rows : (c : Contents) → HoldsContents l.dump c → l.rows ≡ map (row_of c (places_in (columns_in l.window))) (take (end_in l.window) (ticks_of c (clock_in (columns_in l.window))));
+  rows : (c : Contents) → HoldsContents l.dump c
+      → l.rows ≡ map (row_of c (places_in (columns_in l.window)))
+          (take (end_in l.window) (ticks_of c (clock_in (columns_in l.window))));
 }
 
 abbrev pub decreases-loop-alloc : goal.decreases-loop-alloc
