@@ -61,7 +61,7 @@ fn rows_of(
     requires named { AreNamed (variables_of dump.now) suite.now.names.items }
     ensures { (c : Contents) (signals : List ℕ) → HoldsContents dump.now c
         → map (λ s. variable_named (variables_of dump.now) (string_bytes s.path))
-            suite.now.names.items ≡ map (λ v. Some v) signals
+        suite.now.names.items ≡ map (λ v. Some v) signals
         → IfOk result (λ rows. rows ≡ map (row_of c signals) (ticks_of c (code_in clocks.now))) }
 {
     let signals = signals_of(alloc, suite.names.as_slice())?;

@@ -31,9 +31,9 @@ fn push_rows(alloc: Global, rows: &mut Table, window: &Window<'_>) -> Result<(),
     ensures long { OnOk result (length rows.new ≡ end_in window.now) }
     ensures rows { OnOk result ((c : Contents) → IsOver window.now c
         → rows.old ≡ map (row_of c (places_in (columns_in window.now)))
-            (take (first_in window.now) (ticks_of c (clock_in (columns_in window.now))))
+        (take (first_in window.now) (ticks_of c (clock_in (columns_in window.now))))
         → rows.new ≡ map (row_of c (places_in (columns_in window.now)))
-            (take (end_in window.now) (ticks_of c (clock_in (columns_in window.now))))) }
+        (take (end_in window.now) (ticks_of c (clock_in (columns_in window.now))))) }
 {
     let (first, end) = window.bounds();
     for clock in first..end {

@@ -1,18 +1,20 @@
 -- A part of the ticks, and the rows there.
 use Rattle.std.proofs.Common.{◌≡◌, ℕ, ◌+◌, ◌-◌, ◌*◌, ◌<◌, ◌≤◌, List, length, get_or, take, drop}
-use Rattle.std.proofs.Common.{map, refl, sym, ap, ◌∙◌, arith, subst, slice_range}
+use Rattle.std.proofs.Common.{ap, ◌∙◌, arith, slice_range}
 use Rattle.std.specs.List.{flat_map}
 use Rattle.std.proofs.lemmas.List.{get_or-take, get_or-drop, length-take-le, length-drop}
 use Rattle.vcd_reader.specs.Dump.{Contents}
-use Rattle.cycle_window.specs.Ticks.{ticks_of, row_of}
+use Rattle.cycle_window.specs.Ticks.{ticks_of}
 use Rattle.cycle_window.specs.Rows.{AreAhead}
 use Rattle.cycle_window.proofs.TickLaws.{tick-order, tick-inside}
 use Rattle.cycle_window.proofs.HeldLaws.{row-at}
 
-pub slice-at : (xs : List ℕ) (a b n : ℕ) → n < b - a → get_or (slice_range xs a b) n 0 ≡ get_or xs (a + n) 0
+pub slice-at : (xs : List ℕ) (a b n : ℕ) → n < b - a
+    → get_or (slice_range xs a b) n 0 ≡ get_or xs (a + n) 0
 slice-at xs a b n lt = get_or-take (b - a) (drop a xs) n 0 lt ∙ get_or-drop a xs n 0
 
-pub slice-long : (xs : List ℕ) (a b : ℕ) → a ≤ b → b ≤ length xs → length (slice_range xs a b) ≡ b - a
+pub slice-long : (xs : List ℕ) (a b : ℕ) → a ≤ b → b ≤ length xs
+    → length (slice_range xs a b) ≡ b - a
 slice-long xs a b le inside =
     let rest : length (drop a xs) ≡ length xs - a = length-drop a xs in
     length-take-le (b - a) (drop a xs) (omega (arith, rest))
@@ -36,7 +38,9 @@ ticks-ahead c code at long ticks is steps first end le inside before =
       order = λ i n ile lt.
           let one = slice-at ticks first end i (omega (arith, size)) in
           let other = slice-at ticks first end n (omega (arith, size)) in
-          let order = tick-order c code ticks is (first + i) (first + n) (omega arith) (omega (arith, size)) in
+          let order =
+          tick-order c code ticks is (first + i) (first + n) (omega arith)
+          (omega (arith, size)) in
           omega (arith, one, other, order);
     }
 

@@ -1,5 +1,19 @@
 -- Clocks and signals by their paths: what is wrong with them.
-use Rattle.std.specs.Prelude.{◌≡◌, ℕ, ◌==◌, ◌⊎◌, ◌<◌, List, [], ◌∷◌, Option, Some, None, if◌then◌else◌, string_bytes}
+use Rattle.std.specs.Prelude.{
+  ◌≡◌,
+  ℕ,
+  ◌==◌,
+  ◌⊎◌,
+  ◌<◌,
+  List,
+  [],
+  ◌∷◌,
+  Option,
+  Some,
+  None,
+  if◌then◌else◌,
+  string_bytes,
+}
 use Rattle.vcd_reader.specs.Variables.{Declared, variable_named, size_of, code_number}
 use Rattle.cycle_window.specs.declared.fault.WindowFault.{WindowFault}
 use Rattle.cycle_window.specs.declared.fault.WindowFault.TheVariants as faults
@@ -28,7 +42,8 @@ or_refused (Some m) path later = Some (At path m)
 
 abbrev pub first_refused : List Declared → List Wanted → Option Refused
 first_refused vs [] = None
-first_refused vs (s ∷ ss) = or_refused (misfit vs (variable_named vs s.path) s.width) s.path (first_refused vs ss)
+first_refused vs (s ∷ ss) =
+    or_refused (misfit vs (variable_named vs s.path) s.width) s.path (first_refused vs ss)
 
 -- the variables that the signals' paths name
 abbrev pub places_of : List Declared → List Wanted → List (Option ℕ)
@@ -37,7 +52,8 @@ places_of vs (s ∷ ss) = variable_named vs s.path ∷ places_of vs ss
 
 -- the path names a variable of one bit with that code
 abbrev pub IsClock : List Declared → List ℕ → ℕ → Type 0
-IsClock vs path code = (v : ℕ) × (variable_named vs path ≡ Some v) × (size_of vs v ≡ 1) × (code ≡ code_number vs v)
+IsClock vs path code =
+    (v : ℕ) × (variable_named vs path ≡ Some v) × (size_of vs v ≡ 1) × (code ≡ code_number vs v)
 
 -- why there are no clocks
 abbrev pub IsClockFault : List Declared → List ℕ → WindowFault → Type 0
@@ -48,8 +64,10 @@ IsClockFault vs path e = ⊥
 
 -- why there are no columns
 abbrev pub IsSignalFault : List Declared → List Wanted → WindowFault → Type 0
-IsSignalFault vs signals (faults.NoSignal path) = first_refused vs signals ≡ Some (At (string_bytes path) Missing)
-IsSignalFault vs signals (faults.SignalWidth path) = first_refused vs signals ≡ Some (At (string_bytes path) OtherWidth)
+IsSignalFault vs signals (faults.NoSignal path) =
+    first_refused vs signals ≡ Some (At (string_bytes path) Missing)
+IsSignalFault vs signals (faults.SignalWidth path) =
+    first_refused vs signals ≡ Some (At (string_bytes path) OtherWidth)
 IsSignalFault vs signals faults.Memory = Unit {0}
 IsSignalFault vs signals e = ⊥
 

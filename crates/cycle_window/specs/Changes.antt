@@ -17,4 +17,5 @@ last_of code (c ∷ cs) = or_else (last_of code cs) (if c.code == code then Some
 
 -- a table of the last change of each code up to its length
 abbrev pub IsTable : List (Option Change) → List Change → Type 0
-IsTable last changes = (code : ℕ) → code < length last → get_or last code None ≡ last_of code changes
+IsTable last changes =
+    (code : ℕ) → code < length last → get_or last code None ≡ last_of code changes

@@ -6,7 +6,8 @@ ghost use Rattle.vcd_reader.specs.Numbers.{bits_value};
 ghost use Rattle.vcd_reader.specs.Values.{value_or_zero};
 ghost use Rattle.vcd_reader.specs.Variables.{code_number, size_of};
 ghost use Rattle.vcd_reader.specs.Dump.{Contents};
-ghost use Rattle.vcd_reader.specs.Held.{HoldsContents, variables_of, value_of_change, IsOf, IsChangeOf};
+ghost use Rattle.vcd_reader.specs.Held.{HoldsContents, variables_of, value_of_change, IsOf};
+ghost use Rattle.vcd_reader.specs.Held.{IsChangeOf};
 ghost use Rattle.cycle_window.specs.Ticks.{ticks_of};
 
 use crate::last::{last_change, value_behind};
@@ -25,8 +26,12 @@ fn is_edge(dump: &Dump, before: Option<Change>, after: Option<Change>, clock: Va
     requires of { IsOf dump.now clock }
     requires before { ForSome before (λ c. IsChangeOf dump.now c clock) }
     requires after { ForSome after (λ c. IsChangeOf dump.now c clock) }
-    ensures { (b a : Option (List ℕ)) → option_map (value_of_change dump.now) before ≡ option_map bits_value b → option_map (value_of_change dump.now) after ≡ option_map bits_value a
-        → result ≡ (is_some b && (value_or_zero (size_of (variables_of dump.now) clock.place) b == 0) && (value_or_zero (size_of (variables_of dump.now) clock.place) a == 1)) }
+    ensures { (b a : Option (List ℕ))
+        → option_map (value_of_change dump.now) before ≡ option_map bits_value b
+        → option_map (value_of_change dump.now) after ≡ option_map bits_value a
+        → result ≡ (is_some b
+        && (value_or_zero (size_of (variables_of dump.now) clock.place) b == 0)
+        && (value_or_zero (size_of (variables_of dump.now) clock.place) a == 1)) }
 {
     if before.is_none() {
         return false;
@@ -47,7 +52,8 @@ pub(crate) fn ticks_of_clock(
     requires of { IsOf dump.now clock }
     requires bit { size_of (variables_of dump.now) clock.place ≡ 1 }
     requires code { code ≡ code_number (variables_of dump.now) clock.place }
-    ensures { IfOk result (λ t. (c : Contents) → HoldsContents dump.now c → t.items ≡ ticks_of c code) }
+    ensures { IfOk result (λ t. (c : Contents) → HoldsContents dump.now c
+        → t.items ≡ ticks_of c code) }
 {
     let mut ticks = Vec::new(alloc);
     let mut last = None;

@@ -24,11 +24,7 @@ impl Cursor {
     ghost use Rattle.cycle_window.specs.Cursors.{IsCursorOf};
 
     /// Before the first step.
-    pub(crate) fn new(
-        alloc: Global,
-        dump: &Dump,
-        variables: &[VarId],
-    ) -> Result<Cursor, AllocError>
+    pub(crate) fn new(alloc: Global, dump: &Dump, variables: &[VarId]) -> Result<Cursor, AllocError>
         requires { AreOf dump.now variables.now }
         ensures of { IfOk result (IsCursorOf dump.now variables.now) }
         ensures at { IfOk result (λ k. k.at ≡ 0) }

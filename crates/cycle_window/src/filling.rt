@@ -34,7 +34,7 @@ pub(crate) fn fill_rows(
     ensures rows { (c : Contents) → HoldsContents dump.now c
         → AreAhead cursor.old.at (length (steps_in dump.now)) ticks.now
         → values.new.items ≡ flat_map (row_of c
-            (picked (places shared.now.variables.items) shared.now.picks.items)) ticks.now }
+        (picked (places shared.now.variables.items) shared.now.picks.items)) ticks.now }
     ensures reached { (most : ℕ) → AreAhead cursor.old.at (length (steps_in dump.now)) ticks.now
         → cursor.old.at ≤ most
         → ((n : ℕ) → n < length ticks.now → get_or ticks.now n 0 ≤ most)

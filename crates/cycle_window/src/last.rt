@@ -13,7 +13,8 @@ use vcd_reader::{Change, Dump, Step, VarId};
 
 /// The last change of the code in the changes, or the one before them.
 pub(crate) fn last_change(before: Option<Change>, code: usize, changes: &[Change]) -> Option<Change>
-    ensures { (earlier : List Change) → last_of code earlier ≡ before → result ≡ last_of code (earlier ++ changes.now) }
+    ensures { (earlier : List Change) → last_of code earlier ≡ before
+        → result ≡ last_of code (earlier ++ changes.now) }
 {
     let mut last = before;
     for change in changes {
@@ -28,7 +29,8 @@ pub(crate) fn last_change(before: Option<Change>, code: usize, changes: &[Change
 pub(crate) fn value_behind(dump: &Dump, last: Option<Change>, var: VarId) -> u128
     requires of { IsOf dump.now var }
     requires code { ForSome last (λ c. IsChangeOf dump.now c var) }
-    ensures { (digits : Option (List ℕ)) → option_map (value_of_change dump.now) last ≡ option_map bits_value digits
+    ensures { (digits : Option (List ℕ))
+        → option_map (value_of_change dump.now) last ≡ option_map bits_value digits
         → result ≡ value_or_zero (size_of (variables_of dump.now) var.place) digits }
 {
     match last {

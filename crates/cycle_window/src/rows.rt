@@ -10,7 +10,8 @@ ghost use Rattle.vcd_reader.specs.Held.{HoldsContents, variables_of, steps_in, I
 ghost use Rattle.cycle_window.specs.Ticks.{ticks_of, row_of};
 ghost use Rattle.cycle_window.specs.Changes.{changes_to, IsTable};
 ghost use Rattle.cycle_window.specs.Variables.{places, AreOf, AreCodesBelow};
-ghost use Rattle.cycle_window.specs.Bound.{misfit, IsMisfit, first_refused, places_of, IsSignalFault};
+ghost use Rattle.cycle_window.specs.Bound.{misfit, IsMisfit, first_refused, places_of};
+ghost use Rattle.cycle_window.specs.Bound.{IsSignalFault};
 ghost use Rattle.cycle_window.specs.Signals.{wanted_of};
 
 use crate::columns::WatchedSignal;
@@ -25,10 +26,14 @@ fn signal_variable(
     dump: &Dump,
     signal: &WatchedSignal<'_>,
 ) -> Result<VarId, WindowFault>
-    ensures place { IfOk result (λ v. variable_named (variables_of dump.now) signal.now.path.now ≡ Some v.place) }
+    ensures place { IfOk result (λ v.
+        variable_named (variables_of dump.now) signal.now.path.now ≡ Some v.place) }
     ensures of { IfOk result (IsOf dump.now) }
-    ensures fits { IfOk result (λ _. misfit (variables_of dump.now) (variable_named (variables_of dump.now) signal.now.path.now) signal.now.width ≡ None) }
-    ensures fault { IfErr result (IsMisfit (misfit (variables_of dump.now) (variable_named (variables_of dump.now) signal.now.path.now) signal.now.width) signal.now.path.now) }
+    ensures fits { IfOk result (λ _. misfit (variables_of dump.now)
+        (variable_named (variables_of dump.now) signal.now.path.now) signal.now.width ≡ None) }
+    ensures fault { IfErr result (IsMisfit (misfit (variables_of dump.now)
+        (variable_named (variables_of dump.now) signal.now.path.now) signal.now.width)
+        signal.now.path.now) }
 {
     match dump.var(signal.path) {
         None => Err(WindowFault::NoSignal(String::from_str(alloc, signal.path)?)),
@@ -48,10 +53,13 @@ pub(crate) fn signal_variables(
     dump: &Dump,
     signals: &[WatchedSignal<'_>],
 ) -> Result<Vec<VarId>, WindowFault>
-    ensures places { IfOk result (λ vs. map (λ v. Some v.place) vs.items ≡ places_of (variables_of dump.now) (map wanted_of signals.now)) }
-    ensures bindable { IfOk result (λ vs. (i : ℕ) (d : VarId) → i < length vs.items → IsOf dump.now (get_or vs.items i d)) }
-    ensures fits { IfOk result (λ _. first_refused (variables_of dump.now) (map wanted_of signals.now) ≡ None) }
-    ensures fault { IfErr result (IsSignalFault (variables_of dump.now) (map wanted_of signals.now)) }
+    ensures places { IfOk result (λ vs. map (λ v. Some v.place) vs.items
+        ≡ places_of (variables_of dump.now) (map wanted_of signals.now)) }
+    ensures bindable { IfOk result (λ vs. AreOf dump.now vs.items) }
+    ensures fits { IfOk result (λ _.
+        first_refused (variables_of dump.now) (map wanted_of signals.now) ≡ None) }
+    ensures fault { IfErr result
+        (IsSignalFault (variables_of dump.now) (map wanted_of signals.now)) }
 {
     let mut variables = Vec::new(alloc);
     for signal in signals {

@@ -19,11 +19,7 @@ pub(crate) struct Shared {
 }
 
 /// Where the variable stands: at the likely place, or else behind all others, where it is put.
-fn place_of(
-    variables: &mut Vec<VarId>,
-    variable: VarId,
-    likely: usize,
-) -> Result<usize, AllocError>
+fn place_of(variables: &mut Vec<VarId>, variable: VarId, likely: usize) -> Result<usize, AllocError>
     ensures inside { IfOk result (λ p. p < length variables.new.items) }
     ensures here { IfOk result (λ p. get_or variables.new.items p variable ≡ variable) }
     ensures more { OnOk result (length variables.old.items ≤ length variables.new.items) }

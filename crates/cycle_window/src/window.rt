@@ -48,11 +48,7 @@ impl<'d> Window<'d> {
     ghost use Rattle.cycle_window.specs.declared.clocks.Clocks.{Clocks};
 
     /// An empty window before the first clock, which will hold up to `size` clocks, 1 to 65,536.
-    pub fn new(
-        alloc: Global,
-        size: usize,
-        columns: Columns<'d>,
-    ) -> Result<Window<'d>, WindowFault>
+    pub fn new(alloc: Global, size: usize, columns: Columns<'d>) -> Result<Window<'d>, WindowFault>
         ensures columns { IfOk result (λ w. columns_in w ≡ columns.entry) }
         ensures size { IfOk result (λ w. size_in w ≡ size) }
         ensures first { IfOk result (λ w. first_in w ≡ 0) }

@@ -1,5 +1,21 @@
 -- A core before its first step.
-use Rattle.std.proofs.Common.{◌≡◌, ℕ, List, [], length, map, replicate, Some, None, refl, sym, ap, ◌∙◌, subst, arith}
+use Rattle.std.proofs.Common.{
+  ◌≡◌,
+  ℕ,
+  List,
+  [],
+  length,
+  map,
+  replicate,
+  Some,
+  None,
+  refl,
+  sym,
+  ap,
+  ◌∙◌,
+  subst,
+  arith,
+}
 use Rattle.std.specs.Prelude.{slice_get, slice_range, Result, Ok, Err, IfOk}
 use Rattle.std.specs.List.{range_with_len}
 use Rattle.std.proofs.Math.Logic.{∥∥₁_map}
@@ -16,7 +32,17 @@ use Rattle.cycle_window.specs.declared.columns.Columns.{Columns}
 use Rattle.cycle_window.specs.declared.fault.WindowFault.{WindowFault}
 use Rattle.cycle_window.specs.declared.window.Window.{Window}
 use Rattle.cycle_window.specs.Bound.{Wanted, first_refused, places_of}
-use Rattle.cycle_window.specs.Held.{columns_in, dump_in, places_in, clock_in, code_in, size_in, first_in, end_in, IsOver}
+use Rattle.cycle_window.specs.Held.{
+  columns_in,
+  dump_in,
+  places_in,
+  clock_in,
+  code_in,
+  size_in,
+  first_in,
+  end_in,
+  IsOver,
+}
 use Rattle.cycle_window.specs.Held.{AreColumnsOf, AreClocksOf, IsWindowOf}
 use Rattle.checked_machine.specs.Machine.{State, opening}
 use Rattle.program_runs.specs.Reported.{wanted_slot}
@@ -38,7 +64,8 @@ use Rattle.workers.proofs.ToldLaws.{none-told}
 use Rattle.workers.proofs.PartLaws.{IsPlaced, each-placed, each-accepted}
 
 -- the window of columns that are bound to the signals
-pub first-window : (j : Job) (n : ℕ) (cs : Columns) (asked : List Wanted) (r : Result Window WindowFault)
+pub first-window :
+    (j : Job) (n : ℕ) (cs : Columns) (asked : List Wanted) (r : Result Window WindowFault)
     → asked ≡ wanted_in j.programs.items
     → map Some (places_in cs) ≡ places_of (variables_of j.dump) asked
     → first_refused (variables_of j.dump) asked ≡ None
@@ -47,7 +74,7 @@ pub first-window : (j : Job) (n : ℕ) (cs : Columns) (asked : List Wanted) (r :
     → IfOk r (λ w. columns_in w ≡ cs) → IfOk r (λ w. size_in w ≡ n)
     → IfOk r (λ w. first_in w ≡ 0) → IfOk r (λ w. end_in w ≡ 0)
     → ((d : Dump) (k : Clocks) → dump_in cs ≡ d → code_in k ≡ clock_in cs → AreClocksOf d k
-      → ((c : Contents) → HoldsContents d c → AreColumnsOf cs c) → IfOk r (λ w. IsWindowOf w d k))
+    → ((c : Contents) → HoldsContents d c → AreColumnsOf cs c) → IfOk r (λ w. IsWindowOf w d k))
     → IfOk r (IsFirstWindow j n)
 first-window j n cs asked (Ok w) is places fits dump clock rows columns size first end of =
     let vs = variables_of j.dump in
@@ -62,15 +89,20 @@ first-window j n cs asked (Ok w) is places fits dump clock rows columns size fir
 first-window j n cs asked (Err e) is places fits dump clock rows columns size first end of = tt
 
 -- before its first clock a monitor stands in the first window
-pub stands-new : (j : Job) (n : ℕ) (w : Window) (m : Monitor) (i : ℕ) → IsFirstWindow j n w → slice_get (parts_from 0 j.programs.items) i ≡ Some (part_of m) → IsNew m → Stands w m
+pub stands-new : (j : Job) (n : ℕ) (w : Window) (m : Monitor) (i : ℕ) → IsFirstWindow j n w
+    → slice_get (parts_from 0 j.programs.items) i ≡ Some (part_of m) → IsNew m → Stands w m
 stands-new j n w m i h part new =
     let vs = variables_of j.dump in
     let places = places_in (columns_in w) in
     let ps = j.programs.items in
     let p = m.machine.program in
-    let at : IsPlaced vs places (part_of m) = each-placed vs places ps 0 (omega arith) h.places i (part_of m) part in
-    let fit : first_refused vs (map wanted_slot p.signals) ≡ None = each-accepted vs ps 0 h.fits i (part_of m) part in
-    let wide = (bound vs p.signals (map wanted_slot p.signals) (slice_range places m.from m.to) refl at.are fit).wide in
+    let at : IsPlaced vs places (part_of m) =
+    each-placed vs places ps 0 (omega arith) h.places i (part_of m) part in
+    let fit : first_refused vs (map wanted_slot p.signals) ≡ None =
+    each-accepted vs ps 0 h.fits i (part_of m) part in
+    let wide =
+    (bound vs p.signals (map wanted_slot p.signals) (slice_range places m.from m.to) refl at.are
+    fit).wide in
     let now : m.machine.state.standing.now ≡ 0 = ap (λ (s : State). s.standing.now) new.state in
     record {
       accepted = new.accepted;
@@ -81,37 +113,52 @@ stands-new j n w m i h part new =
       fits = ∥∥₁_map (says-something j.dump) (λ says. (
         says.0,
         h.of.over says.0 says.1,
-        subst (λ (ds : List Declared). map (λ (v : ℕ). size_of ds v) (variables_in w m) ≡ map (λ (s : SlotData). s.width) p.signals) says.1.variables wide,
+        subst (λ (ds : List Declared).
+            map (λ (v : ℕ). size_of ds v) (variables_in w m)
+            ≡ map (λ (s : SlotData). s.width) p.signals) says.1.variables wide,
       ));
       lately = omega (arith, new.since, now);
       low = omega (arith, h.first, now);
       high = omega (arith, now);
       come = λ c over.
-          subst (λ (s : State). HasCome p (seen w c m) m.since s.standing.now m.decided.items s) (sym new.state)
-          (subst (λ (ds : List Decided). HasCome p (seen w c m) m.since 0 ds (opening p)) (sym new.decided)
-          (subst (λ (a : ℕ). HasCome p (seen w c m) a 0 [] (opening p)) (sym new.since) (come-first p (seen w c m))));
+          subst (λ (s : State). HasCome p (seen w c m) m.since s.standing.now m.decided.items s)
+          (sym new.state)
+          (subst (λ (ds : List Decided). HasCome p (seen w c m) m.since 0 ds (opening p))
+          (sym new.decided)
+          (subst (λ (a : ℕ). HasCome p (seen w c m) a 0 [] (opening p)) (sym new.since)
+          (come-first p (seen w c m))));
     }
 
 abbrev state : ℕ → ℕ → List MonitorState → List ℕ → List WorkerState → List BatchState → CoreState
-state a b ms is ws bs = record { first = a; end = b; monitors = ms; waiting = is; workers = ws; board = bs }
+state a b ms is ws bs =
+    record { first = a; end = b; monitors = ms; waiting = is; workers = ws; board = bs }
 
 -- the floor of a core before its first step
-pub opened : (j : Job) (n most : ℕ) (f : Floor) → IsFirstWindow j most f.window → map monitor_state f.monitors.items ≡ map opened_monitor j.programs.items →
-    map part_of f.monitors.items ≡ parts_from 0 j.programs.items → ((i : ℕ) (m : Monitor) → slice_get f.monitors.items i ≡ Some m → IsNew m) →
-    f.waiting.items ≡ range_with_len 0 (length f.monitors.items) → map worker_state f.workers.items ≡ replicate n (record { hand = None; done = [] }) → f.board.items ≡ [] → IsOpened j n most f
+pub opened : (j : Job) (n most : ℕ) (f : Floor) → IsFirstWindow j most f.window →
+    map monitor_state f.monitors.items ≡ map opened_monitor j.programs.items →
+    map part_of f.monitors.items ≡ parts_from 0 j.programs.items →
+    ((i : ℕ) (m : Monitor) → slice_get f.monitors.items i ≡ Some m → IsNew m) →
+    f.waiting.items ≡ range_with_len 0 (length f.monitors.items) →
+    map worker_state f.workers.items ≡ replicate n (record { hand = None; done = [] }) →
+    f.board.items ≡ [] → IsOpened j n most f
 opened j n most f h states parts new waiting workers board =
     let ps = j.programs.items in
     let ms = f.monitors.items in
-    let many : length ms ≡ length ps = sym (length-map ms monitor_state) ∙ ap length states ∙ length-map ps opened_monitor in
+    let many : length ms ≡ length ps =
+    sym (length-map ms monitor_state) ∙ ap length states ∙ length-map ps opened_monitor in
     let idle : List WorkerState = replicate n (record { hand = None; done = [] }) in
     record {
       core = record {
         sound = record {
-          monitors = λ i m is. stands-new j most f.window m i h (sym (ap (λ (qs : List Part). slice_get qs i) parts) ∙ get-mapped part_of ms i m is) (new i m is);
+          monitors = λ i m is.
+              stands-new j most f.window m i h
+              (sym (ap (λ (qs : List Part). slice_get qs i) parts)
+              ∙ get-mapped part_of ms i m is) (new i m is);
           known = λ i b is. absurd (cc (is, board));
           batches = λ i b m is there. absurd (cc (is, board));
           told = λ i m is.
-              subst (λ (bs : List Batch). AreAllBefore f.window m (published_by (map batch_state bs) i)) (sym board)
+              subst (λ (bs : List Batch).
+              AreAllBefore f.window m (published_by (map batch_state bs) i)) (sym board)
               (none-told f.window m (new i m is));
         };
         window = h.of;
@@ -119,11 +166,23 @@ opened j n most f h states parts new waiting workers board =
         parts = parts;
       };
       state =
-          ap (λ (a : ℕ). state a (end_in f.window) (map monitor_state ms) f.waiting.items (map worker_state f.workers.items) (map batch_state f.board.items)) h.first
-          ∙ ap (λ (b : ℕ). state 0 b (map monitor_state ms) f.waiting.items (map worker_state f.workers.items) (map batch_state f.board.items)) h.end
-          ∙ ap (λ (xs : List MonitorState). state 0 0 xs f.waiting.items (map worker_state f.workers.items) (map batch_state f.board.items)) states
-          ∙ ap (λ (is : List ℕ). state 0 0 (map opened_monitor ps) is (map worker_state f.workers.items) (map batch_state f.board.items)) (waiting ∙ ap (range_with_len 0) many)
-          ∙ ap (λ (ws : List WorkerState). state 0 0 (map opened_monitor ps) (range_with_len 0 (length ps)) ws (map batch_state f.board.items)) workers
-          ∙ ap (λ (bs : List Batch). state 0 0 (map opened_monitor ps) (range_with_len 0 (length ps)) idle (map batch_state bs)) board;
+          ap (λ (a : ℕ).
+          state a (end_in f.window) (map monitor_state ms) f.waiting.items
+          (map worker_state f.workers.items) (map batch_state f.board.items)) h.first
+          ∙ ap (λ (b : ℕ).
+          state 0 b (map monitor_state ms) f.waiting.items (map worker_state f.workers.items)
+          (map batch_state f.board.items)) h.end
+          ∙ ap (λ (xs : List MonitorState).
+          state 0 0 xs f.waiting.items (map worker_state f.workers.items)
+          (map batch_state f.board.items)) states
+          ∙ ap (λ (is : List ℕ).
+          state 0 0 (map opened_monitor ps) is (map worker_state f.workers.items)
+          (map batch_state f.board.items)) (waiting ∙ ap (range_with_len 0) many)
+          ∙ ap (λ (ws : List WorkerState).
+          state 0 0 (map opened_monitor ps) (range_with_len 0 (length ps)) ws
+          (map batch_state f.board.items)) workers
+          ∙ ap (λ (bs : List Batch).
+          state 0 0 (map opened_monitor ps) (range_with_len 0 (length ps)) idle
+          (map batch_state bs)) board;
       size = h.size;
     }

@@ -9,6 +9,8 @@ abbrev pub invariant-loop-clock : goal.invariant-loop-clock
 invariant-loop-clock l = record {
   long : length l.rows ≡ l.clock;
   rows : (c : Contents) → IsOver l.window c
-      → l.fn.rows ≡ map (row_of c (places_in (columns_in l.window))) (take (first_in l.window) (ticks_of c (clock_in (columns_in l.window))))
-      → l.rows ≡ map (row_of c (places_in (columns_in l.window))) (take l.clock (ticks_of c (clock_in (columns_in l.window))));
+      → l.fn.rows ≡ map (row_of c (places_in (columns_in l.window)))
+      (take (first_in l.window) (ticks_of c (clock_in (columns_in l.window))))
+      → l.rows ≡ map (row_of c (places_in (columns_in l.window)))
+      (take l.clock (ticks_of c (clock_in (columns_in l.window))));
 }

@@ -24,7 +24,13 @@ returns c = λ contents holds.
     let inv = c.loop-alloc.invariant in
     let ticks = ticks_of contents (clock_in (columns_in w)) in
     let last : length (ticks_in c.args.clocks.now) ≤ end_in w =
-    omega (arith, c.loop-alloc-test.false, c.len.ensures.len, c.len-in-loop-alloc.ensures, inv.long) in
+    omega (
+      arith,
+      c.loop-alloc-test.false,
+      c.len.ensures.len,
+      c.len-in-loop-alloc.ensures,
+      inv.long,
+    ) in
     let same = inv.of.clocks contents holds ∙ ap (ticks_of contents) inv.of.same_clock in
     inv.rows contents holds
     ∙ all_rows (row_of contents (places_in (columns_in w))) ticks (end_in w)

@@ -1,4 +1,23 @@
-use Rattle.std.proofs.Common.{◌≡◌, ◌∙◌, ◌+◌, ◌<◌, ◌++◌, ◌∷◌, [], ℕ, List, true, false, sym, ap, refl, arith, length, suc, get_or}
+use Rattle.std.proofs.Common.{
+  ◌≡◌,
+  ◌∙◌,
+  ◌+◌,
+  ◌<◌,
+  ◌++◌,
+  ◌∷◌,
+  [],
+  ℕ,
+  List,
+  true,
+  false,
+  sym,
+  ap,
+  refl,
+  arith,
+  length,
+  suc,
+  get_or,
+}
 use Rattle.vcd_reader.specs.declared.step.Change.{Change}
 use Rattle.vcd_reader.specs.declared.step.Step.{Step}
 use Rattle.vcd_reader.specs.Variables.{size_of}
@@ -15,25 +34,43 @@ unfolding last_of changes_to ticks_below
 loop-k-init c = record { last = refl; ticks = λ c' h. c.new-ticks.ensures.items }
 
 pub is_edge-edge-requires-clause-before : goal.is_edge-edge-requires-clause-before
-is_edge-edge-requires-clause-before c = λ x e. last_of-code c.args.code (changes_to (steps_in c.args.dump.now) c.loop-k.k) x (sym c.loop-k.invariant.last ∙ e) ∙ c.requires.code
+is_edge-edge-requires-clause-before c = λ x e.
+    last_of-code c.args.code (changes_to (steps_in c.args.dump.now) c.loop-k.k) x
+    (sym c.loop-k.invariant.last ∙ e) ∙ c.requires.code
 
 pub is_edge-edge-requires-clause-after : goal.is_edge-edge-requires-clause-after
-is_edge-edge-requires-clause-after c = λ x e. last_of-code c.args.code _ x (sym (c.last_change-after.ensures (changes_to (steps_in c.args.dump.now) c.loop-k.k) (sym c.loop-k.invariant.last)) ∙ e) ∙ c.requires.code
+is_edge-edge-requires-clause-after c = λ x e.
+    last_of-code c.args.code _ x
+    (sym (c.last_change-after.ensures (changes_to (steps_in c.args.dump.now) c.loop-k.k)
+    (sym c.loop-k.invariant.last)) ∙ e) ∙ c.requires.code
 
 pub loop-k-preserved-then-not-edge : goal.loop-k-preserved-then-not-edge
 loop-k-preserved-then-not-edge c =
     let S = steps_in c.args.dump.now in
     let steps = c.steps-steps.ensures in
     let lt : c.loop-k.k < length S = omega (arith, ap (λ (xs : List Step). length xs) steps) in
-    let at : c.index-steps-k.result ≡ get_or S c.loop-k.k c.index-steps-k.result = c.index-steps-k.is ∙ ap (λ (xs : List Step). get_or xs c.loop-k.k c.index-steps-k.result) steps in
-    let changes : c.deref.result.now ≡ c.index-steps-k.result.changes.items = c.deref.ensures.value in
+    let at : c.index-steps-k.result ≡ get_or S c.loop-k.k c.index-steps-k.result =
+    c.index-steps-k.is
+    ∙ ap (λ (xs : List Step). get_or xs c.loop-k.k c.index-steps-k.result) steps in
+    let changes : c.deref.result.now ≡ c.index-steps-k.result.changes.items =
+    c.deref.ensures.value in
     let after : c.last_change-after.result ≡ last_of c.args.code (changes_to S (c.loop-k.k + 1)) =
-    c.last_change-after.ensures (changes_to S c.loop-k.k) (sym c.loop-k.invariant.last) ∙ ap (λ (xs : List Change). last_of c.args.code (changes_to S c.loop-k.k ++ xs)) changes ∙ ap (last_of c.args.code) (sym (changes_to-more S c.loop-k.k c.index-steps-k.result lt at)) in
+    c.last_change-after.ensures (changes_to S c.loop-k.k) (sym c.loop-k.invariant.last)
+    ∙ ap (λ (xs : List Change). last_of c.args.code (changes_to S c.loop-k.k ++ xs)) changes
+    ∙ ap (last_of c.args.code)
+    (sym (changes_to-more S c.loop-k.k c.index-steps-k.result lt at)) in
     record {
       last = after;
       ticks = λ c' h.
-          let edge : false ≡ is_tick c'.steps c.args.code c.loop-k.k = sym c.if-not-edge.true ∙ edge-tick c.args.dump.now c' h c.args.code c.loop-k.k (size_of (variables_of c.args.dump.now) c.args.clock.place) c.loop-k.last c.last_change-after.result c.is_edge-edge.result c.requires.bit c.loop-k.invariant.last after c.is_edge-edge.ensures in
-          c.loop-k.invariant.ticks c' h ∙ sym (ticks-no c'.steps c.args.code c.loop-k.k (sym edge)) ∙ ap (ticks_below c'.steps c.args.code) (let e : suc c.loop-k.k ≡ c.loop-k.k + 1 = omega arith in e);
+          let edge : false ≡ is_tick c'.steps c.args.code c.loop-k.k =
+          sym c.if-not-edge.true
+          ∙ edge-tick c.args.dump.now c' h c.args.code c.loop-k.k
+          (size_of (variables_of c.args.dump.now) c.args.clock.place) c.loop-k.last
+          c.last_change-after.result c.is_edge-edge.result c.requires.bit
+          c.loop-k.invariant.last after c.is_edge-edge.ensures in
+          c.loop-k.invariant.ticks c' h ∙ sym (ticks-no c'.steps c.args.code c.loop-k.k (sym edge))
+          ∙ ap (ticks_below c'.steps c.args.code)
+          (let e : suc c.loop-k.k ≡ c.loop-k.k + 1 = omega arith in e);
     }
 
 pub loop-k-preserved : goal.loop-k-preserved
@@ -41,21 +78,37 @@ loop-k-preserved c =
     let S = steps_in c.args.dump.now in
     let steps = c.steps-steps.ensures in
     let lt : c.loop-k.k < length S = omega (arith, ap (λ (xs : List Step). length xs) steps) in
-    let at : c.index-steps-k.result ≡ get_or S c.loop-k.k c.index-steps-k.result = c.index-steps-k.is ∙ ap (λ (xs : List Step). get_or xs c.loop-k.k c.index-steps-k.result) steps in
-    let changes : c.deref.result.now ≡ c.index-steps-k.result.changes.items = c.deref.ensures.value in
+    let at : c.index-steps-k.result ≡ get_or S c.loop-k.k c.index-steps-k.result =
+    c.index-steps-k.is
+    ∙ ap (λ (xs : List Step). get_or xs c.loop-k.k c.index-steps-k.result) steps in
+    let changes : c.deref.result.now ≡ c.index-steps-k.result.changes.items =
+    c.deref.ensures.value in
     let after : c.last_change-after.result ≡ last_of c.args.code (changes_to S (c.loop-k.k + 1)) =
-    c.last_change-after.ensures (changes_to S c.loop-k.k) (sym c.loop-k.invariant.last) ∙ ap (λ (xs : List Change). last_of c.args.code (changes_to S c.loop-k.k ++ xs)) changes ∙ ap (last_of c.args.code) (sym (changes_to-more S c.loop-k.k c.index-steps-k.result lt at)) in
+    c.last_change-after.ensures (changes_to S c.loop-k.k) (sym c.loop-k.invariant.last)
+    ∙ ap (λ (xs : List Change). last_of c.args.code (changes_to S c.loop-k.k ++ xs)) changes
+    ∙ ap (last_of c.args.code)
+    (sym (changes_to-more S c.loop-k.k c.index-steps-k.result lt at)) in
     record {
       last = after;
       ticks = λ c' h.
-          let edge : true ≡ is_tick c'.steps c.args.code c.loop-k.k = sym c.if-not-edge.false ∙ edge-tick c.args.dump.now c' h c.args.code c.loop-k.k (size_of (variables_of c.args.dump.now) c.args.clock.place) c.loop-k.last c.last_change-after.result c.is_edge-edge.result c.requires.bit c.loop-k.invariant.last after c.is_edge-edge.ensures in
-          c.in_ok-push.ensures.items ∙ ap (λ (xs : List ℕ). xs ++ c.loop-k.k ∷ []) (c.loop-k.invariant.ticks c' h) ∙ sym (ticks-yes c'.steps c.args.code c.loop-k.k (sym edge)) ∙ ap (ticks_below c'.steps c.args.code) (let e : suc c.loop-k.k ≡ c.loop-k.k + 1 = omega arith in e);
+          let edge : true ≡ is_tick c'.steps c.args.code c.loop-k.k =
+          sym c.if-not-edge.false
+          ∙ edge-tick c.args.dump.now c' h c.args.code c.loop-k.k
+          (size_of (variables_of c.args.dump.now) c.args.clock.place) c.loop-k.last
+          c.last_change-after.result c.is_edge-edge.result c.requires.bit
+          c.loop-k.invariant.last after c.is_edge-edge.ensures in
+          c.in_ok-push.ensures.items
+          ∙ ap (λ (xs : List ℕ). xs ++ c.loop-k.k ∷ []) (c.loop-k.invariant.ticks c' h)
+          ∙ sym (ticks-yes c'.steps c.args.code c.loop-k.k (sym edge))
+          ∙ ap (ticks_below c'.steps c.args.code)
+          (let e : suc c.loop-k.k ≡ c.loop-k.k + 1 = omega arith in e);
     }
 
 pub returns : goal.returns
 unfolding ticks_of
 returns c = λ c' h.
     let long = held-length c.args.dump.now c' h in
-    let all : length c.steps-steps.result.now ≡ length (steps_in c.args.dump.now) = ap (λ (xs : List Step). length xs) c.steps-steps.ensures in
+    let all : length c.steps-steps.result.now ≡ length (steps_in c.args.dump.now) =
+    ap (λ (xs : List Step). length xs) c.steps-steps.ensures in
     let end : c.loop-k.k ≡ length c'.steps = omega arith in
     c.loop-k.invariant.ticks c' h ∙ ap (ticks_below c'.steps c.args.code) end

@@ -19,8 +19,8 @@ invariant-loop-tick l = record {
   rows : (c : Contents) → HoldsContents l.dump c
       → AreAhead l.fn.cursor.at (length (steps_in l.dump)) l.ticks
       → l.values.items ≡ flat_map (row_of c
-          (picked (places l.shared.variables.items) l.shared.picks.items))
-          (take l.tick-index l.ticks);
+      (picked (places l.shared.variables.items) l.shared.picks.items))
+      (take l.tick-index l.ticks);
   reached : (most : ℕ) → AreAhead l.fn.cursor.at (length (steps_in l.dump)) l.ticks
       → l.fn.cursor.at ≤ most
       → ((n : ℕ) → n < length l.ticks → get_or l.ticks n 0 ≤ most) → l.cursor.at ≤ most;

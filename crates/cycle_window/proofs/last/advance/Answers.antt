@@ -12,9 +12,15 @@ loop-at-preserved c = record {
   low = omega arith;
   short = λ le. omega arith;
   table = λ table.
-      let entered = c.enter.ensures.table (changes_to c.args.steps.now c.loop-at.at) (c.loop-at.invariant.table table) in
+      let entered =
+      c.enter.ensures.table (changes_to c.args.steps.now c.loop-at.at)
+      (c.loop-at.invariant.table table) in
       let at = c.index-steps-at.is in
       let value = c.deref.ensures.value in
-      let same = ap (λ (xs : List Change). changes_to c.args.steps.now c.loop-at.at ++ xs) (value ∙ ap (λ (s : Step). s.changes.items) (sym at)) ∙ sym (changes_to-more c.args.steps.now c.loop-at.at c.index-steps-at.result c.if-at-steps.true at) in
+      let same =
+      ap (λ (xs : List Change). changes_to c.args.steps.now c.loop-at.at ++ xs)
+      (value ∙ ap (λ (s : Step). s.changes.items) (sym at))
+      ∙ sym (changes_to-more c.args.steps.now c.loop-at.at c.index-steps-at.result
+      c.if-at-steps.true at) in
       subst (λ (xs : List Change). IsTable c.enter.new.last xs) same entered;
 }

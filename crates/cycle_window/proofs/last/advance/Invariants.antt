@@ -8,7 +8,8 @@ invariant-loop-at l = record {
   long : length l.last ≡ length l.fn.last;
   low : l.initial.at ≤ l.at;
   short : l.initial.at ≤ l.to → l.at ≤ l.to;
-  table : IsTable l.fn.last (changes_to l.steps l.initial.at) → IsTable l.last (changes_to l.steps l.at);
+  table : IsTable l.fn.last (changes_to l.steps l.initial.at)
+      → IsTable l.last (changes_to l.steps l.at);
 }
 
 abbrev pub decreases-loop-at : goal.decreases-loop-at

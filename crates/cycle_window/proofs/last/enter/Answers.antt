@@ -1,4 +1,20 @@
-use Rattle.std.proofs.Common.{◌≡◌, ◌∙◌, ◌++◌, ◌∷◌, [], sym, ap, get_or, take, length, append_assoc, List, subst, Option, ◌+◌}
+use Rattle.std.proofs.Common.{
+  ◌≡◌,
+  ◌∙◌,
+  ◌++◌,
+  ◌∷◌,
+  [],
+  sym,
+  ap,
+  get_or,
+  take,
+  length,
+  append_assoc,
+  List,
+  subst,
+  Option,
+  ◌+◌,
+}
 use Rattle.std.proofs.lemmas.List.{take_more, length-set}
 use Rattle.vcd_reader.specs.declared.step.Change.{Change}
 use Rattle.cycle_window.specs.Changes.{IsTable}
@@ -24,7 +40,8 @@ loop-change-preserved c =
       table = λ earlier table.
           let front = earlier ++ take i changes in
           let more : earlier ++ take (i + 1) changes ≡ front ++ item ∷ [] =
-          ap (λ (xs : List Change). earlier ++ xs) (take_more changes i none c.loop-change-test.true)
+          ap (λ (xs : List Change). earlier ++ xs)
+          (take_more changes i none c.loop-change-test.true)
           ∙ sym (append_assoc earlier (take i changes) (item ∷ [])) in
           let here = inv.table earlier table in
           let done : IsTable c.if-code-last.last (front ++ item ∷ []) = elim c.if-code-last.branch [

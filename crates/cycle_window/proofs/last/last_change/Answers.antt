@@ -12,7 +12,13 @@ pub loop-change-preserved : goal.loop-change-preserved
 loop-change-preserved c = λ earlier h.
     let front = earlier ++ take c.loop-change.change-index c.args.changes.now in
     let item = get_or c.args.changes.now c.loop-change.change-index none in
-    rw (take_more c.args.changes.now c.loop-change.change-index none c.loop-change-test.true, ← append_assoc) (elim c.if-change-code.branch [
-      | then-change-code w ↦ w.last-is ∙ sym (last_of-here c.args.code front item w.if-change-code.true)
-      | else-change-code w ↦ w.last-is ∙ c.loop-change.invariant earlier h ∙ sym (last_of-elsewhere c.args.code front item w.if-change-code.false)
+    rw (
+      take_more c.args.changes.now c.loop-change.change-index none c.loop-change-test.true,
+      ← append_assoc,
+    ) (elim c.if-change-code.branch [
+      | then-change-code w ↦
+          w.last-is ∙ sym (last_of-here c.args.code front item w.if-change-code.true)
+      | else-change-code w ↦
+          w.last-is ∙ c.loop-change.invariant earlier h
+          ∙ sym (last_of-elsewhere c.args.code front item w.if-change-code.false)
     ])

@@ -1,5 +1,5 @@
-use Rattle.std.proofs.Common.{◌∙◌, refl, arith, sym, ap, ◌++◌}
-use Rattle.std.proofs.lemmas.List.{append-nil, take_all}
+use Rattle.std.proofs.Common.{◌∙◌, refl, arith, sym}
+use Rattle.std.proofs.lemmas.List.{append-nil}
 use Rattle.cycle_window.specs.Picks.{picked}
 use Rattle.cycle_window.proofs.PickLaws.{values-more}
 use Rattle.cycle_window.proofs.picks.push_picked.Goals as goal

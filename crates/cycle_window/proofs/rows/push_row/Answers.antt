@@ -1,4 +1,4 @@
-use Rattle.std.proofs.Common.{◌≡◌, ◌∙◌, ◌<◌, ◌++◌, ◌∷◌, [], ℕ, List, map, take, length, get_or}
+use Rattle.std.proofs.Common.{◌≡◌, ◌∙◌, ◌<◌, ◌++◌, ℕ, List, map, take, length, get_or}
 use Rattle.std.proofs.Common.{ap, sym, arith, None, refl}
 use Rattle.std.proofs.lemmas.List.{length-map, get_or_default, take_all, append-nil}
 use Rattle.vcd_reader.specs.declared.variable.VarId.{VarId}
@@ -38,12 +38,12 @@ loop-variable-preserved c =
           let inside : code < length c.args.last.now =
           rw c.code-code.ensures.number (c.requires.inside i none lt) in
           let last : get_or c.args.last.now code None
-              ≡ last_of (code_number (variables_of d) v.place) (changes_to (steps_in d) k) =
+          ≡ last_of (code_number (variables_of d) v.place) (changes_to (steps_in d) k) =
           rw (← c.code-code.ensures.number) (table code inside) in
           let value = sample-is d c' h k v.place c.value_behind.result
-              (get_or c.args.last.now code None) last c.value_behind.ensures in
+          (get_or c.args.last.now code None) last c.value_behind.ensures in
           pushed.items ∙ row-more c' k vs i c.value_behind.result v c.args.values.now.items
-              c.loop-variable.values.items lt here (old.row c' k h table) value;
+          c.loop-variable.values.items lt here (old.row c' k h table) value;
     }
 
 pub returns-clause-row : goal.returns-clause-row

@@ -1,4 +1,4 @@
-use Rattle.std.proofs.Common.{◌≡◌, ◌+◌, ◌++◌, ℕ, map, take, length, vec_len, vec_capacity}
+use Rattle.std.proofs.Common.{◌≡◌, ◌+◌, ◌++◌, ℕ, map, take, vec_len, vec_capacity}
 use Rattle.vcd_reader.specs.Dump.{Contents}
 use Rattle.vcd_reader.specs.Held.{HoldsContents, steps_in}
 use Rattle.cycle_window.specs.Ticks.{sample}

@@ -7,7 +7,10 @@ use Rattle.cycle_window.proofs.rows.signal_variables.Given as goal
 
 abbrev pub invariant-loop-signal : goal.invariant-loop-signal
 invariant-loop-signal l = record {
-  places : map (λ v. Some v.place) l.variables.items ≡ places_of (variables_of l.dump) (map wanted_of (take l.signal-index l.signals));
-  bindable : (i : ℕ) (d : VarId) → i < length l.variables.items → IsOf l.dump (get_or l.variables.items i d);
-  fits : first_refused (variables_of l.dump) (map wanted_of l.signals) ≡ first_refused (variables_of l.dump) (map wanted_of (drop l.signal-index l.signals));
+  places : map (λ v. Some v.place) l.variables.items
+      ≡ places_of (variables_of l.dump) (map wanted_of (take l.signal-index l.signals));
+  bindable : (i : ℕ) (d : VarId) → i < length l.variables.items
+      → IsOf l.dump (get_or l.variables.items i d);
+  fits : first_refused (variables_of l.dump) (map wanted_of l.signals)
+      ≡ first_refused (variables_of l.dump) (map wanted_of (drop l.signal-index l.signals));
 }

@@ -1,4 +1,4 @@
-use Rattle.std.proofs.Common.{◌≡◌, length, map, take}
+use Rattle.std.proofs.Common.{length, take}
 use Rattle.cycle_window.specs.Picks.{ArePicks}
 use Rattle.cycle_window.specs.Variables.{AreOf, AreCodesBelow, places}
 use Rattle.cycle_window.proofs.shared.shared_among.Given as goal

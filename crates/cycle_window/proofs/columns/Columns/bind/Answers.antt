@@ -1,4 +1,4 @@
-use Rattle.std.proofs.Common.{Some, ap, map, ◌∙◌, length, refl}
+use Rattle.std.proofs.Common.{ap, ◌∙◌, length, refl}
 use Rattle.cycle_window.specs.Held.{ticks_in, code_in, dump_in, places_in, clock_in}
 use Rattle.cycle_window.proofs.BoundLaws.{map-map}
 use Rattle.cycle_window.proofs.columns.Columns.bind.Goals as goal

@@ -1,4 +1,4 @@
-use Rattle.std.proofs.Common.{arith, sym, subst, ℕ, List}
+use Rattle.std.proofs.Common.{arith, sym, subst, ℕ}
 use Rattle.cycle_window.specs.Changes.{changes_to}
 use Rattle.cycle_window.specs.Variables.{AreCodesBelow}
 use Rattle.cycle_window.proofs.cursor.Cursor.new.Goals as goal

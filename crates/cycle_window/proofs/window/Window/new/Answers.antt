@@ -1,7 +1,7 @@
 use Rattle.std.proofs.Common.{◌≡◌, ◌∙◌, ◌*◌, ℕ, List, length, min, arith, refl, ap, subst}
 use Rattle.vcd_reader.specs.declared.dump.Dump.{Dump}
 use Rattle.vcd_reader.specs.declared.variable.VarId.{VarId}
-use Rattle.cycle_window.specs.Held.{columns_in, dump_in, clock_in, size_in, first_in, end_in, IsOver}
+use Rattle.cycle_window.specs.Held.{columns_in, dump_in, size_in, first_in, end_in, IsOver}
 use Rattle.cycle_window.specs.Cursors.{IsCursorOf}
 use Rattle.cycle_window.proofs.window.Window.new.Goals as goal
 
@@ -12,15 +12,15 @@ invariant_of-result c =
     let long : c.len.result ≡ length columns.variables.items =
     c.len.ensures ∙ columns.variables.ok.0 in
     let sizes = product.1 ∙ ap (λ (n : ℕ). n * c.len.result) c.min.ensures
-        ∙ ap (λ (n : ℕ). min c.args.size columns.count * n) long in
+    ∙ ap (λ (n : ℕ). min c.args.size columns.count * n) long in
     record {
-  ordered = omega arith;
-  inside = omega arith;
-  few = omega arith;
-  rows = λ c' h. c.in_ok-values.ensures.items;
-  full = omega (arith, ap length c.in_ok-values.ensures.items);
-  room = omega (arith, sizes, c.in_ok-values.ensures.capacity);
-}
+      ordered = omega arith;
+      inside = omega arith;
+      few = omega arith;
+      rows = λ c' h. c.in_ok-values.ensures.items;
+      full = omega (arith, ap length c.in_ok-values.ensures.items);
+      room = omega (arith, sizes, c.in_ok-values.ensures.capacity);
+    }
 
 pub returns-clause-of : goal.returns-clause-of
 unfolding columns_in end_in IsOver dump_in
@@ -29,7 +29,9 @@ returns-clause-of c = λ d k same same_clock clocks over. record {
   same_clock = same_clock;
   clocks = clocks;
   over = over;
-  cursor = subst (λ (x : Dump). IsCursorOf x c.args.columns.shared.variables.items c.in_ok-cursor.cursor) same
+  cursor =
+      subst (λ (x : Dump). IsCursorOf x c.args.columns.shared.variables.items c.in_ok-cursor.cursor)
+      same
       (subst (λ (vs : List VarId). IsCursorOf c.args.columns.dump.now vs c.in_ok-cursor.cursor)
       c.as_slice.ensures.value c.in_ok-cursor.ensures.of);
   before = λ c' n h le lt. omega (arith, c.in_ok-cursor.ensures.at);

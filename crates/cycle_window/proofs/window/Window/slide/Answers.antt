@@ -1,4 +1,25 @@
-use Rattle.std.proofs.Common.{◌≡◌, ◌∙◌, ◌≤◌, ◌<◌, ◌+◌, ◌-◌, ◌*◌, ℕ, List, min, length, vec_len, vec_capacity, ap, arith, refl, sym, subst, get_or, map, slice_range}
+use Rattle.std.proofs.Common.{
+  ◌≡◌,
+  ◌∙◌,
+  ◌≤◌,
+  ◌<◌,
+  ◌+◌,
+  ◌-◌,
+  ◌*◌,
+  ℕ,
+  List,
+  min,
+  length,
+  vec_len,
+  vec_capacity,
+  ap,
+  arith,
+  refl,
+  sym,
+  subst,
+  get_or,
+  slice_range,
+}
 use Rattle.std.specs.List.{flat_map}
 use Rattle.std.proofs.Math.Logic.{∥∥₁_elim}
 use Rattle.std.proofs.Math.Bridge.{le_prop}
@@ -16,20 +37,34 @@ use Rattle.cycle_window.specs.Ticks.{ticks_of, row_of}
 use Rattle.cycle_window.specs.Picks.{picked}
 use Rattle.cycle_window.specs.Variables.{places, AreOf}
 use Rattle.cycle_window.specs.Rows.{AreAhead, AreRowsOf, IsBefore}
-use Rattle.cycle_window.specs.Held.{ticks_in, code_in, dump_in, clock_in, columns_in, size_in, first_in, end_in, IsOver, IsWindowOf}
+use Rattle.cycle_window.specs.Held.{
+  ticks_in,
+  code_in,
+  dump_in,
+  clock_in,
+  columns_in,
+  size_in,
+  first_in,
+  end_in,
+  IsOver,
+  IsWindowOf,
+}
 use Rattle.cycle_window.proofs.HeldLaws.{held-length}
 use Rattle.cycle_window.proofs.PickLaws.{picked-long}
 use Rattle.cycle_window.proofs.WindowLaws.{ticks-ahead, ticks-behind, slice-long}
 use Rattle.cycle_window.proofs.window.Window.slide.Goals as goal
 
 -- the clocks' ticks are as many as the columns say
-many-rows : (d : Dump) (k : Clocks) (w : Window) → IsWindowOf w d k → length k.ticks.items ≤ w.columns.count
+many-rows : (d : Dump) (k : Clocks) (w : Window) → IsWindowOf w d k
+    → length k.ticks.items ≤ w.columns.count
 unfolding ticks_in columns_in clock_in IsOver
 many-rows d k w same =
     ∥∥₁_elim (says-something d) le_prop (λ says.
     let ticks = ticks_of says.0 w.columns.code in
     let rows : w.columns.count ≡ length ticks = (same.over says.0 says.1).many in
-    let clocks : length k.ticks.items ≡ length ticks = ap (λ (xs : List ℕ). length xs) (same.clocks says.0 says.1 ∙ ap (ticks_of says.0) same.same_clock) in
+    let clocks : length k.ticks.items ≡ length ticks =
+    ap (λ (xs : List ℕ). length xs)
+    (same.clocks says.0 says.1 ∙ ap (ticks_of says.0) same.same_clock) in
     omega (arith, rows, clocks))
 
 picks-long : (cs : Columns) → length cs.shared.picks.items ≡ length cs.variables.items
@@ -38,51 +73,75 @@ picks-long cs =
     ∙ length-map cs.variables.items (λ (v : VarId). v.place)
 
 -- there is room for the rows of so many ticks
-fits : (w : Window) (n : ℕ) → n ≤ w.size → n ≤ w.columns.count → n * length w.columns.shared.picks.items ≤ vec_capacity w.values
+fits : (w : Window) (n : ℕ) → n ≤ w.size → n ≤ w.columns.count
+    → n * length w.columns.shared.picks.items ≤ vec_capacity w.values
 fits w n few inside =
-    let most : n * length w.columns.variables.items ≤ vec_capacity w.values = omega (arith, w.room, mul-le-mul_right (length w.columns.variables.items) (let le : n ≤ min w.size w.columns.count = omega arith in le)) in
+    let most : n * length w.columns.variables.items ≤ vec_capacity w.values =
+    omega (
+      arith,
+      w.room,
+      mul-le-mul_right (length w.columns.variables.items)
+          (let le : n ≤ min w.size w.columns.count = omega arith in le),
+    ) in
     subst (λ (m : ℕ). n * m ≤ vec_capacity w.values) (sym (picks-long w.columns)) most
 
 -- the ticks of the next clocks lie ahead
-slid-ahead : (d : Dump) (k : Clocks) (w : Window) → IsWindowOf w d k → (c : Contents) → HoldsContents d c → (end : ℕ) → w.end ≤ end → end ≤ length k.ticks.items
+slid-ahead : (d : Dump) (k : Clocks) (w : Window) → IsWindowOf w d k → (c : Contents)
+    → HoldsContents d c → (end : ℕ) → w.end ≤ end → end ≤ length k.ticks.items
     → AreAhead w.cursor.at (length (steps_in d)) (slice_range k.ticks.items w.end end)
 unfolding ticks_in code_in end_in
 slid-ahead d k w same c h end le inside =
     let is = same.clocks c h in
-    ticks-ahead c k.code w.cursor.at (length (steps_in d)) k.ticks.items is (sym (held-length d c h)) w.end end le inside
-    (λ n nle nlt. subst (λ (xs : List ℕ). w.cursor.at ≤ get_or xs n 0) (sym is) (same.before c n h nle (subst (λ (xs : List ℕ). n < length xs) is nlt)))
+    ticks-ahead c k.code w.cursor.at (length (steps_in d)) k.ticks.items is
+    (sym (held-length d c h)) w.end end le inside
+    (λ n nle nlt.
+    subst (λ (xs : List ℕ). w.cursor.at ≤ get_or xs n 0) (sym is)
+    (same.before c n h nle (subst (λ (xs : List ℕ). n < length xs) is nlt)))
 
-slid-rows : (d : Dump) (k : Clocks) (w : Window) → IsWindowOf w d k → (end : ℕ) (new ticks : List ℕ) → w.end ≤ end → end ≤ length k.ticks.items → ticks ≡ slice_range k.ticks.items w.end end
+slid-rows : (d : Dump) (k : Clocks) (w : Window) → IsWindowOf w d k → (end : ℕ) (new ticks : List ℕ)
+    → w.end ≤ end → end ≤ length k.ticks.items → ticks ≡ slice_range k.ticks.items w.end end
     → ((c : Contents) → HoldsContents d c → AreAhead w.cursor.at (length (steps_in d)) ticks
-      → new ≡ flat_map (row_of c (picked (places w.columns.shared.variables.items) w.columns.shared.picks.items)) ticks)
+    → new ≡ flat_map
+    (row_of c (picked (places w.columns.shared.variables.items) w.columns.shared.picks.items))
+    ticks)
     → AreRowsOf w.columns.dump.now w.columns.code (places w.columns.variables.items) w.end end new
 unfolding ticks_in code_in end_in dump_in clock_in columns_in
 slid-rows d k w same end new ticks le inside are rows = λ c held.
     let h : HoldsContents d c = subst (λ (x : Dump). HoldsContents x c) same.same_dump held in
-    let is : k.ticks.items ≡ ticks_of c w.columns.code = same.clocks c h ∙ ap (ticks_of c) same.same_clock in
+    let is : k.ticks.items ≡ ticks_of c w.columns.code =
+    same.clocks c h ∙ ap (ticks_of c) same.same_clock in
     let ahead = slid-ahead d k w same c h end le inside in
-    rows c h (subst (λ (xs : List ℕ). AreAhead w.cursor.at (length (steps_in d)) xs) (sym are) ahead)
+    rows c h (subst (λ (xs : List ℕ). AreAhead w.cursor.at (length (steps_in d)) xs) (sym are)
+    ahead)
     ∙ ap (λ (ps : List ℕ). flat_map (row_of c ps) ticks) w.columns.same
-    ∙ ap (flat_map (row_of c (places w.columns.variables.items))) (are ∙ ap (λ (xs : List ℕ). slice_range xs w.end end) is)
+    ∙ ap (flat_map (row_of c (places w.columns.variables.items)))
+    (are ∙ ap (λ (xs : List ℕ). slice_range xs w.end end) is)
 
-slid-before : (d : Dump) (k : Clocks) (w : Window) → IsWindowOf w d k → (end at : ℕ) (ticks : List ℕ) → w.end ≤ end → end ≤ length k.ticks.items → ticks ≡ slice_range k.ticks.items w.end end
-    → ((most : ℕ) → AreAhead w.cursor.at (length (steps_in d)) ticks → w.cursor.at ≤ most → ((n : ℕ) → n < length ticks → get_or ticks n 0 ≤ most) → at ≤ most)
+slid-before : (d : Dump) (k : Clocks) (w : Window) → IsWindowOf w d k
+    → (end at : ℕ) (ticks : List ℕ) → w.end ≤ end → end ≤ length k.ticks.items
+    → ticks ≡ slice_range k.ticks.items w.end end
+    → ((most : ℕ) → AreAhead w.cursor.at (length (steps_in d)) ticks → w.cursor.at ≤ most
+    → ((n : ℕ) → n < length ticks → get_or ticks n 0 ≤ most) → at ≤ most)
     → IsBefore d k.code at end
 unfolding ticks_in code_in end_in
 slid-before d k w same end at ticks le inside are reached = λ c n h nle nlt.
     let is = same.clocks c h in
     let ahead = slid-ahead d k w same c h end le inside in
     let lt : n < length k.ticks.items = subst (λ (xs : List ℕ). n < length xs) (sym is) nlt in
-    reached (get_or (ticks_of c k.code) n 0) (subst (λ (xs : List ℕ). AreAhead w.cursor.at (length (steps_in d)) xs) (sym are) ahead)
+    reached (get_or (ticks_of c k.code) n 0)
+    (subst (λ (xs : List ℕ). AreAhead w.cursor.at (length (steps_in d)) xs) (sym are) ahead)
     (same.before c n h (omega arith) nlt)
-    (subst (λ (xs : List ℕ). (m : ℕ) → m < length xs → get_or xs m 0 ≤ get_or (ticks_of c k.code) n 0) (sym are)
-    (λ m mlt. subst (λ (xs : List ℕ). get_or (slice_range k.ticks.items w.end end) m 0 ≤ get_or xs n 0) is
+    (subst (λ (xs : List ℕ). (m : ℕ) → m < length xs
+    → get_or xs m 0 ≤ get_or (ticks_of c k.code) n 0) (sym are)
+    (λ m mlt. subst
+    (λ (xs : List ℕ). get_or (slice_range k.ticks.items w.end end) m 0 ≤ get_or xs n 0) is
     (ticks-behind c k.code k.ticks.items is w.end end le inside n nle lt m mlt)))
 
 pub overflow_sub-len : goal.overflow_sub-len
 unfolding end_in ticks_in
 overflow_sub-len c =
-    let long : vec_len c.args.clocks.now.ticks ≡ length c.args.clocks.now.ticks.items = c.args.clocks.now.ticks.ok.0 in
+    let long : vec_len c.args.clocks.now.ticks ≡ length c.args.clocks.now.ticks.items =
+    c.args.clocks.now.ticks.ok.0 in
     omega (arith, c.requires.remain, c.len.ensures)
 
 pub fill_rows-requires-clause-room : goal.fill_rows-requires-clause-room
@@ -94,16 +153,21 @@ fill_rows-requires-clause-room c =
     let many = many-rows c.args.dump.now k w c.requires.same in
     let n = c.min.result in
     let value = ap length c.deref.ensures.value in
-    let size = slice-long c.deref.result.now w.end (w.end + n) (omega arith) (omega (arith, value, long, c.len.ensures, c.min.ensures, c.requires.remain)) in
-    let same : length (slice_range c.deref.result.now w.end (w.end + n)) ≡ n = omega (arith, size) in
+    let size =
+    slice-long c.deref.result.now w.end (w.end + n) (omega arith)
+    (omega (arith, value, long, c.len.ensures, c.min.ensures, c.requires.remain)) in
+    let same : length (slice_range c.deref.result.now w.end (w.end + n)) ≡ n =
+    omega (arith, size) in
     subst (λ (m : ℕ). m * length w.columns.shared.picks.items ≤ vec_capacity w.values) (sym same)
-    (fits w n (omega (arith, c.min.ensures)) (omega (arith, many, c.len.ensures, c.min.ensures, c.requires.remain)))
+    (fits w n (omega (arith, c.min.ensures))
+    (omega (arith, many, c.len.ensures, c.min.ensures, c.requires.remain)))
 
 pub fill_rows-requires-clause-bindable : goal.fill_rows-requires-clause-bindable
 unfolding dump_in columns_in
 fill_rows-requires-clause-bindable c =
     let w = c.args.self.now in
-    subst (λ (d : Dump). AreOf d w.columns.shared.variables.items) c.requires.same.same_dump w.columns.bindable
+    subst (λ (d : Dump). AreOf d w.columns.shared.variables.items) c.requires.same.same_dump
+    w.columns.bindable
 
 pub invariant_of-self : goal.invariant_of-self
 unfolding end_in ticks_in
@@ -114,9 +178,13 @@ invariant_of-self c =
     let long : vec_len k.ticks ≡ length k.ticks.items = k.ticks.ok.0 in
     let many = many-rows c.args.dump.now k w c.requires.same in
     let value = c.deref.ensures.value in
-    let inside : w.end + n ≤ length k.ticks.items = omega (arith, long, c.len.ensures, c.min.ensures, c.requires.remain) in
-    let size = slice-long c.deref.result.now w.end (w.end + n) (omega arith) (omega (arith, ap length value, inside)) in
-    let same : length (slice_range c.deref.result.now w.end (w.end + n)) ≡ (w.end + n) - w.end = size in
+    let inside : w.end + n ≤ length k.ticks.items =
+    omega (arith, long, c.len.ensures, c.min.ensures, c.requires.remain) in
+    let size =
+    slice-long c.deref.result.now w.end (w.end + n) (omega arith)
+    (omega (arith, ap length value, inside)) in
+    let same : length (slice_range c.deref.result.now w.end (w.end + n)) ≡ (w.end + n) - w.end =
+    size in
     record {
       ordered = omega arith;
       inside = omega (arith, inside, many);
@@ -136,7 +204,8 @@ returns-clause-same c =
     let n = c.min.result in
     let same = c.requires.same in
     let long : vec_len k.ticks ≡ length k.ticks.items = k.ticks.ok.0 in
-    let inside : w.end + n ≤ length k.ticks.items = omega (arith, long, c.len.ensures, c.min.ensures, c.requires.remain) in
+    let inside : w.end + n ≤ length k.ticks.items =
+    omega (arith, long, c.len.ensures, c.min.ensures, c.requires.remain) in
     record {
       same_dump = same.same_dump;
       same_clock = same.same_clock;
@@ -144,7 +213,8 @@ returns-clause-same c =
       over = same.over;
       cursor = c.fill_rows.ensures.of;
       before = slid-before c.args.dump.now k w same (w.end + n) _ _ (omega arith) inside
-          (ap (λ (xs : List ℕ). slice_range xs w.end (w.end + n)) c.deref.ensures.value) c.fill_rows.ensures.reached;
+          (ap (λ (xs : List ℕ). slice_range xs w.end (w.end + n)) c.deref.ensures.value)
+          c.fill_rows.ensures.reached;
     }
 
 pub returns-clause-columns : goal.returns-clause-columns
@@ -162,7 +232,8 @@ returns-clause-first c = refl
 pub returns-clause-end : goal.returns-clause-end
 unfolding end_in size_in ticks_in
 returns-clause-end c =
-    let long : vec_len c.args.clocks.now.ticks ≡ length c.args.clocks.now.ticks.items = c.args.clocks.now.ticks.ok.0 in
+    let long : vec_len c.args.clocks.now.ticks ≡ length c.args.clocks.now.ticks.items =
+    c.args.clocks.now.ticks.ok.0 in
     omega (arith, c.requires.remain, c.len.ensures, c.min.ensures)
 
 pub offset_bounds-deref-first : goal.offset_bounds-deref-first
@@ -173,5 +244,13 @@ offset_bounds-deref-first c =
 pub slice_bounds-ticks-end : goal.slice_bounds-ticks-end
 unfolding end_in ticks_in
 slice_bounds-ticks-end c =
-    let long : vec_len c.args.clocks.now.ticks ≡ length c.args.clocks.now.ticks.items = c.args.clocks.now.ticks.ok.0 in
-    omega (arith, ap length c.deref.ensures.value, long, c.len.ensures, c.min.ensures, c.requires.remain)
+    let long : vec_len c.args.clocks.now.ticks ≡ length c.args.clocks.now.ticks.items =
+    c.args.clocks.now.ticks.ok.0 in
+    omega (
+      arith,
+      ap length c.deref.ensures.value,
+      long,
+      c.len.ensures,
+      c.min.ensures,
+      c.requires.remain,
+    )
