@@ -24,6 +24,7 @@ use Rattle.vcd_reader.specs.Held.{HoldsContents, variables_of}
 use Rattle.vcd_reader.proofs.HeldLaws.{says-something as dump-says}
 use Rattle.std.proofs.Math.Logic.{∥∥₁_map}
 use Rattle.cycle_window.specs.declared.columns.Columns.{Columns}
+use Rattle.cycle_window.specs.declared.window.Window.{Window}
 use Rattle.cycle_window.specs.Bound.{places_of}
 use Rattle.cycle_window.specs.Ticks.{ticks_of, row_of}
 use Rattle.cycle_window.specs.Held.{
@@ -34,6 +35,7 @@ use Rattle.cycle_window.specs.Held.{
   ticks_in,
   size_in,
   IsOver,
+  IsWindowOf,
 }
 use Rattle.program_runs.specs.Reported.{wanted_slot}
 use Rattle.workers.specs.declared.job.Job.{Job}
@@ -49,18 +51,13 @@ use Rattle.workers.specs.declared.step.Reply.{Reply}
 use Rattle.workers.specs.States.{CoreState, Setting, Replies, next, next_slide, next_advance}
 use Rattle.workers.specs.Values.{CoreValue, Says, job_value, value_of, setting_of}
 use Rattle.workers.proofs.FloorLaws.{get-mapped}
-use Rattle.workers.proofs.PlaceLaws.{over-same}
 use Rattle.workers.proofs.PartLaws.{IsPlaced, each-placed}
 
 pub kept-core : (j : Job) (old new : Floor) → IsCore j old → IsSound new → IsKept old new
-    → IsCore j new
-kept-core j old new h sound kept = record {
+    → new.window ≡ old.window → IsCore j new
+kept-core j old new h sound kept same = record {
   sound = sound;
-  window = record {
-    same_clock = h.window.same_clock ∙ ap clock_in (sym kept.columns);
-    clocks = h.window.clocks;
-    over = λ c holds. over-same new.window old.window c (sym kept.columns) (h.window.over c holds);
-  };
+  window = subst (λ (w : Window). IsWindowOf w j.dump j.clocks) (sym same) h.window;
   places = ap (λ (cs : Columns). map Some (places_in cs)) kept.columns ∙ h.places;
   parts = kept.parts ∙ h.parts;
 }

@@ -67,6 +67,7 @@ impl<'j> Floor<'j> {
             (core_state self.new) result }
         ensures sound { IsSound self.old → IsSound self.new }
         ensures kept { IsKept self.old self.new }
+        ensures window { self.new.window ≡ self.old.window }
     {
         if self.waiting.is_empty() {
             return Reply::Refused;
@@ -91,6 +92,7 @@ impl<'j> Floor<'j> {
             (core_state self.new) result }
         ensures sound { IsSound self.new }
         ensures kept { IsKept self.old self.new }
+        ensures window { self.new.window ≡ self.old.window }
     {
         let Some(number) = held_by(self.workers.as_slice(), worker) else {
             return Reply::Refused;
@@ -118,6 +120,7 @@ impl<'j> Floor<'j> {
             (core_state self.new) result }
         ensures sound { IsSound self.new }
         ensures kept { IsKept self.old self.new }
+        ensures window { self.new.window ≡ self.old.window }
     {
         let Some(number) = held_by(self.workers.as_slice(), worker) else {
             return Reply::Refused;
@@ -148,6 +151,7 @@ impl<'j> Floor<'j> {
             (core_state self.new) result }
         ensures sound { IsSound self.old → IsSound self.new }
         ensures kept { IsKept self.old self.new }
+        ensures window { self.new.window ≡ self.old.window }
     {
         if !self.waiting.is_empty() || !are_free(self.workers.as_slice()) {
             return Reply::Refused;

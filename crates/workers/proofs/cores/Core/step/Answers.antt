@@ -6,21 +6,25 @@ pub invariant_of-self-in-Claim : goal.invariant_of-self-in-Claim
 invariant_of-self-in-Claim c =
     laws.kept-core c.self.inside.job.now c.self.inside.floor c.claim.new.self c.self.invariant
     (c.claim.ensures.sound c.self.invariant.sound) c.claim.ensures.kept
+    c.claim.ensures.window
 
 pub invariant_of-self-in-Advance : goal.invariant_of-self-in-Advance
 invariant_of-self-in-Advance c =
     laws.kept-core c.self.inside.job.now c.self.inside.floor c.advance.new.self c.self.invariant
     c.advance.ensures.sound c.advance.ensures.kept
+    c.advance.ensures.window
 
 pub invariant_of-self-in-Publish : goal.invariant_of-self-in-Publish
 invariant_of-self-in-Publish c =
     laws.kept-core c.self.inside.job.now c.self.inside.floor c.publish.new.self c.self.invariant
     c.publish.ensures.sound c.publish.ensures.kept
+    c.publish.ensures.window
 
 pub invariant_of-self-in-Gather : goal.invariant_of-self-in-Gather
 invariant_of-self-in-Gather c =
     laws.kept-core c.self.inside.job.now c.self.inside.floor c.gather.new.self c.self.invariant
     (c.gather.ensures.sound c.self.invariant.sound) c.gather.ensures.kept
+    c.gather.ensures.window
 
 pub returns-in-Slide-clause-reply : goal.returns-in-Slide-clause-reply
 returns-in-Slide-clause-reply c =
