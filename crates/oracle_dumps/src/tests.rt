@@ -348,6 +348,34 @@ fn rows_in_any_window(rt: HostRuntime) -> Result<(), Fail> {
     Ok(())
 }
 
+/// Two variables of one code, asked for in turns, and one that is asked for twice in a row, by
+/// windows of each size up to one that holds more than all ticks.
+#[test]
+fn repeated_signals(rt: HostRuntime) -> Result<(), Fail> {
+    let alloc = rt.alloc();
+    let text =
+        b"$scope module top $end $var wire 1 ! clk $end $var reg 8 % d $end $var reg 4 % e $end $upscope $end $enddefinitions $end\n\
+        #0\n0!\nb10110 %\n#5\n1!\n#10\n0!\nb11111111 %\n#15\n1!\n#20\n0!\n#25\n1!\nb0 %\n"
+            .as_slice();
+    let d = WatchedSignal {
+        path: "top.d",
+        width: 8,
+    };
+    let e = WatchedSignal {
+        path: "top.e",
+        width: 4,
+    };
+    let signals = [d, e, d, e, e, d];
+    let rows = [
+        22, 6, 22, 6, 6, 22, 255, 15, 255, 15, 15, 255, 255, 15, 255, 15, 15, 255,
+    ];
+    for size in [1, 2, 3, 4] {
+        let values = values_by(alloc, text, "top.clk", &signals, size)?;
+        assert_eq!(rt; values.as_slice(), rows.as_slice(), "{size}");
+    }
+    Ok(())
+}
+
 #[test]
 fn refusals(rt: HostRuntime) -> Result<(), Fail> {
     let alloc = rt.alloc();
