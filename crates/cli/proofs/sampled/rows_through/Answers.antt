@@ -6,7 +6,8 @@ use Rattle.cli.proofs.sampled.rows_through.Goals as goal
 
 pub want_of_memory-requires : goal.want_of_memory-requires
 want_of_memory-requires c =
-    only_memory c.args.size c.in-Err.fault c.requires.some c.requires.most c.in-Err.ensures
+    only_memory c.args.size c.in-Err.fault c.requires.some c.requires.most
+    c.in-Err.ensures.fault
 
 pub loop-alloc-init : goal.loop-alloc-init
 loop-alloc-init c = record {
