@@ -68,6 +68,7 @@ bench: svamon oracle_bytecode oracle_verifier oracle_machine
 	bench/verifier
 	bench/judge
 	bench/check
+	bench/turns
 	bench/machine
 	bench/core
 
