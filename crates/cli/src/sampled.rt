@@ -37,7 +37,7 @@ fn push_rows(alloc: Global, rows: &mut Table, window: &Window<'_>) -> Result<(),
 {
     let (first, end) = window.bounds();
     for clock in first..end {
-        let row = Vec::from_slice(alloc, window.row(clock))?;
+        let row = window.row(alloc, clock)?;
         rows.push(row)?;
     }
     Ok(())

@@ -1,11 +1,13 @@
 -- A part of the ticks, and the rows there.
 use Rattle.std.proofs.Common.{◌≡◌, ℕ, ◌+◌, ◌-◌, ◌*◌, ◌<◌, ◌≤◌, List, length, get_or, take, drop}
-use Rattle.std.proofs.Common.{ap, ◌∙◌, arith, slice_range}
+use Rattle.std.proofs.Common.{ap, sym, ◌∙◌, arith, slice_range}
 use Rattle.std.specs.List.{flat_map}
 use Rattle.std.proofs.lemmas.List.{get_or-take, get_or-drop, length-take-le, length-drop}
+use Rattle.std.proofs.lemmas.List.{take-map, drop-map}
 use Rattle.vcd_reader.specs.Dump.{Contents}
 use Rattle.cycle_window.specs.Ticks.{ticks_of}
 use Rattle.cycle_window.specs.Rows.{AreAhead}
+use Rattle.cycle_window.specs.Picks.{picked, AreBelow}
 use Rattle.cycle_window.proofs.TickLaws.{tick-order, tick-inside}
 use Rattle.cycle_window.proofs.HeldLaws.{row-at}
 
@@ -66,3 +68,20 @@ row-among row w long ticks first end tick low high inside =
     let sum : first + (tick - first) ≡ tick = omega arith in
     row-at row w long (slice_range ticks first end) (tick - first) (omega (arith, size))
     ∙ ap row (here ∙ ap (λ (n : ℕ). get_or ticks n 0) sum)
+
+-- a part of the places is below what they are below
+pub below-part : (n a b : ℕ) (picks : List ℕ) → a ≤ b → b ≤ length picks → AreBelow n picks
+    → AreBelow n (slice_range picks a b)
+below-part n a b picks le inside below = λ i lt.
+    let size = slice-long picks a b le inside in
+    let here = slice-at picks a b i (omega (arith, size)) in
+    let low = below (a + i) (omega (arith, size)) in
+    omega (arith, here, low)
+
+-- what is picked at a part of the places is that part of what is picked
+pub picked-part : (list picks : List ℕ) (a b : ℕ)
+    → picked list (slice_range picks a b) ≡ slice_range (picked list picks) a b
+unfolding picked
+picked-part list picks a b =
+    let f : ℕ → ℕ = λ i. get_or list i 0 in
+    sym (ap (take (b - a)) (drop-map f a picks) ∙ take-map f (b - a) (drop a picks))

@@ -6,6 +6,7 @@ use Rattle.vcd_reader.specs.Held.{HoldsContents}
 use Rattle.cycle_window.specs.declared.clocks.Clocks.{Clocks}
 use Rattle.cycle_window.specs.declared.columns.Columns.{Columns}
 use Rattle.cycle_window.specs.declared.window.Window.{Window}
+use Rattle.cycle_window.specs.Picks.{picked}
 use Rattle.cycle_window.specs.Variables.{places}
 use Rattle.cycle_window.specs.Rows.{IsBefore}
 use Rattle.cycle_window.specs.Cursors.{IsCursorOf}
@@ -23,12 +24,12 @@ code_in k = k.code
 abbrev pub AreClocksOf : Dump → Clocks → Type 0
 AreClocksOf d k = (c : Contents) → HoldsContents d c → ticks_in k ≡ ticks_of c (code_in k)
 
--- the columns' dump, the places of their variables, and the code of their clock
+-- the columns' dump, the place of the variable of each signal, and the code of their clock
 unfoldable pub dump_in : Columns → Dump
 dump_in cs = cs.dump.now
 
 unfoldable pub places_in : Columns → List ℕ
-places_in cs = places cs.variables.items
+places_in cs = picked (places cs.shared.variables.items) cs.shared.picks.items
 
 unfoldable pub clock_in : Columns → ℕ
 clock_in cs = cs.code

@@ -3,15 +3,14 @@
 ghost use Rattle.std.specs.Prelude.{◌≡◌, None, Some, IfOk, IfErr, map};
 ghost use Rattle.vcd_reader.specs.Dump.{Contents};
 ghost use Rattle.vcd_reader.specs.Held.{HoldsContents, variables_of};
-ghost use Rattle.cycle_window.specs.Picks.{picked};
-ghost use Rattle.cycle_window.specs.Variables.{AreOf, places};
+ghost use Rattle.cycle_window.specs.Variables.{AreOf};
 
 use crate::clocks::Clocks;
 use crate::fault::WindowFault;
 use crate::rows::signal_variables;
 use crate::shared::{Shared, shared_among};
 use std::alloc::Global;
-use vcd_reader::{Dump, VarId};
+use vcd_reader::Dump;
 
 /// A path and the width that its variable must have, in bits.
 #[derive(Clone, Copy, Debug)]
@@ -20,7 +19,7 @@ pub struct WatchedSignal<'a> {
     pub width: u32,
 }
 
-/// Some variables of a dump, in order, and the clock at whose ticks they are sampled. It holds no
+/// The variables of signals in a dump, and the clock at whose ticks they are sampled. It holds no
 /// rows: a `Window` reads them.
 #[derive(Drop)]
 pub struct Columns<'d> {
@@ -28,12 +27,9 @@ pub struct Columns<'d> {
     pub(crate) code: usize,
     /// How many ticks there are.
     pub(crate) count: usize,
-    /// A variable for each signal.
-    pub(crate) variables: Vec<VarId>,
+    /// The signals' variables, and which of them each signal names.
     pub(crate) shared: Shared,
     ghost bindable: { AreOf dump.now shared.variables.items },
-    ghost same: { picked (places shared.variables.items) shared.picks.items
-        ≡ places variables.items },
 }
 
 impl<'d> Columns<'d> {
@@ -71,7 +67,6 @@ impl<'d> Columns<'d> {
             dump,
             code: clocks.code,
             count: clocks.ticks.len(),
-            variables,
             shared,
         })
     }

@@ -5,15 +5,12 @@ ghost use Rattle.std.specs.List.{flat_map};
 ghost use Rattle.vcd_reader.specs.Dump.{Contents};
 ghost use Rattle.vcd_reader.specs.Held.{HoldsContents, steps_in};
 ghost use Rattle.cycle_window.specs.Ticks.{row_of};
-ghost use Rattle.cycle_window.specs.Picks.{picked};
 ghost use Rattle.cycle_window.specs.Variables.{AreOf, places};
 ghost use Rattle.cycle_window.specs.Rows.{AreAhead};
 ghost use Rattle.cycle_window.specs.Cursors.{IsCursorOf};
 
 use crate::cursor::Cursor;
-use crate::picks::push_picked;
-use crate::shared::Shared;
-use vcd_reader::Dump;
+use vcd_reader::{Dump, VarId};
 
 /// Puts the rows at the ticks in the place of other rows, one behind the other, and reads on to the
 /// last of them. There is room for them.
@@ -21,20 +18,18 @@ pub(crate) fn fill_rows(
     values: &mut Vec<u128>,
     cursor: &mut Cursor,
     dump: &Dump,
-    shared: &Shared,
+    variables: &[VarId],
     ticks: &[usize],
 )
-    requires bindable { AreOf dump.now shared.now.variables.items }
-    requires of { IsCursorOf dump.now shared.now.variables.items cursor.old }
-    requires room { length ticks.now * length shared.now.picks.items ≤ vec_capacity values.old }
-    ensures of { IsCursorOf dump.now shared.now.variables.items cursor.new }
-    ensures len { length values.new.items
-        ≡ length ticks.now * length shared.now.picks.items }
+    requires bindable { AreOf dump.now variables.now }
+    requires of { IsCursorOf dump.now variables.now cursor.old }
+    requires room { length ticks.now * length variables.now ≤ vec_capacity values.old }
+    ensures of { IsCursorOf dump.now variables.now cursor.new }
+    ensures len { length values.new.items ≡ length ticks.now * length variables.now }
     ensures capacity { vec_capacity values.new ≡ vec_capacity values.old }
     ensures rows { (c : Contents) → HoldsContents dump.now c
         → AreAhead cursor.old.at (length (steps_in dump.now)) ticks.now
-        → values.new.items ≡ flat_map (row_of c
-        (picked (places shared.now.variables.items) shared.now.picks.items)) ticks.now }
+        → values.new.items ≡ flat_map (row_of c (places variables.now)) ticks.now }
     ensures reached { (most : ℕ) → AreAhead cursor.old.at (length (steps_in dump.now)) ticks.now
         → cursor.old.at ≤ most
         → ((n : ℕ) → n < length ticks.now → get_or ticks.now n 0 ≤ most)
@@ -42,7 +37,6 @@ pub(crate) fn fill_rows(
 {
     values.clear();
     for tick in ticks {
-        cursor.sample_at(dump, shared.variables.as_slice(), *tick);
-        push_picked(values, cursor.sample.as_slice(), shared.picks.as_slice());
+        cursor.push_at(values, dump, variables, *tick);
     }
 }

@@ -1,4 +1,28 @@
-//! The ticks of a clock in a dump, and the rows that are sampled there.
+//! The ticks of a clock in a dump, and the rows that are sampled there, window by window.
+//!
+//! A tick is a rising edge of the clock: a step of the dump at whose end the clock is 1, and before
+//! which it is 0 and has had a value. The row of a tick has a value for each of some signals, as it
+//! stood before the step of the edge. A window holds the rows of a run of ticks and no others; it
+//! reads the dump on from where it stands, and a variable that several signals name stands in it
+//! once. All its memory is taken when it is made.
+//!
+//! ```text
+//! let clocks = Clocks::of(alloc, &dump, "top.clk")?;          // C1, C2
+//! let columns = Columns::bind(alloc, &dump, &clocks, &signals)?;  // C4, C5
+//! let mut window = Window::new(alloc, 1024, columns)?;        // C3; empty, before the first tick
+//! window.slide(&dump, &clocks);                               // the next 1,024, or what is left
+//! let (first, end) = window.bounds();
+//! let row = window.row(alloc, first)?;                        // a new list
+//! window.put_part(&mut part, first, 2, 5);                    // signals 2, 3 and 4, in its room
+//! ```
+//!
+//! The definitions: `specs/Ticks.antt` (ticks and rows of what a dump says; `ticks_law` has that
+//! these are all the rising edges, in order), `specs/Held.antt` (what clocks, columns and windows
+//! hold), `specs/Bound.antt` (what is wrong with a path, a width or a size). Behind them:
+//! `specs/Rows.antt`, `specs/Cursors.antt`, `specs/Changes.antt`, `specs/Picks.antt`.
+//!
+//! Not promised: a memory of earlier rows, or a way back. `slide` asks for ticks that are left, and
+//! for the dump and clocks of the window's columns; `row` and `put_part` for a tick in the window.
 #![tactic(auto)]
 
 mod clocks;

@@ -1,7 +1,7 @@
 //! A run of clocks with their rows.
 
 ghost use Rattle.std.specs.Prelude.{◌≡◌, ◌+◌, ◌-◌, ◌*◌, ◌<◌, ◌≤◌, IfOk, IfErr, length, min};
-ghost use Rattle.std.specs.Prelude.{slice_index, vec_capacity};
+ghost use Rattle.std.specs.Prelude.{slice_index, slice_range, vec_capacity};
 ghost use Rattle.vcd_reader.specs.Dump.{Contents};
 ghost use Rattle.vcd_reader.specs.declared.dump.Dump.{Dump};
 ghost use Rattle.vcd_reader.specs.Held.{HoldsContents};
@@ -15,7 +15,8 @@ use crate::columns::Columns;
 use crate::cursor::Cursor;
 use crate::fault::WindowFault;
 use crate::filling::fill_rows;
-use std::alloc::Global;
+use crate::picks::push_picked;
+use std::alloc::{AllocError, Global};
 use vcd_reader::Dump;
 
 /// The most clocks of a window.
@@ -30,15 +31,16 @@ pub struct Window<'d> {
     pub(crate) first: usize,
     pub(crate) end: usize,
     pub(crate) cursor: Cursor,
-    /// The rows, one behind the other: a value for each variable.
+    /// Rows of the columns' variables, one behind the other.
     pub(crate) values: Vec<u128>,
     ghost ordered: { first ≤ end },
     ghost inside: { end ≤ columns.count },
     ghost few: { end - first ≤ size },
-    ghost rows: { AreRowsOf columns.dump.now columns.code (places columns.variables.items)
+    ghost rows: { AreRowsOf columns.dump.now columns.code (places columns.shared.variables.items)
         first end values.items },
-    ghost full: { length values.items ≡ (end - first) * length columns.variables.items },
-    ghost room: { min size columns.count * length columns.variables.items ≤ vec_capacity values },
+    ghost full: { length values.items ≡ (end - first) * length columns.shared.variables.items },
+    ghost room: { min size columns.count * length columns.shared.variables.items
+        ≤ vec_capacity values },
 }
 
 impl<'d> Window<'d> {
@@ -65,10 +67,11 @@ impl<'d> Window<'d> {
         if size == 0 || size > MOST {
             return Err(WindowFault::BadSize);
         }
-        let Some(room) = size.min(columns.count).checked_mul(columns.variables.len()) else {
+        let variables = columns.shared.variables.as_slice();
+        let Some(room) = size.min(columns.count).checked_mul(variables.len()) else {
             return Err(WindowFault::Memory);
         };
-        let cursor = Cursor::new(alloc, columns.dump, columns.shared.variables.as_slice())?;
+        let cursor = Cursor::new(alloc, columns.dump, variables)?;
         let values = Vec::with_capacity(alloc, room)?;
         Ok(Window {
             columns,
@@ -100,24 +103,57 @@ impl<'d> Window<'d> {
             &mut self.values,
             &mut self.cursor,
             dump,
-            &columns.shared,
+            columns.shared.variables.as_slice(),
             ticks,
         );
         self.first = first;
         self.end = end;
     }
 
-    /// The values at a tick of the window, one for each signal.
-    pub fn row(&self, tick: u64) -> &[u128]
+    /// The values at a tick of the window, one for each of the columns' variables.
+    fn values_at(&self, tick: u64) -> &[u128]
         requires low { first_in self.now ≤ tick }
         requires high { tick < end_in self.now }
-        ensures { (c : Contents) → IsOver self.now c → result.now ≡ row_of c
-            (places_in (columns_in self.now))
+        ensures len { length result.now ≡ length self.now.columns.shared.variables.items }
+        ensures row { (c : Contents) → IsOver self.now c → result.now ≡ row_of c
+            (places self.now.columns.shared.variables.items)
             (slice_index (ticks_of c (clock_in (columns_in self.now))) tick) }
     {
-        let width = self.columns.variables.len();
+        let width = self.columns.shared.variables.len();
         let start = (tick as usize - self.first) * width;
         &self.values[start..start + width]
+    }
+
+    /// A part of the row at a tick of the window, in the place of what stood there: the values of
+    /// the signals from one up to another, which is not among them. There is room for it.
+    pub fn put_part(&self, part: &mut Vec<u128>, tick: u64, from: usize, to: usize)
+        requires low { first_in self.now ≤ tick }
+        requires high { tick < end_in self.now }
+        requires order { from ≤ to }
+        requires inside { to ≤ length (places_in (columns_in self.now)) }
+        requires room { to - from ≤ vec_capacity part.old }
+        ensures part { (c : Contents) → IsOver self.now c → part.new.items ≡ row_of c
+            (slice_range (places_in (columns_in self.now)) from to)
+            (slice_index (ticks_of c (clock_in (columns_in self.now))) tick) }
+        ensures capacity { vec_capacity part.new ≡ vec_capacity part.old }
+    {
+        let picks = &self.columns.shared.picks[from..to];
+        part.clear();
+        push_picked(part, self.values_at(tick), picks);
+    }
+
+    /// The row at a tick of the window: a value for each signal.
+    pub fn row(&self, alloc: Global, tick: u64) -> Result<Vec<u128>, AllocError>
+        requires low { first_in self.now ≤ tick }
+        requires high { tick < end_in self.now }
+        ensures { IfOk result (λ row. (c : Contents) → IsOver self.now c → row.items ≡ row_of c
+            (places_in (columns_in self.now))
+            (slice_index (ticks_of c (clock_in (columns_in self.now))) tick)) }
+    {
+        let width = self.columns.shared.picks.len();
+        let mut row = Vec::with_capacity(alloc, width)?;
+        self.put_part(&mut row, tick, 0, width);
+        Ok(row)
     }
 
     /// The window's clocks: from the first up to the second, which is not in it.

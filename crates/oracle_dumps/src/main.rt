@@ -100,7 +100,8 @@ fn print_rows<R: Print + AllocGlobal>(
     let mut next = first;
     for tick in [0, 1, ticks / 2, ticks - 1] {
         if tick >= next && tick < end {
-            print_row(rt, trace.file, tick, &trace.paths, window.row(tick))?;
+            let row = window.row(rt.alloc(), tick)?;
+            print_row(rt, trace.file, tick, &trace.paths, row.as_slice())?;
             next = tick + 1;
         }
     }

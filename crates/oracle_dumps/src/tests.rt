@@ -78,7 +78,8 @@ fn values_in(
         window.slide(dump, &clocks);
         let (first, end) = window.bounds();
         for tick in first..end {
-            values.extend_from_slice(window.row(tick))?;
+            let row = window.row(alloc, tick)?;
+            values.extend_from_slice(row.as_slice())?;
         }
     }
     Ok(values)

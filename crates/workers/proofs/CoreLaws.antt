@@ -27,16 +27,7 @@ use Rattle.cycle_window.specs.declared.columns.Columns.{Columns}
 use Rattle.cycle_window.specs.declared.window.Window.{Window}
 use Rattle.cycle_window.specs.Bound.{places_of}
 use Rattle.cycle_window.specs.Ticks.{ticks_of, row_of}
-use Rattle.cycle_window.specs.Held.{
-  columns_in,
-  places_in,
-  clock_in,
-  code_in,
-  ticks_in,
-  size_in,
-  IsOver,
-  IsWindowOf,
-}
+use Rattle.cycle_window.specs.Held.{columns_in, places_in, code_in, ticks_in, size_in, IsOver, IsWindowOf}
 use Rattle.program_runs.specs.Reported.{wanted_slot}
 use Rattle.workers.specs.declared.job.Job.{Job}
 use Rattle.workers.specs.declared.floor.Floor.{Floor}

@@ -453,9 +453,11 @@ stands-cleared w m new h u =
       machine = m.machine;
       from = m.from;
       to = m.to;
+      row = m.row;
       attempts = m.attempts;
       since = now;
       decided = new.decided;
+      wide = m.wide;
     } in
     let same : IsUnmoved bare new =
     record {
@@ -502,9 +504,11 @@ right-cleared w m new b u h =
       machine = new.machine;
       from = new.from;
       to = new.to;
+      row = new.row;
       attempts = new.attempts;
       since = m.since;
       decided = new.decided;
+      wide = new.wide;
     } in
     let same : IsSame m like =
     record {

@@ -40,7 +40,6 @@ use Rattle.std.proofs.lemmas.List.{append-nil}
 use Rattle.vcd_reader.specs.Variables.{size_of}
 use Rattle.machine.specs.Running.{Running, IsClock}
 use Rattle.program_runs.proofs.CountLaws.{CountsAll, clock-counts}
-use Rattle.std.proofs.lemmas.List.{length-map}
 use Rattle.signals.specs.declared.verdict.Decided.{Decided}
 use Rattle.bytecode.specs.Values.{ProgramData}
 use Rattle.vcd_reader.specs.Dump.{Contents}
@@ -82,25 +81,6 @@ use Rattle.workers.specs.Standing.{
   HasGone,
   IsUnmoved,
 }
-
-takes : {A : Type 0} {B : Type 0} (f : A → B) (n : ℕ) (xs : List A)
-    → take n (map f xs) ≡ map f (take n xs)
-takes f zero xs = refl
-takes f (suc n) [] = refl
-takes f (suc n) (x ∷ xs) = ap (λ ys. f x ∷ ys) (takes f n xs)
-
-drops : {A : Type 0} {B : Type 0} (f : A → B) (n : ℕ) (xs : List A)
-    → drop n (map f xs) ≡ map f (drop n xs)
-drops f zero xs = refl
-drops f (suc n) [] = refl
-drops f (suc n) (x ∷ xs) = drops f n xs
-
--- a part of a row is the row of a part
-pub part-row : (c : Contents) (vs : List ℕ) (k a b : ℕ)
-    → slice_range (row_of c vs k) a b ≡ row_of c (slice_range vs a b) k
-unfolding row_of
-part-row c vs k a b =
-    ap (take (b - a)) (drops _ a vs) ∙ takes _ (b - a) (drop a vs)
 
 one-tick : (f : ℕ → List ℕ) (b : ℕ) (ticks : List ℕ) → b < length ticks
     → take 1 (drop b (map f ticks)) ≡ f (slice_index ticks b) ∷ []
@@ -284,36 +264,11 @@ slid-fits v w vs us p is h fits =
     subst (λ (cs : Columns). FittingOf cs us p) (sym is)
     (subst (λ (xs : List ℕ). FittingOf v.columns xs p) h fits)
 
-pub row-length : (c : Contents) (vs : List ℕ) (k : ℕ) → length (row_of c vs k) ≡ length vs
-unfolding row_of
-row-length c vs k = length-map vs _
-
-low-take : (most n : ℕ) (xs : List ℕ) → 0 < most → ((i : ℕ) → slice_index xs i < most) → (i : ℕ)
-    → slice_index (take n xs) i < most
-low-take most zero xs pos low i = pos
-low-take most (suc n) [] pos low i = pos
-low-take most (suc n) (x ∷ xs) pos low zero = low zero
-low-take most (suc n) (x ∷ xs) pos low (suc i) = low-take most n xs pos (λ j. low (suc j)) i
-
-low-drop : (most n : ℕ) (xs : List ℕ) → 0 < most → ((i : ℕ) → slice_index xs i < most) → (i : ℕ)
-    → slice_index (drop n xs) i < most
-low-drop most zero xs pos low i = low i
-low-drop most (suc n) [] pos low i = pos
-low-drop most (suc n) (x ∷ xs) pos low i = low-drop most n xs pos (λ j. low (suc j)) i
-
--- each value of a part is low
-pub low-part : (most a b : ℕ) (xs : List ℕ) → 0 < most → ((i : ℕ) → slice_index xs i < most)
-    → (i : ℕ) → slice_index (slice_range xs a b) i < most
-low-part most a b xs pos low = low-take most (b - a) (drop a xs) pos (low-drop most a xs pos low)
-
--- the row of a monitor's part
-pub part-seen : (w : Window) (c : Contents) (old mid : Monitor) (row : List ℕ) (k : ℕ)
-    → IsSame old mid → row ≡ row_of c (places_in (columns_in w)) k
-    → part mid row ≡ row_of c (variables_in w old) k
-part-seen w c old mid row k same is =
-    same-part row old mid same
-    ∙ ap (λ (r : List ℕ). slice_range r old.from old.to) is
-    ∙ part-row c (places_in (columns_in w)) k old.from old.to
+-- the values of the monitor's variables are its row
+pub row-seen : (w : Window) (c : Contents) (old mid : Monitor) (row : List ℕ) (k : ℕ)
+    → IsSame old mid → row ≡ row_of c (variables_in w mid) k → row ≡ row_of c (variables_in w old) k
+row-seen w c old mid row k same is =
+    is ∙ ap (λ (vs : List ℕ). row_of c vs k) (same-part (places_in (columns_in w)) old mid same)
 
 -- a monitor that went on stands where it came to
 pub stands-on : (w : Window) (old new : Monitor) (to : ℕ) → Stands w old → IsSame old new →

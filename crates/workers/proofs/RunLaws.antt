@@ -6,8 +6,8 @@ use Rattle.checked_machine.specs.Outcomes.{Ran, done, trapped, and_then}
 use Rattle.checked_machine.specs.Machine.{State, Outcome, opening, clock, clocks}
 use Rattle.checked_machine.specs.Runs.{behind, run_from}
 use Rattle.program_runs.proofs.CutLaws.{ends-as}
-use Rattle.batches.specs.Batches.{rows_between, run_between, decided_in, batch_of, HasCome}
-use Rattle.batches.proofs.JoinLaws.{Came, came, split-at, joins}
+use Rattle.batches.specs.Batches.{rows_between, decided_in, batch_of, HasCome}
+use Rattle.batches.proofs.JoinLaws.{came, split-at, joins}
 
 -- where it comes to a value, nothing is left of it
 LeavesNone : Ran Outcome → Type 0

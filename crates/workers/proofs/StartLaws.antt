@@ -32,17 +32,7 @@ use Rattle.cycle_window.specs.declared.columns.Columns.{Columns}
 use Rattle.cycle_window.specs.declared.fault.WindowFault.{WindowFault}
 use Rattle.cycle_window.specs.declared.window.Window.{Window}
 use Rattle.cycle_window.specs.Bound.{Wanted, first_refused, places_of}
-use Rattle.cycle_window.specs.Held.{
-  columns_in,
-  dump_in,
-  places_in,
-  clock_in,
-  code_in,
-  size_in,
-  first_in,
-  end_in,
-  IsOver,
-}
+use Rattle.cycle_window.specs.Held.{columns_in, dump_in, places_in, clock_in, code_in, size_in, first_in, end_in}
 use Rattle.cycle_window.specs.Held.{AreColumnsOf, AreClocksOf, IsWindowOf}
 use Rattle.checked_machine.specs.Machine.{State, opening}
 use Rattle.program_runs.specs.Reported.{wanted_slot}

@@ -1,30 +1,8 @@
 -- What monitors have published.
-use Rattle.std.proofs.Common.{
-  ◌≡◌,
-  ℕ,
-  zero,
-  suc,
-  List,
-  [],
-  ◌∷◌,
-  ◌++◌,
-  map,
-  Some,
-  cond,
-  Bool,
-  true,
-  false,
-  refl,
-  sym,
-  ap,
-  ◌∙◌,
-  subst,
-  arith,
-  eqb,
-}
+use Rattle.std.proofs.Common.{◌≡◌, ℕ, zero, suc, List, [], ◌∷◌, ◌++◌, map, Some, cond, Bool, true, false, sym, ap, ◌∙◌, subst, arith}
 use Rattle.std.specs.Prelude.{slice_get, slice_set, ◌==◌, if◌then◌else◌}
 use Rattle.std.specs.List.{flat_map}
-use Rattle.std.proofs.lemmas.Bool.{eq-eqb, ne_eqb, cases_eq}
+use Rattle.std.proofs.lemmas.Bool.{eq-eqb, ne_eqb}
 use Rattle.std.proofs.lemmas.Grind.{flat_map-append}
 use Rattle.std.proofs.lemmas.List.{map-append, append-nil}
 use Rattle.signals.specs.declared.verdict.Decided.{Decided}
@@ -32,23 +10,14 @@ use Rattle.bytecode.specs.Values.{ProgramData}
 use Rattle.vcd_reader.specs.Dump.{Contents}
 use Rattle.cycle_window.specs.declared.window.Window.{Window}
 use Rattle.cycle_window.specs.Ticks.{ticks_of, row_of}
-use Rattle.cycle_window.specs.Held.{columns_in, places_in, clock_in, IsOver}
-use Rattle.checked_machine.specs.Machine.{opening}
+use Rattle.cycle_window.specs.Held.{columns_in, places_in, clock_in}
 use Rattle.machine.specs.Running.{Running}
 use Rattle.batches.specs.declared.batch.Batch.{Batch}
 use Rattle.batches.specs.Batches.{batch_of, decided_in}
 use Rattle.batches.proofs.JoinLaws.{come-first}
 use Rattle.workers.specs.declared.monitor.Monitor.{Monitor}
 use Rattle.workers.specs.States.{BatchState, batch, published_by}
-use Rattle.workers.specs.Standing.{
-  monitor_state,
-  variables_in,
-  seen,
-  part,
-  IsSame,
-  Stands,
-  IsCleared,
-}
+use Rattle.workers.specs.Standing.{monitor_state, seen, IsSame, Stands, IsCleared}
 use Rattle.workers.specs.Floors.{batch_state, AreAllBefore, EachIsTold}
 use Rattle.workers.specs.Opening.{IsNew}
 use Rattle.workers.proofs.PlaceLaws.{same-part, over-same, same-seen}
@@ -132,9 +101,11 @@ told-taken w m new ds stands u h = λ c over.
       machine = m.machine;
       from = m.from;
       to = m.to;
+      row = m.row;
       attempts = m.attempts;
       since = now;
       decided = new.decided;
+      wide = m.wide;
     } in
     let same : IsSame bare new =
     record {

@@ -2,6 +2,7 @@
 use Rattle.std.specs.Prelude.{◌≡◌, ℕ, ◌+◌, ◌≤◌, List, [], ◌++◌, length, map, slice_range, vec_len}
 use Rattle.std.specs.Prelude.{vec_capacity}
 use Rattle.signals.specs.declared.verdict.Decided.{Decided}
+use Rattle.bytecode.specs.Values.{ProgramData}
 use Rattle.vcd_reader.specs.Variables.{size_of}
 use Rattle.vcd_reader.specs.Dump.{Contents}
 use Rattle.cycle_window.specs.declared.window.Window.{Window}
@@ -34,6 +35,12 @@ variables_in w m = part m (places_in (columns_in w))
 -- the trace's rows, as the monitor sees them
 abbrev pub seen : Window → Contents → Monitor → List (List ℕ)
 seen w c m = map (row_of c (variables_in w m)) (ticks_of c (clock_in (columns_in w)))
+
+-- the values, before one step, of variables that have the widths of the program's signals
+abbrev pub AreSampled : ProgramData → List ℕ → Type 0
+AreSampled p row =
+    ∥ ((c : Contents) × (vs : List ℕ) × (k : ℕ) × (row ≡ row_of c vs k)
+    × (map (λ v. size_of c.variables v) vs ≡ map (λ s. s.width) p.signals)) ∥₁
 
 -- what a monitor keeps all its life
 pub record IsSame (old new : Monitor) : Type 0 where

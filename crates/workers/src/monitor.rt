@@ -5,7 +5,6 @@ ghost use Rattle.std.specs.Prelude.{slice_range};
 ghost use Rattle.std.specs.Prelude.{vec_len, vec_capacity};
 ghost use Rattle.vcd_reader.specs.Dump.{Contents};
 ghost use Rattle.cycle_window.specs.Held.{end_in, IsOver};
-ghost use Rattle.machine.specs.Running.{IsRowOf};
 ghost use Rattle.workers.specs.States.{advanced};
 
 use arrayvec::ArrayVec;
@@ -24,16 +23,19 @@ pub(crate) struct Monitor {
     /// Its signals' part of a row: from the first place up to the second, which is not in it.
     pub(crate) from: usize,
     pub(crate) to: usize,
+    /// The part at a clock.
+    pub(crate) row: Vec<u128>,
     /// How many attempts its program may have live.
     pub(crate) attempts: usize,
     /// The clock from which on the decided attempts are kept.
     pub(crate) since: u64,
     pub(crate) decided: Vec<Decided>,
+    ghost wide: { to - from ≤ vec_capacity row },
 }
 
 impl Monitor {
-    ghost use Rattle.workers.specs.Standing.{monitor_state, seen, part, IsSame, Stands, IsOneMore};
-    ghost use Rattle.workers.specs.Standing.{IsUnmoved, IsCleared};
+    ghost use Rattle.workers.specs.Standing.{monitor_state, seen, AreSampled, IsSame, Stands};
+    ghost use Rattle.workers.specs.Standing.{IsOneMore, IsUnmoved, IsCleared};
     ghost use Rattle.workers.specs.Floors.{batch_state};
     ghost use Rattle.workers.specs.States.{batch};
     ghost use Rattle.workers.specs.Opening.{IsNew, part_of, part_at, opened_monitor};
@@ -48,9 +50,11 @@ impl Monitor {
         ensures part { IfOk result (λ m. part_of m ≡ part_at from verified.now) }
         ensures new { IfOk result IsNew }
     {
-        let Some(to) = from.checked_add(verified.program().signals.len()) else {
+        let width = verified.program().signals.len();
+        let Some(to) = from.checked_add(width) else {
             return Err(AllocError);
         };
+        let row = Vec::with_capacity(alloc, width)?;
         let attempts = usize::from(verified.limits().attempts);
         let copied = verified.copy(alloc)?;
         let Ok(machine) = Machine::new(alloc, copied) else {
@@ -60,26 +64,26 @@ impl Monitor {
             machine,
             from,
             to,
+            row,
             attempts,
             since: 0,
             decided: Vec::new(alloc),
         })
     }
 
-    /// A clock over a row of all signals. There is room for what it decides, which stands in the
+    /// A clock over its part of the row. There is room for what it decides, which stands in the
     /// buffer, too.
-    fn clock(&mut self, row: &[u128], decided: &mut ArrayVec<Decided, 1024>)
-        requires parted { self.old.from ≤ self.old.to }
-        requires inside { self.old.to ≤ length row.now }
-        requires row { IsRowOf self.old.machine.program (part self.old row.now) }
+    fn clock(&mut self, decided: &mut ArrayVec<Decided, 1024>)
+        requires row { AreSampled self.old.machine.program self.old.row.items }
         requires room { self.old.machine.program.header.limits.attempts ≤ 1024 }
         requires spare { vec_len self.old.decided
             + length self.old.machine.state.standing.attempts + 1 ≤ vec_capacity self.old.decided }
         requires more { self.old.machine.state.standing.now + 1 < 2 ^ 64 }
-        ensures { IsOneMore self.old (part self.old row.now) self.new }
+        ensures { IsOneMore self.old self.old.row.items self.new }
     {
         decided.clear();
-        self.machine.clock(&row[self.from..self.to], decided);
+        let row = self.row.as_slice();
+        self.machine.clock(row, decided);
         let kept = self.decided.extend_from_slice(decided.as_slice());
         prove!(kept.is_ok());
     }
@@ -114,8 +118,8 @@ impl Monitor {
     {
         let mut decided = ArrayVec::new();
         for clock in self.machine.now()..to {
-            let row = window.row(clock);
-            self.clock(row, &mut decided);
+            window.put_part(&mut self.row, clock, self.from, self.to);
+            self.clock(&mut decided);
         }
     }
 

@@ -21,5 +21,5 @@ loop-clock-preserved c = record {
       c.push.new.self c.in_ok-row.row.items
       (omega (arith, over-end window contents over, c.bounds-first.ensures.end))
       (c.loop-clock.invariant.rows contents over before)
-      (c.in_ok-row.ensures.items ∙ c.row.ensures contents over) c.in_ok-push.ensures.ok;
+      (c.in_ok-row.ensures contents over) c.in_ok-push.ensures.ok;
 }

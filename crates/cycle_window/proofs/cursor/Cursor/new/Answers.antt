@@ -10,5 +10,4 @@ returns-clause-of c = record {
   table = c.in_ok-last.ensures.table;
   wide = subst (λ (n : ℕ). AreCodesBelow c.args.dump.now c.args.variables.now n)
       (sym c.in_ok-last.ensures.len) c.table_len.ensures;
-  room = omega (arith, c.in_ok-sample.ensures.capacity);
 }

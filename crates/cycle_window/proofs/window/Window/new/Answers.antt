@@ -9,9 +9,10 @@ pub invariant_of-result : goal.invariant_of-result
 invariant_of-result c =
     let product = rw c.in-Some.is at c.checked_mul.ensures in
     let columns = c.args.columns in
-    let long : c.len.result ≡ length columns.variables.items =
-    c.len.ensures ∙ columns.variables.ok.0 in
-    let sizes = product.1 ∙ ap (λ (n : ℕ). n * c.len.result) c.min.ensures
+    let long : length c.as_slice-variables.result.now ≡ length columns.shared.variables.items =
+    ap length c.as_slice-variables.ensures.value in
+    let sizes = product.1
+    ∙ ap (λ (n : ℕ). n * length c.as_slice-variables.result.now) c.min.ensures
     ∙ ap (λ (n : ℕ). min c.args.size columns.count * n) long in
     record {
       ordered = omega arith;
@@ -33,7 +34,7 @@ returns-clause-of c = λ d k same same_clock clocks over. record {
       subst (λ (x : Dump). IsCursorOf x c.args.columns.shared.variables.items c.in_ok-cursor.cursor)
       same
       (subst (λ (vs : List VarId). IsCursorOf c.args.columns.dump.now vs c.in_ok-cursor.cursor)
-      c.as_slice.ensures.value c.in_ok-cursor.ensures.of);
+      c.as_slice-variables.ensures.value c.in_ok-cursor.ensures.of);
   before = λ c' n h le lt. omega (arith, c.in_ok-cursor.ensures.at);
 }
 

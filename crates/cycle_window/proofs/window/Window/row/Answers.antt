@@ -1,101 +1,28 @@
-use Rattle.std.proofs.Common.{
-  ◌≡◌,
-  ◌∙◌,
-  ◌+◌,
-  ◌*◌,
-  ◌-◌,
-  ◌≤◌,
-  ◌<◌,
-  ℕ,
-  List,
-  length,
-  vec_len,
-  take,
-  drop,
-  ap,
-  sym,
-  arith,
-}
-use Rattle.std.proofs.lemmas.List.{length-map}
-use Rattle.vcd_reader.specs.declared.variable.VarId.{VarId}
-use Rattle.cycle_window.specs.declared.window.Window.{Window}
-use Rattle.cycle_window.specs.Ticks.{ticks_of, row_of}
+use Rattle.std.proofs.Common.{◌≡◌, ◌∙◌, ◌-◌, ℕ, List, take, ap, arith}
+use Rattle.std.specs.Prelude.{slice_index}
+use Rattle.std.proofs.lemmas.List.{take_all}
+use Rattle.cycle_window.specs.Picks.{picked}
 use Rattle.cycle_window.specs.Variables.{places}
-use Rattle.cycle_window.specs.Held.{
-  columns_in,
-  places_in,
-  dump_in,
-  clock_in,
-  first_in,
-  end_in,
-  IsOver,
-}
-use Rattle.cycle_window.proofs.HeldLaws.{row-long, row-inside}
-use Rattle.cycle_window.proofs.WindowLaws.{row-among}
+use Rattle.cycle_window.specs.Ticks.{ticks_of, row_of}
+use Rattle.cycle_window.specs.Held.{columns_in, places_in, clock_in}
+use Rattle.cycle_window.proofs.PickLaws.{picked-long}
 use Rattle.cycle_window.proofs.window.Window.row.Goals as goal
 
-wide : (w : Window) (width : ℕ) → width ≡ vec_len w.columns.variables
-    → width ≡ length w.columns.variables.items
-wide w width is = is ∙ w.columns.variables.ok.0
-
--- the row of a tick lies within the values
-within : (w : Window) (tick width : ℕ) → first_in w ≤ tick → tick < end_in w
-    → width ≡ vec_len w.columns.variables
-    → (tick - w.first) * width + width ≤ length w.values.items
-unfolding first_in end_in
-within w tick width low high is =
-    row-inside (tick - w.first) (w.end - w.first) width (length w.values.items) (omega arith)
-    (w.full ∙ ap (λ (n : ℕ). (w.end - w.first) * n) (sym (wide w width is)))
-
-pub overflow_sub-start : goal.overflow_sub-start
-unfolding first_in
-overflow_sub-start c = c.requires.low
-
-pub overflow_mul-start : goal.overflow_mul-start
-overflow_mul-start c =
-    let w = c.args.self.now in
-    let within =
-    within w c.args.tick c.len-width.result c.requires.low c.requires.high
-    c.len-width.ensures in
-    omega (arith, within, w.values.small, w.values.ok.0)
-
-pub overflow_add-result : goal.overflow_add-result
-overflow_add-result c =
-    let w = c.args.self.now in
-    let within =
-    within w c.args.tick c.len-width.result c.requires.low c.requires.high
-    c.len-width.ensures in
-    omega (arith, within, w.values.small, w.values.ok.0)
-
-pub offset_bounds-deref-start : goal.offset_bounds-deref-start
-offset_bounds-deref-start c =
-    let w = c.args.self.now in
-    let within =
-    within w c.args.tick c.len-width.result c.requires.low c.requires.high
-    c.len-width.ensures in
-    omega (arith, within, ap length c.deref.ensures.value, c.deref.type_inv.1)
-
-pub slice_bounds-result-end : goal.slice_bounds-result-end
-slice_bounds-result-end c =
-    let w = c.args.self.now in
-    let within =
-    within w c.args.tick c.len-width.result c.requires.low c.requires.high
-    c.len-width.ensures in
-    omega (arith, within, ap length c.deref.ensures.value)
+pub put_part-requires-clause-inside : goal.put_part-requires-clause-inside
+unfolding columns_in places_in
+put_part-requires-clause-inside c =
+    let shared = c.args.self.now.columns.shared in
+    let long = picked-long (places shared.variables.items) shared.picks.items in
+    omega (arith, long, c.len-width.ensures, shared.picks.ok.0)
 
 pub returns : goal.returns
-unfolding columns_in places_in dump_in clock_in first_in end_in IsOver
+unfolding columns_in places_in
 returns c = λ c' over.
-    let w = c.args.self.now in
-    let width = c.len-width.result in
-    let vs = places w.columns.variables.items in
-    let start = (c.args.tick - w.first) * width in
-    let long : (k : ℕ) → length (row_of c' vs k) ≡ width =
-    λ k. row-long c' vs k ∙ length-map w.columns.variables.items (λ (v : VarId). v.place)
-    ∙ sym (wide w width c.len-width.ensures) in
-    let few : (start + width) - start ≡ width = omega arith in
-    let inside : w.end ≤ length (ticks_of c' w.columns.code) = omega (arith, w.inside, over.many) in
-    ap (λ (n : ℕ). take n (drop start c.deref.result.now)) few
-    ∙ ap (λ (xs : List ℕ). take width (drop start xs)) (c.deref.ensures.value ∙ w.rows c' over.held)
-    ∙ row-among (row_of c' vs) width long (ticks_of c' w.columns.code) w.first w.end c.args.tick
-    c.requires.low c.requires.high inside
+    let shared = c.args.self.now.columns.shared in
+    let all = picked (places shared.variables.items) shared.picks.items in
+    let long = picked-long (places shared.variables.items) shared.picks.items in
+    let whole : take (c.len-width.result - 0) all ≡ all =
+    take_all (c.len-width.result - 0) all
+    (omega (arith, long, c.len-width.ensures, shared.picks.ok.0)) in
+    let k = slice_index (ticks_of c' (clock_in c.args.self.now.columns)) c.args.tick in
+    c.put_part.ensures.part c' over ∙ ap (λ (xs : List ℕ). row_of c' xs k) whole

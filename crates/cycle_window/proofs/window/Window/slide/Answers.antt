@@ -24,19 +24,17 @@ use Rattle.std.specs.List.{flat_map}
 use Rattle.std.proofs.Math.Logic.{∥∥₁_elim}
 use Rattle.std.proofs.Math.Bridge.{le_prop}
 use Rattle.std.proofs.Math.Nat.{mul-le-mul_right}
-use Rattle.std.proofs.lemmas.List.{length-map}
 use Rattle.vcd_reader.specs.declared.dump.Dump.{Dump}
 use Rattle.vcd_reader.specs.declared.variable.VarId.{VarId}
 use Rattle.vcd_reader.specs.Dump.{Contents}
 use Rattle.vcd_reader.specs.Held.{HoldsContents, steps_in}
 use Rattle.vcd_reader.proofs.HeldLaws.{says-something}
 use Rattle.cycle_window.specs.declared.clocks.Clocks.{Clocks}
-use Rattle.cycle_window.specs.declared.columns.Columns.{Columns}
 use Rattle.cycle_window.specs.declared.window.Window.{Window}
 use Rattle.cycle_window.specs.Ticks.{ticks_of, row_of}
-use Rattle.cycle_window.specs.Picks.{picked}
 use Rattle.cycle_window.specs.Variables.{places, AreOf}
 use Rattle.cycle_window.specs.Rows.{AreAhead, AreRowsOf, IsBefore}
+use Rattle.cycle_window.specs.Cursors.{IsCursorOf}
 use Rattle.cycle_window.specs.Held.{
   ticks_in,
   code_in,
@@ -50,7 +48,6 @@ use Rattle.cycle_window.specs.Held.{
   IsWindowOf,
 }
 use Rattle.cycle_window.proofs.HeldLaws.{held-length}
-use Rattle.cycle_window.proofs.PickLaws.{picked-long}
 use Rattle.cycle_window.proofs.WindowLaws.{ticks-ahead, ticks-behind, slice-long}
 use Rattle.cycle_window.proofs.window.Window.slide.Goals as goal
 
@@ -67,23 +64,16 @@ many-rows d k w same =
     (same.clocks says.0 says.1 ∙ ap (ticks_of says.0) same.same_clock) in
     omega (arith, rows, clocks))
 
-picks-long : (cs : Columns) → length cs.shared.picks.items ≡ length cs.variables.items
-picks-long cs =
-    sym (picked-long (places cs.shared.variables.items) cs.shared.picks.items) ∙ ap length cs.same
-    ∙ length-map cs.variables.items (λ (v : VarId). v.place)
-
 -- there is room for the rows of so many ticks
 fits : (w : Window) (n : ℕ) → n ≤ w.size → n ≤ w.columns.count
-    → n * length w.columns.shared.picks.items ≤ vec_capacity w.values
+    → n * length w.columns.shared.variables.items ≤ vec_capacity w.values
 fits w n few inside =
-    let most : n * length w.columns.variables.items ≤ vec_capacity w.values =
     omega (
       arith,
       w.room,
-      mul-le-mul_right (length w.columns.variables.items)
+      mul-le-mul_right (length w.columns.shared.variables.items)
           (let le : n ≤ min w.size w.columns.count = omega arith in le),
-    ) in
-    subst (λ (m : ℕ). n * m ≤ vec_capacity w.values) (sym (picks-long w.columns)) most
+    )
 
 -- the ticks of the next clocks lie ahead
 slid-ahead : (d : Dump) (k : Clocks) (w : Window) → IsWindowOf w d k → (c : Contents)
@@ -99,22 +89,21 @@ slid-ahead d k w same c h end le inside =
     (same.before c n h nle (subst (λ (xs : List ℕ). n < length xs) is nlt)))
 
 slid-rows : (d : Dump) (k : Clocks) (w : Window) → IsWindowOf w d k → (end : ℕ) (new ticks : List ℕ)
-    → w.end ≤ end → end ≤ length k.ticks.items → ticks ≡ slice_range k.ticks.items w.end end
+    (vs : List VarId) → vs ≡ w.columns.shared.variables.items → w.end ≤ end → end ≤ length k.ticks.items → ticks ≡ slice_range k.ticks.items w.end end
     → ((c : Contents) → HoldsContents d c → AreAhead w.cursor.at (length (steps_in d)) ticks
-    → new ≡ flat_map
-    (row_of c (picked (places w.columns.shared.variables.items) w.columns.shared.picks.items))
-    ticks)
-    → AreRowsOf w.columns.dump.now w.columns.code (places w.columns.variables.items) w.end end new
+    → new ≡ flat_map (row_of c (places vs)) ticks)
+    → AreRowsOf w.columns.dump.now w.columns.code (places w.columns.shared.variables.items) w.end
+    end new
 unfolding ticks_in code_in end_in dump_in clock_in columns_in
-slid-rows d k w same end new ticks le inside are rows = λ c held.
+slid-rows d k w same end new ticks vs these le inside are rows = λ c held.
     let h : HoldsContents d c = subst (λ (x : Dump). HoldsContents x c) same.same_dump held in
     let is : k.ticks.items ≡ ticks_of c w.columns.code =
     same.clocks c h ∙ ap (ticks_of c) same.same_clock in
     let ahead = slid-ahead d k w same c h end le inside in
     rows c h (subst (λ (xs : List ℕ). AreAhead w.cursor.at (length (steps_in d)) xs) (sym are)
     ahead)
-    ∙ ap (λ (ps : List ℕ). flat_map (row_of c ps) ticks) w.columns.same
-    ∙ ap (flat_map (row_of c (places w.columns.variables.items)))
+    ∙ ap (λ (xs : List VarId). flat_map (row_of c (places xs)) ticks) these
+    ∙ ap (flat_map (row_of c (places w.columns.shared.variables.items)))
     (are ∙ ap (λ (xs : List ℕ). slice_range xs w.end end) is)
 
 slid-before : (d : Dump) (k : Clocks) (w : Window) → IsWindowOf w d k
@@ -158,16 +147,27 @@ fill_rows-requires-clause-room c =
     (omega (arith, value, long, c.len.ensures, c.min.ensures, c.requires.remain)) in
     let same : length (slice_range c.deref.result.now w.end (w.end + n)) ≡ n =
     omega (arith, size) in
-    subst (λ (m : ℕ). m * length w.columns.shared.picks.items ≤ vec_capacity w.values) (sym same)
+    subst (λ (vs : List VarId).
+    length (slice_range c.deref.result.now w.end (w.end + n)) * length vs ≤ vec_capacity w.values)
+    (sym c.as_slice.ensures.value)
+    (subst (λ (m : ℕ). m * length w.columns.shared.variables.items ≤ vec_capacity w.values)
+    (sym same)
     (fits w n (omega (arith, c.min.ensures))
-    (omega (arith, many, c.len.ensures, c.min.ensures, c.requires.remain)))
+    (omega (arith, many, c.len.ensures, c.min.ensures, c.requires.remain))))
 
 pub fill_rows-requires-clause-bindable : goal.fill_rows-requires-clause-bindable
 unfolding dump_in columns_in
 fill_rows-requires-clause-bindable c =
     let w = c.args.self.now in
-    subst (λ (d : Dump). AreOf d w.columns.shared.variables.items) c.requires.same.same_dump
-    w.columns.bindable
+    subst (λ (vs : List VarId). AreOf c.args.dump.now vs) (sym c.as_slice.ensures.value)
+    (subst (λ (d : Dump). AreOf d w.columns.shared.variables.items) c.requires.same.same_dump
+    w.columns.bindable)
+
+pub fill_rows-requires-clause-of : goal.fill_rows-requires-clause-of
+fill_rows-requires-clause-of c =
+    let w = c.args.self.now in
+    subst (λ (vs : List VarId). IsCursorOf c.args.dump.now vs w.cursor)
+    (sym c.as_slice.ensures.value) c.requires.same.cursor
 
 pub invariant_of-self : goal.invariant_of-self
 unfolding end_in ticks_in
@@ -189,10 +189,12 @@ invariant_of-self c =
       ordered = omega arith;
       inside = omega (arith, inside, many);
       few = omega (arith, c.min.ensures);
-      rows = slid-rows c.args.dump.now k w c.requires.same (w.end + n) _ _ (omega arith) inside
+      rows = slid-rows c.args.dump.now k w c.requires.same (w.end + n) _ _ _ c.as_slice.ensures.value
+          (omega arith) inside
           (ap (λ (xs : List ℕ). slice_range xs w.end (w.end + n)) value) c.fill_rows.ensures.rows;
-      full = c.fill_rows.ensures.len ∙ ap (λ (m : ℕ). m * length w.columns.shared.picks.items) same
-          ∙ ap (λ (m : ℕ). ((w.end + n) - w.end) * m) (picks-long w.columns);
+      full = c.fill_rows.ensures.len
+          ∙ ap (λ (m : ℕ). m * length c.as_slice.result.now) same
+          ∙ ap (λ (vs : List VarId). ((w.end + n) - w.end) * length vs) c.as_slice.ensures.value;
       room = omega (arith, w.room, c.fill_rows.ensures.capacity);
     }
 
@@ -211,7 +213,8 @@ returns-clause-same c =
       same_clock = same.same_clock;
       clocks = same.clocks;
       over = same.over;
-      cursor = c.fill_rows.ensures.of;
+      cursor = subst (λ (vs : List VarId). IsCursorOf c.args.dump.now vs c.fill_rows.new.cursor)
+          c.as_slice.ensures.value c.fill_rows.ensures.of;
       before = slid-before c.args.dump.now k w same (w.end + n) _ _ (omega arith) inside
           (ap (λ (xs : List ℕ). slice_range xs w.end (w.end + n)) c.deref.ensures.value)
           c.fill_rows.ensures.reached;

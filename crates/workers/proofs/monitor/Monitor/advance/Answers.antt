@@ -1,45 +1,35 @@
-use Rattle.std.proofs.Common.{◌≡◌, ◌+◌, ◌-◌, ◌<◌, ◌^◌, ℕ, map, length, sym, ap, ◌∙◌, subst, arith}
-use Rattle.std.proofs.Math.Logic.{∥∥₁_elim}
-use Rattle.std.proofs.Math.Bridge.{le_prop}
+use Rattle.std.proofs.Common.{◌≡◌, ◌+◌, ◌-◌, ℕ, List, refl, sym, ap, ◌∙◌, subst, arith}
+use Rattle.std.proofs.Math.Logic.{∥∥₁_map}
 use Rattle.std.specs.Prelude.{slice_index}
-use Rattle.bytecode.specs.Values.{SlotData, ProgramData}
+use Rattle.bytecode.specs.Values.{ProgramData}
 use Rattle.cycle_window.specs.Ticks.{ticks_of, row_of}
-use Rattle.cycle_window.specs.Held.{columns_in, places_in, clock_in}
-use Rattle.machine.specs.Running.{IsRowOf}
+use Rattle.cycle_window.specs.Held.{columns_in, clock_in}
 use Rattle.batches.specs.Batches.{rows_between}
-use Rattle.program_runs.proofs.RowLaws.{row-values, values-prop}
 use Rattle.cycle_window.proofs.HeldLaws.{over-end}
-use Rattle.workers.specs.Standing.{part, variables_in, seen, HasGone}
+use Rattle.workers.specs.declared.monitor.Monitor.{Monitor}
+use Rattle.checked_machine.specs.Outcomes.{done}
+use Rattle.workers.specs.States.{MonitorState}
+use Rattle.workers.specs.Standing.{monitor_state, variables_in, seen}
+use Rattle.workers.specs.Standing.{AreSampled, IsSame, HasGone}
 use Rattle.workers.proofs.PlaceLaws as laws
 use Rattle.workers.proofs.monitor.Monitor.advance.Goals as goal
-
-pub clock-requires-clause-inside : goal.clock-requires-clause-inside
-clock-requires-clause-inside c =
-    let w = c.args.window.now in
-    let row = c.row-row.result.now in
-    ∥∥₁_elim c.requires.stands.fits le_prop (λ f.
-    let tick = slice_index (ticks_of f.0 (clock_in (columns_in w))) c.loop-clock.clock in
-    let long : length row ≡ length (places_in (columns_in w)) =
-    ap length (c.row-row.ensures f.0 f.1)
-    ∙ laws.row-length f.0 (places_in (columns_in w)) tick in
-    omega (arith, long, c.requires.stands.inside, c.loop-clock.invariant.same.to))
 
 pub clock-requires-clause-row : goal.clock-requires-clause-row
 clock-requires-clause-row c =
     let w = c.args.window.now in
     let old = c.args.self.now in
     let mid = c.loop-clock.self in
-    let row = part mid c.row-row.result.now in
-    let widths = map (λ (s : SlotData). s.width) old.machine.program.signals in
-    let some : 0 < 2 ^ 128 = omega arith in
-    subst (λ (p : ProgramData). IsRowOf p row) (sym c.loop-clock.invariant.same.program)
-    (∥∥₁_elim c.requires.stands.fits (values-prop widths row) (λ f.
-    let tick = slice_index (ticks_of f.0 (clock_in (columns_in w))) c.loop-clock.clock in
-    row-values f.0 tick (variables_in w old) row widths
-    (laws.part-seen w f.0 old mid c.row-row.result.now tick c.loop-clock.invariant.same
-    (c.row-row.ensures f.0 f.1)) f.2
-    (laws.low-part (2 ^ 128) mid.from mid.to c.row-row.result.now some
-    (λ i. (c.type_inv.row i).fits))))
+    let row = c.put_part.new.part.items in
+    let same = c.loop-clock.invariant.same in
+    subst (λ (p : ProgramData). AreSampled p row) (sym same.program)
+    (∥∥₁_map c.requires.stands.fits (λ f.
+    let tick = slice_index (ticks_of f.0 (clock_in (columns_in w))) c.loop-clock.clock in (
+      f.0,
+      variables_in w old,
+      tick,
+      laws.row-seen w f.0 old mid row tick same (c.put_part.ensures.part f.0 f.1),
+      f.2,
+    )))
 
 pub loop-clock-init : goal.loop-clock-init
 loop-clock-init c =
@@ -57,6 +47,15 @@ loop-clock-init c =
           (sym c.now-clock.ensures) (laws.gone-none (seen w k old) now old);
     }
 
+-- what a monitor has come to does not hang on the room for its row
+gone-same : (rows : List (List ℕ)) (old mid lent : Monitor) → monitor_state mid ≡ monitor_state lent
+    → HasGone rows old mid → HasGone rows old lent
+gone-same rows old mid lent is h = record {
+  decided = h.decided;
+  ran = h.ran ∙ ap (λ (m : MonitorState). done (record { state = m.state; decided = h.decided }) 0) is;
+  told = sym (ap (λ (m : MonitorState). m.decided) is) ∙ h.told;
+}
+
 pub loop-clock-preserved : goal.loop-clock-preserved
 loop-clock-preserved c =
     let w = c.args.window.now in
@@ -64,8 +63,28 @@ loop-clock-preserved c =
     let mid = c.loop-clock.self in
     let inv = c.loop-clock.invariant in
     let step = c.clock.ensures in
+    let row = c.put_part.new.part in
+    let lent : Monitor =
     record {
-      same = laws.same-all old mid c.clock.new.self inv.same step.same;
+      machine = mid.machine;
+      from = mid.from;
+      to = mid.to;
+      row = row;
+      attempts = mid.attempts;
+      since = mid.since;
+      decided = mid.decided;
+      wide = c.self-1.given.0;
+    } in
+    let same : IsSame old lent =
+    record {
+      program = inv.same.program;
+      from = inv.same.from;
+      to = inv.same.to;
+      attempts = inv.same.attempts;
+      since = inv.same.since;
+    } in
+    record {
+      same = laws.same-all old lent c.clock.new.self same step.same;
       now = omega (arith, step.now, inv.now);
       ahead = omega (arith, inv.ahead);
       most = omega (arith, c.loop-clock-test.true);
@@ -73,11 +92,12 @@ loop-clock-preserved c =
       gone = λ k over.
           let ticks = ticks_of k (clock_in (columns_in w)) in
           laws.gone-more (row_of k (variables_in w old)) ticks old.machine.state.standing.now
-          c.loop-clock.clock (part mid c.row-row.result.now) old mid c.clock.new.self
+          c.loop-clock.clock row.items old lent c.clock.new.self
           inv.ahead (omega (arith, over-end w k over, c.requires.inside, c.loop-clock-test.true))
-          (laws.part-seen w k old mid c.row-row.result.now (slice_index ticks c.loop-clock.clock)
-          inv.same (c.row-row.ensures k over))
-          inv.same (inv.gone k over) step;
+          (laws.row-seen w k old lent row.items (slice_index ticks c.loop-clock.clock) same
+          (c.put_part.ensures.part k over))
+          same (gone-same (rows_between (seen w k old) old.machine.state.standing.now c.loop-clock.clock)
+          old mid lent refl (inv.gone k over)) step;
     }
 
 pub returns-clause-stands : goal.returns-clause-stands

@@ -4,7 +4,7 @@ use Rattle.vcd_reader.specs.declared.step.Change.{Change}
 use Rattle.vcd_reader.specs.Held.{steps_in}
 use Rattle.cycle_window.specs.Changes.{changes_to, IsTable}
 use Rattle.cycle_window.proofs.LastLaws.{last_of-code}
-use Rattle.cycle_window.proofs.cursor.Cursor.sample_at.Goals as goal
+use Rattle.cycle_window.proofs.cursor.Cursor.push_at.Goals as goal
 
 pub push_row-requires-clause-codes : goal.push_row-requires-clause-codes
 push_row-requires-clause-codes c = λ code change lt e.
