@@ -1,5 +1,7 @@
 -- A text, cut into its tokens. `Covering` says what this means; here it is computed.
-use Rattle.std.specs.Prelude.{◌≡◌, ℕ, zero, suc, ◌+◌, ◌-◌, ◌<◌, ◌≤◌, slice_index, List, [], ◌∷◌, Bool, false, not, ◌||◌, ◌&&◌, ◌==◌, length, take, drop, Option, Some, None, option_map, Result, Ok, Err, if◌then◌else◌}
+use Rattle.std.specs.Prelude.{◌≡◌, ℕ, zero, suc, ◌+◌, ◌-◌, ◌<◌, ◌≤◌, slice_index, List, [], ◌∷◌}
+use Rattle.std.specs.Prelude.{Bool, false, not, ◌||◌, ◌&&◌, ◌==◌, length, take, drop, Option, Some}
+use Rattle.std.specs.Prelude.{None, option_map, Result, Ok, Err, if◌then◌else◌}
 use Rattle.lexer.specs.declared.piece.Shape.{Shape}
 use Rattle.lexer.specs.declared.piece.Shape.TheVariants as shape
 use Rattle.lexer.specs.declared.token.Number.{Number}
@@ -9,12 +11,13 @@ use Rattle.lexer.specs.declared.token.Token.{Token}
 use Rattle.lexer.specs.declared.scan.Next.{Next}
 use Rattle.lexer.specs.declared.scan.Next.TheVariants.{Gap, Lexeme, Unclosed, Stray}
 use Rattle.lexer.specs.declared.fault.LexFault.{LexFault}
-use Rattle.lexer.specs.declared.fault.LexFault.TheVariants.{BadCharacter, BadNumber, UnclosedComment, Memory}
+use Rattle.lexer.specs.declared.fault.LexFault.TheVariants.{BadCharacter, BadNumber}
+use Rattle.lexer.specs.declared.fault.LexFault.TheVariants.{UnclosedComment, Memory}
 use Rattle.lexer.specs.Lexemes.{longest}
 use Rattle.lexer.specs.Numbers.{number_of}
 use Rattle.lexer.specs.Runs.{run}
 
--- a token's text as bytes, its place, and what it is
+-- a token's text as bytes, the byte at which it begins, and what it is
 pub record Cut : Type 0 where
   pub kind : Kind
   pub at : ℕ
@@ -48,7 +51,8 @@ begins_with c (b ∷ bs) = b == c
 -- how many bytes there are up to and with the first */
 unfoldable pub comment_end : List ℕ → Option ℕ
 comment_end [] = None
-comment_end (b ∷ bs) = if (b == 42) && begins_with 47 bs then Some 2 else option_map suc (comment_end bs)
+comment_end (b ∷ bs) =
+    if (b == 42) && begins_with 47 bs then Some 2 else option_map suc (comment_end bs)
 
 abbrev pub comment_gap : Option ℕ → Next
 comment_gap None = Unclosed
@@ -70,11 +74,13 @@ abbrev pub with_cut : Cut → Result (List Cut) LexFault → Result (List Cut) L
 with_cut c (Ok cs) = Ok (c ∷ cs)
 with_cut c (Err f) = Err f
 
-abbrev pub with_token : Option Kind → ℕ → List ℕ → Result (List Cut) LexFault → Result (List Cut) LexFault
+abbrev pub with_token : Option Kind → ℕ → List ℕ → Result (List Cut) LexFault
+    → Result (List Cut) LexFault
 with_token None at text r = Err (BadNumber at)
 with_token (Some k) at text r = with_cut (record { kind = k; at = at; text = text }) r
 
-abbrev pub cut_after : Next → ℕ → List ℕ → (ℕ → Result (List Cut) LexFault) → Result (List Cut) LexFault
+abbrev pub cut_after : Next → ℕ → List ℕ → (ℕ → Result (List Cut) LexFault)
+    → Result (List Cut) LexFault
 cut_after (Gap n) at bytes go = go n
 cut_after (Lexeme n s) at bytes go = with_token (kind_of s (take n bytes)) at (take n bytes) (go n)
 cut_after Unclosed at bytes go = Err (UnclosedComment at)
@@ -83,7 +89,9 @@ cut_after Stray at bytes go = Err (BadCharacter at)
 -- What comes next ends inside the bytes, and a token between characters.
 abbrev pub StaysInside : List ℕ → ℕ → Next → Type 0
 StaysInside bytes at (Gap n) = (0 < n) × (at + n ≤ length bytes)
-StaysInside bytes at (Lexeme n s) = (0 < n) × (at + n ≤ length bytes) × (slice_index bytes at < 128) × (slice_index bytes (at + n - 1) < 128)
+StaysInside bytes at (Lexeme n s) =
+    (0 < n) × (at + n ≤ length bytes) × (slice_index bytes at < 128)
+    × (slice_index bytes (at + n - 1) < 128)
 StaysInside bytes at Unclosed = Unit {0}
 StaysInside bytes at Stray = Unit {0}
 
@@ -91,11 +99,13 @@ StaysInside bytes at Stray = Unit {0}
 abbrev pub end_at : ℕ → Cut
 end_at at = record { kind = kinds.End; at = at; text = [] }
 
--- The tokens of the bytes, the first of which stands at the place. The number bounds the turns; the count of the bytes is enough.
+-- The tokens of the bytes, the first of which is the byte `at` of the text. The number bounds the
+-- turns; the count of the bytes is enough.
 unfoldable pub cuts : ℕ → ℕ → List ℕ → Result (List Cut) LexFault
 cuts turns at [] = Ok (end_at at ∷ [])
 cuts zero at (b ∷ bs) = Err Memory
-cuts (suc turns) at (b ∷ bs) = cut_after (next b bs) at (b ∷ bs) (λ n. cuts turns (at + n) (drop n (b ∷ bs)))
+cuts (suc turns) at (b ∷ bs) =
+    cut_after (next b bs) at (b ∷ bs) (λ n. cuts turns (at + n) (drop n (b ∷ bs)))
 
 unfoldable pub tokens_of : List ℕ → Result (List Cut) LexFault
 tokens_of bytes = cuts (length bytes) 0 bytes

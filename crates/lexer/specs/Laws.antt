@@ -5,7 +5,7 @@ use Rattle.lexer.specs.declared.fault.LexFault.TheVariants.{Memory}
 use Rattle.lexer.specs.Cutting.{Cut, tokens_of}
 use Rattle.lexer.specs.Covering.{IsCut, IsFaulty}
 
--- A text has these tokens exactly where they cover it, each the longest at its place.
+-- A text has these tokens exactly where they cover it, each the longest at its byte.
 abbrev pub TokensCoverText : Type 0
 TokensCoverText = (text : List ℕ) (tokens : List Cut)
     → (tokens_of text ≡ Ok tokens) ↔ IsCut 0 text tokens

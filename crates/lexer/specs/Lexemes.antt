@@ -1,8 +1,18 @@
 -- What a text of its own is: a word, a system name, a number or a symbol.
-use Rattle.std.specs.Prelude.{ℕ, zero, suc, List, [], ◌∷◌, Bool, true, false, ◌||◌, ◌&&◌, ◌==◌, nat_le, length, take, Option, Some, None, if◌then◌else◌}
+use Rattle.std.specs.Prelude.{ℕ, zero, suc, List, [], ◌∷◌, Bool, true, false, ◌||◌, ◌&&◌, ◌==◌}
+use Rattle.std.specs.Prelude.{nat_le, length, take, Option, Some, None, if◌then◌else◌}
 use Rattle.std.specs.List.{list_all}
 use Rattle.lexer.specs.declared.token.Symbol.{Symbol}
-use Rattle.lexer.specs.declared.token.Symbol.TheVariants.{OpenRound, CloseRound, OpenBrace, CloseBrace, OpenSquare, CloseSquare, Comma, Semicolon, Colon, Question, AtSign, Dot, Hash, Plus, Minus, Less, Greater, And, Or, Xor, Tilde, Bang, Assign, Star, Slash, Percent, OpenRepeat, Delay, ShiftLeft, ShiftRight, LessEqual, GreaterEqual, Equal, NotEqual, AndAnd, OrOr, Nand, Nor, Xnor, XnorCaret, Overlapped, Following}
+use Rattle.lexer.specs.declared.token.Symbol.TheVariants.{OpenRound, CloseRound, OpenBrace}
+use Rattle.lexer.specs.declared.token.Symbol.TheVariants.{CloseBrace, OpenSquare, CloseSquare}
+use Rattle.lexer.specs.declared.token.Symbol.TheVariants.{Comma, Semicolon, Colon, Question, AtSign}
+use Rattle.lexer.specs.declared.token.Symbol.TheVariants.{Dot, Hash, Plus, Minus, Less, Greater}
+use Rattle.lexer.specs.declared.token.Symbol.TheVariants.{And, Or, Xor, Tilde, Bang, Assign, Star}
+use Rattle.lexer.specs.declared.token.Symbol.TheVariants.{Slash, Percent, OpenRepeat, Delay}
+use Rattle.lexer.specs.declared.token.Symbol.TheVariants.{ShiftLeft, ShiftRight, LessEqual}
+use Rattle.lexer.specs.declared.token.Symbol.TheVariants.{GreaterEqual, Equal, NotEqual, AndAnd}
+use Rattle.lexer.specs.declared.token.Symbol.TheVariants.{OrOr, Nand, Nor, Xnor, XnorCaret}
+use Rattle.lexer.specs.declared.token.Symbol.TheVariants.{Overlapped, Following}
 use Rattle.lexer.specs.declared.token.Base.{Base}
 use Rattle.lexer.specs.declared.token.Base.TheVariants.{Binary, Octal, Decimal, Hexadecimal}
 use Rattle.lexer.specs.declared.piece.Shape.{Shape}
@@ -28,14 +38,20 @@ is_digit_part b = is_digit b || (b == 95)
 
 -- the letters of the bases, in either case
 abbrev pub base_of : ℕ → Option Base
-base_of b = if (b == 98) || (b == 66) then Some Binary else (if (b == 111) || (b == 79) then Some Octal else (if (b == 100) || (b == 68) then Some Decimal else (if (b == 104) || (b == 72) then Some Hexadecimal else None)))
+base_of b =
+    if (b == 98) || (b == 66) then Some Binary
+    else (if (b == 111) || (b == 79) then Some Octal
+    else (if (b == 100) || (b == 68) then Some Decimal
+    else (if (b == 104) || (b == 72) then Some Hexadecimal
+    else None)))
 
 -- the digits that have a value in a base
 abbrev pub is_valued_digit : Base → ℕ → Bool
 is_valued_digit Binary b = nat_le 48 b && nat_le b 49
 is_valued_digit Octal b = nat_le 48 b && nat_le b 55
 is_valued_digit Decimal b = is_digit b
-is_valued_digit Hexadecimal b = is_digit b || (nat_le 97 b && nat_le b 102) || (nat_le 65 b && nat_le b 70)
+is_valued_digit Hexadecimal b =
+    is_digit b || (nat_le 97 b && nat_le b 102) || (nat_le 65 b && nat_le b 70)
 
 -- x, z and ?, digits of every base, which have no value here
 abbrev pub is_unknown_digit : ℕ → Bool
@@ -65,13 +81,58 @@ size_tail [] = true
 size_tail (b ∷ bs) = if is_digit_part b then size_tail bs else (b == 39) && base_tail bs
 
 abbrev pub symbol_of_one : ℕ → Option Symbol
-symbol_of_one a = if a == 40 then Some OpenRound else (if a == 41 then Some CloseRound else (if a == 123 then Some OpenBrace else (if a == 125 then Some CloseBrace else (if a == 91 then Some OpenSquare else (if a == 93 then Some CloseSquare else (if a == 44 then Some Comma else (if a == 59 then Some Semicolon else (if a == 58 then Some Colon else (if a == 63 then Some Question else (if a == 64 then Some AtSign else (if a == 46 then Some Dot else (if a == 35 then Some Hash else (if a == 43 then Some Plus else (if a == 45 then Some Minus else (if a == 60 then Some Less else (if a == 62 then Some Greater else (if a == 38 then Some And else (if a == 124 then Some Or else (if a == 94 then Some Xor else (if a == 126 then Some Tilde else (if a == 33 then Some Bang else (if a == 61 then Some Assign else (if a == 42 then Some Star else (if a == 47 then Some Slash else (if a == 37 then Some Percent else (None))))))))))))))))))))))))))
+symbol_of_one a =
+    if a == 40 then Some OpenRound
+    else (if a == 41 then Some CloseRound
+    else (if a == 123 then Some OpenBrace
+    else (if a == 125 then Some CloseBrace
+    else (if a == 91 then Some OpenSquare
+    else (if a == 93 then Some CloseSquare
+    else (if a == 44 then Some Comma
+    else (if a == 59 then Some Semicolon
+    else (if a == 58 then Some Colon
+    else (if a == 63 then Some Question
+    else (if a == 64 then Some AtSign
+    else (if a == 46 then Some Dot
+    else (if a == 35 then Some Hash
+    else (if a == 43 then Some Plus
+    else (if a == 45 then Some Minus
+    else (if a == 60 then Some Less
+    else (if a == 62 then Some Greater
+    else (if a == 38 then Some And
+    else (if a == 124 then Some Or
+    else (if a == 94 then Some Xor
+    else (if a == 126 then Some Tilde
+    else (if a == 33 then Some Bang
+    else (if a == 61 then Some Assign
+    else (if a == 42 then Some Star
+    else (if a == 47 then Some Slash
+    else (if a == 37 then Some Percent
+    else (None))))))))))))))))))))))))))
 
 abbrev pub symbol_of_two : ℕ → ℕ → Option Symbol
-symbol_of_two a b = if (a == 91) && (b == 42) then Some OpenRepeat else (if (a == 35) && (b == 35) then Some Delay else (if (a == 60) && (b == 60) then Some ShiftLeft else (if (a == 62) && (b == 62) then Some ShiftRight else (if (a == 60) && (b == 61) then Some LessEqual else (if (a == 62) && (b == 61) then Some GreaterEqual else (if (a == 61) && (b == 61) then Some Equal else (if (a == 33) && (b == 61) then Some NotEqual else (if (a == 38) && (b == 38) then Some AndAnd else (if (a == 124) && (b == 124) then Some OrOr else (if (a == 126) && (b == 38) then Some Nand else (if (a == 126) && (b == 124) then Some Nor else (if (a == 126) && (b == 94) then Some Xnor else (if (a == 94) && (b == 126) then Some XnorCaret else (None))))))))))))))
+symbol_of_two a b =
+    if (a == 91) && (b == 42) then Some OpenRepeat
+    else (if (a == 35) && (b == 35) then Some Delay
+    else (if (a == 60) && (b == 60) then Some ShiftLeft
+    else (if (a == 62) && (b == 62) then Some ShiftRight
+    else (if (a == 60) && (b == 61) then Some LessEqual
+    else (if (a == 62) && (b == 61) then Some GreaterEqual
+    else (if (a == 61) && (b == 61) then Some Equal
+    else (if (a == 33) && (b == 61) then Some NotEqual
+    else (if (a == 38) && (b == 38) then Some AndAnd
+    else (if (a == 124) && (b == 124) then Some OrOr
+    else (if (a == 126) && (b == 38) then Some Nand
+    else (if (a == 126) && (b == 124) then Some Nor
+    else (if (a == 126) && (b == 94) then Some Xnor
+    else (if (a == 94) && (b == 126) then Some XnorCaret
+    else (None))))))))))))))
 
 abbrev pub symbol_of_three : ℕ → ℕ → ℕ → Option Symbol
-symbol_of_three a b c = if (a == 124) && (b == 45) && (c == 62) then Some Overlapped else (if (a == 124) && (b == 61) && (c == 62) then Some Following else None)
+symbol_of_three a b c =
+    if (a == 124) && (b == 45) && (c == 62) then Some Overlapped
+    else (if (a == 124) && (b == 61) && (c == 62) then Some Following
+    else None)
 
 unfoldable pub one_symbol : ℕ → Option Symbol
 one_symbol a = symbol_of_one a
@@ -109,10 +170,12 @@ abbrev pub or_shorter : Option Shape → ℕ → Option (ℕ × Shape) → Optio
 or_shorter None n shorter = shorter
 or_shorter (Some s) n shorter = Some (n, s)
 
--- The longest text that is something: the byte and at most n of those behind it. Its length, and what it is.
+-- The longest text that is something: the byte and at most n of those behind it. Its length, and
+-- what it is.
 unfoldable pub longest_from : ℕ → List ℕ → ℕ → Option (ℕ × Shape)
 longest_from b bs zero = or_shorter (shape_of b []) 1 None
-longest_from b bs (suc n) = or_shorter (shape_of b (take (suc n) bs)) (suc (suc n)) (longest_from b bs n)
+longest_from b bs (suc n) =
+    or_shorter (shape_of b (take (suc n) bs)) (suc (suc n)) (longest_from b bs n)
 
 unfoldable pub longest : ℕ → List ℕ → Option (ℕ × Shape)
 longest b bs = longest_from b bs (length bs)

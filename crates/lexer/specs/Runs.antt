@@ -1,10 +1,11 @@
 -- How many bytes at the front pass a test.
-use Rattle.std.specs.Prelude.{ℕ, zero, suc, ◌==◌, Option, Some, None, List, [], ◌∷◌, Bool, if◌then◌else◌}
-use Rattle.lexer.specs.declared.token.Base.{Base}
+use Rattle.std.specs.Prelude.{ℕ, zero, suc, ◌==◌, Option, Some, None, List, [], ◌∷◌, Bool}
+use Rattle.std.specs.Prelude.{if◌then◌else◌}
 use Rattle.lexer.specs.declared.piece.Part.{Part}
 use Rattle.lexer.specs.declared.token.Base.{Base}
 use Rattle.lexer.specs.declared.piece.Part.TheVariants as part
-use Rattle.lexer.specs.Lexemes.{is_word_part, is_system_part, is_digit_part, is_based_digit, is_based_part, base_of}
+use Rattle.lexer.specs.Lexemes.{is_word_part, is_system_part, is_digit_part, is_based_digit}
+use Rattle.lexer.specs.Lexemes.{is_based_part, base_of}
 
 unfoldable pub run : (ℕ → Bool) → List ℕ → ℕ
 run p [] = 0
@@ -20,7 +21,8 @@ is_part (part.Based base) b = is_based_part base b
 abbrev pub digits_len : Option Base → List ℕ → ℕ
 digits_len None bs = 0
 digits_len (Some base) [] = 1
-digits_len (Some base) (b ∷ bs) = if is_based_digit base b then suc (suc (run (is_based_part base) bs)) else 1
+digits_len (Some base) (b ∷ bs) =
+    if is_based_digit base b then suc (suc (run (is_based_part base) bs)) else 1
 
 -- and behind its quote
 unfoldable pub base_len : List ℕ → ℕ
@@ -35,4 +37,6 @@ with_quote (suc n) = suc (suc n)
 -- and behind its first digit
 unfoldable pub size_len : List ℕ → ℕ
 size_len [] = 0
-size_len (b ∷ bs) = if is_part part.Digit b then suc (size_len bs) else (if b == 39 then with_quote (base_len bs) else 0)
+size_len (b ∷ bs) =
+    if is_part part.Digit b then suc (size_len bs)
+    else (if b == 39 then with_quote (base_len bs) else 0)

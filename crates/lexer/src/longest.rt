@@ -1,7 +1,13 @@
-//! The longest token at a place.
+//! The longest token at a byte.
 
-ghost use Rattle.std.specs.Prelude.{◌≡◌, ℕ, ◌+◌, ◌-◌, ◌<◌, ◌≤◌, length, drop, take, slice_index, Some, None, Option, MatchOption, IfSome, OnSome, ◌⊎◌, true, false, ◌≢◌};
-ghost use Rattle.lexer.specs.Lexemes.{is_digit, is_letter, is_word_part, is_system_part, is_digit_part, is_based_digit, is_based_part, is_valued_digit, is_unknown_digit, base_of, one_symbol, two_symbol, three_symbol, symbol_of, symbol_shape, or_shorter, longest};
+ghost use Rattle.std.specs.Prelude.{◌≡◌, ℕ, ◌+◌, ◌-◌, ◌<◌, ◌≤◌, length, drop, take, slice_index};
+ghost use Rattle.std.specs.Prelude.{Some, None, Option, MatchOption, IfSome, OnSome, ◌⊎◌, true};
+ghost use Rattle.std.specs.Prelude.{false, ◌≢◌};
+ghost use Rattle.lexer.specs.Lexemes.{is_digit, is_letter, is_word_part, is_system_part};
+ghost use Rattle.lexer.specs.Lexemes.{is_digit_part, is_based_digit, is_based_part};
+ghost use Rattle.lexer.specs.Lexemes.{is_valued_digit, is_unknown_digit, base_of, one_symbol};
+ghost use Rattle.lexer.specs.Lexemes.{two_symbol, three_symbol, symbol_of, symbol_shape};
+ghost use Rattle.lexer.specs.Lexemes.{or_shorter, longest};
 ghost use Rattle.std.specs.Bool.{OnTrue};
 ghost use Rattle.lexer.specs.Runs.{run, is_part, base_len, size_len};
 
@@ -192,7 +198,8 @@ pub(crate) fn run_end(bytes: &[u8], start: usize, part: Part) -> usize
     at
 }
 
-/// Where the base letter and the digits end that stand behind a quote: right there if no base letter does.
+/// Where the base letter and the digits end that stand behind a quote: right there if no base
+/// letter does.
 fn base_end(bytes: &[u8], start: usize) -> usize
     requires { start ≤ length bytes.now }
     ensures high { (start ≤ result) × (result ≤ length bytes.now) }
@@ -248,7 +255,8 @@ fn up_to_one(a: u8) -> Option<(usize, Shape)>
 
 fn up_to_two(a: u8, b: u8) -> Option<(usize, Shape)>
     ensures ascii { IfSome result (λ r. ((r.0 ≡ 1) ⊎ ((r.0 ≡ 2) × (b < 128))) × (a < 128)) }
-    ensures value { result ≡ or_shorter (symbol_shape (two_symbol a b)) 2 (or_shorter (symbol_shape (one_symbol a)) 1 None) }
+    ensures value { result ≡ or_shorter (symbol_shape (two_symbol a b)) 2
+        (or_shorter (symbol_shape (one_symbol a)) 1 None) }
 {
     match two_symbol(a, b) {
         Some(symbol) => Some((2, Shape::Symbol(symbol))),
@@ -257,8 +265,11 @@ fn up_to_two(a: u8, b: u8) -> Option<(usize, Shape)>
 }
 
 fn up_to_three(a: u8, b: u8, c: u8) -> Option<(usize, Shape)>
-    ensures ascii { IfSome result (λ r. ((r.0 ≡ 1) ⊎ ((r.0 ≡ 2) × (b < 128)) ⊎ ((r.0 ≡ 3) × (c < 128))) × (a < 128)) }
-    ensures value { result ≡ or_shorter (symbol_shape (three_symbol a b c)) 3 (or_shorter (symbol_shape (two_symbol a b)) 2 (or_shorter (symbol_shape (one_symbol a)) 1 None)) }
+    ensures ascii { IfSome result (λ r. ((r.0 ≡ 1) ⊎ ((r.0 ≡ 2) × (b < 128))
+        ⊎ ((r.0 ≡ 3) × (c < 128))) × (a < 128)) }
+    ensures value { result ≡ or_shorter (symbol_shape (three_symbol a b c)) 3
+        (or_shorter (symbol_shape (two_symbol a b)) 2
+        (or_shorter (symbol_shape (one_symbol a)) 1 None)) }
 {
     match three_symbol(a, b, c) {
         Some(symbol) => Some((3, Shape::Symbol(symbol))),
@@ -266,7 +277,7 @@ fn up_to_three(a: u8, b: u8, c: u8) -> Option<(usize, Shape)>
     }
 }
 
-/// The longest symbol at a place at which no word, name or number begins.
+/// The longest symbol at a byte at which no word, name or number begins.
 #[tactic(auto, using(crate::proofs::LongestLaws::symbols))]
 fn symbol_at(bytes: &[u8], at: usize) -> Option<(usize, Shape)>
     requires inside { at < length bytes.now }
@@ -275,7 +286,8 @@ fn symbol_at(bytes: &[u8], at: usize) -> Option<(usize, Shape)>
     requires no_digit { is_digit (slice_index bytes.now at) ≡ false }
     requires no_quote { slice_index bytes.now at ≢ 39 }
     ensures within { IfSome result (λ r. (0 < r.0) × (at + r.0 ≤ length bytes.now)) }
-    ensures ascii { IfSome result (λ r. (slice_index bytes.now at < 128) × (slice_index bytes.now (at + r.0 - 1) < 128)) }
+    ensures ascii { IfSome result (λ r. (slice_index bytes.now at < 128)
+        × (slice_index bytes.now (at + r.0 - 1) < 128)) }
     ensures value { result ≡ longest (slice_index bytes.now at) (drop (at + 1) bytes.now) }
 {
     if bytes.len() - at == 1 {
@@ -292,7 +304,8 @@ fn quoted_at(bytes: &[u8], at: usize) -> Option<(usize, Shape)>
     requires inside { at < length bytes.now }
     requires quote { slice_index bytes.now at ≡ 39 }
     ensures within { IfSome result (λ r. (0 < r.0) × (at + r.0 ≤ length bytes.now)) }
-    ensures ascii { IfSome result (λ r. (slice_index bytes.now at < 128) × (slice_index bytes.now (at + r.0 - 1) < 128)) }
+    ensures ascii { IfSome result (λ r. (slice_index bytes.now at < 128)
+        × (slice_index bytes.now (at + r.0 - 1) < 128)) }
     ensures value { result ≡ longest (slice_index bytes.now at) (drop (at + 1) bytes.now) }
 {
     let end = base_end(bytes, at + 1);
@@ -302,11 +315,12 @@ fn quoted_at(bytes: &[u8], at: usize) -> Option<(usize, Shape)>
     Some((end - at, Shape::Number))
 }
 
-/// The longest token at a place: its length, and what it is.
+/// The longest token at a byte: its length, and what it is.
 pub(crate) fn token_at(bytes: &[u8], at: usize) -> Option<(usize, Shape)>
     requires { at < length bytes.now }
     ensures within { IfSome result (λ r. (0 < r.0) × (at + r.0 ≤ length bytes.now)) }
-    ensures ascii { IfSome result (λ r. (slice_index bytes.now at < 128) × (slice_index bytes.now (at + r.0 - 1) < 128)) }
+    ensures ascii { IfSome result (λ r. (slice_index bytes.now at < 128)
+        × (slice_index bytes.now (at + r.0 - 1) < 128)) }
     ensures value { result ≡ longest (slice_index bytes.now at) (drop (at + 1) bytes.now) }
 {
     let first = bytes[at];

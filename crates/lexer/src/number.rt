@@ -2,7 +2,8 @@
 
 ghost use Rattle.std.specs.Prelude.{◌≡◌, ◌+◌, ◌≤◌, ◌<◌, ◌^◌, ◌%◌, IfSome, option_map};
 ghost use Rattle.lexer.specs.Lexemes.{base_of};
-ghost use Rattle.lexer.specs.Numbers.{radix_of, digit_value, value_within, size_before, sized_value, plain_number, number_in_base, number_of};
+ghost use Rattle.lexer.specs.Numbers.{radix_of, digit_value, value_within, size_before};
+ghost use Rattle.lexer.specs.Numbers.{sized_value, plain_number, number_in_base, number_of};
 
 use crate::longest::{base_of, run_end};
 use crate::piece::Part;

@@ -1,11 +1,14 @@
 //! A text, cut into its tokens.
 #![tactic(auto, using(crate::proofs::CutLaws::cutting))]
 
-ghost use Rattle.std.specs.Prelude.{◌≡◌, ℕ, ◌+◌, ◌-◌, ◌<◌, ◌≤◌, length, drop, map, slice_index, Some, None, Option, MatchOption, IfSome, IfOk, IfErr, ◌==◌, ◌&&◌, true, false};
+ghost use Rattle.std.specs.Prelude.{◌≡◌, ℕ, ◌+◌, ◌-◌, ◌<◌, ◌≤◌, length, drop, map, slice_index};
+ghost use Rattle.std.specs.Prelude.{Some, None, Option, MatchOption, IfSome, IfOk, IfErr, ◌==◌};
+ghost use Rattle.std.specs.Prelude.{◌&&◌, true, false};
 ghost use Rattle.std.specs.Bool.{OnTrue};
 ghost use Rattle.lexer.specs.Runs.{run};
 ghost use Rattle.lexer.specs.Covering.{IsCut, IsLexFault};
-ghost use Rattle.lexer.specs.Cutting.{is_space, stays_on_line, begins_with, comment_end, next, cut_of, kind_of, tokens_of, GivesCuts, StaysInside};
+ghost use Rattle.lexer.specs.Cutting.{is_space, stays_on_line, begins_with, comment_end, next};
+ghost use Rattle.lexer.specs.Cutting.{cut_of, kind_of, tokens_of, GivesCuts, StaysInside};
 
 use crate::fault::LexFault;
 use crate::longest::token_at;
@@ -33,7 +36,8 @@ fn is_space(byte: u8) -> bool
 fn is_pair(bytes: &[u8], at: usize, first: u8, second: u8) -> bool
     requires { at < length bytes.now }
     ensures high { OnTrue result (at + 2 ≤ length bytes.now) }
-    ensures value { result ≡ ((slice_index bytes.now at == first) && begins_with second (drop (at + 1) bytes.now)) }
+    ensures value { result
+        ≡ ((slice_index bytes.now at == first) && begins_with second (drop (at + 1) bytes.now)) }
 {
     if bytes[at] != first {
         return false;
@@ -61,7 +65,8 @@ fn line_end(bytes: &[u8], start: usize) -> usize
 fn close_of(bytes: &[u8], start: usize) -> Option<usize>
     requires { start ≤ length bytes.now }
     ensures high { IfSome result (λ r. (start ≤ r) × (r ≤ length bytes.now)) }
-    ensures value { MatchOption result (comment_end (drop start bytes.now) ≡ None) (λ r. comment_end (drop start bytes.now) ≡ Some (r - start)) }
+    ensures value { MatchOption result (comment_end (drop start bytes.now) ≡ None)
+        (λ r. comment_end (drop start bytes.now) ≡ Some (r - start)) }
 {
     let mut at = start;
     while at < bytes.len() {
@@ -115,7 +120,7 @@ fn kind_of(shape: Shape, text: &[u8]) -> Option<Kind>
 /// The tokens of a text and its end, or the first fault in it.
 ///
 /// Spaces, tabs, carriage returns and line feeds, and comments in both forms, stand between tokens.
-/// Each token is the longest at its place (IEEE 1800-2017, 5.2 to 5.7). Places are bytes from 0.
+/// Each token is the longest at its byte (IEEE 1800-2017, 5.2 to 5.7). Bytes count from 0.
 pub fn lex<'a>(alloc: Global, text: &'a str) -> Result<Vec<Token<'a>>, LexFault>
     ensures tokens { GivesCuts (λ v. map cut_of v.items) result (tokens_of text.now) }
     ensures covered { IfOk result (λ v. IsCut 0 text.now (map cut_of v.items)) }

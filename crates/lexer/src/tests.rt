@@ -159,8 +159,8 @@ fn are_longest_symbols(text: &str, tokens: &[Token]) -> bool {
     false
 }
 
-/// Whether the left symbol and each other one behind it are cut into the longest symbols. Where the two begin a
-/// comment, they are no symbols.
+/// Whether the left symbol and each other one behind it are cut into the longest symbols. Where the
+/// two begin a comment, they are no symbols.
 fn is_cut_beside_each(alloc: Global, left: &str) -> Result<bool, LexFault> {
     for number in 0..SYMBOLS {
         let Some((right, _)) = symbol(number) else {

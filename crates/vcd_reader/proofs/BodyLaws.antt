@@ -53,36 +53,36 @@ kept-cond : (b : Bool) (x y : Result Rest Fault) → kept_result (cond b x y) �
 kept-cond true x y = refl
 kept-cond false x y = refl
 
-kept-with_time : (time place count now : ℕ) (rest : Next) → kept_result (with_time time place count now rest) ≡ with_item (Timed time place) count now (λ c n. kept_result (rest c n))
-kept-with_time time place count now rest =
-    kept-cond (ltb time now) _ _ ∙ ap (λ (x : Result KeptRest Fault). cond (ltb time now) (Err (TimeBack place)) x) (kept-cond (eqb time now) _ _ ∙ ap (λ (x : Result KeptRest Fault). cond (eqb time now) (kept_result (rest count now)) x) (kept-step time (rest count time)))
+kept-with_time : (time at count now : ℕ) (rest : Next) → kept_result (with_time time at count now rest) ≡ with_item (Timed time at) count now (λ c n. kept_result (rest c n))
+kept-with_time time at count now rest =
+    kept-cond (ltb time now) _ _ ∙ ap (λ (x : Result KeptRest Fault). cond (ltb time now) (Err (TimeBack at)) x) (kept-cond (eqb time now) _ _ ∙ ap (λ (x : Result KeptRest Fault). cond (eqb time now) (kept_result (rest count now)) x) (kept-step time (rest count time)))
 
-kept-changed : (o : Option ℕ) (text digits : List ℕ) (place count now : ℕ) (rest : Next) → kept_result (change_by_code o text digits place count now rest) ≡ (code_item o text (bits_value digits) place >>= λ i. with_item i count now (λ c n. kept_result (rest c n)))
+kept-changed : (o : Option ℕ) (text digits : List ℕ) (at count now : ℕ) (rest : Next) → kept_result (change_by_code o text digits at count now rest) ≡ (code_item o text (bits_value digits) at >>= λ i. with_item i count now (λ c n. kept_result (rest c n)))
 unfolding kept_change
-kept-changed None text digits place count now rest = refl
-kept-changed (Some n) text digits place count now rest =
+kept-changed None text digits at count now rest = refl
+kept-changed (Some n) text digits at count now rest =
     kept-cond (ltb count most_changes) _ _ ∙ ap (λ (x : Result KeptRest Fault). cond (ltb count most_changes) x (Err TooLarge)) (kept-change (record { code = n; digits = digits }) (rest (suc count) now))
 
 bits_value-one : (d : ℕ) → bits_value (d ∷ []) ≡ bit_of d
 unfolding bits_from
 bits_value-one d = elim (eqb_tells d 49) [ inl p ↦ rw p.0 refl | inr p ↦ rw p.0 refl ]
 
-kept-scalar : (declared : List (List ℕ)) (len digit : ℕ) (text : List ℕ) (place count now : ℕ) (rest : Next)
-    → kept_result (scalar declared len digit text place count now rest) ≡ (scalar_item declared len text (bit_of digit) place >>= λ i. with_item i count now (λ c n. kept_result (rest c n)))
-kept-scalar declared len digit [] place count now rest = refl
-kept-scalar declared len digit (c ∷ text) place count now rest =
-    kept-changed (place_of declared (c ∷ text)) (c ∷ text) (digit ∷ []) place count now rest
-    ∙ ap (λ (v : ℕ). code_item (place_of declared (c ∷ text)) (c ∷ text) v place >>= λ i. with_item i count now (λ c n. kept_result (rest c n))) (bits_value-one digit)
+kept-scalar : (declared : List (List ℕ)) (len digit : ℕ) (text : List ℕ) (at count now : ℕ) (rest : Next)
+    → kept_result (scalar declared len digit text at count now rest) ≡ (scalar_item declared len text (bit_of digit) at >>= λ i. with_item i count now (λ c n. kept_result (rest c n)))
+kept-scalar declared len digit [] at count now rest = refl
+kept-scalar declared len digit (c ∷ text) at count now rest =
+    kept-changed (place_of declared (c ∷ text)) (c ∷ text) (digit ∷ []) at count now rest
+    ∙ ap (λ (v : ℕ). code_item (place_of declared (c ∷ text)) (c ∷ text) v at >>= λ i. with_item i count now (λ c n. kept_result (rest c n))) (bits_value-one digit)
 
 -- what each kind of token leads to
 module _ (declared : List (List ℕ)) (len count now : ℕ) where
   module _ (t : DumpToken) (items : Next) (vectors : List ℕ → Result Rest Fault) (second words : Result Rest Fault) where
-    by-time : (k : Kind) (time : ℕ) → code.Time time ≡ seen_kind k → kept_result (by_kind k declared len t count now items vectors second words) ≡ with_item (Timed time t.place) count now (λ c n. kept_result (items c n))
-    by-time (Time n) time e = let h : n ≡ time = cc in rw h (kept-with_time time t.place count now items)
+    by-time : (k : Kind) (time : ℕ) → code.Time time ≡ seen_kind k → kept_result (by_kind k declared len t count now items vectors second words) ≡ with_item (Timed time t.at) count now (λ c n. kept_result (items c n))
+    by-time (Time n) time e = let h : n ≡ time = cc in rw h (kept-with_time time t.at count now items)
     by-time k time e = absurd cc
 
-    by-scalar : (k : Kind) (value : ℕ) → code.Scalar value ≡ seen_kind k → kept_result (by_kind k declared len t count now items vectors second words) ≡ (scalar_item declared len (behind_first t.text) value t.place >>= λ i. with_item i count now (λ c n. kept_result (items c n)))
-    by-scalar (Scalar digit) value e = let h : bit_of digit ≡ value = cc in kept-scalar declared len digit (behind_first t.text) t.place count now items ∙ rw h refl
+    by-scalar : (k : Kind) (value : ℕ) → code.Scalar value ≡ seen_kind k → kept_result (by_kind k declared len t count now items vectors second words) ≡ (scalar_item declared len (behind_first t.text) value t.at >>= λ i. with_item i count now (λ c n. kept_result (items c n)))
+    by-scalar (Scalar digit) value e = let h : bit_of digit ≡ value = cc in kept-scalar declared len digit (behind_first t.text) t.at count now items ∙ rw h refl
     by-scalar k value e = absurd cc
 
     by-vector : (k : Kind) (value : ℕ) → code.Vector value ≡ seen_kind k → (digits : List ℕ) × (bits_value digits ≡ value) × (kept_result (by_kind k declared len t count now items vectors second words) ≡ kept_result (vectors digits))
@@ -101,7 +101,7 @@ module _ (declared : List (List ℕ)) (len count now : ℕ) where
     by-section Section e = refl
     by-section k e = absurd cc
 
-    by-bad : (k : Kind) → code.Bad ≡ seen_kind k → kept_result (by_kind k declared len t count now items vectors second words) ≡ Err (BadToken t.place)
+    by-bad : (k : Kind) → code.Bad ≡ seen_kind k → kept_result (by_kind k declared len t count now items vectors second words) ≡ Err (BadToken t.at)
     by-bad Bad e = refl
     by-bad k e = absurd cc
 
@@ -109,35 +109,35 @@ module _ (declared : List (List ℕ)) (len count now : ℕ) where
   unfolding body
   body-none ts e = rw e refl
 
-  vector-cons : (digits : List ℕ) (ts : List DumpToken) (text : List ℕ) (place : ℕ) (rest : List DumpToken) → ts ≡ record { text = text; place = place } ∷ rest
-      → vector declared len count now digits ts ≡ change_by_code (place_of declared text) text digits place count now (λ c n. body declared len c n rest)
+  vector-cons : (digits : List ℕ) (ts : List DumpToken) (text : List ℕ) (at : ℕ) (rest : List DumpToken) → ts ≡ record { text = text; at = at } ∷ rest
+      → vector declared len count now digits ts ≡ change_by_code (place_of declared text) text digits at count now (λ c n. body declared len c n rest)
   unfolding body vector
-  vector-cons digits ts text place rest e = rw e refl
+  vector-cons digits ts text at rest e = rw e refl
 
-  module _ (ts : List DumpToken) (text : List ℕ) (place : ℕ) (rest : List DumpToken) (e : ts ≡ record { text = text; place = place } ∷ rest) where
+  module _ (ts : List DumpToken) (text : List ℕ) (at : ℕ) (rest : List DumpToken) (e : ts ≡ record { text = text; at = at } ∷ rest) where
     body-cons : body declared len count now ts
-        ≡ by_kind (kind_of text) declared len (record { text = text; place = place }) count now (λ c n. body declared len c n rest) (λ digits. vector declared len count now digits rest) (behind_ignored declared len count now rest) (section declared len count now place rest)
+        ≡ by_kind (kind_of text) declared len (record { text = text; at = at }) count now (λ c n. body declared len c n rest) (λ digits. vector declared len count now digits rest) (behind_ignored declared len count now rest) (section declared len count now at rest)
     unfolding body
     body-cons = rw e refl
 
-    pub body-time : (time : ℕ) → code.Time time ≡ seen_kind (kind_of text) → kept_result (body declared len count now ts) ≡ with_item (Timed time place) count now (λ c n. kept_result (body declared len c n rest))
+    pub body-time : (time : ℕ) → code.Time time ≡ seen_kind (kind_of text) → kept_result (body declared len count now ts) ≡ with_item (Timed time at) count now (λ c n. kept_result (body declared len c n rest))
     body-time time k = ap kept_result body-cons ∙ by-time _ _ _ _ _ (kind_of text) time k
 
     pub body-scalar : (value : ℕ) → code.Scalar value ≡ seen_kind (kind_of text)
-        → kept_result (body declared len count now ts) ≡ (scalar_item declared len (behind_first text) value place >>= λ i. with_item i count now (λ c n. kept_result (body declared len c n rest)))
+        → kept_result (body declared len count now ts) ≡ (scalar_item declared len (behind_first text) value at >>= λ i. with_item i count now (λ c n. kept_result (body declared len c n rest)))
     body-scalar value k = ap kept_result body-cons ∙ by-scalar _ _ _ _ _ (kind_of text) value k
 
     pub body-vector_none : (value : ℕ) → code.Vector value ≡ seen_kind (kind_of text) → rest ≡ [] → kept_result (body declared len count now ts) ≡ Err Truncated
     unfolding body vector
-    body-vector_none value k n = let v = by-vector (record { text = text; place = place }) (λ c m. body declared len c m rest) (λ digits. vector declared len count now digits rest) (behind_ignored declared len count now rest) (section declared len count now place rest) (kind_of text) value k in
+    body-vector_none value k n = let v = by-vector (record { text = text; at = at }) (λ c m. body declared len c m rest) (λ digits. vector declared len count now digits rest) (behind_ignored declared len count now rest) (section declared len count now at rest) (kind_of text) value k in
         ap kept_result body-cons ∙ v.2 ∙ rw n refl
 
-    pub body-vector : (value : ℕ) (text' : List ℕ) (place' : ℕ) (rest' : List DumpToken) → code.Vector value ≡ seen_kind (kind_of text) → rest ≡ record { text = text'; place = place' } ∷ rest'
-        → kept_result (body declared len count now ts) ≡ (code_item (place_of declared text') text' value place' >>= λ i. with_item i count now (λ c n. kept_result (body declared len c n rest')))
-    body-vector value text' place' rest' k n =
-        let v = by-vector (record { text = text; place = place }) (λ c m. body declared len c m rest) (λ digits. vector declared len count now digits rest) (behind_ignored declared len count now rest) (section declared len count now place rest) (kind_of text) value k in
-        ap kept_result body-cons ∙ v.2 ∙ ap kept_result (vector-cons v.0 rest text' place' rest' n)
-        ∙ kept-changed (place_of declared text') text' v.0 place' count now (λ c m. body declared len c m rest') ∙ ap (λ (x : ℕ). code_item (place_of declared text') text' x place' >>= λ i. with_item i count now (λ c m. kept_result (body declared len c m rest'))) v.1
+    pub body-vector : (value : ℕ) (text' : List ℕ) (at' : ℕ) (rest' : List DumpToken) → code.Vector value ≡ seen_kind (kind_of text) → rest ≡ record { text = text'; at = at' } ∷ rest'
+        → kept_result (body declared len count now ts) ≡ (code_item (place_of declared text') text' value at' >>= λ i. with_item i count now (λ c n. kept_result (body declared len c n rest')))
+    body-vector value text' at' rest' k n =
+        let v = by-vector (record { text = text; at = at }) (λ c m. body declared len c m rest) (λ digits. vector declared len count now digits rest) (behind_ignored declared len count now rest) (section declared len count now at rest) (kind_of text) value k in
+        ap kept_result body-cons ∙ v.2 ∙ ap kept_result (vector-cons v.0 rest text' at' rest' n)
+        ∙ kept-changed (place_of declared text') text' v.0 at' count now (λ c m. body declared len c m rest') ∙ ap (λ (x : ℕ). code_item (place_of declared text') text' x at' >>= λ i. with_item i count now (λ c m. kept_result (body declared len c m rest'))) v.1
 
     pub body-text_none : code.Text ≡ seen_kind (kind_of text) → rest ≡ [] → kept_result (body declared len count now ts) ≡ Err Truncated
     unfolding body behind_ignored
@@ -150,23 +150,23 @@ module _ (declared : List (List ℕ)) (len count now : ℕ) where
     pub body-lone : code.Lone ≡ seen_kind (kind_of text) → kept_result (body declared len count now ts) ≡ kept_result (body declared len count now rest)
     body-lone k = ap kept_result body-cons ∙ by-lone _ _ _ _ _ (kind_of text) k
 
-    pub body-section : code.Section ≡ seen_kind (kind_of text) → kept_result (body declared len count now ts) ≡ kept_result (section declared len count now place rest)
+    pub body-section : code.Section ≡ seen_kind (kind_of text) → kept_result (body declared len count now ts) ≡ kept_result (section declared len count now at rest)
     body-section k = ap kept_result body-cons ∙ by-section _ _ _ _ _ (kind_of text) k
 
-    pub body-bad : code.Bad ≡ seen_kind (kind_of text) → kept_result (body declared len count now ts) ≡ Err (BadToken place)
+    pub body-bad : code.Bad ≡ seen_kind (kind_of text) → kept_result (body declared len count now ts) ≡ Err (BadToken at)
     body-bad k = ap kept_result body-cons ∙ by-bad _ _ _ _ _ (kind_of text) k
 
-  pub section-none : (place : ℕ) (ts : List DumpToken) → ts ≡ [] → section declared len count now place ts ≡ Err (UnclosedSection place)
+  pub section-none : (word : ℕ) (ts : List DumpToken) → ts ≡ [] → section declared len count now word ts ≡ Err (UnclosedSection word)
   unfolding body section
-  section-none place ts e = rw e refl
+  section-none word ts e = rw e refl
 
-  pub section-end : (place : ℕ) (ts : List DumpToken) (text : List ℕ) (at : ℕ) (rest : List DumpToken) → ts ≡ record { text = text; place = at } ∷ rest → bytes_eq text (codes "$end") ≡ true → section declared len count now place ts ≡ body declared len count now rest
+  pub section-end : (word : ℕ) (ts : List DumpToken) (text : List ℕ) (at : ℕ) (rest : List DumpToken) → ts ≡ record { text = text; at = at } ∷ rest → bytes_eq text (codes "$end") ≡ true → section declared len count now word ts ≡ body declared len count now rest
   unfolding body section
-  section-end place ts text at rest e h = rw (e, h) refl
+  section-end word ts text at rest e h = rw (e, h) refl
 
-  pub section-more : (place : ℕ) (ts : List DumpToken) (text : List ℕ) (at : ℕ) (rest : List DumpToken) → ts ≡ record { text = text; place = at } ∷ rest → bytes_eq text (codes "$end") ≡ false → section declared len count now place ts ≡ section declared len count now place rest
+  pub section-more : (word : ℕ) (ts : List DumpToken) (text : List ℕ) (at : ℕ) (rest : List DumpToken) → ts ≡ record { text = text; at = at } ∷ rest → bytes_eq text (codes "$end") ≡ false → section declared len count now word ts ≡ section declared len count now word rest
   unfolding body section
-  section-more place ts text at rest e h = rw (e, h) refl
+  section-more word ts text at rest e h = rw (e, h) refl
 
 pub ruleset items = (body-none, body-time, body-vector_none, body-text_none, body-text, body-lone, body-bad)
 
@@ -180,8 +180,8 @@ pub behind : (xs : List ℕ) (i j : ℕ) → i < j → j ≤ length xs → behin
 behind xs i j lt le = ap behind_first (slice_range-cons xs i j lt le)
 
 -- a scalar with a code, and one without
-pub scalar-code : (declared : List (List ℕ)) (len : ℕ) (bytes : List ℕ) (i j value place : ℕ) → i < j → j ≤ length bytes → scalar_item declared len (slice_range bytes i j) value place ≡ code_item (place_of declared (slice_range bytes i j)) (slice_range bytes i j) value place
-scalar-code declared len bytes i j value place lt le = rw (slice_range-cons bytes i j lt le) refl
+pub scalar-code : (declared : List (List ℕ)) (len : ℕ) (bytes : List ℕ) (i j value at : ℕ) → i < j → j ≤ length bytes → scalar_item declared len (slice_range bytes i j) value at ≡ code_item (place_of declared (slice_range bytes i j)) (slice_range bytes i j) value at
+scalar-code declared len bytes i j value at lt le = rw (slice_range-cons bytes i j lt le) refl
 
 pub scalar-cut : (declared : List (List ℕ)) (bytes : List ℕ) (i j value : ℕ) → i + 1 ≡ j → j ≡ length bytes → scalar_item declared (length bytes) (slice_range bytes (i + 1) j) value i ≡ Err Truncated
 scalar-cut declared bytes i j value e le =
@@ -204,11 +204,11 @@ applied-full n value count now rest h = let f : ltb count most_changes ≡ false
 pub applied-change : (n value count now : ℕ) (rest : ℕ → ℕ → Result KeptRest Fault) → count < 4294967295 → with_item (Changed n value) count now rest ≡ with_kept (record { code = n; value = value }) (rest (count + 1) now)
 applied-change n value count now rest h = let t : ltb count most_changes ≡ true = lt-ltb _ _ h in rw (t, add-one) refl
 
-pub applied-back : (time place count now : ℕ) (rest : ℕ → ℕ → Result KeptRest Fault) → time < now → with_item (Timed time place) count now rest ≡ Err (TimeBack place)
-applied-back time place count now rest h = let t : ltb time now ≡ true = lt-ltb _ _ h in rw t refl
+pub applied-back : (time at count now : ℕ) (rest : ℕ → ℕ → Result KeptRest Fault) → time < now → with_item (Timed time at) count now rest ≡ Err (TimeBack at)
+applied-back time at count now rest h = let t : ltb time now ≡ true = lt-ltb _ _ h in rw t refl
 
-pub applied-later : (time place count now : ℕ) (rest : ℕ → ℕ → Result KeptRest Fault) → now < time → with_item (Timed time place) count now rest ≡ with_kept_step time (rest count time)
-applied-later time place count now rest h =
+pub applied-later : (time at count now : ℕ) (rest : ℕ → ℕ → Result KeptRest Fault) → now < time → with_item (Timed time at) count now rest ≡ with_kept_step time (rest count time)
+applied-later time at count now rest h =
     let f : ltb time now ≡ false = le-ltb _ _ (omega arith) in
     let g : eqb time now ≡ false = elim (eqb_tells time now) [ inl p ↦ absurd (omega (arith, p.1)) | inr p ↦ p.0 ] in
     rw (f, g) refl

@@ -33,7 +33,7 @@ record Field (ts : List DumpToken) (go : DumpToken → List DumpToken → Result
   inner : is_end first.text ≡ false
   read : go first later ≡ Ok r
 
-field-if : (t : DumpToken) (ts : List DumpToken) (go : DumpToken → List DumpToken → Result Header Fault) (r : Header) (b : Bool) → b ≡ is_end t.text → cond b (Err (BadToken t.place)) (go t ts) ≡ Ok r → Field (t ∷ ts) go r
+field-if : (t : DumpToken) (ts : List DumpToken) (go : DumpToken → List DumpToken → Result Header Fault) (r : Header) (b : Bool) → b ≡ is_end t.text → cond b (Err (BadToken t.at)) (go t ts) ≡ Ok r → Field (t ∷ ts) go r
 field-if t ts go r true is e = absurd cc
 field-if t ts go r false is e = record { first = t; later = ts; parts = refl; inner = sym is; read = e }
 
@@ -48,7 +48,7 @@ record Close (ts : List DumpToken) (go : List DumpToken → Result Header Fault)
   ends : IsEnd stop
   read : go later ≡ Ok r
 
-close-if : (t : DumpToken) (ts : List DumpToken) (go : List DumpToken → Result Header Fault) (r : Header) (b : Bool) → b ≡ is_end t.text → cond b (go ts) (Err (BadToken t.place)) ≡ Ok r → Close (t ∷ ts) go r
+close-if : (t : DumpToken) (ts : List DumpToken) (go : List DumpToken → Result Header Fault) (r : Header) (b : Bool) → b ≡ is_end t.text → cond b (go ts) (Err (BadToken t.at)) ≡ Ok r → Close (t ∷ ts) go r
 close-if t ts go r true is e = record { stop = t; later = ts; parts = refl; ends = sym is; read = e }
 close-if t ts go r false is e = absurd cc
 
@@ -70,9 +70,9 @@ module _ (scopes : List (List ℕ)) (vars : List Declared) (word : DumpToken) (r
   skipped-ok : (ts : List DumpToken) → skipped_section scopes vars word ts ≡ Ok r → (i : Inner ts) × (header scopes vars i.later ≡ Ok r)
   skipped-ok [] e = let n = skipped-none scopes vars word [] refl in absurd (cc (n, e))
   skipped-ok (t ∷ ts) e = elim (tells (is_end t.text)) [
-    | inl h ↦ (record { inner = []; stop = t; later = ts; parts = refl; are_inner = tt; ends = h; shorter = omega arith }, sym (skipped-end scopes vars word (t ∷ ts) t.text t.place ts refl h) ∙ e)
+    | inl h ↦ (record { inner = []; stop = t; later = ts; parts = refl; are_inner = tt; ends = h; shorter = omega arith }, sym (skipped-end scopes vars word (t ∷ ts) t.text t.at ts refl h) ∙ e)
     | inr h ↦
-        let s = skipped-ok ts (sym (skipped-more scopes vars word (t ∷ ts) t.text t.place ts refl h) ∙ e) in
+        let s = skipped-ok ts (sym (skipped-more scopes vars word (t ∷ ts) t.text t.at ts refl h) ∙ e) in
         (record { inner = t ∷ s.0.inner; stop = s.0.stop; later = s.0.later; parts = ap (λ (xs : List DumpToken). t ∷ xs) s.0.parts; are_inner = (h, s.0.are_inner); ends = s.0.ends; shorter = omega (arith, s.0.shorter) }, s.1)
   ]
 
@@ -81,10 +81,10 @@ module _ (scopes : List (List ℕ)) (vars : List Declared) (word : DumpToken) (r
   more-ok h text (t ∷ ts) e = elim (tells (is_end t.text)) [
     | inl b ↦ (
       record { inner = []; stop = t; later = ts; parts = refl; are_inner = tt; ends = b; shorter = omega arith },
-      ap (λ (x : List ℕ). header scopes (vars ++ variable scopes h x ∷ []) ts) (append-nil text) ∙ sym (more-end scopes vars word h text (t ∷ ts) t.text t.place ts refl b) ∙ e,
+      ap (λ (x : List ℕ). header scopes (vars ++ variable scopes h x ∷ []) ts) (append-nil text) ∙ sym (more-end scopes vars word h text (t ∷ ts) t.text t.at ts refl b) ∙ e,
     )
     | inr b ↦
-        let s = more-ok h (text ++ t.text) ts (sym (more-more scopes vars word h text (t ∷ ts) t.text t.place ts refl b) ∙ e) in (
+        let s = more-ok h (text ++ t.text) ts (sym (more-more scopes vars word h text (t ∷ ts) t.text t.at ts refl b) ∙ e) in (
           record { inner = t ∷ s.0.inner; stop = s.0.stop; later = s.0.later; parts = ap (λ (xs : List DumpToken). t ∷ xs) s.0.parts; are_inner = (b, s.0.are_inner); ends = s.0.ends; shorter = omega (arith, s.0.shorter) },
           ap (λ (x : List ℕ). header scopes (vars ++ variable scopes h x ∷ []) s.0.later) (sym (append_assoc text t.text (joined_text s.0.inner))) ∙ s.1,
         )
@@ -94,7 +94,7 @@ sized-ok : (o : Option ℕ) (t : DumpToken) (go : ℕ → Result Header Fault) (
 sized-ok None t go r e = absurd cc
 sized-ok (Some n) t go r e = (n, refl, e)
 
-coded-ok : (b : Bool) (t : DumpToken) (read : Result Header Fault) (r : Header) → cond b read (Err (BadToken t.place)) ≡ Ok r → (b ≡ true) × (read ≡ Ok r)
+coded-ok : (b : Bool) (t : DumpToken) (read : Result Header Fault) (r : Header) → cond b read (Err (BadToken t.at)) ≡ Ok r → (b ≡ true) × (read ≡ Ok r)
 coded-ok true t read r e = (refl, e)
 coded-ok false t read r e = absurd cc
 
@@ -127,7 +127,7 @@ module _ (scopes : List (List ℕ)) (vars : List Declared) (word : DumpToken) (r
 
   code-ok : (type : List ℕ) (number : ℕ) (ts : List DumpToken) → var_code scopes vars word type number ts ≡ Ok r → Coded type number ts
   code-ok type number ts e =
-      let c = field-ok word ts (λ u us. cond (list_all is_code_byte u.text) (var_reference scopes vars word (record { type = type; size = number; code = u.text }) us) (Err (BadToken u.place))) r (sym (var_code-field scopes vars word type number ts) ∙ e) in
+      let c = field-ok word ts (λ u us. cond (list_all is_code_byte u.text) (var_reference scopes vars word (record { type = type; size = number; code = u.text }) us) (Err (BadToken u.at))) r (sym (var_code-field scopes vars word type number ts) ∙ e) in
       let k = coded-ok (list_all is_code_byte c.first.text) c.first (var_reference scopes vars word (record { type = type; size = number; code = c.first.text }) c.later) r c.read in
       record { token = c.first; later = c.later; parts = c.parts; inner = c.inner; code = k.0; read = k.1 }
 
@@ -275,11 +275,11 @@ step-ok : (time : ℕ) (read : Result Rest Fault) (r : Rest) → with_step time 
 step-ok time (Ok s) r e = (s, refl, cc)
 step-ok time (Err f) r e = absurd cc
 
-time-same : (time place count now : ℕ) (next : Next) → ltb time now ≡ false → eqb time now ≡ true → with_time time place count now next ≡ next count now
-time-same time place count now next b p = rw (b, p) refl
+time-same : (time at count now : ℕ) (next : Next) → ltb time now ≡ false → eqb time now ≡ true → with_time time at count now next ≡ next count now
+time-same time at count now next b p = rw (b, p) refl
 
-time-later : (time place count now : ℕ) (next : Next) → ltb time now ≡ false → eqb time now ≡ false → with_time time place count now next ≡ with_step time (next count time)
-time-later time place count now next b p = rw (b, p) refl
+time-later : (time at count now : ℕ) (next : Next) → ltb time now ≡ false → eqb time now ≡ false → with_time time at count now next ≡ with_step time (next count time)
+time-later time at count now next b p = rw (b, p) refl
 
 said-same : (now time : ℕ) (t : DumpToken) (es : List Entry) → eqb time now ≡ true → said_rest now (Instant t time ∷ es) ≡ said_rest now es
 said-same now time t es p = rw p refl
@@ -287,17 +287,17 @@ said-same now time t es p = rw p refl
 said-later : (now time : ℕ) (t : DumpToken) (es : List Entry) → eqb time now ≡ false → said_rest now (Instant t time ∷ es) ≡ ([], record { time = time; changes = (said_rest time es).0 } ∷ (said_rest time es).1)
 said-later now time t es p = rw p refl
 
-section-ok : (declared : List (List ℕ)) (len count now place : ℕ) (ts : List DumpToken) (r : Rest) → section declared len count now place ts ≡ Ok r → (i : Inner ts) × (body declared len count now i.later ≡ Ok r)
-section-ok declared len count now place [] r e = let n = section-none declared len count now place [] refl in absurd (cc (n, e))
-section-ok declared len count now place (t ∷ ts) r e = elim (tells (is_end t.text)) [
-  | inl h ↦ (record { inner = []; stop = t; later = ts; parts = refl; are_inner = tt; ends = h; shorter = omega arith }, sym (section-end declared len count now place (t ∷ ts) t.text t.place ts refl h) ∙ e)
+section-ok : (declared : List (List ℕ)) (len count now word : ℕ) (ts : List DumpToken) (r : Rest) → section declared len count now word ts ≡ Ok r → (i : Inner ts) × (body declared len count now i.later ≡ Ok r)
+section-ok declared len count now word [] r e = let n = section-none declared len count now word [] refl in absurd (cc (n, e))
+section-ok declared len count now word (t ∷ ts) r e = elim (tells (is_end t.text)) [
+  | inl h ↦ (record { inner = []; stop = t; later = ts; parts = refl; are_inner = tt; ends = h; shorter = omega arith }, sym (section-end declared len count now word (t ∷ ts) t.text t.at ts refl h) ∙ e)
   | inr h ↦
-      let s = section-ok declared len count now place ts r (sym (section-more declared len count now place (t ∷ ts) t.text t.place ts refl h) ∙ e) in
+      let s = section-ok declared len count now word ts r (sym (section-more declared len count now word (t ∷ ts) t.text t.at ts refl h) ∙ e) in
       (record { inner = t ∷ s.0.inner; stop = s.0.stop; later = s.0.later; parts = ap (λ (xs : List DumpToken). t ∷ xs) s.0.parts; are_inner = (h, s.0.are_inner); ends = s.0.ends; shorter = omega (arith, s.0.shorter) }, s.1)
 ]
 
 module _ (declared : List (List ℕ)) (len n : ℕ) (next : (count now : ℕ) (ts : List DumpToken) (r : Rest) → length ts ≤ n → count ≤ most_changes → body declared len count now ts ≡ Ok r → Reading declared count now ts r) (count now : ℕ) (room : count ≤ most_changes) where
-  at_time : (time : ℕ) (t : DumpToken) (ts : List DumpToken) (r : Rest) → length ts ≤ n → kind_of t.text ≡ Time time → with_time time t.place count now (λ c m. body declared len c m ts) ≡ Ok r → Reading declared count now (t ∷ ts) r
+  at_time : (time : ℕ) (t : DumpToken) (ts : List DumpToken) (r : Rest) → length ts ≤ n → kind_of t.text ≡ Time time → with_time time t.at count now (λ c m. body declared len c m ts) ≡ Ok r → Reading declared count now (t ∷ ts) r
   at_time time t ts r le k e =
       elim (cases_lt time now) [
         | inl lt ↦ let b : ltb time now ≡ true = lt-ltb _ _ lt in absurd (let e' = rw b at e in cc)
@@ -305,10 +305,10 @@ module _ (declared : List (List ℕ)) (len n : ℕ) (next : (count now : ℕ) (t
             let b : ltb time now ≡ false = le-ltb _ _ up in
             elim (eqb_tells time now) [
               | inl p ↦
-                  let s = next count now ts r le room (sym (time-same time t.place count now (λ c m. body declared len c m ts) b p.0) ∙ e) in
+                  let s = next count now ts r le room (sym (time-same time t.at count now (λ c m. body declared len c m ts) b p.0) ∙ e) in
                   record { entries = Instant t time ∷ s.entries; spelled = ap (λ (xs : List DumpToken). t ∷ xs) s.spelled; each = (k, s.each); rises = (up, subst (λ (m : ℕ). Rises m s.entries) (sym p.1) s.rises); few = s.few; means = said-same now time t s.entries p.0 ∙ s.means }
               | inr p ↦
-                  let w = step-ok time (body declared len count time ts) r (sym (time-later time t.place count now (λ c m. body declared len c m ts) b p.0) ∙ e) in
+                  let w = step-ok time (body declared len count time ts) r (sym (time-later time t.at count now (λ c m. body declared len c m ts) b p.0) ∙ e) in
                   let s = next count time ts w.0 le room w.1 in
                   record { entries = Instant t time ∷ s.entries; spelled = ap (λ (xs : List DumpToken). t ∷ xs) s.spelled; each = (k, s.each); rises = (up, s.rises); few = s.few; means = said-later now time t s.entries p.0 ∙ ap (λ (q : Rest). ([], record { time = time; changes = q.0 } ∷ q.1)) s.means ∙ w.2 }
             ]
@@ -346,7 +346,7 @@ module _ (declared : List (List ℕ)) (len n : ℕ) (next : (count now : ℕ) (t
       }
 
   at_scalar : (digit : ℕ) (t : DumpToken) (ts : List DumpToken) (r : Rest) (text : List ℕ) (o : Option ℕ) → text ≡ behind_first t.text → o ≡ place_of declared text → length ts ≤ n → kind_of t.text ≡ Scalar digit
-      → scalar declared len digit text t.place count now (λ k m. body declared len k m ts) ≡ Ok r → Reading declared count now (t ∷ ts) r
+      → scalar declared len digit text t.at count now (λ k m. body declared len k m ts) ≡ Ok r → Reading declared count now (t ∷ ts) r
   at_scalar digit t ts r [] o is at le k e = absurd cc
   at_scalar digit t ts r (b ∷ bs) None is at le k e = absurd (let e' = rw (← at) at e in cc)
   at_scalar digit t ts r (b ∷ bs) (Some v) is at le k e =
@@ -354,7 +354,7 @@ module _ (declared : List (List ℕ)) (len n : ℕ) (next : (count now : ℕ) (t
       (digit, k, refl, rw (← is) refl, rw (← is) (sym at)) refl (λ es h. h) (λ es. refl) (λ es. refl) (rw (← at) at e)
 
   at_vector : (digits : List ℕ) (t u : DumpToken) (ts : List DumpToken) (r : Rest) (o : Option ℕ) → o ≡ place_of declared u.text → length ts ≤ n → kind_of t.text ≡ Vector digits
-      → change_by_code o u.text digits u.place count now (λ k m. body declared len k m ts) ≡ Ok r → Reading declared count now (t ∷ u ∷ ts) r
+      → change_by_code o u.text digits u.at count now (λ k m. body declared len k m ts) ≡ Ok r → Reading declared count now (t ∷ u ∷ ts) r
   at_vector digits t u ts r None at le k e = absurd cc
   at_vector digits t u ts r (Some v) at le k e =
       at_change (t ∷ u ∷ []) (Digits t u (record { code = v; digits = digits })) (record { code = v; digits = digits }) ts r le (k, sym at) refl (λ es h. h) (λ es. refl) (λ es. refl) e
@@ -368,7 +368,7 @@ module _ (declared : List (List ℕ)) (len n : ℕ) (next : (count now : ℕ) (t
   ignored-none r e = cc
 
   at_token : (t : DumpToken) (ts : List DumpToken) (r : Rest) (kind : Kind) → kind_of t.text ≡ kind → length ts ≤ n
-      → by_kind kind declared len t count now (λ c m. body declared len c m ts) (λ digits. vector declared len count now digits ts) (behind_ignored declared len count now ts) (section declared len count now t.place ts) ≡ Ok r → Reading declared count now (t ∷ ts) r
+      → by_kind kind declared len t count now (λ c m. body declared len c m ts) (λ digits. vector declared len count now digits ts) (behind_ignored declared len count now ts) (section declared len count now t.at ts) ≡ Ok r → Reading declared count now (t ∷ ts) r
   at_token t ts r (Time time) k le e = at_time time t ts r le k e
   at_token t ts r (Scalar digit) k le e = at_scalar digit t ts r (behind_first t.text) (place_of declared (behind_first t.text)) refl refl le k e
   at_token t [] r (Vector digits) k le e = absurd (vector-none digits r e)
@@ -377,7 +377,7 @@ module _ (declared : List (List ℕ)) (len n : ℕ) (next : (count now : ℕ) (t
   at_token t (u ∷ ts) r Text k le e = at_nothing (t ∷ u ∷ []) (Ignored t u) ts r (omega arith) k refl (λ es h. h) (λ es. refl) (λ es. refl) (sym (ignored-cons declared len count now u ts) ∙ e)
   at_token t ts r Lone k le e = at_nothing (t ∷ []) (Alone t) ts r le k refl (λ es h. h) (λ es. refl) (λ es. refl) e
   at_token t ts r Section k le e =
-      let s = section-ok declared len count now t.place ts r e in
+      let s = section-ok declared len count now t.at ts r e in
       let q = at_nothing (t ∷ s.0.inner ++ s.0.stop ∷ []) (Comment t s.0.inner s.0.stop) s.0.later r (omega (arith, s.0.shorter)) (k, s.0.are_inner, s.0.ends) refl (λ es h. h) (λ es. refl) (λ es. refl) s.1 in
       subst (λ (xs : List DumpToken). Reading declared count now (t ∷ xs) r) (append_assoc s.0.inner (s.0.stop ∷ []) s.0.later ∙ s.0.parts) q
   at_token t ts r Bad k le e = absurd cc

@@ -76,16 +76,16 @@ reads-parts scopes vars (Skipped word inner s ∷ ps) ends stop ts all w e =
 -- entries of the body
 module _ (declared : List (List ℕ)) (len count now : ℕ) where
   pub body-kind : (t : DumpToken) (ts : List DumpToken) (k : Kind) → kind_of t.text ≡ k
-      → body declared len count now (t ∷ ts) ≡ by_kind k declared len t count now (λ c n. body declared len c n ts) (λ digits. vector declared len count now digits ts) (behind_ignored declared len count now ts) (section declared len count now t.place ts)
+      → body declared len count now (t ∷ ts) ≡ by_kind k declared len t count now (λ c n. body declared len c n ts) (λ digits. vector declared len count now digits ts) (behind_ignored declared len count now ts) (section declared len count now t.at ts)
   unfolding body
   body-kind t ts k e = rw e refl
 
-  section-inner : (place : ℕ) (inner : List DumpToken) (stop : DumpToken) (ts : List DumpToken) → AreInner inner → IsEnd stop → section declared len count now place (inner ++ stop ∷ ts) ≡ body declared len count now ts
+  section-inner : (word : ℕ) (inner : List DumpToken) (stop : DumpToken) (ts : List DumpToken) → AreInner inner → IsEnd stop → section declared len count now word (inner ++ stop ∷ ts) ≡ body declared len count now ts
   unfolding body section
-  section-inner place [] stop ts all e = rw e refl
-  section-inner place (t ∷ inner) stop ts all e = let h = all.0 in rw h (section-inner place inner stop ts all.1 e)
+  section-inner word [] stop ts all e = rw e refl
+  section-inner word (t ∷ inner) stop ts all e = let h = all.0 in rw h (section-inner word inner stop ts all.1 e)
 
-  pub vector-cons : (digits : List ℕ) (t : DumpToken) (ts : List DumpToken) → vector declared len count now digits (t ∷ ts) ≡ change_by_code (place_of declared t.text) t.text digits t.place count now (λ c n. body declared len c n ts)
+  pub vector-cons : (digits : List ℕ) (t : DumpToken) (ts : List DumpToken) → vector declared len count now digits (t ∷ ts) ≡ change_by_code (place_of declared t.text) t.text digits t.at count now (λ c n. body declared len c n ts)
   unfolding body vector
   vector-cons digits t ts = refl
 
@@ -100,34 +100,34 @@ body-nil declared len count now = refl
 change-said : (c : ValueChange) (count now : ℕ) (next : Next) (r : Rest) → count < most_changes → next (suc count) now ≡ Ok r → with_change c count now next ≡ Ok (c ∷ r.0, r.1)
 change-said c count now next r lt e = let t : ltb count most_changes ≡ true = lt-ltb _ _ lt in rw (t, e) refl
 
-timed : (count now time place : ℕ) (next : Next) (same later : Rest) → now ≤ time → next count time ≡ Ok later → (time ≡ now → later ≡ same)
-    → with_time time place count now next ≡ Ok (cond (eqb time now) same ([], record { time = time; changes = later.0 } ∷ later.1))
-timed count now time place next same later le e h =
+timed : (count now time at : ℕ) (next : Next) (same later : Rest) → now ≤ time → next count time ≡ Ok later → (time ≡ now → later ≡ same)
+    → with_time time at count now next ≡ Ok (cond (eqb time now) same ([], record { time = time; changes = later.0 } ∷ later.1))
+timed count now time at next same later le e h =
     let up : ltb time now ≡ false = le-ltb _ _ le in
     elim (eqb_tells time now) [
       | inl p ↦ rw (up, p.0) (ap (next count) (sym p.1) ∙ e ∙ ap (λ (r : Rest). Ok r) (h p.1))
       | inr p ↦ rw (up, p.0) (ap (with_step time) e)
     ]
 
-scalar-read : (declared : List (List ℕ)) (len digit : ℕ) (text : List ℕ) (place count now n : ℕ) (next : Next) → is_empty text ≡ false → place_of declared text ≡ Some n → scalar declared len digit text place count now next ≡ with_change (record { code = n; digits = digit ∷ [] }) count now next
-scalar-read declared len digit [] place count now n next e p = absurd cc
-scalar-read declared len digit (c ∷ cs) place count now n next e p = rw p refl
+scalar-read : (declared : List (List ℕ)) (len digit : ℕ) (text : List ℕ) (at count now n : ℕ) (next : Next) → is_empty text ≡ false → place_of declared text ≡ Some n → scalar declared len digit text at count now next ≡ with_change (record { code = n; digits = digit ∷ [] }) count now next
+scalar-read declared len digit [] at count now n next e p = absurd cc
+scalar-read declared len digit (c ∷ cs) at count now n next e p = rw p refl
 
 pub reads-entries : (declared : List (List ℕ)) (len count now : ℕ) (es : List Entry) → AllByRecursion (IsEntry declared) es → Rises now es → count + changes_in es ≤ most_changes → body declared len count now (flat_map entry_tokens es) ≡ Ok (said_rest now es)
 reads-entries declared len count now [] all rises few = body-nil declared len count now
 reads-entries declared len count now (Instant t time ∷ es) all rises few =
     body-kind declared len count now t (flat_map entry_tokens es) (Time time) all.0
-    ∙ timed count now time t.place (λ c n. body declared len c n (flat_map entry_tokens es)) (said_rest now es) (said_rest time es) rises.0 (reads-entries declared len count time es all.1 rises.1 few) (λ e. ap (λ (n : ℕ). said_rest n es) e)
+    ∙ timed count now time t.at (λ c n. body declared len c n (flat_map entry_tokens es)) (said_rest now es) (said_rest time es) rises.0 (reads-entries declared len count time es all.1 rises.1 few) (λ e. ap (λ (n : ℕ). said_rest n es) e)
 reads-entries declared len count now (Bit t c ∷ es) all rises few =
     body-kind declared len count now t (flat_map entry_tokens es) (Scalar all.0.0) all.0.1
-    ∙ scalar-read declared len all.0.0 (behind_first t.text) t.place count now c.code (λ k n. body declared len k n (flat_map entry_tokens es)) all.0.3 all.0.4
+    ∙ scalar-read declared len all.0.0 (behind_first t.text) t.at count now c.code (λ k n. body declared len k n (flat_map entry_tokens es)) all.0.3 all.0.4
     ∙ ap (λ (ds : List ℕ). with_change (record { code = c.code; digits = ds }) count now (λ k n. body declared len k n (flat_map entry_tokens es))) (sym all.0.2)
     ∙ change-said c count now (λ k n. body declared len k n (flat_map entry_tokens es)) (said_rest now es) (omega arith) (reads-entries declared len (suc count) now es all.1 rises (omega arith))
 reads-entries declared len count now (Digits t code c ∷ es) all rises few =
     let next : Next = λ k n. body declared len k n (flat_map entry_tokens es) in
     body-kind declared len count now t (code ∷ flat_map entry_tokens es) (Vector c.digits) all.0.0
     ∙ vector-cons declared len count now c.digits code (flat_map entry_tokens es)
-    ∙ ap (λ (o : Option ℕ). change_by_code o code.text c.digits code.place count now next) all.0.1
+    ∙ ap (λ (o : Option ℕ). change_by_code o code.text c.digits code.at count now next) all.0.1
     ∙ change-said c count now next (said_rest now es) (omega arith) (reads-entries declared len (suc count) now es all.1 rises (omega arith))
 reads-entries declared len count now (Ignored t u ∷ es) all rises few =
     body-kind declared len count now t (u ∷ flat_map entry_tokens es) Text all.0 ∙ ignored-cons declared len count now u (flat_map entry_tokens es) ∙ reads-entries declared len count now es all.1 rises few
@@ -136,7 +136,7 @@ reads-entries declared len count now (Alone t ∷ es) all rises few =
 reads-entries declared len count now (Comment word inner stop ∷ es) all rises few =
     ap (λ (ts : List DumpToken). body declared len count now (word ∷ ts)) (append_assoc inner (stop ∷ []) (flat_map entry_tokens es))
     ∙ body-kind declared len count now word (inner ++ stop ∷ flat_map entry_tokens es) Section all.0.0
-    ∙ section-inner declared len count now word.place inner stop (flat_map entry_tokens es) all.0.1 all.0.2
+    ∙ section-inner declared len count now word.at inner stop (flat_map entry_tokens es) all.0.1 all.0.2
     ∙ reads-entries declared len count now es all.1 rises few
 
 contents-is : (c : Contents) (vs : List Declared) (ms : List Moment) → vs ≡ c.variables → ms ≡ c.steps → (let d : Contents = record { variables = vs; steps = ms } in d) ≡ c

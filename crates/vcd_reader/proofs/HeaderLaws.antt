@@ -39,7 +39,7 @@ module _ (scopes : List (List ℕ)) (vars : List Declared) (word : DumpToken) wh
   var_size-field type (t ∷ ts) = refl
 
   pub var_code-field : (type : List ℕ) (size : ℕ) (ts : List DumpToken) → var_code scopes vars word type size ts
-      ≡ field word ts (λ t us. cond (list_all is_code_byte t.text) (var_reference scopes vars word (record { type = type; size = size; code = t.text }) us) (Err (BadToken t.place)))
+      ≡ field word ts (λ t us. cond (list_all is_code_byte t.text) (var_reference scopes vars word (record { type = type; size = size; code = t.text }) us) (Err (BadToken t.at)))
   unfolding header var_code
   var_code-field type size [] = refl
   var_code-field type size (t ∷ ts) = refl
@@ -49,42 +49,42 @@ module _ (scopes : List (List ℕ)) (vars : List Declared) (word : DumpToken) wh
   var_reference-field h [] = refl
   var_reference-field h (t ∷ ts) = refl
 
-  pub skipped-none : (ts : List DumpToken) → ts ≡ [] → skipped_section scopes vars word ts ≡ Err (UnclosedSection word.place)
+  pub skipped-none : (ts : List DumpToken) → ts ≡ [] → skipped_section scopes vars word ts ≡ Err (UnclosedSection word.at)
   unfolding header skipped_section
   skipped-none ts e = rw e refl
 
-  pub skipped-end : (ts : List DumpToken) (text : List ℕ) (place : ℕ) (rest : List DumpToken) → ts ≡ record { text = text; place = place } ∷ rest → is_end text ≡ true → skipped_section scopes vars word ts ≡ header scopes vars rest
+  pub skipped-end : (ts : List DumpToken) (text : List ℕ) (at : ℕ) (rest : List DumpToken) → ts ≡ record { text = text; at = at } ∷ rest → is_end text ≡ true → skipped_section scopes vars word ts ≡ header scopes vars rest
   unfolding header skipped_section
-  skipped-end ts text place rest e h = rw (e, h) refl
+  skipped-end ts text at rest e h = rw (e, h) refl
 
-  pub skipped-more : (ts : List DumpToken) (text : List ℕ) (place : ℕ) (rest : List DumpToken) → ts ≡ record { text = text; place = place } ∷ rest → is_end text ≡ false → skipped_section scopes vars word ts ≡ skipped_section scopes vars word rest
+  pub skipped-more : (ts : List DumpToken) (text : List ℕ) (at : ℕ) (rest : List DumpToken) → ts ≡ record { text = text; at = at } ∷ rest → is_end text ≡ false → skipped_section scopes vars word ts ≡ skipped_section scopes vars word rest
   unfolding header skipped_section
-  skipped-more ts text place rest e h = rw (e, h) refl
+  skipped-more ts text at rest e h = rw (e, h) refl
 
-  pub more-none : (h : Head) (reference : List ℕ) (ts : List DumpToken) → ts ≡ [] → var_more scopes vars word h reference ts ≡ Err (UnclosedSection word.place)
+  pub more-none : (h : Head) (reference : List ℕ) (ts : List DumpToken) → ts ≡ [] → var_more scopes vars word h reference ts ≡ Err (UnclosedSection word.at)
   unfolding header var_more
   more-none h reference ts e = rw e refl
 
-  pub more-end : (h : Head) (reference : List ℕ) (ts : List DumpToken) (text : List ℕ) (place : ℕ) (rest : List DumpToken) → ts ≡ record { text = text; place = place } ∷ rest → is_end text ≡ true
+  pub more-end : (h : Head) (reference : List ℕ) (ts : List DumpToken) (text : List ℕ) (at : ℕ) (rest : List DumpToken) → ts ≡ record { text = text; at = at } ∷ rest → is_end text ≡ true
       → var_more scopes vars word h reference ts ≡ header scopes (vars ++ variable scopes h reference ∷ []) rest
   unfolding header var_more
-  more-end h reference ts text place rest e is = rw (e, is) refl
+  more-end h reference ts text at rest e is = rw (e, is) refl
 
-  pub more-more : (h : Head) (reference : List ℕ) (ts : List DumpToken) (text : List ℕ) (place : ℕ) (rest : List DumpToken) → ts ≡ record { text = text; place = place } ∷ rest → is_end text ≡ false
+  pub more-more : (h : Head) (reference : List ℕ) (ts : List DumpToken) (text : List ℕ) (at : ℕ) (rest : List DumpToken) → ts ≡ record { text = text; at = at } ∷ rest → is_end text ≡ false
       → var_more scopes vars word h reference ts ≡ var_more scopes vars word h (reference ++ text) rest
   unfolding header var_more
-  more-more h reference ts text place rest e is = rw (e, is) refl
+  more-more h reference ts text at rest e is = rw (e, is) refl
 
 -- what each word leads to
-module _ (scopes : List (List ℕ)) (vars : List Declared) (text : List ℕ) (place : ℕ) (ts : List DumpToken) where
+module _ (scopes : List (List ℕ)) (vars : List Declared) (text : List ℕ) (at : ℕ) (ts : List DumpToken) where
   abbrev opener : DumpToken
-  opener = record { text = text; place = place }
+  opener = record { text = text; at = at }
 
   at-word : (w : Word) → w ≡ word_of text → header scopes vars (opener ∷ ts) ≡ by_word w opener (header_end vars opener ts) (scope_type scopes vars opener ts) (closing_token (outer_scopes scopes) vars opener ts) (var_type scopes vars opener ts) (skipped_section scopes vars opener ts)
   unfolding header
   at-word w e = rw e refl
 
-  pub at-no_word : words.NoWord ≡ word_of text → header scopes vars (opener ∷ ts) ≡ Err (BadToken place)
+  pub at-no_word : words.NoWord ≡ word_of text → header scopes vars (opener ∷ ts) ≡ Err (BadToken at)
   at-no_word e = at-word words.NoWord e
 
   pub at-ends : words.Ends ≡ word_of text → header scopes vars (opener ∷ ts) ≡ close opener ts (λ rest. Ok (vars, rest))

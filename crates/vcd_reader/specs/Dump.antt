@@ -1,9 +1,10 @@
 -- What a dump says, from its bytes.
-use Rattle.std.specs.Prelude.{◌≡◌, ℕ, ◌≤◌, ◌+◌, ◌^◌, ◌==◌, List, [], length, take, Option, Result, Ok, Err, count_by}
+use Rattle.std.specs.Prelude.{◌≡◌, ℕ, ◌≤◌, ◌+◌, ◌^◌, ◌==◌, List, [], length, take, Option, Result}
+use Rattle.std.specs.Prelude.{Ok, Err, count_by}
 use Rattle.std.specs.Io.KnownBytes.{Consumes, IsAtEnd}
 use Rattle.signals.specs.Source.{after_failure, GaveOver}
 use Rattle.vcd_reader.specs.declared.fault.Fault.{Fault}
-use Rattle.vcd_reader.specs.declared.fault.Fault.TheVariants as at
+use Rattle.vcd_reader.specs.declared.fault.Fault.TheVariants as byte
 use Rattle.vcd_reader.specs.declared.fault.VcdFault.{VcdFault}
 use Rattle.vcd_reader.specs.declared.fault.VcdFault.TheVariants as line
 use Rattle.vcd_reader.specs.Tokens.{tokens}
@@ -20,7 +21,9 @@ pub record Contents : Type 0 where
 
 -- what the body of a dump with this header says
 unfoldable pub contents_behind : ℕ → Header → Result Contents Fault
-contents_behind len h = steps_of (body (codes_of h.0) len 0 0 h.1) >>= λ steps. Ok (record { variables = h.0; steps = steps })
+contents_behind len h =
+    steps_of (body (codes_of h.0) len 0 0 h.1)
+    >>= λ steps. Ok (record { variables = h.0; steps = steps })
 
 -- what the bytes say, or their first fault
 unfoldable pub dump_of : List ℕ → Result Contents Fault
@@ -28,16 +31,16 @@ dump_of bytes = header [] [] (tokens 0 bytes) >>= contents_behind (length bytes)
 
 -- lines count from 1, and each ends at a line feed
 abbrev pub line_of : List ℕ → ℕ → ℕ
-line_of bytes place = 1 + count_by (λ b. b == 10) (take place bytes)
+line_of bytes at = 1 + count_by (λ b. b == 10) (take at bytes)
 
 abbrev pub fault_at_line : List ℕ → Fault → VcdFault
-fault_at_line bytes (at.BadToken place) = line.BadToken (line_of bytes place)
-fault_at_line bytes (at.UnknownCode place) = line.UnknownCode (line_of bytes place)
-fault_at_line bytes (at.TimeBack place) = line.TimeBack (line_of bytes place)
-fault_at_line bytes (at.UnclosedSection place) = line.UnclosedSection (line_of bytes place)
-fault_at_line bytes (at.BadSize place) = line.BadSize (line_of bytes place)
-fault_at_line bytes at.Truncated = line.Truncated
-fault_at_line bytes at.TooLarge = line.TooLarge
+fault_at_line bytes (byte.BadToken at) = line.BadToken (line_of bytes at)
+fault_at_line bytes (byte.UnknownCode at) = line.UnknownCode (line_of bytes at)
+fault_at_line bytes (byte.TimeBack at) = line.TimeBack (line_of bytes at)
+fault_at_line bytes (byte.UnclosedSection at) = line.UnclosedSection (line_of bytes at)
+fault_at_line bytes (byte.BadSize at) = line.BadSize (line_of bytes at)
+fault_at_line bytes byte.Truncated = line.Truncated
+fault_at_line bytes byte.TooLarge = line.TooLarge
 
 -- the most bytes of a dump
 abbrev pub most_bytes : ℕ

@@ -9,7 +9,7 @@ abbrev pub ◌>>=◌ : {A B : Type 0} → Result A Fault → (A → Result B Fau
 (Ok x) >>= f = f x
 (Err e) >>= f = Err e
 
--- what follows the place that a reader found
+-- what follows what a reader found
 abbrev pub read_on : {A B : Type 0} → Result A Fault → (A → Result B Fault) → Result B Fault
 read_on read go = read >>= go
 

@@ -18,7 +18,8 @@ steps_in d = d.steps.items
 unfoldable pub high_of : Dump → List ℕ
 high_of d = d.high.items
 
--- The dump has these contents: the same variables, and the same steps and changes, each with the number of its digits.
+-- The dump has these contents: the same variables, and the same steps and changes, each with the
+-- number of its digits.
 pub record HoldsContents (d : Dump) (c : Contents) : Type 0 where
   pub variables : variables_of d ≡ c.variables
   pub steps : map (stored_step (high_of d)) (steps_in d) ≡ map kept_step c.steps

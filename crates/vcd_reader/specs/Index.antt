@@ -1,5 +1,6 @@
 -- A table of the places of texts.
-use Rattle.std.specs.Prelude.{◌≡◌, ℕ, ◌^◌, ◌<◌, ◌≤◌, List, [], length, map, get_or, Some, true, is_some, nat_eq, slice_index}
+use Rattle.std.specs.Prelude.{◌≡◌, ℕ, ◌^◌, ◌<◌, ◌≤◌, List, [], length, map, get_or, Some, true}
+use Rattle.std.specs.Prelude.{is_some, nat_eq, slice_index}
 use Rattle.std.specs.HashMap as table
 use Rattle.vcd_reader.specs.declared.scope.Scope.{Scope}
 use Rattle.vcd_reader.specs.declared.variable.Variable.{Variable}
@@ -34,5 +35,7 @@ codes_in vs = map (λ v. v.code.items) vs
 pub record IsIndex (texts : List (List ℕ)) (p : Places) : Type 0 where
   pub fits : length texts ≤ 2 ^ 32
   pub long : length p.firsts.items ≡ length texts
-  pub first : (i : ℕ) → i < length texts → Some (slice_index p.firsts.items i) ≡ place_of texts (get_or texts i [])
-  pub complete : (i : ℕ) → i < length texts → is_some (table.get nat_eq p.hints (key_of (get_or texts i []))) ≡ true
+  pub first : (i : ℕ) → i < length texts
+      → Some (slice_index p.firsts.items i) ≡ place_of texts (get_or texts i [])
+  pub complete : (i : ℕ) → i < length texts
+      → is_some (table.get nat_eq p.hints (key_of (get_or texts i []))) ≡ true

@@ -1,5 +1,6 @@
 -- Codes of up to four bytes as numbers.
-use Rattle.std.specs.Prelude.{◌≡◌, ℕ, ◌/◌, ◌%◌, ◌<◌, nat_lt, List, [], ◌∷◌, Some, if◌then◌else◌, get_or}
+use Rattle.std.specs.Prelude.{◌≡◌, ℕ, ◌/◌, ◌%◌, ◌<◌, nat_lt, List, [], ◌∷◌, Some, if◌then◌else◌}
+use Rattle.std.specs.Prelude.{get_or}
 use Rattle.vcd_reader.specs.declared.codes.Entry.{Entry}
 use Rattle.vcd_reader.specs.Variables.{place_of}
 

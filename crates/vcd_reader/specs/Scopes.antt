@@ -1,4 +1,5 @@
--- How scopes stand in memory: each by its own name and by the place of the scope around it. Place 0 is outside of all scopes, and place k + 1 is in the scope k of the list.
+-- How scopes stand in memory: each by its own name and by the place of the scope around it. Place 0
+-- is outside of all scopes, and place k + 1 is in the scope k of the list.
 use Rattle.std.specs.Prelude.{◌≡◌, ℕ, suc, ◌-◌, ◌<◌, ◌≤◌, List, [], ◌∷◌, ◌++◌, length, take, get_or}
 use Rattle.std.specs.List.{flat_map}
 use Rattle.vcd_reader.specs.declared.scope.Scope.{Scope}
@@ -8,10 +9,12 @@ use Rattle.vcd_reader.specs.Keys.{key_of}
 abbrev pub name_in : Scope → List ℕ
 name_in s = take (length s.front.items - 1) s.front.items
 
--- the scopes that are open at each place, the outermost first: at the places known so far, and at those of the list
+-- the scopes that are open at each place, the outermost first: at the places known so far, and at
+-- those of the list
 unfoldable pub open_scopes_from : List (List (List ℕ)) → List Scope → List (List (List ℕ))
 open_scopes_from known [] = known
-open_scopes_from known (s ∷ ss) = open_scopes_from (known ++ (get_or known s.parent [] ++ name_in s ∷ []) ∷ []) ss
+open_scopes_from known (s ∷ ss) =
+    open_scopes_from (known ++ (get_or known s.parent [] ++ name_in s ∷ []) ∷ []) ss
 
 -- the scopes that are open at a place
 unfoldable pub open_scopes : List Scope → ℕ → List (List ℕ)

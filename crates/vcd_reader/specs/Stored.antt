@@ -1,5 +1,6 @@
 -- How variables and changes stand in memory.
-use Rattle.std.specs.Prelude.{◌≡◌, ℕ, ◌+◌, ◌-◌, ◌*◌, ◌^◌, ◌==◌, List, map, if◌then◌else◌, slice_index}
+use Rattle.std.specs.Prelude.{◌≡◌, ℕ, ◌+◌, ◌-◌, ◌*◌, ◌^◌, ◌==◌, List, map, if◌then◌else◌}
+use Rattle.std.specs.Prelude.{slice_index}
 use Rattle.vcd_reader.specs.declared.scope.Scope.{Scope}
 use Rattle.vcd_reader.specs.declared.variable.Variable.{Variable}
 use Rattle.vcd_reader.specs.declared.step.Step.{Step}
@@ -12,7 +13,12 @@ use Rattle.vcd_reader.specs.Dump.{Contents}
 
 -- a variable inside these scopes
 abbrev pub declaration_in : List (List ℕ) → Variable → Declared
-declaration_in scopes v = record { path = path_of scopes v.name.items; code = v.code.items; size = v.size; bindable = v.bindable }
+declaration_in scopes v = record {
+  path = path_of scopes v.name.items;
+  code = v.code.items;
+  size = v.size;
+  bindable = v.bindable;
+}
 
 abbrev pub declaration_of : List Scope → Variable → Declared
 declaration_of ss v = declaration_in (open_scopes ss v.scope) v

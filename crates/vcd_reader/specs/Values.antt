@@ -1,5 +1,6 @@
 -- What value changes say of a variable (IEEE 1364-2005, clauses 18.2.1 and 18.2.2).
-use Rattle.std.specs.Prelude.{ℕ, ◌-◌, ◌==◌, List, [], ◌∷◌, ◌++◌, length, take, drop, Option, Some, None, if◌then◌else◌, replicate}
+use Rattle.std.specs.Prelude.{ℕ, ◌-◌, ◌==◌, List, [], ◌∷◌, ◌++◌, length, take, drop, Option, Some}
+use Rattle.std.specs.Prelude.{None, if◌then◌else◌, replicate}
 use Rattle.std.specs.List.{flat_map}
 use Rattle.vcd_reader.specs.Numbers.{bits_from}
 
@@ -13,7 +14,8 @@ pub record Moment : Type 0 where
   pub time : ℕ
   pub changes : List ValueChange
 
--- the digit that extends a vector on the left: 0 where the leftmost digit is 0 or 1, else that digit
+-- the digit that extends a vector on the left: 0 where the leftmost digit is 0 or 1, else that
+-- digit
 abbrev pub padding : List ℕ → ℕ
 padding [] = 48
 padding (d ∷ ds) = if d == 49 then 48 else d
@@ -37,7 +39,8 @@ or_else (Some x) o = Some x
 -- the digits of the last change of the code
 unfoldable pub last_digits : ℕ → List ValueChange → Option (List ℕ)
 last_digits code [] = None
-last_digits code (c ∷ cs) = or_else (last_digits code cs) (if c.code == code then Some c.digits else None)
+last_digits code (c ∷ cs) =
+    or_else (last_digits code cs) (if c.code == code then Some c.digits else None)
 
 -- all changes in the steps before the step k
 unfoldable pub changes_before : List Moment → ℕ → List ValueChange
@@ -48,6 +51,7 @@ abbrev pub value_or_zero : ℕ → Option (List ℕ) → ℕ
 value_or_zero size None = 0
 value_or_zero size (Some digits) = digits_value size digits
 
--- The value of a variable with that code and size before the step k: its last change in the steps before.
+-- The value of a variable with that code and size before the step k: its last change in the steps
+-- before.
 unfoldable pub value_at : List Moment → ℕ → ℕ → ℕ → ℕ
 value_at steps code size k = value_or_zero size (last_digits code (changes_before steps k))

@@ -1,5 +1,6 @@
 -- The variables of a header, their paths and the numbers of their codes.
-use Rattle.std.specs.Prelude.{ℕ, suc, ◌==◌, List, [], ◌∷◌, ◌++◌, Bool, false, not, ◌&&◌, ◌||◌, map, Option, Some, None, unwrap_or, if◌then◌else◌, get_or, codes, nat_le}
+use Rattle.std.specs.Prelude.{ℕ, suc, ◌==◌, List, [], ◌∷◌, ◌++◌, Bool, false, not, ◌&&◌, ◌||◌, map}
+use Rattle.std.specs.Prelude.{Option, Some, None, unwrap_or, if◌then◌else◌, get_or, codes, nat_le}
 use Rattle.std.specs.Option.{option_map}
 use Rattle.std.specs.List.{flat_map}
 use Rattle.std.specs.Str.{bytes_eq}
@@ -21,7 +22,9 @@ path_of scopes name = flat_map (λ s. s ++ 46 ∷ []) scopes ++ name
 
 -- the types whose values are no vectors of digits
 abbrev pub has_no_digits : List ℕ → Bool
-has_no_digits type = bytes_eq type (codes "real") || bytes_eq type (codes "realtime") || bytes_eq type (codes "string") || bytes_eq type (codes "event")
+has_no_digits type =
+    bytes_eq type (codes "real") || bytes_eq type (codes "realtime")
+    || bytes_eq type (codes "string") || bytes_eq type (codes "event")
 
 -- whether a variable of that type and size can be bound
 abbrev pub can_bind : List ℕ → ℕ → Bool
@@ -45,7 +48,8 @@ no_variable = record { path = []; code = []; size = 0; bindable = false }
 abbrev pub variable_at_place : List Declared → ℕ → Declared
 variable_at_place vs v = get_or vs v no_variable
 
--- the number of the code of the variable at the place v: the place of the first variable with that code
+-- the number of the code of the variable at the place v: the place of the first variable with that
+-- code
 unfoldable pub code_number : List Declared → ℕ → ℕ
 code_number vs v = unwrap_or (place_of (codes_of vs) (variable_at_place vs v).code) 0
 
@@ -60,7 +64,8 @@ abbrev pub if_bindable : List Declared → Option ℕ → Option ℕ
 if_bindable vs None = None
 if_bindable vs (Some v) = if is_bindable vs v then Some v else None
 
--- the place of the variable that the path names: of equal paths the first stands, and none where that one can't be bound
+-- the place of the variable that the path names: of equal paths the first stands, and none where
+-- that one can't be bound
 unfoldable pub variable_named : List Declared → List ℕ → Option ℕ
 variable_named vs path = if_bindable vs (place_of (paths_of vs) path)
 
@@ -76,7 +81,10 @@ is_place k (Some n) = n == k
 -- the paths of those variables from the place k on that their own path names
 unfoldable pub names_from : List Declared → ℕ → List Declared → List Named
 names_from all k [] = []
-names_from all k (v ∷ vs) = if is_place k (variable_named all v.path) then record { path = v.path; width = v.size } ∷ names_from all (suc k) vs else names_from all (suc k) vs
+names_from all k (v ∷ vs) =
+    if is_place k (variable_named all v.path)
+    then record { path = v.path; width = v.size } ∷ names_from all (suc k) vs
+    else names_from all (suc k) vs
 
 -- the paths that can be bound, with their widths, in the header's order
 unfoldable pub names_of : List Declared → List Named

@@ -1,12 +1,15 @@
 //! The times and changes of a dump.
 
-ghost use Rattle.std.specs.Prelude.{◌≡◌, ℕ, ◌<◌, ◌≤◌, ◌+◌, ◌++◌, List, map, length, drop, Ok, Err, Some, IfOk, IfSome, slice_range, Result, Option, nat_lt};
+ghost use Rattle.std.specs.Prelude.{◌≡◌, ℕ, ◌<◌, ◌≤◌, ◌+◌, ◌++◌, List, map, length, drop, Ok, Err};
+ghost use Rattle.std.specs.Prelude.{Some, IfOk, IfSome, slice_range, Result, Option, nat_lt};
 ghost use Rattle.vcd_reader.specs.Faults.{Gives, read_on};
 ghost use Rattle.vcd_reader.specs.Variables.{place_of};
 ghost use Rattle.vcd_reader.specs.Index.{codes_in};
 ghost use Rattle.vcd_reader.specs.Stored.{stored_change, stored_step};
-ghost use Rattle.vcd_reader.specs.Body.{kind_of, is_lone_word, missing_fault, most_changes, body, section, steps_of};
-ghost use Rattle.vcd_reader.specs.Kept.{seen_kind, kept_result, kept_steps, with_next_item, code_item, scalar_item, Extends};
+ghost use Rattle.vcd_reader.specs.Body.{kind_of, is_lone_word, missing_fault, most_changes, body};
+ghost use Rattle.vcd_reader.specs.Body.{section, steps_of};
+ghost use Rattle.vcd_reader.specs.Kept.{seen_kind, kept_result, kept_steps, with_next_item};
+ghost use Rattle.vcd_reader.specs.Kept.{code_item, scalar_item, Extends};
 ghost use Rattle.vcd_reader.specs.Sections.{tokens_at};
 
 use crate::codes::Codes;
@@ -62,17 +65,18 @@ fn classify(text: &[u8]) -> Seen
     }
 }
 
-/// The end of the section that begins before there, at `place`.
-fn section_end(bytes: &[u8], start: usize, place: usize) -> Result<usize, Fault>
+/// The end of the section whose word stands at `word`.
+fn section_end(bytes: &[u8], start: usize, word: usize) -> Result<usize, Fault>
     requires { start ≤ length bytes.now }
     ensures high { IfOk result (λ end. (start < end) × (end ≤ length bytes.now)) }
-    ensures section { (declared : List (List ℕ)) (len count now : ℕ) → section declared len count now place (tokens_at bytes.now start)
+    ensures section { (declared : List (List ℕ)) (len count now : ℕ)
+        → section declared len count now word (tokens_at bytes.now start)
         ≡ read_on result (λ end. body declared len count now (tokens_at bytes.now end)) }
 {
     let mut at = start;
     'sections: loop {
         let Some((from, end)) = next_token(bytes, at) else {
-            return Err(Fault::UnclosedSection(place));
+            return Err(Fault::UnclosedSection(word));
         };
         if &bytes[from..end] == b"$end".as_slice() {
             return Ok(end);
@@ -82,22 +86,23 @@ fn section_end(bytes: &[u8], start: usize, place: usize) -> Result<usize, Fault>
 }
 
 /// Why the code is not the header's.
-fn missing_code(code: &[u8], place: usize) -> Fault
-    ensures { result ≡ missing_fault code.now place }
+fn missing_code(code: &[u8], at: usize) -> Fault
+    ensures { result ≡ missing_fault code.now at }
 {
     if is_code(code) {
-        Fault::UnknownCode(place)
+        Fault::UnknownCode(at)
     } else {
-        Fault::BadToken(place)
+        Fault::BadToken(at)
     }
 }
 
 /// The change of a code to a value.
-fn change_of(codes: &Codes, code: &[u8], value: u128, place: usize) -> Result<Item, Fault>
-    ensures { result ≡ code_item (place_of (codes_in codes.now.variables.now) code.now) code.now value place }
+fn change_of(codes: &Codes, code: &[u8], value: u128, at: usize) -> Result<Item, Fault>
+    ensures { result
+        ≡ code_item (place_of (codes_in codes.now.variables.now) code.now) code.now value at }
 {
     match find_code(codes, code) {
-        None => Err(missing_code(code, place)),
+        None => Err(missing_code(code, at)),
         Some(number) => Ok(Item::Changed(number, value)),
     }
 }
@@ -113,7 +118,8 @@ fn scalar_change(
 ) -> Result<Item, Fault>
     requires order { from < end }
     requires inside { end ≤ length bytes.now }
-    ensures { result ≡ scalar_item (codes_in codes.now.variables.now) (length bytes.now) (slice_range bytes.now (from + 1) end) value from }
+    ensures { result ≡ scalar_item (codes_in codes.now.variables.now) (length bytes.now)
+        (slice_range bytes.now (from + 1) end) value from }
 {
     if from + 1 == end {
         if end == bytes.len() {
@@ -129,8 +135,12 @@ fn scalar_change(
 fn next_item(bytes: &[u8], at: usize, codes: &Codes) -> Result<Option<(Item, usize)>, Fault>
     requires { at ≤ length bytes.now }
     ensures high { IfOk result (λ r. IfSome r (λ p. (at < p.1) × (p.1 ≤ length bytes.now))) }
-    ensures item { (count now : ℕ) → kept_result (body (codes_in codes.now.variables.now) (length bytes.now) count now (tokens_at bytes.now at))
-        ≡ with_next_item result count now (λ c n end. kept_result (body (codes_in codes.now.variables.now) (length bytes.now) c n (tokens_at bytes.now end))) }
+    ensures item { (count now : ℕ)
+        → kept_result (body (codes_in codes.now.variables.now) (length bytes.now) count now
+        (tokens_at bytes.now at))
+        ≡ with_next_item result count now
+        (λ c n end. kept_result (body (codes_in codes.now.variables.now) (length bytes.now) c n
+        (tokens_at bytes.now end))) }
 {
     let Some((from, end)) = next_token(bytes, at) else {
         return Ok(None);
@@ -177,7 +187,9 @@ fn new_change(high: &mut Vec<u64>, code: u32, value: u128) -> Result<Change, All
     requires { length high.old.items < 4294967295 }
     ensures grows { IfOk result (λ c. Extends high.old.items high.new.items) }
     ensures bound { length high.new.items ≤ length high.old.items + 1 }
-    ensures change { (more : List ℕ) → IfOk result (λ c. stored_change (high.new.items ++ more) c ≡ record { code = code; value = value }) }
+    ensures change { (more : List ℕ)
+        → IfOk result (λ c. stored_change (high.new.items ++ more) c
+        ≡ record { code = code; value = value }) }
 {
     let low = (value % (1 << 64)) as u64;
     let above = (value / (1 << 64)) as u64;
@@ -201,7 +213,8 @@ pub(crate) fn read_body(
 ) -> Result<(Vec<Step>, Vec<u64>), ReadError>
     requires { start ≤ length bytes.now }
     ensures { Gives (λ r. map (stored_step r.1.items) r.0.items) result
-        (kept_steps (steps_of (body (codes_in codes.now.variables.now) (length bytes.now) 0 0 (tokens_at bytes.now start)))) }
+        (kept_steps (steps_of (body (codes_in codes.now.variables.now) (length bytes.now) 0 0
+        (tokens_at bytes.now start)))) }
 {
     let mut steps = Vec::new(alloc);
     let mut high = Vec::new(alloc);
@@ -230,9 +243,9 @@ pub(crate) fn read_body(
                         count += 1;
                         continue;
                     }
-                    Item::Timed(time, place) => {
+                    Item::Timed(time, from) => {
                         if time < now {
-                            return Err(ReadError::Fault(Fault::TimeBack(place)));
+                            return Err(ReadError::Fault(Fault::TimeBack(from)));
                         }
                         if time == now {
                             continue;

@@ -14,8 +14,9 @@ pub(crate) struct Entry {
     pub(crate) number: u32,
 }
 
-/// The header's codes, to be found by their text: short ones by a table of pages, in which an entry stands for its code's first two
-/// bytes and its page for the others, and all of them by their places.
+/// The header's codes, to be found by their text: short ones by a table of pages, in which an entry
+/// stands for its code's first two bytes and its page for the others, and all of them by their
+/// places.
 #[derive(Drop)]
 pub(crate) struct Codes<'a> {
     pub(crate) variables: &'a [Variable],

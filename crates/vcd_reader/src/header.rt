@@ -1,14 +1,18 @@
 //! The sections of a dump's header.
 
-ghost use Rattle.std.specs.Prelude.{◌≡◌, ℕ, ◌<◌, ◌≤◌, ◌++◌, ◌∷◌, [], List, Result, map, length, drop, slice_range, IfOk, MatchResult};
+ghost use Rattle.std.specs.Prelude.{◌≡◌, ℕ, ◌<◌, ◌≤◌, ◌++◌, ◌∷◌, [], List, Result, map, length};
+ghost use Rattle.std.specs.Prelude.{drop, slice_range, IfOk, MatchResult};
 ghost use Rattle.std.specs.List.{list_all};
 ghost use Rattle.vcd_reader.specs.Tokens.{DumpToken};
 ghost use Rattle.vcd_reader.specs.Faults.{Gives, Fails, read_on};
 ghost use Rattle.vcd_reader.specs.Variables as variables;
 ghost use Rattle.vcd_reader.specs.Stored.{declaration_of, declaration_in};
 ghost use Rattle.vcd_reader.specs.Scopes.{IsTree};
-ghost use Rattle.vcd_reader.specs.Header.{Header, Head, is_end, word_of, field, close, header, skipped_section, scope_type, var_type, var_reference, variable};
-ghost use Rattle.vcd_reader.specs.Sections.{text_at, tokens_at, head_at, stated_header, end_of, IsInside, IsAt};
+ghost use Rattle.vcd_reader.specs.Header.{Header, Head, is_end, word_of, field, close, header};
+ghost use Rattle.vcd_reader.specs.Header.{skipped_section, scope_type, var_type, var_reference};
+ghost use Rattle.vcd_reader.specs.Header.{variable};
+ghost use Rattle.vcd_reader.specs.Sections.{text_at, tokens_at, head_at, stated_header, end_of};
+ghost use Rattle.vcd_reader.specs.Sections.{IsInside, IsAt};
 
 use crate::fault::{Fault, ReadError};
 use crate::name::reference_name;
@@ -92,8 +96,10 @@ pub(crate) fn is_code(text: &[u8]) -> bool
 fn next_field(bytes: &[u8], at: usize, word: usize) -> Result<Span, Fault>
     requires { at ≤ length bytes.now }
     ensures high { IfOk result (λ s. (at < s.end) × (s.end ≤ length bytes.now)) }
-    ensures field { (opener : List ℕ) (go : DumpToken → List DumpToken → Result Header Fault) → field (record { text = opener; place = word }) (tokens_at bytes.now at) go
-        ≡ read_on result (λ s. go (record { text = text_at bytes.now s; place = s.from }) (tokens_at bytes.now s.end)) }
+    ensures field { (opener : List ℕ) (go : DumpToken → List DumpToken → Result Header Fault)
+        → field (record { text = opener; at = word }) (tokens_at bytes.now at) go
+        ≡ read_on result (λ s. go (record { text = text_at bytes.now s; at = s.from })
+        (tokens_at bytes.now s.end)) }
 {
     let Some((from, end)) = next_token(bytes, at) else {
         return Err(Fault::UnclosedSection(word));
@@ -108,7 +114,8 @@ fn next_field(bytes: &[u8], at: usize, word: usize) -> Result<Span, Fault>
 fn section_end(bytes: &[u8], at: usize, word: usize) -> Result<usize, Fault>
     requires { at ≤ length bytes.now }
     ensures high { IfOk result (λ end. (at < end) × (end ≤ length bytes.now)) }
-    ensures close { (opener : List ℕ) (go : List DumpToken → Result Header Fault) → close (record { text = opener; place = word }) (tokens_at bytes.now at) go
+    ensures close { (opener : List ℕ) (go : List DumpToken → Result Header Fault)
+        → close (record { text = opener; at = word }) (tokens_at bytes.now at) go
         ≡ read_on result (λ end. go (tokens_at bytes.now end)) }
 {
     let Some((from, end)) = next_token(bytes, at) else {
@@ -124,7 +131,9 @@ fn section_end(bytes: &[u8], at: usize, word: usize) -> Result<usize, Fault>
 fn skipped_end(bytes: &[u8], start: usize, word: usize) -> Result<usize, Fault>
     requires { start ≤ length bytes.now }
     ensures high { IfOk result (λ end. (start < end) × (end ≤ length bytes.now)) }
-    ensures skipped { (opener : List ℕ) (scopes : List (List ℕ)) (vars : List variables.Declared) → skipped_section scopes vars (record { text = opener; place = word }) (tokens_at bytes.now start)
+    ensures skipped { (opener : List ℕ) (scopes : List (List ℕ)) (vars : List variables.Declared)
+        → skipped_section scopes vars (record { text = opener; at = word })
+        (tokens_at bytes.now start)
         ≡ read_on result (λ end. header scopes vars (tokens_at bytes.now end)) }
 {
     let mut at = start;
@@ -142,9 +151,12 @@ fn skipped_end(bytes: &[u8], start: usize, word: usize) -> Result<usize, Fault>
 /// The name of a `$scope`, and the section's end.
 fn read_scope(bytes: &[u8], at: usize, word: usize) -> Result<(Span, usize), Fault>
     requires { at ≤ length bytes.now }
-    ensures high { IfOk result (λ r. (at < r.1) × (r.1 ≤ length bytes.now) × (r.0.end ≤ length bytes.now)) }
-    ensures scope { (opener : List ℕ) (scopes : List (List ℕ)) (vars : List variables.Declared) → scope_type scopes vars (record { text = opener; place = word }) (tokens_at bytes.now at)
-        ≡ read_on result (λ r. header (scopes ++ text_at bytes.now r.0 ∷ []) vars (tokens_at bytes.now r.1)) }
+    ensures high { IfOk result (λ r. (at < r.1) × (r.1 ≤ length bytes.now)
+        × (r.0.end ≤ length bytes.now)) }
+    ensures scope { (opener : List ℕ) (scopes : List (List ℕ)) (vars : List variables.Declared)
+        → scope_type scopes vars (record { text = opener; at = word }) (tokens_at bytes.now at)
+        ≡ read_on result (λ r. header (scopes ++ text_at bytes.now r.0 ∷ []) vars
+        (tokens_at bytes.now r.1)) }
 {
     match next_field(bytes, at, word) {
         Err(fault) => Err(fault),
@@ -161,9 +173,12 @@ fn read_scope(bytes: &[u8], at: usize, word: usize) -> Result<(Span, usize), Fau
 /// The type of a `$var`, its size and its code.
 fn read_var_head(bytes: &[u8], at: usize, word: usize) -> Result<VarHead, Fault>
     requires { at ≤ length bytes.now }
-    ensures high { IfOk result (λ h. (at < h.end) × (h.end ≤ length bytes.now) × (h.kind.end ≤ length bytes.now) × (h.code.end ≤ length bytes.now)) }
-    ensures head { (opener : List ℕ) (scopes : List (List ℕ)) (vars : List variables.Declared) → var_type scopes vars (record { text = opener; place = word }) (tokens_at bytes.now at)
-        ≡ read_on result (λ h. var_reference scopes vars (record { text = opener; place = word }) (head_at bytes.now h) (tokens_at bytes.now h.end)) }
+    ensures high { IfOk result (λ h. (at < h.end) × (h.end ≤ length bytes.now)
+        × (h.kind.end ≤ length bytes.now) × (h.code.end ≤ length bytes.now)) }
+    ensures head { (opener : List ℕ) (scopes : List (List ℕ)) (vars : List variables.Declared)
+        → var_type scopes vars (record { text = opener; at = word }) (tokens_at bytes.now at)
+        ≡ read_on result (λ h. var_reference scopes vars (record { text = opener; at = word })
+        (head_at bytes.now h) (tokens_at bytes.now h.end)) }
 {
     match next_field(bytes, at, word) {
         Err(fault) => Err(fault),
@@ -195,30 +210,34 @@ fn read_var_head(bytes: &[u8], at: usize, word: usize) -> Result<VarHead, Fault>
 fn read_reference(
     alloc: Global,
     bytes: &[u8],
-    at: usize,
+    start: usize,
     word: usize,
 ) -> Result<(Vec<u8>, usize), ReadError>
-    requires { at ≤ length bytes.now }
-    ensures high { IfOk result (λ r. (at < r.1) × (r.1 ≤ length bytes.now)) }
-    ensures reference { (opener : List ℕ) (scopes : List (List ℕ)) (vars : List variables.Declared) (h : Head) → MatchResult result
-        (λ r. var_reference scopes vars (record { text = opener; place = word }) h (tokens_at bytes.now at) ≡ header scopes (vars ++ variable scopes h r.0.items ∷ []) (tokens_at bytes.now r.1))
-        (λ e. Fails e (var_reference scopes vars (record { text = opener; place = word }) h (tokens_at bytes.now at))) }
+    requires { start ≤ length bytes.now }
+    ensures high { IfOk result (λ r. (start < r.1) × (r.1 ≤ length bytes.now)) }
+    ensures reference { (opener : List ℕ) (scopes : List (List ℕ)) (vars : List variables.Declared)
+        (h : Head) → MatchResult result
+        (λ r. var_reference scopes vars (record { text = opener; at = word }) h
+        (tokens_at bytes.now start)
+        ≡ header scopes (vars ++ variable scopes h r.0.items ∷ []) (tokens_at bytes.now r.1))
+        (λ e. Fails e (var_reference scopes vars (record { text = opener; at = word }) h
+        (tokens_at bytes.now start))) }
 {
-    let first = match next_field(bytes, at, word) {
+    let first = match next_field(bytes, start, word) {
         Err(fault) => return Err(ReadError::Fault(fault)),
         Ok(first) => first,
     };
     let mut text = Vec::from_slice(alloc, &bytes[first.from..first.end])?;
-    let mut place = first.end;
+    let mut at = first.end;
     'words: loop {
-        let Some((from, end)) = next_token(bytes, place) else {
+        let Some((from, end)) = next_token(bytes, at) else {
             return Err(ReadError::Fault(Fault::UnclosedSection(word)));
         };
         if is_section_end(&bytes[from..end]) {
             return Ok((text, end));
         }
         text.extend_from_slice(&bytes[from..end])?;
-        place = end;
+        at = end;
     }
 }
 
@@ -233,9 +252,12 @@ fn read_variable(
     requires { at ≤ length bytes.now }
     ensures high { IfOk result (λ r. (at < r.1) × (r.1 ≤ length bytes.now)) }
     ensures place { IfOk result (λ r. r.0.scope ≡ scope) }
-    ensures variable { (opener : List ℕ) (scopes : List (List ℕ)) (vars : List variables.Declared) → MatchResult result
-        (λ r. var_type scopes vars (record { text = opener; place = word }) (tokens_at bytes.now at) ≡ header scopes (vars ++ declaration_in scopes r.0 ∷ []) (tokens_at bytes.now r.1))
-        (λ e. Fails e (var_type scopes vars (record { text = opener; place = word }) (tokens_at bytes.now at))) }
+    ensures variable { (opener : List ℕ) (scopes : List (List ℕ)) (vars : List variables.Declared)
+        → MatchResult result
+        (λ r. var_type scopes vars (record { text = opener; at = word }) (tokens_at bytes.now at)
+        ≡ header scopes (vars ++ declaration_in scopes r.0 ∷ []) (tokens_at bytes.now r.1))
+        (λ e. Fails e (var_type scopes vars (record { text = opener; at = word })
+        (tokens_at bytes.now at))) }
 {
     match read_var_head(bytes, at, word) {
         Err(fault) => Err(ReadError::Fault(fault)),
@@ -273,8 +295,11 @@ fn read_section(
     ensures name { IfOk result (λ s. IsInside s (length bytes.now)) }
     ensures place { IfOk result (IsAt scope) }
     ensures section { (scopes : List (List ℕ)) (vars : List variables.Declared) → MatchResult result
-        (λ s. header scopes vars (record { text = slice_range bytes.now from end; place = from } ∷ tokens_at bytes.now end) ≡ stated_header s scopes vars bytes.now)
-        (λ e. Fails e (header scopes vars (record { text = slice_range bytes.now from end; place = from } ∷ tokens_at bytes.now end))) }
+        (λ s. header scopes vars
+        (record { text = slice_range bytes.now from end; at = from } ∷ tokens_at bytes.now end)
+        ≡ stated_header s scopes vars bytes.now)
+        (λ e. Fails e (header scopes vars
+        (record { text = slice_range bytes.now from end; at = from } ∷ tokens_at bytes.now end))) }
 {
     match section_word(&bytes[from..end]) {
         Word::NoWord => Err(ReadError::Fault(Fault::BadToken(from))),
@@ -313,7 +338,9 @@ pub(crate) struct Declarations {
 pub(crate) fn read_header(alloc: Global, bytes: &[u8]) -> Result<Declarations, ReadError>
     ensures high { IfOk result (λ d. d.end ≤ length bytes.now) }
     ensures tree { IfOk result (λ d. IsTree d.scopes.items) }
-    ensures header { Gives (λ d. (map (declaration_of d.scopes.items) d.variables.items, tokens_at bytes.now d.end)) result (header [] [] (tokens_at bytes.now 0)) }
+    ensures header { Gives
+        (λ d. (map (declaration_of d.scopes.items) d.variables.items, tokens_at bytes.now d.end))
+        result (header [] [] (tokens_at bytes.now 0)) }
 {
     let mut variables = Vec::new(alloc);
     let mut scopes: Vec<Scope> = Vec::new(alloc);

@@ -1,12 +1,15 @@
 //! What can be asked of a dump.
 
-ghost use Rattle.std.specs.Prelude.{◌≡◌, ℕ, ◌<◌, ◌≤◌, ◌+◌, ◌*◌, ◌%◌, ◌^◌, List, map, length, IfOk, IfSome};
+ghost use Rattle.std.specs.Prelude.{◌≡◌, ℕ, ◌<◌, ◌≤◌, ◌+◌, ◌*◌, ◌%◌, ◌^◌, List, map, length, IfOk};
+ghost use Rattle.std.specs.Prelude.{IfSome};
 ghost use Rattle.std.specs.Option.{option_map};
 ghost use Rattle.vcd_reader.specs.Numbers.{bits_value};
 ghost use Rattle.vcd_reader.specs.Values.{digits_value};
-ghost use Rattle.vcd_reader.specs.Variables.{variable_named, names_of, is_place, code_number, size_of, variable_at_place};
+ghost use Rattle.vcd_reader.specs.Variables.{variable_named, names_of, is_place, code_number};
+ghost use Rattle.vcd_reader.specs.Variables.{size_of, variable_at_place};
 ghost use Rattle.vcd_reader.specs.Stored.{stored_value};
-ghost use Rattle.vcd_reader.specs.Held.{variables_of, steps_in, high_of, value_of_change, named_of, IsOf, IsChangeOf};
+ghost use Rattle.vcd_reader.specs.Held.{variables_of, steps_in, high_of, value_of_change, named_of};
+ghost use Rattle.vcd_reader.specs.Held.{IsOf, IsChangeOf};
 
 use crate::dump::Dump;
 use crate::places::{Part, find_text};
@@ -43,10 +46,12 @@ fn cut_to(value: u128, size: u32) -> u128
 }
 
 impl Dump {
-    /// The variable that a path names, the scopes and the name joined by dots. Of equal paths the first variable stands. None where there is none,
-    /// or where it can't be bound: its size is 0 or over 128 bits, or its type is `real`, `realtime`, `string` or `event`.
+    /// The variable that a path names, the scopes and the name joined by dots. Of equal paths the
+    /// first variable stands. None where there is none, or where it can't be bound: its size is 0
+    /// or over 128 bits, or its type is `real`, `realtime`, `string` or `event`.
     pub fn var(&self, path: &str) -> Option<VarId>
-        ensures place { option_map (λ v. v.place) result ≡ variable_named (variables_of self.now) path.now }
+        ensures place { option_map (λ v. v.place) result
+            ≡ variable_named (variables_of self.now) path.now }
         ensures of { IfSome result (IsOf self.now) }
     {
         let found = find_text(
@@ -95,12 +100,15 @@ impl Dump {
         self.codes.firsts[var.place] as usize
     }
 
-    /// The value that a change of the variable's code gives the variable: the change's digits extended on the left or cut on the left to its size, x and z as 0.
+    /// The value that a change of the variable's code gives the variable: the change's digits
+    /// extended on the left or cut on the left to its size, x and z as 0.
     pub fn cut(&self, change: &Change, var: VarId) -> u128
         requires of { IsOf self.now var }
         requires code { IsChangeOf self.now change.now var }
-        ensures value { result ≡ value_of_change self.now change.now % 2 ^ size_of (variables_of self.now) var.place }
-        ensures digits { (digits : List ℕ) → value_of_change self.now change.now ≡ bits_value digits → result ≡ digits_value (size_of (variables_of self.now) var.place) digits }
+        ensures value { result
+            ≡ value_of_change self.now change.now % 2 ^ size_of (variables_of self.now) var.place }
+        ensures digits { (digits : List ℕ) → value_of_change self.now change.now ≡ bits_value digits
+            → result ≡ digits_value (size_of (variables_of self.now) var.place) digits }
     {
         cut_to(value_of(&self.high, change), self.width(var))
     }
@@ -108,7 +116,8 @@ impl Dump {
     /// Whether the variable at this place can be bound and is the first with its path.
     fn names_itself(&self, place: usize) -> bool
         requires { place < length (variables_of self.now) }
-        ensures { result ≡ is_place place (variable_named (variables_of self.now) (variable_at_place (variables_of self.now) place).path) }
+        ensures { result ≡ is_place place (variable_named (variables_of self.now)
+            (variable_at_place (variables_of self.now) place).path) }
     {
         self.variables[place].bindable && self.paths.firsts[place] as usize == place
     }

@@ -4,10 +4,11 @@ ghost use Rattle.std.specs.Prelude.{◌≡◌, ℕ, ◌<◌, ◌≢◌, ◌==◌
 ghost use Rattle.std.specs.List.{list_any};
 ghost use Rattle.vcd_reader.specs.Header.{ends_in_bracket, is_range, name_of};
 
-/// The place of the last `[`.
+/// Where the last `[` stands.
 fn last_open(text: &[u8]) -> Option<usize>
     ensures { MatchOption result ((k : ℕ) → k < length text.now → slice_index text.now k ≢ 91)
-        (λ i. (i < length text.now) × (slice_index text.now i ≡ 91) × ((k : ℕ) → i < k → k < length text.now → slice_index text.now k ≢ 91)) }
+        (λ i. (i < length text.now) × (slice_index text.now i ≡ 91)
+        × ((k : ℕ) → i < k → k < length text.now → slice_index text.now k ≢ 91)) }
 {
     let mut last = None;
     for (i, byte) in text.iter().enumerate() {

@@ -78,7 +78,8 @@ fn add_page(
     packed: u32,
     most: usize,
 ) -> Result<(), AllocError>
-    ensures { (texts : List (List ℕ)) → AreKnown texts table.old.items → AreKnown texts table.new.items }
+    ensures { (texts : List (List ℕ)) → AreKnown texts table.old.items
+        → AreKnown texts table.new.items }
 {
     let place = page_place(packed);
     if place == 0 || place >= pages.len() || table.len() > most {

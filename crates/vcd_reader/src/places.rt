@@ -21,7 +21,8 @@ pub(crate) enum Part {
     Code,
 }
 
-/// For each variable the place of the first one with its text, and for each text's key a place to look at first.
+/// For each variable the place of the first one with its text, and for each text's key a place to
+/// look at first.
 #[derive(Drop)]
 pub(crate) struct Places {
     pub(crate) firsts: Vec<u32>,
@@ -59,7 +60,8 @@ fn text_key(scopes: &[Scope], place: u32, own: &[u8]) -> u64
 /// Whether the variable has the text whose own part stands at the place.
 fn has_text(scopes: &[Scope], variable: &Variable, part: Part, place: u32, own: &[u8]) -> bool
     requires { IsTree scopes.now }
-    ensures { result ≡ bytes_eq (text_in part scopes.now variable.now) (path_of (open_scopes scopes.now place) own.now) }
+    ensures { result ≡ bytes_eq (text_in part scopes.now variable.now)
+        (path_of (open_scopes scopes.now place) own.now) }
 {
     is_same_path(
         scopes,
@@ -80,7 +82,8 @@ fn first_place(
 ) -> Option<usize>
     requires { IsTree scopes.now }
     ensures inside { IfSome result (λ i. i < length variables.now) }
-    ensures place { result ≡ place_of (texts_in part scopes.now variables.now) (path_of (open_scopes scopes.now place) own.now) }
+    ensures place { result ≡ place_of (texts_in part scopes.now variables.now)
+        (path_of (open_scopes scopes.now place) own.now) }
 {
     for (i, variable) in variables.iter().enumerate() {
         if has_text(scopes, variable, part, place, own) {
@@ -102,7 +105,8 @@ fn find_place(
     requires tree { IsTree scopes.now }
     requires index { IsIndex (texts_in part scopes.now variables.now) places.now }
     ensures inside { IfSome result (λ i. i < length variables.now) }
-    ensures place { result ≡ place_of (texts_in part scopes.now variables.now) (path_of (open_scopes scopes.now place) own.now) }
+    ensures place { result ≡ place_of (texts_in part scopes.now variables.now)
+        (path_of (open_scopes scopes.now place) own.now) }
 {
     let Some(hint) = places.hints.get(&text_key(scopes, place, own)) else {
         return None;

@@ -1,6 +1,7 @@
 //! Dumps from bytes, and from devices.
 
-ghost use Rattle.std.specs.Prelude.{◌≡◌, ℕ, ◌<◌, ◌≤◌, ◌^◌, List, map, length, IfOk, IfErr, OnOk, MatchResult};
+ghost use Rattle.std.specs.Prelude.{◌≡◌, ℕ, ◌<◌, ◌≤◌, ◌^◌, List, map, length, IfOk, IfErr, OnOk};
+ghost use Rattle.std.specs.Prelude.{MatchResult};
 ghost use Rattle.vcd_reader.specs.Faults.{Gives, Fails};
 ghost use Rattle.vcd_reader.specs.Index.{codes_in, IsIndex};
 ghost use Rattle.vcd_reader.specs.Stored.{stored_step};
@@ -35,7 +36,8 @@ fn read_steps(
     requires start { start ≤ length bytes.now }
     requires index { IsIndex (codes_in variables.now) codes.now }
     ensures { Gives (λ r. map (stored_step r.1.items) r.0.items) result
-        (kept_steps (steps_of (body (codes_in variables.now) (length bytes.now) 0 0 (tokens_at bytes.now start)))) }
+        (kept_steps (steps_of (body (codes_in variables.now) (length bytes.now) 0 0
+        (tokens_at bytes.now start)))) }
 {
     let header = table_of(alloc, variables, codes)?;
     let read = read_body(alloc, bytes, start, &header);
@@ -65,11 +67,11 @@ fn parse(alloc: Global, bytes: &[u8]) -> Result<Dump, ReadError>
     })
 }
 
-fn line_at(bytes: &[u8], place: usize) -> usize
+fn line_at(bytes: &[u8], at: usize) -> usize
     requires { length bytes.now < 2 ^ 62 }
-    ensures { result ≡ line_of bytes.now place }
+    ensures { result ≡ line_of bytes.now at }
 {
-    let end = place.min(bytes.len());
+    let end = at.min(bytes.len());
     1 + bytes[..end].iter().filter(|b| **b == 10).count()
 }
 
@@ -78,11 +80,11 @@ fn with_line(bytes: &[u8], fault: Fault) -> VcdFault
     ensures { result ≡ fault_at_line bytes.now fault }
 {
     match fault {
-        Fault::BadToken(place) => VcdFault::BadToken(line_at(bytes, place)),
-        Fault::UnknownCode(place) => VcdFault::UnknownCode(line_at(bytes, place)),
-        Fault::TimeBack(place) => VcdFault::TimeBack(line_at(bytes, place)),
-        Fault::UnclosedSection(place) => VcdFault::UnclosedSection(line_at(bytes, place)),
-        Fault::BadSize(place) => VcdFault::BadSize(line_at(bytes, place)),
+        Fault::BadToken(at) => VcdFault::BadToken(line_at(bytes, at)),
+        Fault::UnknownCode(at) => VcdFault::UnknownCode(line_at(bytes, at)),
+        Fault::TimeBack(at) => VcdFault::TimeBack(line_at(bytes, at)),
+        Fault::UnclosedSection(at) => VcdFault::UnclosedSection(line_at(bytes, at)),
+        Fault::BadSize(at) => VcdFault::BadSize(line_at(bytes, at)),
         Fault::Truncated => VcdFault::Truncated,
         Fault::TooLarge => VcdFault::TooLarge,
     }

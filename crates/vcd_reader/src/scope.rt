@@ -11,7 +11,8 @@ pub(crate) struct Scope {
     pub(crate) front: Vec<u8>,
     /// A key of the fronts from the outermost scope to this one.
     pub(crate) key: u64,
-    /// A place with the same fronts, taken together: that of the first such scope, unless keys collide.
+    /// A place with the same fronts, taken together: that of the first such scope, unless keys
+    /// collide.
     pub(crate) first: u32,
     ghost dotted: { front.items ≡ take (length front.items - 1) front.items ++ 46 ∷ [] },
 }

@@ -1,6 +1,7 @@
 //! The scopes of a header, and the paths of what is declared in them.
 
-ghost use Rattle.std.specs.Prelude.{◌≡◌, ℕ, ◌-◌, ◌<◌, ◌≤◌, ◌++◌, ◌∷◌, [], List, length, take, false, reverse, IfOk, IfSome, MatchOption, ◌⊎◌};
+ghost use Rattle.std.specs.Prelude.{◌≡◌, ℕ, ◌-◌, ◌<◌, ◌≤◌, ◌++◌, ◌∷◌, [], List, length, take};
+ghost use Rattle.std.specs.Prelude.{false, reverse, IfOk, IfSome, MatchOption, ◌⊎◌};
 ghost use Rattle.std.specs.Str.{bytes_eq};
 ghost use Rattle.vcd_reader.specs.Header.{outer_scopes};
 ghost use Rattle.vcd_reader.specs.Keys.{key_from, key_of};
@@ -16,7 +17,8 @@ use std::collections::HashMap;
 /// The scope in which a place is; none outside of all scopes.
 fn scope_at(scopes: &[Scope], place: u32) -> Option<&Scope>
     requires { IsTree scopes.now }
-    ensures { MatchOption result (open_scopes scopes.now place ≡ []) (λ s. (place ≤ length scopes.now) × IsNode scopes.now place s.now) }
+    ensures { MatchOption result (open_scopes scopes.now place ≡ [])
+        (λ s. (place ≤ length scopes.now) × IsNode scopes.now place s.now) }
 {
     let place = place as usize;
     if place == 0 {
@@ -52,12 +54,17 @@ fn first_of(scopes: &[Scope], place: u32) -> u32
     }
 }
 
-/// How many bytes two texts have in common at their ends: as many as the shorter one has, or none of these lengths.
+/// How many bytes two texts have in common at their ends: as many as the shorter one has, or none
+/// of these lengths.
 fn common_end(left: &[u8], right: &[u8]) -> Option<usize>
     ensures low { IfSome result (λ n. (n ≤ length left.now) × (n ≤ length right.now)) }
-    ensures whole { IfSome result (λ n. (take (length left.now - n) left.now ≡ []) ⊎ (take (length right.now - n) right.now ≡ [])) }
-    ensures same { (xs ys : List ℕ) → MatchOption result (bytes_eq (xs ++ left.now) (ys ++ right.now) ≡ false)
-        (λ n. bytes_eq (xs ++ left.now) (ys ++ right.now) ≡ bytes_eq (xs ++ take (length left.now - n) left.now) (ys ++ take (length right.now - n) right.now)) }
+    ensures whole { IfSome result (λ n. (take (length left.now - n) left.now ≡ [])
+        ⊎ (take (length right.now - n) right.now ≡ [])) }
+    ensures same { (xs ys : List ℕ)
+        → MatchOption result (bytes_eq (xs ++ left.now) (ys ++ right.now) ≡ false)
+        (λ n. bytes_eq (xs ++ left.now) (ys ++ right.now)
+        ≡ bytes_eq (xs ++ take (length left.now - n) left.now)
+        (ys ++ take (length right.now - n) right.now)) }
 {
     let size = left.len().min(right.len());
     if &left[left.len() - size..] == &right[right.len() - size..] {
@@ -82,7 +89,8 @@ pub(crate) fn is_same_path<'a>(
     right_name: &'a [u8],
 ) -> bool
     requires { IsTree scopes.now }
-    ensures { result ≡ bytes_eq (path_of (open_scopes scopes.now left_place) left_name.now) (path_of (open_scopes scopes.now right_place) right_name.now) }
+    ensures { result ≡ bytes_eq (path_of (open_scopes scopes.now left_place) left_name.now)
+        (path_of (open_scopes scopes.now right_place) right_name.now) }
 {
     let mut left_at = left_place;
     let mut left = left_name;
@@ -135,7 +143,8 @@ fn with_dot(alloc: Global, name: &[u8]) -> Result<Vec<u8>, AllocError>
     Ok(front)
 }
 
-/// A place whose front is this one behind that of the parent, where the hint for the key is in one; else the place.
+/// A place whose front is this one behind that of the parent, where the hint for the key is in one;
+/// else the place.
 fn first_place(
     scopes: &[Scope],
     hints: &HashMap<u64, u32>,
@@ -145,7 +154,8 @@ fn first_place(
     place: u32,
 ) -> u32
     requires { IsTree scopes.now }
-    ensures { (result ≡ place) ⊎ ((result ≤ length scopes.now) × (front_of scopes.now result ≡ front_of scopes.now parent ++ front.now)) }
+    ensures { (result ≡ place) ⊎ ((result ≤ length scopes.now)
+        × (front_of scopes.now result ≡ front_of scopes.now parent ++ front.now)) }
 {
     let Some(hint) = hints.get(&key) else {
         return place;
@@ -160,7 +170,8 @@ fn first_place(
     }
 }
 
-/// The place in a scope of this name that opens at the parent's place; no memory for more than 2^32 - 1 of them.
+/// The place in a scope of this name that opens at the parent's place; no memory for more than
+/// 2^32 - 1 of them.
 pub(crate) fn open_scope(
     alloc: Global,
     scopes: &mut Vec<Scope>,
@@ -171,9 +182,11 @@ pub(crate) fn open_scope(
     requires tree { IsTree scopes.old.items }
     requires inside { parent ≤ length scopes.old.items }
     ensures tree { IfOk result (λ _. IsTree scopes.new.items) }
-    ensures grown { IfOk result (λ _. (s : Scope) × (scopes.new.items ≡ scopes.old.items ++ s ∷ [])) }
+    ensures grown { IfOk result (λ _. (s : Scope)
+        × (scopes.new.items ≡ scopes.old.items ++ s ∷ [])) }
     ensures inside { IfOk result (λ place. place ≤ length scopes.new.items) }
-    ensures opened { IfOk result (λ place. open_scopes scopes.new.items place ≡ open_scopes scopes.old.items parent ++ name.now ∷ []) }
+    ensures opened { IfOk result (λ place. open_scopes scopes.new.items place
+        ≡ open_scopes scopes.old.items parent ++ name.now ∷ []) }
 {
     let Ok(last) = u32::try_from(scopes.len()) else {
         return Err(AllocError);

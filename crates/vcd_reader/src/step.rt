@@ -1,6 +1,7 @@
 //! Steps and their changes.
 
-/// A change of a code, which is named by its number. `Dump::cut` gives the value that it gives a variable.
+/// A change of a code, which is named by its number. `Dump::cut` gives the value that it gives a
+/// variable.
 #[derive(Clone, Copy, Debug, PartialEq, Eq)]
 pub struct Change {
     pub code: u32,

@@ -31,7 +31,7 @@ pub returns-then-not-has_room : goal.returns-then-not-has_room
 returns-then-not-has_room c = let h = ltb-false c.items.count 4294967295 (sym c.if-not-has_room.ensures) in c.items.invariant.same [] ∙ ap (joined (map (stored_step (c.items.high.items ++ [])) c.items.steps.items) c.items.now (map (stored_change (c.items.high.items ++ [])) c.items.changes.items)) ((rw (c.in-Changed.is) at (rw c.in-Ok-Some.field-0-is at (c.in-Ok-Some.ensures.item c.items.count c.items.now))) ∙ applied-full c.in-Changed.code c.in-Changed.value c.items.count c.items.now (λ k n. kept_result (body (codes_in c.args.codes.now.variables.now) (length c.args.bytes.now) k n (tokens_at c.args.bytes.now c.in-Ok-Some.end))) h)
 
 pub returns-then-time-now : goal.returns-then-time-now
-returns-then-time-now c = c.items.invariant.same [] ∙ ap (joined (map (stored_step (c.items.high.items ++ [])) c.items.steps.items) c.items.now (map (stored_change (c.items.high.items ++ [])) c.items.changes.items)) ((rw (c.in-Timed.is) at (rw c.in-Ok-Some.field-0-is at (c.in-Ok-Some.ensures.item c.items.count c.items.now))) ∙ applied-back c.in-Timed.time c.in-Timed.place c.items.count c.items.now (λ k n. kept_result (body (codes_in c.args.codes.now.variables.now) (length c.args.bytes.now) k n (tokens_at c.args.bytes.now c.in-Ok-Some.end))) c.if-time-now.true)
+returns-then-time-now c = c.items.invariant.same [] ∙ ap (joined (map (stored_step (c.items.high.items ++ [])) c.items.steps.items) c.items.now (map (stored_change (c.items.high.items ++ [])) c.items.changes.items)) ((rw (c.in-Timed.is) at (rw c.in-Ok-Some.field-0-is at (c.in-Ok-Some.ensures.item c.items.count c.items.now))) ∙ applied-back c.in-Timed.time c.in-Timed.from c.items.count c.items.now (λ k n. kept_result (body (codes_in c.args.codes.now.variables.now) (length c.args.bytes.now) k n (tokens_at c.args.bytes.now c.in-Ok-Some.end))) c.if-time-now.true)
 
 pub items-preserved-in-Changed : goal.items-preserved-in-Changed
 items-preserved-in-Changed c = record {
@@ -54,7 +54,7 @@ items-preserved c = record {
   wide = c.items.invariant.wide;
   same = λ more.
       let read = kept_result (body (codes_in c.args.codes.now.variables.now) (length c.args.bytes.now) c.items.count c.in-Timed.time (tokens_at c.args.bytes.now c.in-Ok-Some.end)) in
-      c.items.invariant.same more ∙ ap (joined (map (stored_step (c.items.high.items ++ more)) c.items.steps.items) c.items.now (map (stored_change (c.items.high.items ++ more)) c.items.changes.items)) ((rw (c.in-Timed.is) at (rw c.in-Ok-Some.field-0-is at (c.in-Ok-Some.ensures.item c.items.count c.items.now))) ∙ applied-later c.in-Timed.time c.in-Timed.place c.items.count c.items.now (λ k n. kept_result (body (codes_in c.args.codes.now.variables.now) (length c.args.bytes.now) k n (tokens_at c.args.bytes.now c.in-Ok-Some.end))) (omega arith))
+      c.items.invariant.same more ∙ ap (joined (map (stored_step (c.items.high.items ++ more)) c.items.steps.items) c.items.now (map (stored_change (c.items.high.items ++ more)) c.items.changes.items)) ((rw (c.in-Timed.is) at (rw c.in-Ok-Some.field-0-is at (c.in-Ok-Some.ensures.item c.items.count c.items.now))) ∙ applied-later c.in-Timed.time c.in-Timed.from c.items.count c.items.now (λ k n. kept_result (body (codes_in c.args.codes.now.variables.now) (length c.args.bytes.now) k n (tokens_at c.args.bytes.now c.in-Ok-Some.end))) (omega arith))
       ∙ joined-step (map (stored_step (c.items.high.items ++ more)) c.items.steps.items) c.items.now c.in-Timed.time (map (stored_change (c.items.high.items ++ more)) c.items.changes.items) read
       ∙ ap (λ (ss : List StoredStep). joined ss c.in-Timed.time [] read) (sym (step-pushed (c.items.high.items ++ more) c.items.steps.items _ _ c.items.changes.items c.in_ok-push-in-Timed.ensures.items (c.in_ok-done-in-Timed.ensures.items ∙ c.deref-in-Timed.ensures.value)))
       ∙ rw c.clear.ensures.items refl;

@@ -6,14 +6,14 @@ use Rattle.vcd_reader.proofs.HeaderLaws.{var_reference-field, more-none, more-en
 use Rattle.vcd_reader.proofs.header.read_reference.Goals as goal
 
 pub returns-in-Err-clause-reference : goal.returns-in-Err-clause-reference
-returns-in-Err-clause-reference c = λ opener scopes vars h. var_reference-field scopes vars _ h _ ∙ c.in-Err.ensures.field opener (λ (t : DumpToken) (us : List DumpToken). var_more scopes vars (record { text = opener; place = c.args.word }) h t.text us)
+returns-in-Err-clause-reference c = λ opener scopes vars h. var_reference-field scopes vars _ h _ ∙ c.in-Err.ensures.field opener (λ (t : DumpToken) (us : List DumpToken). var_more scopes vars (record { text = opener; at = c.args.word }) h t.text us)
 
 pub words-init : goal.words-init
 words-init c = record {
   low = c.in-Ok.ensures.high.0;
   high = c.in-Ok.ensures.high.1;
-  same = λ opener scopes vars h. var_reference-field scopes vars _ h _ ∙ c.in-Ok.ensures.field opener (λ (t : DumpToken) (us : List DumpToken). var_more scopes vars (record { text = opener; place = c.args.word }) h t.text us)
-      ∙ ap (λ (ts : List ℕ). var_more scopes vars (record { text = opener; place = c.args.word }) h ts (tokens_at c.args.bytes.now c.in-Ok.first.end)) (sym c.in_ok-text.ensures.items);
+  same = λ opener scopes vars h. var_reference-field scopes vars _ h _ ∙ c.in-Ok.ensures.field opener (λ (t : DumpToken) (us : List DumpToken). var_more scopes vars (record { text = opener; at = c.args.word }) h t.text us)
+      ∙ ap (λ (ts : List ℕ). var_more scopes vars (record { text = opener; at = c.args.word }) h ts (tokens_at c.args.bytes.now c.in-Ok.first.end)) (sym c.in_ok-text.ensures.items);
 }
 
 pub returns-in_default-clause-reference : goal.returns-in_default-clause-reference
@@ -27,5 +27,5 @@ words-preserved c = record {
   low = omega (arith, c.in-Some.ensures.some.0, c.in-Some.ensures.some.1);
   high = c.in-Some.ensures.some.2;
   same = λ opener scopes vars h. c.words.invariant.same opener scopes vars h ∙ more-more scopes vars _ h _ _ _ c.in-Some.from _ c.in-Some.ensures.tokens (sym c.if-is_section_end.ensures)
-      ∙ ap (λ (ts : List ℕ). var_more scopes vars (record { text = opener; place = c.args.word }) h ts (tokens_at c.args.bytes.now c.in-Some.end)) (sym c.in_ok-extend_from_slice.ensures.items);
+      ∙ ap (λ (ts : List ℕ). var_more scopes vars (record { text = opener; at = c.args.word }) h ts (tokens_at c.args.bytes.now c.in-Some.end)) (sym c.in_ok-extend_from_slice.ensures.items);
 }

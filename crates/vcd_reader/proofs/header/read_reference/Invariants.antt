@@ -6,11 +6,11 @@ use Rattle.vcd_reader.proofs.header.read_reference.Given as goal
 
 abbrev pub invariant-words : goal.invariant-words
 invariant-words l = record {
-  low : l.at < l.place;
-  high : l.place ≤ length l.bytes;
-  same : (opener : List ℕ) (scopes : List (List ℕ)) (vars : List variables.Declared) (h : Head) → var_reference scopes vars (record { text = opener; place = l.word }) h (tokens_at l.bytes l.at)
-      ≡ var_more scopes vars (record { text = opener; place = l.word }) h l.text.items (tokens_at l.bytes l.place);
+  low : l.start < l.at;
+  high : l.at ≤ length l.bytes;
+  same : (opener : List ℕ) (scopes : List (List ℕ)) (vars : List variables.Declared) (h : Head) → var_reference scopes vars (record { text = opener; at = l.word }) h (tokens_at l.bytes l.start)
+      ≡ var_more scopes vars (record { text = opener; at = l.word }) h l.text.items (tokens_at l.bytes l.at);
 }
 
 abbrev pub decreases-words : goal.decreases-words
-decreases-words l = length l.bytes - l.place
+decreases-words l = length l.bytes - l.at
