@@ -1,13 +1,15 @@
 -- The byte with which each instruction begins.
 use Rattle.std.specs.Prelude.{ℕ}
 use Rattle.bytecode.specs.declared.operator.JoinOperator.{JoinOperator}
-use Rattle.bytecode.specs.declared.operator.JoinOperator.TheVariants.{And, Or, Xor, Add, Sub, AddSat, SubSat}
+use Rattle.bytecode.specs.declared.operator.JoinOperator.TheVariants.{And, Or, Xor, Add, Sub}
+use Rattle.bytecode.specs.declared.operator.JoinOperator.TheVariants.{AddSat, SubSat}
 use Rattle.bytecode.specs.declared.operator.CompareOperator.{CompareOperator}
 use Rattle.bytecode.specs.declared.operator.CompareOperator.TheVariants.{Eq, Lt}
 use Rattle.bytecode.specs.declared.operator.ShiftOperator.{ShiftOperator}
 use Rattle.bytecode.specs.declared.operator.ShiftOperator.TheVariants.{Shl, Shr}
 use Rattle.bytecode.specs.declared.operator.ReduceOperator.{ReduceOperator}
-use Rattle.bytecode.specs.declared.operator.ReduceOperator.TheVariants.{RedAnd, RedOr, RedXor, Onehot, Onehot0}
+use Rattle.bytecode.specs.declared.operator.ReduceOperator.TheVariants.{RedAnd, RedOr, RedXor}
+use Rattle.bytecode.specs.declared.operator.ReduceOperator.TheVariants.{Onehot, Onehot0}
 use Rattle.bytecode.specs.declared.sample_instr.SampleInstr.{SampleInstr}
 use Rattle.bytecode.specs.declared.sample_instr.SampleInstr.TheVariants as sample
 use Rattle.bytecode.specs.declared.block_instr.BlockInstr.{BlockInstr}

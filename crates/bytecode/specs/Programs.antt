@@ -6,7 +6,9 @@ use Rattle.bytecode.specs.Values.{ProgramData}
 use Rattle.bytecode.specs.Views.{data_from}
 
 abbrev pub data_of : Program → ProgramData
-data_of p = data_from p.limits p.disable p.atoms p.name p.clock p.signals p.counters p.sample p.antecedent p.consequent
+data_of p =
+    data_from p.limits p.disable p.atoms p.name p.clock p.signals p.counters p.sample p.antecedent
+    p.consequent
 
 -- it is this program, or the fault
 abbrev pub IsProgramOr : Result Program CodeFault → ProgramData → CodeFault → Type 0

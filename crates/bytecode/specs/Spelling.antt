@@ -1,10 +1,13 @@
--- The one spelling of a program: the fields of the file in their order, numbers with the highest byte first.
+-- The one spelling of a program: the fields of the file in their order, numbers with the highest
+-- byte first.
 use Rattle.std.specs.Prelude.{ℕ, ◌/◌, ◌%◌, ◌^◌, List, [], ◌∷◌, ◌++◌, length, Option, Some, None}
 use Rattle.std.specs.List.{flat_map}
 use Rattle.std.specs.Int.{w16, w32, w64, to_be_bytes}
 use Rattle.bytecode.specs.declared.limits.Limits.{Limits}
 use Rattle.bytecode.specs.declared.sample_instr.SampleInstr.{SampleInstr}
-use Rattle.bytecode.specs.declared.sample_instr.SampleInstr.TheVariants.{Push, Load, Past, Zext, Slice, Jump, JumpIfZero, SetAtom, Store}
+use Rattle.bytecode.specs.declared.sample_instr.SampleInstr.TheVariants.{Push, Load, Past, Zext}
+use Rattle.bytecode.specs.declared.sample_instr.SampleInstr.TheVariants.{Slice, Jump, JumpIfZero}
+use Rattle.bytecode.specs.declared.sample_instr.SampleInstr.TheVariants.{SetAtom, Store}
 use Rattle.bytecode.specs.declared.block_instr.BlockInstr.{BlockInstr}
 use Rattle.bytecode.specs.declared.block_instr.BlockInstr.TheVariants.{Unless, Enter, Accept, Stop}
 use Rattle.bytecode.specs.Opcodes.{sample_opcode, block_opcode}
@@ -62,10 +65,12 @@ slot_spelling s = byte s.width ++ text_spelling s.path
 
 -- the start set, how many positions, and the block of each
 abbrev pub section_spelling : SectionData → List ℕ
-section_spelling s = sixteen s.start ++ byte (length s.blocks) ++ flat_map (counted_spelling block_spelling) s.blocks
+section_spelling s =
+    sixteen s.start ++ byte (length s.blocks) ++ flat_map (counted_spelling block_spelling) s.blocks
 
 abbrev pub limits_spelling : Limits → List ℕ
-limits_spelling l = two l.history ++ two l.stack ++ two l.attempts ++ two l.obligations ++ four l.budget
+limits_spelling l =
+    two l.history ++ two l.stack ++ two l.attempts ++ two l.obligations ++ four l.budget
 
 -- 255 for none
 abbrev pub disable_spelling : Option ℕ → ℕ
@@ -77,13 +82,17 @@ abbrev pub head_spelling : List ℕ
 head_spelling = 0x53 ∷ 0x56 ∷ 0x41 ∷ 0x4d ∷ 1 ∷ []
 
 abbrev pub header_spelling : HeaderData → List ℕ
-header_spelling h = limits_spelling h.limits ++ byte (disable_spelling h.disable) ++ byte h.atoms ++ text_spelling h.name ++ text_spelling h.clock
+header_spelling h =
+    limits_spelling h.limits ++ byte (disable_spelling h.disable) ++ byte h.atoms
+    ++ text_spelling h.name ++ text_spelling h.clock
 
 -- what stands before the texts
 abbrev pub front_spelling : HeaderData → List ℕ
-front_spelling h = head_spelling ++ limits_spelling h.limits ++ byte (disable_spelling h.disable) ++ byte h.atoms
+front_spelling h =
+    head_spelling ++ limits_spelling h.limits ++ byte (disable_spelling h.disable) ++ byte h.atoms
 
 abbrev pub spelling : ProgramData → List ℕ
 spelling p =
-    head_spelling ++ header_spelling p.header ++ counted_spelling slot_spelling p.signals ++ counted_spelling byte p.counters ++ counted_spelling sample_spelling p.sample
+    head_spelling ++ header_spelling p.header ++ counted_spelling slot_spelling p.signals
+    ++ counted_spelling byte p.counters ++ counted_spelling sample_spelling p.sample
     ++ section_spelling p.antecedent ++ section_spelling p.consequent

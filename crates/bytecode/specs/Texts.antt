@@ -1,5 +1,7 @@
--- Words, and words that are joined by dots: what may stand for a name or a path (IEEE 1800-2017, 5.6, 23.6).
-use Rattle.std.specs.Prelude.{ℕ, Bool, true, false, ◌==◌, ◌&&◌, ◌||◌, nat_le, if◌then◌else◌, List, [], ◌∷◌}
+-- Words, and words that are joined by dots: what may stand for a name or a path (IEEE 1800-2017,
+-- 5.6, 23.6).
+use Rattle.std.specs.Prelude.{ℕ, Bool, true, false, ◌==◌, ◌&&◌, ◌||◌, nat_le, if◌then◌else◌, List}
+use Rattle.std.specs.Prelude.{[], ◌∷◌}
 
 -- a letter or an underscore
 abbrev pub is_first : ℕ → Bool

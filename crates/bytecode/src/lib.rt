@@ -10,15 +10,16 @@
 //! let read = decode(alloc, bytes.as_slice())?;
 //! ```
 //!
-//! A `Program` holds only what a file can spell (its ghost field `fits`). The definitions: what that
-//! is in `specs/Values.antt`, the spelling of each field and instruction in `specs/Spelling.antt` and
-//! `specs/Opcodes.antt`, words and paths in `specs/Texts.antt`, reading up to the first fault in
-//! `specs/Reading.antt`, the laws in `specs/Laws.antt`. `specs/Instructions.antt` is the one table of what
-//! instructions do to the operands on the stack, what they name and where they lead. Numbers are spelled with the highest byte
-//! first; a place is a byte from 0.
+//! A `Program` holds only what a file can spell (its ghost field `fits`). The definitions: what
+//! that is in `specs/Values.antt`, the spelling of each field and instruction in
+//! `specs/Spelling.antt` and `specs/Opcodes.antt`, words and paths in `specs/Texts.antt`, reading
+//! up to the first fault in `specs/Reading.antt`, the laws in `specs/Laws.antt`.
+//! `specs/Instructions.antt` is the one table of what instructions do to the operands on the stack,
+//! what they name and where they lead. Numbers are spelled with the highest byte first; a place is
+//! a byte from 0.
 //!
-//! Not promised: that a program makes sense. Slots, atoms and targets may be anything that a file can
-//! spell.
+//! Not promised: that a program makes sense. Slots, atoms and targets may be anything that a file
+//! can spell.
 #![tactic(auto)]
 
 mod block_instr;

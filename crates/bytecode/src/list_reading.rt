@@ -2,7 +2,8 @@
 
 ghost use Rattle.std.specs.Prelude.{◌≡◌, ℕ, length, map};
 ghost use Rattle.bytecode.specs.Texts.{is_path};
-ghost use Rattle.bytecode.specs.Reading.{Gives, many_at, counted_at, sample_at, step_at, width_at, slot_at};
+ghost use Rattle.bytecode.specs.Reading.{Gives, many_at, counted_at, sample_at, step_at, width_at};
+ghost use Rattle.bytecode.specs.Reading.{slot_at};
 ghost use Rattle.bytecode.specs.Views.{slot_data};
 
 use crate::block_instr::BlockInstr;
@@ -95,7 +96,8 @@ pub(crate) fn counted_widths_at(alloc: Global, bytes: &[u8]) -> Field<'_, Vec<u8
 
 /// So many signals.
 fn slots_at(alloc: Global, count: u16, bytes: &[u8]) -> Field<'_, Vec<Slot>>
-    ensures { Gives (λ x. (map slot_data x.0.items, x.1.now)) result (many_at slot_at count bytes.now) }
+    ensures { Gives (λ x. (map slot_data x.0.items, x.1.now)) result
+        (many_at slot_at count bytes.now) }
 {
     let mut found = Vec::new(alloc);
     let mut rest = bytes;
@@ -110,7 +112,8 @@ fn slots_at(alloc: Global, count: u16, bytes: &[u8]) -> Field<'_, Vec<Slot>>
 /// A count of two bytes, and as many signals.
 #[tactic(auto, unfolding(crate::specs::Reading::counted_at))]
 pub(crate) fn counted_slots_at(alloc: Global, bytes: &[u8]) -> Field<'_, Vec<Slot>>
-    ensures { Gives (λ x. (map slot_data x.0.items, x.1.now)) result (counted_at slot_at bytes.now) }
+    ensures { Gives (λ x. (map slot_data x.0.items, x.1.now)) result
+        (counted_at slot_at bytes.now) }
 {
     let (count, rest) = two_at(bytes)?;
     slots_at(alloc, count, rest)
@@ -118,7 +121,8 @@ pub(crate) fn counted_slots_at(alloc: Global, bytes: &[u8]) -> Field<'_, Vec<Slo
 
 /// So many blocks.
 pub(crate) fn blocks_at(alloc: Global, count: u8, bytes: &[u8]) -> Field<'_, Vec<Vec<BlockInstr>>>
-    ensures { Gives (λ x. (map (λ b. b.items) x.0.items, x.1.now)) result (many_at (counted_at step_at) count bytes.now) }
+    ensures { Gives (λ x. (map (λ b. b.items) x.0.items, x.1.now)) result
+        (many_at (counted_at step_at) count bytes.now) }
 {
     let mut found = Vec::new(alloc);
     let mut rest = bytes;

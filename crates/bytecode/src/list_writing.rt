@@ -4,7 +4,8 @@ ghost use Rattle.std.specs.Prelude.{◌≡◌, ◌<◌, ◌++◌, length, map, O
 ghost use Rattle.bytecode.specs.Values.{fits_slot, fits_list, fits_block};
 ghost use Rattle.std.specs.List.{list_all};
 ghost use Rattle.bytecode.specs.Views.{slot_data};
-ghost use Rattle.bytecode.specs.Spelling.{byte, counted_spelling, sample_spelling, block_spelling, slot_spelling};
+ghost use Rattle.bytecode.specs.Spelling.{byte, counted_spelling, sample_spelling, block_spelling};
+ghost use Rattle.bytecode.specs.Spelling.{slot_spelling};
 
 use crate::block_instr::BlockInstr;
 use crate::block_writing::put_step;
@@ -17,7 +18,8 @@ use std::alloc::AllocError;
 /// Puts instructions of sample code behind what was written.
 pub(crate) fn put_samples(out: &mut Vec<u8>, sample: &[SampleInstr]) -> Result<(), AllocError>
     requires { length sample.now < 65536 }
-    ensures { OnOk result (out.new.items ≡ out.old.items ++ counted_spelling sample_spelling sample.now) }
+    ensures { OnOk result (out.new.items ≡ out.old.items
+        ++ counted_spelling sample_spelling sample.now) }
 {
     put_two(out, sample.len() as u16)?;
     for instr in sample {
@@ -29,7 +31,8 @@ pub(crate) fn put_samples(out: &mut Vec<u8>, sample: &[SampleInstr]) -> Result<(
 /// Puts a block behind what was written.
 pub(crate) fn put_block(out: &mut Vec<u8>, block: &[BlockInstr]) -> Result<(), AllocError>
     requires { length block.now < 65536 }
-    ensures { OnOk result (out.new.items ≡ out.old.items ++ counted_spelling block_spelling block.now) }
+    ensures { OnOk result (out.new.items ≡ out.old.items
+        ++ counted_spelling block_spelling block.now) }
 {
     put_two(out, block.len() as u16)?;
     for instr in block {
@@ -54,7 +57,8 @@ pub(crate) fn put_widths(out: &mut Vec<u8>, widths: &[u8]) -> Result<(), AllocEr
 pub(crate) fn put_slots(out: &mut Vec<u8>, slots: &[Slot]) -> Result<(), AllocError>
     requires few { length slots.now < 65536 }
     requires fit { IsTrue (list_all fits_slot (map slot_data slots.now)) }
-    ensures { OnOk result (out.new.items ≡ out.old.items ++ counted_spelling slot_spelling (map slot_data slots.now)) }
+    ensures { OnOk result (out.new.items ≡ out.old.items
+        ++ counted_spelling slot_spelling (map slot_data slots.now)) }
 {
     put_two(out, slots.len() as u16)?;
     for slot in slots {

@@ -29,7 +29,8 @@ pub struct Program {
     pub sample: Vec<SampleInstr>,
     pub antecedent: Section,
     pub consequent: Section,
-    pub ghost fits: { IsTrue (fits_program (data_from limits disable atoms name clock signals counters sample antecedent consequent)) },
+    pub ghost fits: { IsTrue (fits_program (data_from limits disable atoms name clock signals
+        counters sample antecedent consequent)) },
 }
 
 impl Program {

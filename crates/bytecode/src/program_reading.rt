@@ -6,7 +6,8 @@ ghost use Rattle.bytecode.specs.Values.{ProgramData, fits_program};
 ghost use Rattle.bytecode.specs.Views.{section_data, header_data, parts_data};
 ghost use Rattle.bytecode.specs.Programs.{data_of, IsProgramOr};
 ghost use Rattle.bytecode.specs.Spelling.{spelling};
-ghost use Rattle.bytecode.specs.Reading.{Gives, head_at, limits_at, section_at, header_at, program_at, disable_of, whole_of, fault_of, IsFirstFault};
+ghost use Rattle.bytecode.specs.Reading.{Gives, head_at, limits_at, section_at, header_at};
+ghost use Rattle.bytecode.specs.Reading.{program_at, disable_of, whole_of, fault_of, IsFirstFault};
 
 use crate::fault::CodeFault;
 use crate::field::{Field, byte_at, four_at, sixteen_at, two_at};
@@ -150,7 +151,8 @@ pub fn decode(alloc: Global, bytes: &[u8]) -> Result<Program, CodeFault>
     // What is read is spelled so.
     ensures spelled { IfOk result (λ p. bytes.now ≡ spelling (data_of p)) }
     // What is spelled so is read, unless memory runs out.
-    ensures read { (x : ProgramData) → IsTrue (fits_program x) → bytes.now ≡ spelling x → IsProgramOr result x Memory }
+    ensures read { (x : ProgramData) → IsTrue (fits_program x) → bytes.now ≡ spelling x
+        → IsProgramOr result x Memory }
     // Which fault it is.
     ensures fault { IfErr result (IsFirstFault bytes.now) }
 {

@@ -5,7 +5,9 @@ ghost use Rattle.std.specs.List.{flat_map, list_all};
 ghost use Rattle.bytecode.specs.Values.{fits_list, fits_block, fits_section};
 ghost use Rattle.bytecode.specs.Views.{section_data};
 ghost use Rattle.bytecode.specs.Programs.{data_of};
-ghost use Rattle.bytecode.specs.Spelling.{disable_spelling, limits_spelling, counted_spelling, block_spelling, section_spelling, head_spelling, front_spelling, header_spelling, spelling};
+ghost use Rattle.bytecode.specs.Spelling.{disable_spelling, limits_spelling, counted_spelling};
+ghost use Rattle.bytecode.specs.Spelling.{block_spelling, section_spelling, head_spelling};
+ghost use Rattle.bytecode.specs.Spelling.{front_spelling, header_spelling, spelling};
 
 use crate::block_instr::BlockInstr;
 use crate::field_writing::{put_sixteen, put_text, put_two};
@@ -39,7 +41,8 @@ fn disable_byte(disable: Option<u8>) -> u8
 /// Puts blocks behind what was written.
 fn put_blocks(out: &mut Vec<u8>, blocks: &[Vec<BlockInstr>]) -> Result<(), AllocError>
     requires { IsTrue (list_all (fits_list fits_block) (map (λ b. b.items) blocks.now)) }
-    ensures { OnOk result (out.new.items ≡ out.old.items ++ flat_map (counted_spelling block_spelling) (map (λ b. b.items) blocks.now)) }
+    ensures { OnOk result (out.new.items ≡ out.old.items
+        ++ flat_map (counted_spelling block_spelling) (map (λ b. b.items) blocks.now)) }
 {
     for block in blocks {
         put_block(out, block.as_slice())?;
@@ -50,7 +53,8 @@ fn put_blocks(out: &mut Vec<u8>, blocks: &[Vec<BlockInstr>]) -> Result<(), Alloc
 /// Puts a section behind what was written.
 fn put_section(out: &mut Vec<u8>, section: &Section) -> Result<(), AllocError>
     requires { IsTrue (fits_section (section_data section.now)) }
-    ensures { OnOk result (out.new.items ≡ out.old.items ++ section_spelling (section_data section.now)) }
+    ensures { OnOk result (out.new.items ≡ out.old.items
+        ++ section_spelling (section_data section.now)) }
 {
     put_sixteen(out, section.start)?;
     out.push(section.blocks.len() as u8)?;
@@ -60,7 +64,8 @@ fn put_section(out: &mut Vec<u8>, section: &Section) -> Result<(), AllocError>
 
 /// Puts what stands before the texts behind what was written.
 fn put_front(out: &mut Vec<u8>, program: &Program) -> Result<(), AllocError>
-    ensures { OnOk result (out.new.items ≡ out.old.items ++ front_spelling (data_of program.now).header) }
+    ensures { OnOk result (out.new.items ≡ out.old.items
+        ++ front_spelling (data_of program.now).header) }
 {
     out.extend_from_slice(&[0x53, 0x56, 0x41, 0x4d, 1])?;
     put_limits(out, program.limits)?;
@@ -71,7 +76,8 @@ fn put_front(out: &mut Vec<u8>, program: &Program) -> Result<(), AllocError>
 
 /// Puts what stands before the lists behind what was written.
 fn put_header(out: &mut Vec<u8>, program: &Program) -> Result<(), AllocError>
-    ensures { OnOk result (out.new.items ≡ out.old.items ++ (head_spelling ++ header_spelling (data_of program.now).header)) }
+    ensures { OnOk result (out.new.items ≡ out.old.items
+        ++ (head_spelling ++ header_spelling (data_of program.now).header)) }
 {
     put_front(out, program)?;
     put_text(out, program.name.as_str())?;

@@ -1,7 +1,8 @@
 //! Instructions of sample code, read.
 
 ghost use Rattle.std.specs.Prelude.{◌≡◌, length};
-ghost use Rattle.bytecode.specs.Reading.{Gives, push_at, past_at, slice_at, operands_at, sample_at, plain_at, plain_of};
+ghost use Rattle.bytecode.specs.Reading.{Gives, push_at, past_at, slice_at, operands_at, sample_at};
+ghost use Rattle.bytecode.specs.Reading.{plain_at, plain_of};
 
 use crate::field::{Field, byte_at, sixteen_at, two_at, width_at};
 use crate::opcode::plain_of;

@@ -1,7 +1,8 @@
 //! Instructions of sample code, written.
 
 ghost use Rattle.std.specs.Prelude.{◌≡◌, ◌++◌, OnOk};
-ghost use Rattle.bytecode.specs.Opcodes.{join_opcode, compare_opcode, shift_opcode, reduce_opcode, sample_opcode};
+ghost use Rattle.bytecode.specs.Opcodes.{join_opcode, compare_opcode, shift_opcode, reduce_opcode};
+ghost use Rattle.bytecode.specs.Opcodes.{sample_opcode};
 ghost use Rattle.bytecode.specs.Spelling.{sample_operands, sample_spelling};
 
 use crate::field_writing::put_sixteen;

@@ -16,22 +16,27 @@ sums_from t k w v (s ∷ rest) = sums_from t k w (arithmetic s.0 w v (value_of t
 -- shifts by counts at their own widths
 abbrev pub shifts_from : Samples → ℕ → ℕ → ℕ → List (Shift × Seen) → ℕ
 shifts_from t k w v [] = v
-shifts_from t k w v (s ∷ rest) = shifts_from t k w (shift_value s.0 w v (value_of t s.1.term k (width_of s.1.term))) rest
+shifts_from t k w v (s ∷ rest) =
+    shifts_from t k w (shift_value s.0 w v (value_of t s.1.term k (width_of s.1.term))) rest
 
 -- comparisons at the larger width, of which the value so far has w bits at first and then one
 abbrev pub compares_from : Samples → ℕ → ℕ → ℕ → List (Comparison × Seen) → ℕ
 compares_from t k w v [] = v
-compares_from t k w v (s ∷ rest) = compares_from t k 1 (comparison_value s.0 v (value_of t s.1.term k (max w (width_of s.1.term)))) rest
+compares_from t k w v (s ∷ rest) =
+    compares_from t k 1 (comparison_value s.0 v (value_of t s.1.term k (max w (width_of s.1.term))))
+    rest
 
 -- connectives of operands at their own widths
 abbrev pub connects_from : Samples → ℕ → ℕ → List (Connective × Seen) → ℕ
 connects_from t k v [] = v
-connects_from t k v (s ∷ rest) = connects_from t k (connective_value s.0 v (value_of t s.1.term k (width_of s.1.term))) rest
+connects_from t k v (s ∷ rest) =
+    connects_from t k (connective_value s.0 v (value_of t s.1.term k (width_of s.1.term))) rest
 
 -- parts at their own widths
 abbrev pub concats_from : Samples → ℕ → ℕ → List Seen → ℕ
 concats_from t k v [] = v
-concats_from t k v (part ∷ rest) = concats_from t k (v * 2 ^ width_of part.term + value_of t part.term k (width_of part.term)) rest
+concats_from t k v (part ∷ rest) =
+    concats_from t k (v * 2 ^ width_of part.term + value_of t part.term k (width_of part.term)) rest
 
 -- the width of the parts so far, and of all
 abbrev pub total_of : ℕ → List Seen → ℕ

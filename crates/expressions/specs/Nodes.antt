@@ -1,9 +1,12 @@
 -- The terms that trees stand for, and the widths that trees keep.
-use Rattle.std.specs.Prelude.{◌≡◌, IsTrue, ℕ, ◌==◌, nat_le, max, ◌&&◌, Bool, true, false, List, [], ◌∷◌}
+use Rattle.std.specs.Prelude.{◌≡◌, IsTrue, ℕ, ◌==◌, nat_le, max, ◌&&◌, Bool, true, false, List, []}
+use Rattle.std.specs.Prelude.{◌∷◌}
 use Rattle.expressions.specs.declared.node.Node.{Node}
 use Rattle.expressions.specs.declared.node.Node.TheOpen.{Node-F}
 use Rattle.expressions.specs.declared.node.Node.TheFolds.{fold-Node}
-use Rattle.expressions.specs.Terms.{Term, constant, named, slice, group, concat, inverse, reduce, combine, shift, compare, connect, choose, past, change, width_of}
+use Rattle.expressions.specs.Terms.{Term, constant, named, slice, group, concat, inverse, reduce}
+use Rattle.expressions.specs.Terms.{combine, shift, compare, connect, choose, past, change}
+use Rattle.expressions.specs.Terms.{width_of}
 
 -- what a tree stands for, and whether each of its nodes keeps the width of what it stands for
 pub record Seen : Type 0 where
@@ -46,13 +49,16 @@ keeps kept width = (kept == width) && nat_le 1 width && nat_le width 128
 
 -- a node of one operand, and one of a chain of operators, that keep their widths
 abbrev pub kept_one : (Term → Term) → ℕ → Seen → Seen
-kept_one make kept e = record { term = make e.term; is_typed = e.is_typed && keeps kept (width_of (make e.term)) }
+kept_one make kept e =
+    record { term = make e.term; is_typed = e.is_typed && keeps kept (width_of (make e.term)) }
 
 abbrev pub kept_chain : {O : Type 0} → (O → Term → Term → Term) → ℕ → Seen → List (O × Seen) → Seen
 kept_chain make kept first steps =
     record {
       term = chain_term make first.term steps;
-      is_typed = first.is_typed && all_typed steps && keeps kept (width_of (chain_term make first.term steps));
+      is_typed =
+          first.is_typed && all_typed steps && keeps kept
+          (width_of (chain_term make first.term steps));
     }
 
 -- a node, from what is seen of its parts
@@ -64,16 +70,21 @@ seen_step (Node-F.Group kept e) = kept_one group kept e.value
 seen_step (Node-F.Concat kept first parts) =
     record {
       term = concatenation_term first.value.term parts.items;
-      is_typed = first.value.is_typed && all_parts_typed parts.items && has_part parts.items && keeps kept (width_of (concatenation_term first.value.term parts.items));
+      is_typed =
+          first.value.is_typed && all_parts_typed parts.items && has_part parts.items
+          && keeps kept (width_of (concatenation_term first.value.term parts.items));
     }
 seen_step (Node-F.Complement kept e) = kept_one inverse kept e.value
-seen_step (Node-F.Reduce op e) = record { term = reduce op e.value.term; is_typed = e.value.is_typed }
+seen_step (Node-F.Reduce op e) =
+    record { term = reduce op e.value.term; is_typed = e.value.is_typed }
 seen_step (Node-F.Arithmetic kept first steps) = kept_chain combine kept first.value steps.items
 seen_step (Node-F.Shift kept first steps) = kept_chain shift kept first.value steps.items
 seen_step (Node-F.Compare kept first steps) =
     record {
       term = chain_term compare first.value.term steps.items;
-      is_typed = first.value.is_typed && all_typed steps.items && keeps kept (width_compared first.value.term steps.items);
+      is_typed =
+          first.value.is_typed && all_typed steps.items
+          && keeps kept (width_compared first.value.term steps.items);
     }
 seen_step (Node-F.Connect first steps) =
     record {
@@ -83,10 +94,13 @@ seen_step (Node-F.Connect first steps) =
 seen_step (Node-F.Choose kept c a b) =
     record {
       term = choose c.value.term a.value.term b.value.term;
-      is_typed = c.value.is_typed && a.value.is_typed && b.value.is_typed && keeps kept (max (width_of a.value.term) (width_of b.value.term));
+      is_typed =
+          c.value.is_typed && a.value.is_typed && b.value.is_typed
+          && keeps kept (max (width_of a.value.term) (width_of b.value.term));
     }
 seen_step (Node-F.Past kept e ticks) = kept_one (λ d. past d ticks) kept e.value
-seen_step (Node-F.Change op e) = record { term = change op e.value.term; is_typed = e.value.is_typed }
+seen_step (Node-F.Change op e) =
+    record { term = change op e.value.term; is_typed = e.value.is_typed }
 
 abbrev pub seen_node : Node → Seen
 seen_node = fold-Node Seen seen_step

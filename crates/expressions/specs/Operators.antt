@@ -1,16 +1,21 @@
--- What operators give, as mathematics on natural numbers. Every value is unsigned. Clauses are of IEEE 1800-2017.
-use Rattle.std.specs.Prelude.{ℕ, ◌+◌, ◌-◌, ◌*◌, ◌/◌, ◌%◌, ◌^◌, ◌==◌, nat_lt, nat_le, not, ◌&&◌, ◌||◌, bit_and, bit_or, bit_xor, count_ones}
+-- What operators give, as mathematics on natural numbers. Every value is unsigned. Clauses are of
+-- IEEE 1800-2017.
+use Rattle.std.specs.Prelude.{ℕ, ◌+◌, ◌-◌, ◌*◌, ◌/◌, ◌%◌, ◌^◌, ◌==◌, nat_lt, nat_le, not, ◌&&◌}
+use Rattle.std.specs.Prelude.{◌||◌, bit_and, bit_or, bit_xor, count_ones}
 use Rattle.signals.specs.Tests.{one_if}
 use Rattle.expressions.specs.declared.operator.Arithmetic.{Arithmetic}
 use Rattle.expressions.specs.declared.operator.Arithmetic.TheVariants.{Add, Sub, And, Or, Xor, Xnor}
 use Rattle.expressions.specs.declared.operator.Shift.{Shift}
 use Rattle.expressions.specs.declared.operator.Shift.TheVariants.{Left, Right}
 use Rattle.expressions.specs.declared.operator.Comparison.{Comparison}
-use Rattle.expressions.specs.declared.operator.Comparison.TheVariants.{Equal, Differs, Less, AtMost, Greater, AtLeast}
+use Rattle.expressions.specs.declared.operator.Comparison.TheVariants.{Equal, Differs, Less, AtMost}
+use Rattle.expressions.specs.declared.operator.Comparison.TheVariants.{Greater, AtLeast}
 use Rattle.expressions.specs.declared.operator.Connective.{Connective}
 use Rattle.expressions.specs.declared.operator.Connective.TheVariants.{Both, Either}
 use Rattle.expressions.specs.declared.operator.Reduction.{Reduction}
-use Rattle.expressions.specs.declared.operator.Reduction.TheVariants.{Zero, NonZero, AllOnes, NotAllOnes, Odd, Even, OneHot, OneHotOrZero}
+use Rattle.expressions.specs.declared.operator.Reduction.TheVariants.{Zero, NonZero, AllOnes}
+use Rattle.expressions.specs.declared.operator.Reduction.TheVariants.{NotAllOnes, Odd, Even, OneHot}
+use Rattle.expressions.specs.declared.operator.Reduction.TheVariants.{OneHotOrZero}
 use Rattle.expressions.specs.declared.operator.Change.{Change}
 use Rattle.expressions.specs.declared.operator.Change.TheVariants.{Rose, Fell, Stable, Changed}
 

@@ -2,7 +2,8 @@
 
 ghost use Rattle.std.specs.Prelude.{◌≡◌, ◌≤◌, ◌%◌, ◌^◌};
 ghost use Rattle.signals.specs.Tests.{one_if};
-ghost use Rattle.expressions.specs.Operators.{arithmetic, shift_value, comparison_value, connective_value, reduction_value, change_of};
+ghost use Rattle.expressions.specs.Operators.{arithmetic, shift_value, comparison_value};
+ghost use Rattle.expressions.specs.Operators.{connective_value, reduction_value, change_of};
 
 use crate::operator::{Arithmetic, Change, Comparison, Connective, Reduction, Shift};
 use signals::Bits;

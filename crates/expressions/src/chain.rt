@@ -1,4 +1,5 @@
-//! Trees of two operands. Where the left one is a chain of such operators already, its node grows by one.
+//! Trees of two operands. Where the left one is a chain of such operators already, its node grows
+//! by one.
 
 ghost use Rattle.std.specs.Prelude.{max, IfOk, IsTrue};
 ghost use Rattle.expressions.specs.Terms.{concat, combine, shift, compare, connect, width_of};
@@ -18,7 +19,8 @@ pub(crate) fn arithmetic_node(
 ) -> Result<Node, AllocError>
     requires left { IsTrue (is_typed left) }
     requires right { IsTrue (is_typed right) }
-    requires kept { IsTrue (keeps width (width_of (combine op (node_term left) (node_term right)))) }
+    requires kept { IsTrue (keeps width
+        (width_of (combine op (node_term left) (node_term right)))) }
     ensures { IfOk result (IsTree (combine op (node_term left) (node_term right))) }
 {
     match left {
@@ -74,7 +76,8 @@ pub(crate) fn comparison_node(
 ) -> Result<Node, AllocError>
     requires left { IsTrue (is_typed left) }
     requires right { IsTrue (is_typed right) }
-    requires kept { IsTrue (keeps larger (max (width_of (node_term left)) (width_of (node_term right)))) }
+    requires kept { IsTrue (keeps larger (max (width_of (node_term left))
+        (width_of (node_term right)))) }
     ensures { IfOk result (IsTree (compare op (node_term left) (node_term right))) }
 {
     match left {

@@ -1,6 +1,7 @@
 //! What counters count.
 
-ghost use Rattle.std.specs.Prelude.{◌≡◌, ◌≤◌, ℕ, ◌+◌, ◌-◌, ◌^◌, min, length, slice_get, slice_index_or, IfOk};
+ghost use Rattle.std.specs.Prelude.{◌≡◌, ◌≤◌, ℕ, ◌+◌, ◌-◌, ◌^◌, min, length, slice_get};
+ghost use Rattle.std.specs.Prelude.{slice_index_or, IfOk};
 ghost use Rattle.expressions.specs.Tables.{cell};
 ghost use Rattle.expressions.specs.Rows.{samples_of, HasCounts};
 ghost use Rattle.expressions.specs.Counters.{holds, rule_value, next_count, next_of};
@@ -82,7 +83,9 @@ fn next_row(
     rows: &Rows,
     tick: usize,
 ) -> Result<Vec<u128>, AllocError>
-    ensures { IfOk result (λ row. (i : ℕ) → slice_index_or row.items i 0 ≡ next_of (samples_of rows.now) (slice_get all.now i) (cell rows.now.counters tick i) tick) }
+    ensures { IfOk result (λ row. (i : ℕ) → slice_index_or row.items i 0
+        ≡ next_of (samples_of rows.now) (slice_get all.now i)
+        (cell rows.now.counters tick i) tick) }
 {
     let mut row = Vec::new(alloc);
     for (place, counter) in all.iter().enumerate() {

@@ -2,10 +2,12 @@
 
 ghost use Rattle.std.specs.Prelude.{◌≡◌, ◌≤◌, ◌-◌, ◌==◌, nat_le, if◌then◌else◌, not, map, IsTrue};
 ghost use Rattle.expressions.specs.Terms.{width_of, name_at, value_of, is_true};
-ghost use Rattle.expressions.specs.Nodes.{seen_node, node_term, is_typed, step_of, all_typed, all_parts_typed};
+ghost use Rattle.expressions.specs.Nodes.{seen_node, node_term, is_typed, step_of, all_typed};
+ghost use Rattle.expressions.specs.Nodes.{all_parts_typed};
 ghost use Rattle.expressions.specs.Expressions.{term_of};
 ghost use Rattle.expressions.specs.Rows.{samples_of};
-ghost use Rattle.expressions.specs.Chains.{sums_from, shifts_from, compares_from, connects_from, concats_from, total_of, tested_width, AllNarrow};
+ghost use Rattle.expressions.specs.Chains.{sums_from, shifts_from, compares_from, connects_from};
+ghost use Rattle.expressions.specs.Chains.{concats_from, total_of, tested_width, AllNarrow};
 
 use crate::apply::{change, combine, compare, connect, cut, reduce, shift};
 use crate::expr::Expr;
@@ -87,7 +89,8 @@ fn node_value(node: &Node, rows: &Rows, tick: usize, width: u8) -> Bits
 fn own_value(node: &Node, rows: &Rows, tick: usize) -> Bits
     requires { IsTrue (is_typed node.now) }
     ensures width { result.width ≡ width_of (node_term node.now) }
-    ensures value { result.value ≡ value_of (samples_of rows.now) (node_term node.now) tick (width_of (node_term node.now)) }
+    ensures value { result.value ≡ value_of (samples_of rows.now) (node_term node.now) tick
+        (width_of (node_term node.now)) }
 {
     node_value(node, rows, tick, width_of(node))
 }
@@ -97,7 +100,9 @@ fn own_value(node: &Node, rows: &Rows, tick: usize) -> Bits
 fn value_before(node: &Node, rows: &Rows, tick: usize, ticks: u8) -> Bits
     requires { IsTrue (is_typed node.now) }
     ensures width { result.width ≡ width_of (node_term node.now) }
-    ensures value { result.value ≡ (if nat_le ticks tick then value_of (samples_of rows.now) (node_term node.now) (tick - ticks) (width_of (node_term node.now)) else 0) }
+    ensures value { result.value ≡ (if nat_le ticks tick
+        then value_of (samples_of rows.now) (node_term node.now) (tick - ticks)
+        (width_of (node_term node.now)) else 0) }
 {
     if usize::from(ticks) <= tick {
         own_value(node, rows, tick - usize::from(ticks))
@@ -112,7 +117,8 @@ fn combine_all(first: Bits, steps: &[(Arithmetic, Node)], rows: &Rows, tick: usi
     requires typed { IsTrue (all_typed (map step_of steps.now)) }
     requires narrow { AllNarrow first.width (map step_of steps.now) }
     ensures width { result.width ≡ first.width }
-    ensures value { result.value ≡ sums_from (samples_of rows.now) tick first.width first.value (map step_of steps.now) }
+    ensures value { result.value ≡ sums_from (samples_of rows.now) tick first.width first.value
+        (map step_of steps.now) }
 {
     let mut sum = first;
     for step in steps {
@@ -127,7 +133,8 @@ fn combine_all(first: Bits, steps: &[(Arithmetic, Node)], rows: &Rows, tick: usi
 fn shift_all(first: Bits, steps: &[(Shift, Node)], rows: &Rows, tick: usize) -> Bits
     requires { IsTrue (all_typed (map step_of steps.now)) }
     ensures width { result.width ≡ first.width }
-    ensures value { result.value ≡ shifts_from (samples_of rows.now) tick first.width first.value (map step_of steps.now) }
+    ensures value { result.value ≡ shifts_from (samples_of rows.now) tick first.width first.value
+        (map step_of steps.now) }
 {
     let mut shifted = first;
     for step in steps {
@@ -142,7 +149,8 @@ fn shift_all(first: Bits, steps: &[(Shift, Node)], rows: &Rows, tick: usize) -> 
 fn compare_all(first: Bits, steps: &[(Comparison, Node)], rows: &Rows, tick: usize) -> Bits
     requires { IsTrue (all_typed (map step_of steps.now)) }
     ensures width { result.width ≡ tested_width first.width (map step_of steps.now) }
-    ensures value { result.value ≡ compares_from (samples_of rows.now) tick first.width first.value (map step_of steps.now) }
+    ensures value { result.value ≡ compares_from (samples_of rows.now) tick first.width first.value
+        (map step_of steps.now) }
 {
     let mut left = first;
     for step in steps {
@@ -158,7 +166,8 @@ fn compare_all(first: Bits, steps: &[(Comparison, Node)], rows: &Rows, tick: usi
 fn connect_all(first: Bits, steps: &[(Connective, Node)], rows: &Rows, tick: usize) -> Bits
     requires { IsTrue (all_typed (map step_of steps.now)) }
     ensures width { result.width ≡ tested_width first.width (map step_of steps.now) }
-    ensures value { result.value ≡ connects_from (samples_of rows.now) tick first.value (map step_of steps.now) }
+    ensures value { result.value ≡ connects_from (samples_of rows.now) tick first.value
+        (map step_of steps.now) }
 {
     let mut left = first;
     for step in steps {
@@ -174,7 +183,8 @@ fn join_all(first: Bits, parts: &[Node], rows: &Rows, tick: usize) -> Bits
     requires typed { IsTrue (all_parts_typed (map seen_node parts.now)) }
     requires fits { total_of first.width (map seen_node parts.now) ≤ 128 }
     ensures width { result.width ≡ total_of first.width (map seen_node parts.now) }
-    ensures value { result.value ≡ concats_from (samples_of rows.now) tick first.value (map seen_node parts.now) }
+    ensures value { result.value ≡ concats_from (samples_of rows.now) tick first.value
+        (map seen_node parts.now) }
 {
     let mut bits = first;
     for part in parts {

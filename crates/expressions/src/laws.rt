@@ -1,6 +1,7 @@
 //! Laws of values and counters, each a call that does nothing.
 
-ghost use Rattle.expressions.specs.Laws.{ValuesFit, ValuesAreCausal, CountersCount, ChainsCompareBits, ConcatsKeepParts, LongShiftsGiveZero};
+ghost use Rattle.expressions.specs.Laws.{ValuesFit, ValuesAreCausal, CountersCount};
+ghost use Rattle.expressions.specs.Laws.{ChainsCompareBits, ConcatsKeepParts, LongShiftsGiveZero};
 
 /// Values fit the width of their context.
 pub fn width_law()

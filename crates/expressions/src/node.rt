@@ -1,13 +1,15 @@
-//! The tree of an expression. A chain of left operators is one node, so that brackets alone deepen the tree.
+//! The tree of an expression. A chain of left operators is one node, so that brackets alone deepen
+//! the tree.
 
 use crate::name::Name;
 use crate::operator::{Arithmetic, Change, Comparison, Connective, Reduction, Shift};
 use crate::slice::Slice;
 use signals::Bits;
 
-/// A node of an expression's tree. The operators of a list are applied from the left. A `u8` in the first place is the node's own
-/// width, kept so that no value asks for widths further down; of `Compare` it is the width of the first comparison, whose result, as that
-/// of `Reduce`, `Connect` and `Change`, has one bit.
+/// A node of an expression's tree. The operators of a list are applied from the left. A `u8` in the
+/// first place is the node's own width, kept so that no value asks for widths further down; of
+/// `Compare` it is the width of the first comparison, whose result, as that of `Reduce`, `Connect`
+/// and `Change`, has one bit.
 #[derive(Drop)]
 pub enum Node {
     Constant(Bits),

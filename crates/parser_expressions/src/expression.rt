@@ -1,12 +1,16 @@
 //! Expressions.
 
-ghost use Rattle.std.specs.Prelude.{◌≡◌, ◌<◌, ◌≤◌, ◌+◌, ◌==◌, ℕ, suc, length, map, IfOk, option_map};
+ghost use Rattle.std.specs.Prelude.{◌≡◌, ◌<◌, ◌≤◌, ◌+◌, ◌==◌, ℕ, suc, length, map, IfOk};
+ghost use Rattle.std.specs.Prelude.{option_map};
 ghost use Rattle.lexer.specs.declared.token.Token.{Token};
 ghost use Rattle.grammar.specs.Terminals.{is};
 ghost use Rattle.grammar.specs.declared.terminal.Terminal.TheVariants.{Comma, OpenSquare, Colon};
 ghost use Rattle.grammar.specs.Bounds.{bound_within, index};
 ghost use Rattle.grammar.specs.Readers.{pick, optional, each};
-ghost use Rattle.grammar.specs.ReadExpressions.{members, select, readers, path_words, name_reader, bracket_reader, concatenation_reader, past_reader, call_reader, prefix_reader, unary_reader, links, climb, operand, prefixed_with, finish, expression};
+ghost use Rattle.grammar.specs.ReadExpressions.{members, select, readers, path_words, name_reader};
+ghost use Rattle.grammar.specs.ReadExpressions.{bracket_reader, concatenation_reader, past_reader};
+ghost use Rattle.grammar.specs.ReadExpressions.{call_reader, prefix_reader, unary_reader, links};
+ghost use Rattle.grammar.specs.ReadExpressions.{climb, operand, prefixed_with, finish, expression};
 ghost use Rattle.parser_expressions.specs.Views.{path_of, tree_of, link_of, Gives};
 
 use crate::node::{
@@ -78,7 +82,8 @@ fn read_select<'t, 'a>(tokens: &'t [Token<'a>]) -> Read<'t, 'a, Select>
 /// A select, if one is written.
 #[tactic(auto, using(crate::proofs::Steps::for_selected))]
 fn read_selected<'t, 'a>(tokens: &'t [Token<'a>], depth: usize) -> Read<'t, 'a, Option<Select>>
-    ensures read { Gives (λ r. (r.0, r.1.now)) result (optional OpenSquare (readers depth).select tokens.now) }
+    ensures read { Gives (λ r. (r.0, r.1.now)) result
+        (optional OpenSquare (readers depth).select tokens.now) }
     ensures shorter { IfOk result (λ r. length r.1.now ≤ length tokens.now) }
 {
     let Some((bracket, rest)) = accept(tokens, Terminal::OpenSquare) else {
@@ -99,7 +104,8 @@ fn read_named<'t, 'a>(
     tokens: &'t [Token<'a>],
     depth: usize,
 ) -> Read<'t, 'a, Box<ExprTree<'a>>>
-    ensures read { Gives (λ r. (tree_of r.0.value, r.1.now)) result (name_reader (readers depth) first.entry tokens.now) }
+    ensures read { Gives (λ r. (tree_of r.0.value, r.1.now)) result
+        (name_reader (readers depth) first.entry tokens.now) }
     ensures shorter { IfOk result (λ r. length r.1.now ≤ length tokens.now) }
 {
     let (more, rest) = read!(read_members(alloc, tokens));
@@ -117,7 +123,8 @@ fn read_bracketed<'t, 'a>(
     tokens: &'t [Token<'a>],
     depth: usize,
 ) -> Read<'t, 'a, Box<ExprTree<'a>>>
-    ensures read { Gives (λ r. (tree_of r.0.value, r.1.now)) result (bracket_reader (readers depth) tokens.now) }
+    ensures read { Gives (λ r. (tree_of r.0.value, r.1.now)) result
+        (bracket_reader (readers depth) tokens.now) }
     ensures shorter { IfOk result (λ r. length r.1.now ≤ length tokens.now) }
 {
     let inner = read!(deeper(depth, bracket));
@@ -133,7 +140,8 @@ fn read_parts<'t, 'a>(
     tokens: &'t [Token<'a>],
     depth: usize,
 ) -> Read<'t, 'a, Vec<ExprTree<'a>>>
-    ensures read { Gives (λ r. (map tree_of r.0.items, r.1.now)) result (each (is Comma) (λ comma. expression depth) tokens.now) }
+    ensures read { Gives (λ r. (map tree_of r.0.items, r.1.now)) result
+        (each (is Comma) (λ comma. expression depth) tokens.now) }
     ensures shorter { IfOk result (λ r. length r.1.now ≤ length tokens.now) }
 {
     let mut found = Vec::new(alloc);
@@ -157,7 +165,8 @@ fn read_concatenation<'t, 'a>(
     tokens: &'t [Token<'a>],
     depth: usize,
 ) -> Read<'t, 'a, Box<ExprTree<'a>>>
-    ensures read { Gives (λ r. (tree_of r.0.value, r.1.now)) result (concatenation_reader (readers depth) bracket.entry tokens.now) }
+    ensures read { Gives (λ r. (tree_of r.0.value, r.1.now)) result
+        (concatenation_reader (readers depth) bracket.entry tokens.now) }
     ensures shorter { IfOk result (λ r. length r.1.now ≤ length tokens.now) }
 {
     let inner = read!(deeper(depth, bracket));
@@ -170,7 +179,8 @@ fn read_concatenation<'t, 'a>(
 /// The ticks of `$past`, if they are written.
 #[tactic(auto, using(crate::proofs::Steps::for_optional))]
 fn read_ticks<'t, 'a>(tokens: &'t [Token<'a>]) -> Read<'t, 'a, Option<Bound>>
-    ensures read { Gives (λ r. (r.0, r.1.now)) result (optional Comma (pick (bound_within 1 64)) tokens.now) }
+    ensures read { Gives (λ r. (r.0, r.1.now)) result
+        (optional Comma (pick (bound_within 1 64)) tokens.now) }
     ensures shorter { IfOk result (λ r. length r.1.now ≤ length tokens.now) }
 {
     let Some((_, rest)) = accept(tokens, Terminal::Comma) else {
@@ -189,7 +199,8 @@ fn read_past<'t, 'a>(
     tokens: &'t [Token<'a>],
     depth: usize,
 ) -> Read<'t, 'a, Box<ExprTree<'a>>>
-    ensures read { Gives (λ r. (tree_of r.0.value, r.1.now)) result (past_reader (readers depth) name.entry tokens.now) }
+    ensures read { Gives (λ r. (tree_of r.0.value, r.1.now)) result
+        (past_reader (readers depth) name.entry tokens.now) }
     ensures shorter { IfOk result (λ r. length r.1.now ≤ length tokens.now) }
 {
     let (bracket, rest) = read!(expect(tokens, Terminal::OpenRound));
@@ -210,7 +221,8 @@ fn read_call<'t, 'a>(
     tokens: &'t [Token<'a>],
     depth: usize,
 ) -> Read<'t, 'a, Box<ExprTree<'a>>>
-    ensures read { Gives (λ r. (tree_of r.0.value, r.1.now)) result (call_reader (readers depth) function name.entry tokens.now) }
+    ensures read { Gives (λ r. (tree_of r.0.value, r.1.now)) result
+        (call_reader (readers depth) function name.entry tokens.now) }
     ensures shorter { IfOk result (λ r. length r.1.now ≤ length tokens.now) }
 {
     let (bracket, rest) = read!(expect(tokens, Terminal::OpenRound));
@@ -227,7 +239,8 @@ fn read_unary<'t, 'a>(
     tokens: &'t [Token<'a>],
     depth: usize,
 ) -> Read<'t, 'a, Box<ExprTree<'a>>>
-    ensures read { Gives (λ r. (tree_of r.0.value, r.1.now)) result (prefix_reader (readers depth) sign.entry tokens.now) }
+    ensures read { Gives (λ r. (tree_of r.0.value, r.1.now)) result
+        (prefix_reader (readers depth) sign.entry tokens.now) }
     ensures shorter { IfOk result (λ r. length r.1.now ≤ length tokens.now) }
 {
     let inner = read!(deeper(depth, sign));
@@ -243,7 +256,8 @@ fn read_prefixed<'t, 'a>(
     tokens: &'t [Token<'a>],
     depth: usize,
 ) -> Read<'t, 'a, Box<ExprTree<'a>>>
-    ensures read { Gives (λ r. (tree_of r.0.value, r.1.now)) result (unary_reader depth tokens.now) }
+    ensures read { Gives (λ r. (tree_of r.0.value, r.1.now)) result
+        (unary_reader depth tokens.now) }
     ensures shorter { IfOk result (λ r. length r.1.now ≤ length tokens.now) }
 {
     let Some((token, rest)) = first(tokens) else {
@@ -270,7 +284,8 @@ fn read_links<'t, 'a>(
     level: usize,
 ) -> Read<'t, 'a, Vec<(Token<'a>, ExprTree<'a>)>>
     requires level { level < 9 }
-    ensures read { Gives (λ r. (map link_of r.0.items, r.1.now)) result (links (operand depth level) level tokens.now) }
+    ensures read { Gives (λ r. (map link_of r.0.items, r.1.now)) result
+        (links (operand depth level) level tokens.now) }
     ensures shorter { IfOk result (λ r. length r.1.now ≤ length tokens.now) }
 {
     let mut found = Vec::new(alloc);
@@ -295,7 +310,8 @@ fn read_operand<'t, 'a>(
     level: usize,
 ) -> Read<'t, 'a, Box<ExprTree<'a>>>
     requires { level < 10 }
-    ensures read { Gives (λ r. (tree_of r.0.value, r.1.now)) result (operand depth level tokens.now) }
+    ensures read { Gives (λ r. (tree_of r.0.value, r.1.now)) result
+        (operand depth level tokens.now) }
     ensures shorter { IfOk result (λ r. length r.1.now ≤ length tokens.now) }
 {
     let (left, rest) = read!(read_prefixed(alloc, tokens, depth));
@@ -313,7 +329,8 @@ fn read_climb<'t, 'a>(
     level: usize,
 ) -> Read<'t, 'a, Box<ExprTree<'a>>>
     requires level { level < 10 }
-    ensures read { Gives (λ r. (tree_of r.0.value, r.1.now)) result (climb (prefixed_with (readers depth)) level (tree_of left.entry.value) tokens.now) }
+    ensures read { Gives (λ r. (tree_of r.0.value, r.1.now)) result
+        (climb (prefixed_with (readers depth)) level (tree_of left.entry.value) tokens.now) }
     ensures shorter { IfOk result (λ r. length r.1.now ≤ length tokens.now) }
 {
     if level == 0 {
@@ -348,7 +365,8 @@ pub fn finish_expression<'t, 'a>(
     left: Box<ExprTree<'a>>,
     depth: usize,
 ) -> Read<'t, 'a, Box<ExprTree<'a>>>
-    ensures read { Gives (λ r. (tree_of r.0.value, r.1.now)) result (finish depth (tree_of left.entry.value) tokens.now) }
+    ensures read { Gives (λ r. (tree_of r.0.value, r.1.now)) result
+        (finish depth (tree_of left.entry.value) tokens.now) }
     ensures shorter { IfOk result (λ r. length r.1.now ≤ length tokens.now) }
 {
     let (condition, rest) = read!(read_climb(alloc, tokens, left, depth, 9));

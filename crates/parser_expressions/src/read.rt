@@ -1,6 +1,7 @@
 //! Single tokens, read from the front of what is left.
 
-ghost use Rattle.std.specs.Prelude.{◌≡◌, ◌≤◌, ◌<◌, ◌+◌, ◌==◌, ℕ, length, [], ◌∷◌, Some, None, MatchOption, IfSome, IfOk, IfErr};
+ghost use Rattle.std.specs.Prelude.{◌≡◌, ◌≤◌, ◌<◌, ◌+◌, ◌==◌, ℕ, length, [], ◌∷◌, Some, None};
+ghost use Rattle.std.specs.Prelude.{MatchOption, IfSome, IfOk, IfErr};
 ghost use Rattle.lexer.specs.declared.token.Token.{Token};
 ghost use Rattle.grammar.specs.Bounds.{bound_within, index};
 ghost use Rattle.grammar.specs.Marks.{has_precedence};
@@ -64,7 +65,8 @@ pub fn accept<'t, 'a>(
     tokens: &'t [Token<'a>],
     wanted: Terminal,
 ) -> Option<(Token<'a>, &'t [Token<'a>])>
-    ensures token { MatchOption result (expect wanted tokens.now ≡ None) (λ r. expect wanted tokens.now ≡ Some (r.0, r.1.now)) }
+    ensures token { MatchOption result (expect wanted tokens.now
+        ≡ None) (λ r. expect wanted tokens.now ≡ Some (r.0, r.1.now)) }
     ensures shorter { IfSome result (λ r. length r.1.now < length tokens.now) }
 {
     let Some((token, rest)) = first(tokens) else {
@@ -93,7 +95,8 @@ pub fn operator<'t, 'a>(
     tokens: &'t [Token<'a>],
     level: usize,
 ) -> Option<(Token<'a>, &'t [Token<'a>])>
-    ensures token { MatchOption result (lead (has_precedence level) tokens.now ≡ None) (λ r. lead (has_precedence level) tokens.now ≡ Some (r.0, r.1.now)) }
+    ensures token { MatchOption result (lead (has_precedence level) tokens.now
+        ≡ None) (λ r. lead (has_precedence level) tokens.now ≡ Some (r.0, r.1.now)) }
     ensures shorter { IfSome result (λ r. length r.1.now < length tokens.now) }
 {
     let Some((token, rest)) = first(tokens) else {
@@ -123,7 +126,8 @@ pub(crate) fn expect_word<'t, 'a>(tokens: &'t [Token<'a>]) -> Read<'t, 'a, Token
 /// A NAME, if one stands first.
 #[tactic(auto, using(crate::proofs::NameSteps::for_lead_name))]
 pub fn accept_name<'t, 'a>(tokens: &'t [Token<'a>]) -> Option<(Token<'a>, &'t [Token<'a>])>
-    ensures token { MatchOption result (lead is_name tokens.now ≡ None) (λ r. lead is_name tokens.now ≡ Some (r.0, r.1.now)) }
+    ensures token { MatchOption result (lead is_name tokens.now
+        ≡ None) (λ r. lead is_name tokens.now ≡ Some (r.0, r.1.now)) }
     ensures shorter { IfSome result (λ r. length r.1.now < length tokens.now) }
 {
     let Some((token, rest)) = first(tokens) else {

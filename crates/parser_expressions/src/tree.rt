@@ -1,4 +1,5 @@
-//! The tree of an expression. Brackets are not kept. A chain of left operators of one level is one node.
+//! The tree of an expression. Brackets are not kept. A chain of left operators of one level is one
+//! node.
 
 use grammar::{Bound, Function, Select};
 use lexer::Token;

@@ -1,7 +1,13 @@
 -- The signals that a text reads, as columns.
-use Rattle.std.specs.Prelude.{ℕ, List, [], ◌∷◌, ◌++◌, Option, Some, None, Bool, true, if◌then◌else◌, ◌&&◌, bytes_eq, position, IsTrue}
+use Rattle.std.specs.Prelude.{ℕ, List, [], ◌∷◌, ◌++◌, Option, Some, None, Bool, true, if◌then◌else◌}
+use Rattle.std.specs.Prelude.{◌&&◌, bytes_eq, position, IsTrue}
 use Rattle.std.specs.List.{flat_map, list_any}
-use Rattle.grammar.specs.Trees.{Tree, number, path, concatenation, past, call, unary, chain, choice, Links, end, link, Parts, no_part, part, SequenceForm, boolean, repeated, late, delayed, throughout, all, either, Steps, no_step, step, Others, no_other, other, PropertyForm, plain, implication, CounterForm, AssertionForm, ItemForm, counter, declaration, assertion}
+use Rattle.grammar.specs.Trees.{Tree, number, path, concatenation, past, call, unary, chain, choice}
+use Rattle.grammar.specs.Trees.{Links, end, link, Parts, no_part, part, SequenceForm, boolean}
+use Rattle.grammar.specs.Trees.{repeated, late, delayed, throughout, all, either, Steps, no_step}
+use Rattle.grammar.specs.Trees.{step, Others, no_other, other, PropertyForm, plain, implication}
+use Rattle.grammar.specs.Trees.{CounterForm, AssertionForm, ItemForm, counter, declaration}
+use Rattle.grammar.specs.Trees.{assertion}
 use Rattle.types_expressions.specs.declared.own.Meaning.{Meaning}
 use Rattle.types_expressions.specs.declared.own.Meaning.TheVariants.{Signal, Own as Declared}
 use Rattle.types_expressions.specs.Scopes.{Scope, path_text, meaning}
@@ -62,7 +68,9 @@ clause_signals s None = []
 clause_signals s (Some p) = signals s p.0 ++ signals s p.1
 
 abbrev pub counter_signals : Scope → CounterForm → List (List ℕ)
-counter_signals s c = optional_signals s c.clear ++ (clause_signals s c.load ++ (clause_signals s c.add ++ clause_signals s c.sub))
+counter_signals s c =
+    optional_signals s c.clear ++ (clause_signals s c.load
+    ++ (clause_signals s c.add ++ clause_signals s c.sub))
 
 abbrev pub assertion_signals : Scope → AssertionForm → List (List ℕ)
 assertion_signals s a = optional_signals s a.disable ++ property_signals s a.property

@@ -4,7 +4,8 @@ use Rattle.types_expressions.specs.Scopes.{look_up}
 
 -- a name behind the others, unless it is there
 abbrev pub with_entry : {V : Type 0} → List (List ℕ × V) → List ℕ → V → List (List ℕ × V)
-with_entry entries name v = if is_some (look_up entries name) then entries else entries ++ (name, v) ∷ []
+with_entry entries name v =
+    if is_some (look_up entries name) then entries else entries ++ (name, v) ∷ []
 
 abbrev pub with_entries : {V : Type 0} → List (List ℕ × V) → List (List ℕ × V) → List (List ℕ × V)
 with_entries entries [] = entries

@@ -1,8 +1,14 @@
 -- Where faults stand in expressions, sequences and items.
-use Rattle.std.specs.Prelude.{◌≡◌, ℕ, List, [], ◌∷◌, ◌++◌, Option, Some, None, Bool, min, if◌then◌else◌, nat_le, nat_lt, ◌&&◌, is_some}
+use Rattle.std.specs.Prelude.{◌≡◌, ℕ, List, [], ◌∷◌, ◌++◌, Option, Some, None, Bool, min}
+use Rattle.std.specs.Prelude.{if◌then◌else◌, nat_le, nat_lt, ◌&&◌, is_some}
 use Rattle.std.specs.List.{flat_map}
 use Rattle.grammar.specs.declared.bound.Select.{Select}
-use Rattle.grammar.specs.Trees.{Tree, number, path, concatenation, past, call, unary, chain, choice, Links, end, link, Parts, no_part, part, SequenceForm, boolean, repeated, late, delayed, throughout, all, either, Steps, no_step, step, Others, no_other, other, PropertyForm, plain, implication, CounterForm, AssertionForm, ItemForm, counter, declaration, assertion}
+use Rattle.grammar.specs.Trees.{Tree, number, path, concatenation, past, call, unary, chain, choice}
+use Rattle.grammar.specs.Trees.{Links, end, link, Parts, no_part, part, SequenceForm, boolean}
+use Rattle.grammar.specs.Trees.{repeated, late, delayed, throughout, all, either, Steps, no_step}
+use Rattle.grammar.specs.Trees.{step, Others, no_other, other, PropertyForm, plain, implication}
+use Rattle.grammar.specs.Trees.{CounterForm, AssertionForm, ItemForm, counter, declaration}
+use Rattle.grammar.specs.Trees.{assertion}
 use Rattle.types_expressions.specs.declared.own.Sought.{Sought}
 use Rattle.types_expressions.specs.declared.own.Sought.TheVariants.{Unknown, Wide, OutOfRange}
 use Rattle.types_expressions.specs.Scopes.{Scope, first_byte, meaning, bits_of, sequence_named}
@@ -36,7 +42,9 @@ unfoldable mutual
   pub faults : Scope → Sought → Tree → List ℕ
   faults s k (number t) = []
   faults s k (path words x) = path_faults k (first_byte words) (bits_of (meaning s words)) x
-  faults s k (concatenation t e parts) = wide_faults k t.at (parts_width s (own_width s e) parts) ++ (faults s k e ++ part_faults s k parts)
+  faults s k (concatenation t e parts) =
+      wide_faults k t.at (parts_width s (own_width s e) parts)
+      ++ (faults s k e ++ part_faults s k parts)
   faults s k (past t e n) = faults s k e
   faults s k (call f t e) = faults s k e
   faults s k (unary t e) = faults s k e
@@ -87,7 +95,9 @@ clause_faults s k None = []
 clause_faults s k (Some p) = faults s k p.0 ++ faults s k p.1
 
 abbrev pub counter_faults : Scope → Sought → CounterForm → List ℕ
-counter_faults s k c = optional_faults s k c.clear ++ (clause_faults s k c.load ++ (clause_faults s k c.add ++ clause_faults s k c.sub))
+counter_faults s k c =
+    optional_faults s k c.clear ++ (clause_faults s k c.load
+    ++ (clause_faults s k c.add ++ clause_faults s k c.sub))
 
 abbrev pub assertion_faults : Scope → Sought → AssertionForm → List ℕ
 assertion_faults s k a = optional_faults s k a.disable ++ property_faults s k a.property

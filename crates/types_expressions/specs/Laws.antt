@@ -8,9 +8,13 @@ use Rattle.types_expressions.specs.Meanings.{Means}
 
 -- What an expression means has the expression's own width.
 abbrev pub MeaningsHaveWidths : Type 0
-MeaningsHaveWidths = (s : Scope) (columns : List (List ℕ)) (t : Tree) (e : Term) → Means s columns t e → width_of e ≡ own_width s t
+MeaningsHaveWidths =
+    (s : Scope) (columns : List (List ℕ)) (t : Tree) (e : Term) → Means s columns t e
+    → width_of e ≡ own_width s t
 
 -- An expression has one value at each tick, in each context.
 abbrev pub MeaningsAreOne : Type 0
-MeaningsAreOne = (s : Scope) (columns : List (List ℕ)) (t : Tree) (e f : Term) → Means s columns t e → Means s columns t f →
+MeaningsAreOne =
+    (s : Scope) (columns : List (List ℕ)) (t : Tree) (e f : Term) → Means s columns t e
+    → Means s columns t f →
     (x : Samples) (k w : ℕ) → value_of x e k w ≡ value_of x f k w

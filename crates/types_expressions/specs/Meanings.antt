@@ -2,7 +2,8 @@
 use Rattle.std.specs.Prelude.{◌≡◌, ℕ, List, Option, Some, None}
 use Rattle.lexer.specs.declared.token.Token.{Token}
 use Rattle.grammar.specs.declared.bound.Select.{Select}
-use Rattle.grammar.specs.Trees.{Tree, number, path, concatenation, past, call, unary, chain, choice, Links, end, link, Parts, no_part, part}
+use Rattle.grammar.specs.Trees.{Tree, number, path, concatenation, past, call, unary, chain, choice}
+use Rattle.grammar.specs.Trees.{Links, end, link, Parts, no_part, part}
 use Rattle.signals.specs.declared.bits.Bits.{Bits}
 use Rattle.expressions.specs.declared.name.Origin.{Origin}
 use Rattle.expressions.specs.declared.name.Origin.TheVariants as origins
@@ -14,13 +15,15 @@ use Rattle.types_expressions.specs.declared.own.Own.TheVariants.{Counter, Sequen
 use Rattle.types_expressions.specs.declared.own.Meaning.{Meaning}
 use Rattle.types_expressions.specs.declared.own.Meaning.TheVariants.{Signal, Own as Declared}
 use Rattle.types_expressions.specs.declared.operator.Binary.{Binary}
-use Rattle.types_expressions.specs.declared.operator.Binary.TheVariants.{Arithmetic, Shift, Comparison, Connective}
+use Rattle.types_expressions.specs.declared.operator.Binary.TheVariants.{Arithmetic, Shift}
+use Rattle.types_expressions.specs.declared.operator.Binary.TheVariants.{Comparison, Connective}
 use Rattle.types_expressions.specs.declared.operator.Unary.{Unary}
 use Rattle.types_expressions.specs.declared.operator.Unary.TheVariants as unaries
 use Rattle.types_expressions.specs.declared.operator.Call.{Call}
 use Rattle.types_expressions.specs.declared.operator.Call.TheVariants as calls
 use Rattle.types_expressions.specs.Scopes.{Scope, path_text, meaning}
-use Rattle.types_expressions.specs.Widths.{binary_of, unary_of, call_of, token_width, number_value, high_of, low_of, ticks_of}
+use Rattle.types_expressions.specs.Widths.{binary_of, unary_of, call_of, token_width, number_value}
+use Rattle.types_expressions.specs.Widths.{high_of, low_of, ticks_of}
 use Rattle.types_expressions.specs.Columns.{column_of}
 
 -- an operator with its operands
@@ -45,7 +48,8 @@ pub record IsNumber (t : Token) (e : Term) : Type 0 where
   pub value : bits.value ≡ number_value t
   pub is : e ≡ terms.constant bits
 
--- A name of so many bits in a column of the rows, or of the counters. The path of a sequence, and one that stands for nothing, are no name.
+-- A name of so many bits in a column of the rows, or of the counters. The path of a sequence, and
+-- one that stands for nothing, are no name.
 pub record IsName (origin : Origin) (column : Option ℕ) (width : ℕ) (name : Name) : Type 0 where
   pub origin_is : name.origin ≡ origin
   pub place_is : column ≡ Some name.place
@@ -54,7 +58,8 @@ pub record IsName (origin : Origin) (column : Option ℕ) (width : ℕ) (name : 
 abbrev pub IsNameOf : Option Meaning → Option ℕ → Name → Type 0
 IsNameOf None column name = ⊥
 IsNameOf (Some (Signal width)) column name = IsName origins.Signal column width name
-IsNameOf (Some (Declared (Counter place width))) column name = IsName origins.Counter (Some place) width name
+IsNameOf (Some (Declared (Counter place width))) column name =
+    IsName origins.Counter (Some place) width name
 IsNameOf (Some (Declared (Sequence place))) column name = ⊥
 
 -- a whole name
@@ -64,7 +69,8 @@ pub record IsWhole (means : Option Meaning) (column : Option ℕ) (e : Term) : T
   pub is : e ≡ terms.named name
 
 -- some bits of a name
-pub record IsPart (means : Option Meaning) (column : Option ℕ) (x : Select) (e : Term) : Type 0 where
+pub record IsPart (means : Option Meaning) (column : Option ℕ) (x : Select)
+    (e : Term) : Type 0 where
   pub part : Slice
   pub names : IsNameOf means column part.name
   pub high : part.high ≡ high_of x
@@ -75,28 +81,37 @@ abbrev pub IsRead : Option Meaning → Option ℕ → Option Select → Term →
 IsRead means column None e = IsWhole means column e
 IsRead means column (Some x) e = IsPart means column x e
 
--- What an expression means, where signals stand in the columns. Operators of a chain and parts of a concatenation group to the left.
+-- What an expression means, where signals stand in the columns. Operators of a chain and parts of a
+-- concatenation group to the left.
 unfoldable mutual
   pub Means : Scope → List (List ℕ) → Tree → Term → Type 0
   Means s columns (number t) e = IsNumber t e
-  Means s columns (path words x) e = IsRead (meaning s words) (column_of columns (path_text words)) x e
-  Means s columns (concatenation t d parts) e = (a : Term) × Means s columns d a × Joins s columns a parts e
-  Means s columns (past t d n) e = (a : Term) × Means s columns d a × (e ≡ terms.past a (ticks_of n))
+  Means s columns (path words x) e =
+      IsRead (meaning s words) (column_of columns (path_text words)) x e
+  Means s columns (concatenation t d parts) e =
+      (a : Term) × Means s columns d a × Joins s columns a parts e
+  Means s columns (past t d n) e =
+      (a : Term) × Means s columns d a × (e ≡ terms.past a (ticks_of n))
   Means s columns (call f t d) e = (a : Term) × Means s columns d a × (e ≡ call_term (call_of f) a)
   Means s columns (unary t d) e = (a : Term) × Means s columns d a × (e ≡ unary_term (unary_of t) a)
   Means s columns (chain d links) e = (a : Term) × Means s columns d a × Chains s columns a links e
-  Means s columns (choice d x y) e = (c : Term) × (a : Term) × (b : Term) × Means s columns d c × Means s columns x a × Means s columns y b × (e ≡ terms.choose c a b)
+  Means s columns (choice d x y) e =
+      (c : Term) × (a : Term) × (b : Term) × Means s columns d c × Means s columns x a
+      × Means s columns y b × (e ≡ terms.choose c a b)
 
   -- a, and each operator with its operand
   pub Chains : Scope → List (List ℕ) → Term → Links → Term → Type 0
   Chains s columns a end e = e ≡ a
-  Chains s columns a (link t d links) e = (b : Term) × Means s columns d b × Chains s columns (binary_term (binary_of t) a b) links e
+  Chains s columns a (link t d links) e =
+      (b : Term) × Means s columns d b × Chains s columns (binary_term (binary_of t) a b) links e
 
   -- {a}, or {a, and each part}
   pub Joins : Scope → List (List ℕ) → Term → Parts → Term → Type 0
   Joins s columns a no_part e = e ≡ terms.group a
-  Joins s columns a (part d parts) e = (b : Term) × Means s columns d b × JoinsMore s columns (terms.concat a b) parts e
+  Joins s columns a (part d parts) e =
+      (b : Term) × Means s columns d b × JoinsMore s columns (terms.concat a b) parts e
 
   pub JoinsMore : Scope → List (List ℕ) → Term → Parts → Term → Type 0
   JoinsMore s columns a no_part e = e ≡ a
-  JoinsMore s columns a (part d parts) e = (b : Term) × Means s columns d b × JoinsMore s columns (terms.concat a b) parts e
+  JoinsMore s columns a (part d parts) e =
+      (b : Term) × Means s columns d b × JoinsMore s columns (terms.concat a b) parts e

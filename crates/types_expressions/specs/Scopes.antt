@@ -1,5 +1,6 @@
 -- Names, and what they stand for.
-use Rattle.std.specs.Prelude.{ℕ, ◌+◌, List, [], ◌∷◌, ◌++◌, Option, Some, None, codes, if◌then◌else◌, nat_le, ◌&&◌, Bool, true, bytes_eq}
+use Rattle.std.specs.Prelude.{ℕ, ◌+◌, List, [], ◌∷◌, ◌++◌, Option, Some, None, codes, if◌then◌else◌}
+use Rattle.std.specs.Prelude.{nat_le, ◌&&◌, Bool, true, bytes_eq}
 use Rattle.std.specs.List.{flat_map}
 use Rattle.std.specs.Map.{lookup}
 use Rattle.lexer.specs.declared.token.Token.{Token}
@@ -27,17 +28,22 @@ width_in w = if nat_le 1 w && nat_le w 128 then w else 1
 abbrev pub look_up : {V : Type 0} → List (List ℕ × V) → List ℕ → Option V
 look_up entries name = lookup (bytes_eq name) entries
 
--- The names of counters and sequences in the order of the text, so many counters and sequences standing before. A label is no name.
+-- The names of counters and sequences in the order of the text, so many counters and sequences
+-- standing before. A label is no name.
 abbrev pub owns_from : ℕ → ℕ → List ItemForm → List (List ℕ × Own)
 owns_from counters sequences [] = []
-owns_from counters sequences (counter c ∷ items) = (c.name.text.now, Counter counters (width_in c.width.value)) ∷ owns_from (counters + 1) sequences items
-owns_from counters sequences (declaration s ∷ items) = (s.name.text.now, Sequence sequences) ∷ owns_from counters (sequences + 1) items
+owns_from counters sequences (counter c ∷ items) =
+    (c.name.text.now, Counter counters (width_in c.width.value))
+    ∷ owns_from (counters + 1) sequences items
+owns_from counters sequences (declaration s ∷ items) =
+    (s.name.text.now, Sequence sequences) ∷ owns_from counters (sequences + 1) items
 owns_from counters sequences (assertion a ∷ items) = owns_from counters sequences items
 
 abbrev pub owns : List ItemForm → List (List ℕ × Own)
 owns items = owns_from 0 0 items
 
--- Where names are looked up: among those of the text's own, and among the dump's paths, which have widths.
+-- Where names are looked up: among those of the text's own, and among the dump's paths, which have
+-- widths.
 pub record Scope : Type 0 where
   pub own : List ℕ → Option Own
   pub dump : List ℕ → Option ℕ
@@ -68,7 +74,8 @@ meaning_place (Some (Signal width)) = None
 meaning_place (Some (Declared (Counter place width))) = None
 meaning_place (Some (Declared (Sequence place))) = Some place
 
--- The named sequence that an expression is the name of, where it stands as a boolean of a sequence: one word without a select.
+-- The named sequence that an expression is the name of, where it stands as a boolean of a sequence:
+-- one word without a select.
 abbrev pub sequence_named : Scope → Tree → Option ℕ
 sequence_named s (path (t ∷ []) None) = meaning_place (meaning s (t ∷ []))
 sequence_named s _ = None

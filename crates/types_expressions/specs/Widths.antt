@@ -10,8 +10,10 @@ use Rattle.grammar.specs.declared.bound.Bound.{Bound}
 use Rattle.grammar.specs.declared.bound.Index.{Index}
 use Rattle.grammar.specs.declared.bound.Select.{Select}
 use Rattle.grammar.specs.declared.mark.Function.{Function}
-use Rattle.grammar.specs.declared.mark.Function.TheVariants.{Rose, Fell, Stable, Changed, OneHot, OneHot0}
-use Rattle.grammar.specs.Trees.{Tree, number, path, concatenation, past, call, unary, chain, choice, Links, end, link, Parts, no_part, part}
+use Rattle.grammar.specs.declared.mark.Function.TheVariants.{Rose, Fell, Stable, Changed, OneHot}
+use Rattle.grammar.specs.declared.mark.Function.TheVariants.{OneHot0}
+use Rattle.grammar.specs.Trees.{Tree, number, path, concatenation, past, call, unary, chain, choice}
+use Rattle.grammar.specs.Trees.{Links, end, link, Parts, no_part, part}
 use Rattle.expressions.specs.declared.operator.Arithmetic.TheVariants as arithmetic
 use Rattle.expressions.specs.declared.operator.Shift.TheVariants as shifts
 use Rattle.expressions.specs.declared.operator.Comparison.TheVariants as comparisons
@@ -19,7 +21,8 @@ use Rattle.expressions.specs.declared.operator.Connective.TheVariants as connect
 use Rattle.expressions.specs.declared.operator.Reduction.TheVariants as reductions
 use Rattle.expressions.specs.declared.operator.Change.TheVariants as changes
 use Rattle.types_expressions.specs.declared.operator.Binary.{Binary}
-use Rattle.types_expressions.specs.declared.operator.Binary.TheVariants.{Arithmetic, Shift, Comparison, Connective}
+use Rattle.types_expressions.specs.declared.operator.Binary.TheVariants.{Arithmetic, Shift}
+use Rattle.types_expressions.specs.declared.operator.Binary.TheVariants.{Comparison, Connective}
 use Rattle.types_expressions.specs.declared.operator.Unary.{Unary}
 use Rattle.types_expressions.specs.declared.operator.Unary.TheVariants as unaries
 use Rattle.types_expressions.specs.declared.operator.Call.{Call}
@@ -80,7 +83,8 @@ call_of Changed = calls.Change changes.Changed
 call_of OneHot = calls.Reduce reductions.OneHot
 call_of OneHot0 = calls.Reduce reductions.OneHotOrZero
 
--- A number's width and value, which fits it. What is no number can't come out of the parser; it counts as 0 of 32 bits.
+-- A number's width and value, which fits it. What is no number can't come out of the parser; it
+-- counts as 0 of 32 bits.
 abbrev pub number_width_of_kind : Kind → ℕ
 number_width_of_kind (kinds.Number n) = width_in (number_width n)
 number_width_of_kind _ = 32
@@ -111,8 +115,9 @@ abbrev pub ticks_of : Option Bound → ℕ
 ticks_of None = 1
 ticks_of (Some n) = n.value
 
--- A path that can't be read counts as one bit, as does a select whose high bit is below its low one (1 + what is left of high - low, at
--- least 0). A select counts as it is written, also where its name has fewer bits.
+-- A path that can't be read counts as one bit, as does a select whose high bit is below its low one
+-- (1 + what is left of high - low, at least 0). A select counts as it is written, also where its
+-- name has fewer bits.
 abbrev pub path_width_by : Option ℕ → Option Select → ℕ
 path_width_by None None = 1
 path_width_by (Some width) None = width
@@ -147,7 +152,8 @@ unfoldable mutual
   -- of operators from the left, behind an operand of so many bits
   pub chain_width : Scope → ℕ → Links → ℕ
   chain_width s w end = w
-  chain_width s w (link t e links) = chain_width s (binary_width (binary_of t) w (own_width s e)) links
+  chain_width s w (link t e links) =
+      chain_width s (binary_width (binary_of t) w (own_width s e)) links
 
   -- of parts behind so many bits
   pub parts_width : Scope → ℕ → Parts → ℕ

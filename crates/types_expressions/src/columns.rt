@@ -68,13 +68,15 @@ impl SignalPaths {
 ghost use Rattle.types_expressions.specs.Columns.{columns_of};
 ghost use Rattle.types_expressions.specs.Views.{columns_in};
 
-/// The signals that a text reads, in the order of the text. A clock's path is not among them, unless it is read as a signal too.
+/// The signals that a text reads, in the order of the text. A clock's path is not among them,
+/// unless it is read as a signal too.
 pub fn columns_of(
     alloc: Global,
     scope: &Scope,
     items: &[ItemTree],
 ) -> Result<SignalPaths, AllocError>
-    ensures { IfOk result (λ c. columns_in c ≡ columns_of (scope_of scope.now) (map item_of items.now)) }
+    ensures { IfOk result (λ c. columns_in c ≡ columns_of (scope_of scope.now)
+        (map item_of items.now)) }
 {
     let mut columns = SignalPaths {
         paths: IndexSet::new(alloc),

@@ -4,8 +4,11 @@ ghost use Rattle.std.specs.Prelude.{◌≡◌, ◌≤◌, ◌∷◌, map, min, I
 ghost use Rattle.grammar.specs.ReadExpressions.{links_of, parts_of};
 ghost use Rattle.parser_expressions.specs.Views.{path_of, tree_of, link_of};
 ghost use Rattle.types_expressions.specs.Scopes.{bits_of, meaning};
-ghost use Rattle.types_expressions.specs.Widths.{binary_width, unary_width, path_width_by, path_width, own_width, chain_width, parts_width, high_of, low_of, unary_of};
-ghost use Rattle.types_expressions.specs.Faults.{has_bits, path_faults, wide_faults, faults, link_faults, part_faults, earlier, least};
+ghost use Rattle.types_expressions.specs.Widths.{binary_width, unary_width, path_width_by};
+ghost use Rattle.types_expressions.specs.Widths.{path_width, own_width, chain_width, parts_width};
+ghost use Rattle.types_expressions.specs.Widths.{high_of, low_of, unary_of};
+ghost use Rattle.types_expressions.specs.Faults.{has_bits, path_faults, wide_faults, faults};
+ghost use Rattle.types_expressions.specs.Faults.{link_faults, part_faults, earlier, least};
 ghost use Rattle.types_expressions.specs.Views.{scope_of};
 
 use crate::number::number_bits;
@@ -17,7 +20,8 @@ use lexer::Token;
 use parser::{ExprTree, Path};
 use std::alloc::{AllocError, Global};
 
-/// What is seen of an expression: its own width, held at 129, and the first fault of the kind that is sought.
+/// What is seen of an expression: its own width, held at 129, and the first fault of the kind that
+/// is sought.
 #[derive(Clone, Copy, Debug)]
 pub(crate) struct Seen {
     pub(crate) width: usize,
@@ -93,8 +97,11 @@ fn see_path(
     path: &Path,
     select: Option<Select>,
 ) -> Result<Seen, AllocError>
-    ensures width { IfOk result (λ r. r.width ≡ min (path_width (scope_of scope.now) (path_of path.now) select) 129) }
-    ensures fault { IfOk result (λ r. r.fault ≡ least (path_faults sought path.now.first.at (bits_of (meaning (scope_of scope.now) (path_of path.now))) select)) }
+    ensures width { IfOk result (λ r. r.width
+        ≡ min (path_width (scope_of scope.now) (path_of path.now) select) 129) }
+    ensures fault { IfOk result (λ r. r.fault
+        ≡ least (path_faults sought path.now.first.at
+        (bits_of (meaning (scope_of scope.now) (path_of path.now))) select)) }
 {
     let bits = bits_of(scope.meaning(alloc, path)?);
     Ok(Seen {
@@ -145,8 +152,10 @@ pub(crate) fn see(
     sought: Sought,
     expr: &ExprTree,
 ) -> Result<Seen, AllocError>
-    ensures width { IfOk result (λ r. r.width ≡ min (own_width (scope_of scope.now) (tree_of expr.now)) 129) }
-    ensures fault { IfOk result (λ r. r.fault ≡ least (faults (scope_of scope.now) sought (tree_of expr.now))) }
+    ensures width { IfOk result (λ r. r.width
+        ≡ min (own_width (scope_of scope.now) (tree_of expr.now)) 129) }
+    ensures fault { IfOk result (λ r. r.fault
+        ≡ least (faults (scope_of scope.now) sought (tree_of expr.now))) }
 {
     match expr {
         ExprTree::Number(token) => Ok(Seen {
@@ -205,8 +214,12 @@ fn see_links(
     links: &[(Token, ExprTree)],
 ) -> Result<Seen, AllocError>
     requires { first.width ≤ 129 }
-    ensures width { IfOk result (λ r. r.width ≡ min (chain_width (scope_of scope.now) first.width (links_of (map link_of links.now))) 129) }
-    ensures fault { IfOk result (λ r. r.fault ≡ earlier first.fault (least (link_faults (scope_of scope.now) sought (links_of (map link_of links.now))))) }
+    ensures width { IfOk result (λ r. r.width
+        ≡ min (chain_width (scope_of scope.now) first.width (links_of (map link_of links.now)))
+        129) }
+    ensures fault { IfOk result (λ r. r.fault
+        ≡ earlier first.fault (least (link_faults (scope_of scope.now) sought
+        (links_of (map link_of links.now))))) }
 {
     let mut whole = first;
     for link in links {
@@ -230,8 +243,12 @@ fn see_parts(
     parts: &[ExprTree],
 ) -> Result<Seen, AllocError>
     requires { first.width ≤ 129 }
-    ensures width { IfOk result (λ r. r.width ≡ min (parts_width (scope_of scope.now) first.width (parts_of (map tree_of parts.now))) 129) }
-    ensures fault { IfOk result (λ r. r.fault ≡ earlier first.fault (least (part_faults (scope_of scope.now) sought (parts_of (map tree_of parts.now))))) }
+    ensures width { IfOk result (λ r. r.width
+        ≡ min (parts_width (scope_of scope.now) first.width (parts_of (map tree_of parts.now)))
+        129) }
+    ensures fault { IfOk result (λ r. r.fault
+        ≡ earlier first.fault (least (part_faults (scope_of scope.now) sought
+        (parts_of (map tree_of parts.now))))) }
 {
     let mut whole = first;
     for part in parts {

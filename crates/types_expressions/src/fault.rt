@@ -3,7 +3,9 @@
 ghost use Rattle.std.specs.Prelude.{◌≡◌, map, IfOk, option_map};
 ghost use Rattle.parser_expressions.specs.Views.{tree_of, boxed_of};
 ghost use Rattle.parser.specs.Views.{pair_of, counter_of, assertion_of, item_of};
-ghost use Rattle.types_expressions.specs.Faults.{optional_faults, clause_faults, counter_faults, assertion_faults, item_faults, file_faults, earlier, least};
+ghost use Rattle.types_expressions.specs.Faults.{optional_faults, clause_faults, counter_faults};
+ghost use Rattle.types_expressions.specs.Faults.{assertion_faults, item_faults, file_faults};
+ghost use Rattle.types_expressions.specs.Faults.{earlier, least};
 ghost use Rattle.types_expressions.specs.Views.{scope_of};
 
 use crate::expression::{earlier, see};
@@ -20,7 +22,8 @@ fn optional_fault(
     sought: Sought,
     expr: &Option<Box<ExprTree>>,
 ) -> Result<Option<usize>, AllocError>
-    ensures { IfOk result (λ r. r ≡ least (optional_faults (scope_of scope.now) sought (option_map boxed_of expr.now))) }
+    ensures { IfOk result (λ r. r ≡ least (optional_faults (scope_of scope.now) sought
+        (option_map boxed_of expr.now))) }
 {
     match expr {
         None => Ok(None),
@@ -39,7 +42,8 @@ fn clause_fault(
     sought: Sought,
     clause: &Option<Operands>,
 ) -> Result<Option<usize>, AllocError>
-    ensures { IfOk result (λ r. r ≡ least (clause_faults (scope_of scope.now) sought (option_map pair_of clause.now))) }
+    ensures { IfOk result (λ r. r ≡ least (clause_faults (scope_of scope.now) sought
+        (option_map pair_of clause.now))) }
 {
     match clause {
         None => Ok(None),
@@ -59,7 +63,8 @@ fn counter_fault(
     sought: Sought,
     counter: &CounterTree,
 ) -> Result<Option<usize>, AllocError>
-    ensures { IfOk result (λ r. r ≡ least (counter_faults (scope_of scope.now) sought (counter_of counter.now))) }
+    ensures { IfOk result (λ r. r ≡ least (counter_faults (scope_of scope.now) sought
+        (counter_of counter.now))) }
 {
     let clear = optional_fault(alloc, scope, sought, &counter.clear)?;
     let load = clause_fault(alloc, scope, sought, &counter.load)?;
@@ -76,7 +81,8 @@ fn assertion_fault(
     sought: Sought,
     assertion: &AssertionTree,
 ) -> Result<Option<usize>, AllocError>
-    ensures { IfOk result (λ r. r ≡ least (assertion_faults (scope_of scope.now) sought (assertion_of assertion.now))) }
+    ensures { IfOk result (λ r. r ≡ least (assertion_faults (scope_of scope.now) sought
+        (assertion_of assertion.now))) }
 {
     let disable = optional_fault(alloc, scope, sought, &assertion.disable)?;
     let property = property_fault(alloc, scope, sought, &assertion.property)?;
@@ -90,7 +96,8 @@ fn item_fault(
     sought: Sought,
     item: &ItemTree,
 ) -> Result<Option<usize>, AllocError>
-    ensures { IfOk result (λ r. r ≡ least (item_faults (scope_of scope.now) sought (item_of item.now))) }
+    ensures { IfOk result (λ r. r ≡ least (item_faults (scope_of scope.now) sought
+        (item_of item.now))) }
 {
     match item {
         ItemTree::Counter(counter) => counter_fault(alloc, scope, sought, counter),
@@ -108,7 +115,8 @@ pub fn first_fault(
     sought: Sought,
     items: &[ItemTree],
 ) -> Result<Option<usize>, AllocError>
-    ensures { IfOk result (λ r. r ≡ least (file_faults (scope_of scope.now) sought (map item_of items.now))) }
+    ensures { IfOk result (λ r. r ≡ least (file_faults (scope_of scope.now) sought
+        (map item_of items.now))) }
 {
     let mut fault = None;
     for item in items {

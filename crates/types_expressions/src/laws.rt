@@ -2,7 +2,8 @@
 
 ghost use Rattle.types_expressions.specs.Laws.{MeaningsHaveWidths, MeaningsAreOne};
 
-/// What an expression means has the expression's own width, and has one value at each tick, in each context.
+/// What an expression means has the expression's own width, and has one value at each tick, in each
+/// context.
 pub fn meaning_law()
     ensures widths { MeaningsHaveWidths }
     ensures one { MeaningsAreOne }

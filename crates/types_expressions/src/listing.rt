@@ -7,7 +7,11 @@ ghost use Rattle.parser_expressions.specs.Views.{path_of, tree_of, link_of, boxe
 ghost use Rattle.parser_sequences.specs.Views.{sequence_of, delay_step_of};
 ghost use Rattle.parser.specs.Views.{property_of, pair_of, counter_of, assertion_of, item_of};
 ghost use Rattle.types_expressions.specs.Scopes.{path_text, meaning};
-ghost use Rattle.types_expressions.specs.Columns.{path_signals, with_paths, columns_with, link_signals, part_signals, sequence_listed, step_signals, other_signals, property_signals, optional_signals, clause_signals, counter_signals, assertion_signals, item_listed};
+ghost use Rattle.types_expressions.specs.Columns.{path_signals, with_paths, columns_with};
+ghost use Rattle.types_expressions.specs.Columns.{link_signals, part_signals, sequence_listed};
+ghost use Rattle.types_expressions.specs.Columns.{step_signals, other_signals, property_signals};
+ghost use Rattle.types_expressions.specs.Columns.{optional_signals, clause_signals};
+ghost use Rattle.types_expressions.specs.Columns.{counter_signals, assertion_signals, item_listed};
 ghost use Rattle.types_expressions.specs.Views.{scope_of, columns_in};
 
 use crate::columns::SignalPaths;
@@ -28,7 +32,8 @@ fn list_text(
     columns: &mut SignalPaths,
     text: &str,
 ) -> Result<(), AllocError>
-    ensures { OnOk result (columns_in columns.new ≡ with_paths (columns_in columns.old) (path_signals text.now means)) }
+    ensures { OnOk result (columns_in columns.new
+        ≡ with_paths (columns_in columns.old) (path_signals text.now means)) }
 {
     match means {
         Some(Meaning::Signal(_)) => columns.add(alloc, text),
@@ -44,7 +49,10 @@ fn list_path(
     columns: &mut SignalPaths,
     path: &Path,
 ) -> Result<(), AllocError>
-    ensures { OnOk result (columns_in columns.new ≡ with_paths (columns_in columns.old) (path_signals (path_text (path_of path.now)) (meaning (scope_of scope.now) (path_of path.now)))) }
+    ensures { OnOk result (columns_in columns.new
+        ≡ with_paths (columns_in columns.old)
+        (path_signals (path_text (path_of path.now))
+        (meaning (scope_of scope.now) (path_of path.now)))) }
 {
     if path.more.is_empty() {
         let means = scope.meaning_of(path.first.text);
@@ -64,7 +72,8 @@ fn list_expression(
     columns: &mut SignalPaths,
     expr: &ExprTree,
 ) -> Result<(), AllocError>
-    ensures { OnOk result (columns_in columns.new ≡ columns_with (scope_of scope.now) (columns_in columns.old) (tree_of expr.now)) }
+    ensures { OnOk result (columns_in columns.new
+        ≡ columns_with (scope_of scope.now) (columns_in columns.old) (tree_of expr.now)) }
 {
     match expr {
         ExprTree::Number(_) => Ok(()),
@@ -97,7 +106,9 @@ fn list_links(
     columns: &mut SignalPaths,
     links: &[(Token, ExprTree)],
 ) -> Result<(), AllocError>
-    ensures { OnOk result (columns_in columns.new ≡ with_paths (columns_in columns.old) (link_signals (scope_of scope.now) (links_of (map link_of links.now)))) }
+    ensures { OnOk result (columns_in columns.new
+        ≡ with_paths (columns_in columns.old)
+        (link_signals (scope_of scope.now) (links_of (map link_of links.now)))) }
 {
     for link in links {
         list_expression(alloc, scope, columns, &link.1)?;
@@ -114,7 +125,9 @@ fn list_parts(
     columns: &mut SignalPaths,
     parts: &[ExprTree],
 ) -> Result<(), AllocError>
-    ensures { OnOk result (columns_in columns.new ≡ with_paths (columns_in columns.old) (part_signals (scope_of scope.now) (parts_of (map tree_of parts.now)))) }
+    ensures { OnOk result (columns_in columns.new
+        ≡ with_paths (columns_in columns.old)
+        (part_signals (scope_of scope.now) (parts_of (map tree_of parts.now)))) }
 {
     for part in parts {
         list_expression(alloc, scope, columns, part)?;
@@ -131,7 +144,9 @@ fn list_sequence(
     columns: &mut SignalPaths,
     sequence: &SequenceTree,
 ) -> Result<(), AllocError>
-    ensures { OnOk result (columns_in columns.new ≡ sequence_listed (scope_of scope.now) (columns_in columns.old) (sequence_of sequence.now)) }
+    ensures { OnOk result (columns_in columns.new
+        ≡ sequence_listed (scope_of scope.now)
+        (columns_in columns.old) (sequence_of sequence.now)) }
 {
     match sequence {
         SequenceTree::Boolean(expr) => list_expression(alloc, scope, columns, expr),
@@ -165,7 +180,9 @@ fn list_steps(
     columns: &mut SignalPaths,
     steps: &[(Range, SequenceTree)],
 ) -> Result<(), AllocError>
-    ensures { OnOk result (columns_in columns.new ≡ with_paths (columns_in columns.old) (step_signals (scope_of scope.now) (steps_of (map delay_step_of steps.now)))) }
+    ensures { OnOk result (columns_in columns.new
+        ≡ with_paths (columns_in columns.old)
+        (step_signals (scope_of scope.now) (steps_of (map delay_step_of steps.now)))) }
 {
     for step in steps {
         list_sequence(alloc, scope, columns, &step.1)?;
@@ -182,7 +199,9 @@ fn list_others(
     columns: &mut SignalPaths,
     others: &[SequenceTree],
 ) -> Result<(), AllocError>
-    ensures { OnOk result (columns_in columns.new ≡ with_paths (columns_in columns.old) (other_signals (scope_of scope.now) (others_of (map sequence_of others.now)))) }
+    ensures { OnOk result (columns_in columns.new
+        ≡ with_paths (columns_in columns.old)
+        (other_signals (scope_of scope.now) (others_of (map sequence_of others.now)))) }
 {
     for other in others {
         list_sequence(alloc, scope, columns, other)?;
@@ -198,7 +217,9 @@ fn list_property(
     columns: &mut SignalPaths,
     property: &PropertyTree,
 ) -> Result<(), AllocError>
-    ensures { OnOk result (columns_in columns.new ≡ with_paths (columns_in columns.old) (property_signals (scope_of scope.now) (property_of property.now))) }
+    ensures { OnOk result (columns_in columns.new
+        ≡ with_paths (columns_in columns.old)
+        (property_signals (scope_of scope.now) (property_of property.now))) }
 {
     match property {
         PropertyTree::Plain(sequence) => list_sequence(alloc, scope, columns, sequence),
@@ -217,7 +238,9 @@ fn list_optional(
     columns: &mut SignalPaths,
     expr: &Option<Box<ExprTree>>,
 ) -> Result<(), AllocError>
-    ensures { OnOk result (columns_in columns.new ≡ with_paths (columns_in columns.old) (optional_signals (scope_of scope.now) (option_map boxed_of expr.now))) }
+    ensures { OnOk result (columns_in columns.new
+        ≡ with_paths (columns_in columns.old)
+        (optional_signals (scope_of scope.now) (option_map boxed_of expr.now))) }
 {
     match expr {
         None => Ok(()),
@@ -233,7 +256,9 @@ fn list_clause(
     columns: &mut SignalPaths,
     clause: &Option<Operands>,
 ) -> Result<(), AllocError>
-    ensures { OnOk result (columns_in columns.new ≡ with_paths (columns_in columns.old) (clause_signals (scope_of scope.now) (option_map pair_of clause.now))) }
+    ensures { OnOk result (columns_in columns.new
+        ≡ with_paths (columns_in columns.old)
+        (clause_signals (scope_of scope.now) (option_map pair_of clause.now))) }
 {
     match clause {
         None => Ok(()),
@@ -253,7 +278,9 @@ fn list_counter(
     columns: &mut SignalPaths,
     counter: &CounterTree,
 ) -> Result<(), AllocError>
-    ensures { OnOk result (columns_in columns.new ≡ with_paths (columns_in columns.old) (counter_signals (scope_of scope.now) (counter_of counter.now))) }
+    ensures { OnOk result (columns_in columns.new
+        ≡ with_paths (columns_in columns.old)
+        (counter_signals (scope_of scope.now) (counter_of counter.now))) }
 {
     list_optional(alloc, scope, columns, &counter.clear)?;
     list_clause(alloc, scope, columns, &counter.load)?;
@@ -270,7 +297,9 @@ fn list_assertion(
     columns: &mut SignalPaths,
     assertion: &AssertionTree,
 ) -> Result<(), AllocError>
-    ensures { OnOk result (columns_in columns.new ≡ with_paths (columns_in columns.old) (assertion_signals (scope_of scope.now) (assertion_of assertion.now))) }
+    ensures { OnOk result (columns_in columns.new
+        ≡ with_paths (columns_in columns.old)
+        (assertion_signals (scope_of scope.now) (assertion_of assertion.now))) }
 {
     list_optional(alloc, scope, columns, &assertion.disable)?;
     list_property(alloc, scope, columns, &assertion.property)?;
@@ -284,7 +313,8 @@ pub(crate) fn list_item(
     columns: &mut SignalPaths,
     item: &ItemTree,
 ) -> Result<(), AllocError>
-    ensures { OnOk result (columns_in columns.new ≡ item_listed (scope_of scope.now) (columns_in columns.old) (item_of item.now)) }
+    ensures { OnOk result (columns_in columns.new
+        ≡ item_listed (scope_of scope.now) (columns_in columns.old) (item_of item.now)) }
 {
     match item {
         ItemTree::Counter(counter) => list_counter(alloc, scope, columns, counter),

@@ -29,7 +29,8 @@ impl Names {
     /// Adds a path, unless it is there.
     pub fn push(&mut self, alloc: Global, path: &str, width: u8) -> Result<(), AllocError>
         requires { IsWidth width }
-        ensures ok { OnOk result (names_in self.new ≡ with_entry (names_in self.old) path.now width) }
+        ensures ok { OnOk result (names_in self.new
+            ≡ with_entry (names_in self.old) path.now width) }
         ensures err { OnErr result (names_in self.new ≡ names_in self.old) }
     {
         if self.widths.contains_key(path) {
@@ -43,7 +44,8 @@ impl Names {
     /// Paths with their widths, 1 to 128.
     pub fn of(alloc: Global, names: &[(&str, u8)]) -> Result<Names, AllocError>
         requires { All (λ n. IsWidth n.1) names.now }
-        ensures { IfOk result (λ ns. names_in ns ≡ with_entries [] (map (λ n. (n.0.now, n.1)) names.now)) }
+        ensures { IfOk result (λ ns. names_in ns
+            ≡ with_entries [] (map (λ n. (n.0.now, n.1)) names.now)) }
     {
         let mut result = Names::new(alloc);
         for name in names {

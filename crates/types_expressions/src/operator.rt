@@ -1,7 +1,8 @@
 //! Operators and functions of the text, by the rule for their operands' widths.
 
 ghost use Rattle.std.specs.Prelude.{◌≡◌};
-ghost use Rattle.types_expressions.specs.Widths.{binary_of_symbol, binary_of, unary_of_symbol, unary_of, call_of};
+ghost use Rattle.types_expressions.specs.Widths.{binary_of_symbol, binary_of, unary_of_symbol};
+ghost use Rattle.types_expressions.specs.Widths.{unary_of, call_of};
 
 use expressions::{Arithmetic, Change, Comparison, Connective, Reduction, Shift};
 use grammar::Function;

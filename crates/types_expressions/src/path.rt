@@ -11,7 +11,8 @@ use std::alloc::{AllocError, Global};
 
 /// Adds a dot and a word.
 fn push_word(text: &mut String, word: &str) -> Result<(), AllocError>
-    ensures { OnOk result (string_bytes text.new ≡ string_bytes text.old ++ (codes "." ++ word.now)) }
+    ensures { OnOk result (string_bytes text.new
+        ≡ string_bytes text.old ++ (codes "." ++ word.now)) }
 {
     text.push_str(".")?;
     text.push_str(word)?;
@@ -20,7 +21,8 @@ fn push_word(text: &mut String, word: &str) -> Result<(), AllocError>
 
 /// Adds words, a dot before each.
 fn push_words(text: &mut String, words: &[Token]) -> Result<(), AllocError>
-    ensures { OnOk result (string_bytes text.new ≡ string_bytes text.old ++ flat_map (λ w. codes "." ++ w.text.now) words.now) }
+    ensures { OnOk result (string_bytes text.new
+        ≡ string_bytes text.old ++ flat_map (λ w. codes "." ++ w.text.now) words.now) }
 {
     for word in words {
         push_word(text, word.text)?;

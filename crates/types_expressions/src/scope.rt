@@ -3,7 +3,9 @@
 ghost use Rattle.std.specs.Prelude.{◌≡◌, map, option_map, IfOk, OnOk, IsTrue};
 ghost use Rattle.parser_expressions.specs.Views.{path_of, tree_of};
 ghost use Rattle.parser.specs.Views.{item_of};
-ghost use Rattle.types_expressions.specs.Scopes.{look_up, owns, is_narrow, bits_of, meaning, meaning_by, scope_for, sequence_named, meaning_place};
+ghost use Rattle.types_expressions.specs.Scopes.{look_up, owns, is_narrow, bits_of, meaning};
+ghost use Rattle.types_expressions.specs.Scopes.{meaning_by, scope_for, sequence_named};
+ghost use Rattle.types_expressions.specs.Scopes.{meaning_place};
 ghost use Rattle.types_expressions.specs.Entries.{with_entry};
 ghost use Rattle.types_expressions.specs.Views.{names_in, entries_in, scope_of};
 
@@ -16,8 +18,8 @@ use indexmap::IndexMap;
 use parser::{ExprTree, ItemTree, Path};
 use std::alloc::{AllocError, Global};
 
-/// The names of a text and the paths of a dump. The text's own names come before the dump's paths, and with a name declared twice the first
-/// declaration counts.
+/// The names of a text and the paths of a dump. The text's own names come before the dump's paths,
+/// and with a name declared twice the first declaration counts.
 #[derive(Drop)]
 pub struct Scope<'n> {
     pub(crate) own: IndexMap<String, OwnName>,
@@ -31,7 +33,8 @@ fn declare(
     name: &str,
     declared: OwnName,
 ) -> Result<(), AllocError>
-    ensures { OnOk result (entries_in names.new ≡ with_entry (entries_in names.old) name.now declared.own) }
+    ensures { OnOk result (entries_in names.new
+        ≡ with_entry (entries_in names.old) name.now declared.own) }
 {
     if names.contains_key(name) {
         return Ok(());
@@ -96,7 +99,8 @@ fn meaning_place(means: Option<Meaning>) -> Option<usize>
 impl<'n> Scope<'n> {
     /// The scope of a text over a dump.
     pub fn of(alloc: Global, names: &'n Names, items: &[ItemTree]) -> Result<Scope<'n>, AllocError>
-        ensures { IfOk result (λ s. scope_of s ≡ scope_for (map item_of items.now) (names_in names.now)) }
+        ensures { IfOk result (λ s. scope_of s
+            ≡ scope_for (map item_of items.now) (names_in names.now)) }
     {
         let own = owns_of(alloc, items)?;
         Ok(Scope { own, names })
@@ -104,7 +108,8 @@ impl<'n> Scope<'n> {
 
     /// What a text stands for, as a path.
     pub(crate) fn meaning_of(&self, text: &str) -> Option<Meaning>
-        ensures means { result ≡ meaning_by ((scope_of self.now).own text.now) ((scope_of self.now).dump text.now) }
+        ensures means { result ≡ meaning_by ((scope_of self.now).own text.now)
+            ((scope_of self.now).dump text.now) }
         ensures narrow { IsTrue (is_narrow (bits_of result)) }
     {
         if let Some(declared) = self.own.get(text) {
@@ -135,7 +140,8 @@ impl<'n> Scope<'n> {
         self.names.width(path)
     }
 
-    /// The place of the named sequence that an expression is the name of, where it stands as a boolean of a sequence.
+    /// The place of the named sequence that an expression is the name of, where it stands as a
+    /// boolean of a sequence.
     pub fn sequence_named(&self, expr: &ExprTree) -> Option<usize>
         ensures { result ≡ sequence_named (scope_of self.now) (tree_of expr.now) }
     {

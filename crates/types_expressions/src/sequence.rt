@@ -5,7 +5,8 @@ ghost use Rattle.grammar.specs.ReadSequences.{steps_of, others_of};
 ghost use Rattle.parser_expressions.specs.Views.{tree_of};
 ghost use Rattle.parser_sequences.specs.Views.{sequence_of, delay_step_of};
 ghost use Rattle.parser.specs.Views.{property_of};
-ghost use Rattle.types_expressions.specs.Faults.{boolean_faults, sequence_faults, step_faults, other_faults, property_faults, earlier, least};
+ghost use Rattle.types_expressions.specs.Faults.{boolean_faults, sequence_faults, step_faults};
+ghost use Rattle.types_expressions.specs.Faults.{other_faults, property_faults, earlier, least};
 ghost use Rattle.types_expressions.specs.Views.{scope_of};
 
 use crate::expression::{earlier, see};
@@ -22,7 +23,8 @@ fn boolean_fault(
     sought: Sought,
     expr: &ExprTree,
 ) -> Result<Option<usize>, AllocError>
-    ensures { IfOk result (λ r. r ≡ least (boolean_faults (scope_of scope.now) sought (tree_of expr.now))) }
+    ensures { IfOk result (λ r. r ≡ least (boolean_faults (scope_of scope.now) sought
+        (tree_of expr.now))) }
 {
     if scope.sequence_named(expr).is_some() {
         return Ok(None);
@@ -40,7 +42,8 @@ pub(crate) fn sequence_fault(
     sought: Sought,
     sequence: &SequenceTree,
 ) -> Result<Option<usize>, AllocError>
-    ensures { IfOk result (λ r. r ≡ least (sequence_faults (scope_of scope.now) sought (sequence_of sequence.now))) }
+    ensures { IfOk result (λ r. r ≡ least (sequence_faults (scope_of scope.now) sought
+        (sequence_of sequence.now))) }
 {
     match sequence {
         SequenceTree::Boolean(expr) => boolean_fault(alloc, scope, sought, expr),
@@ -76,7 +79,9 @@ fn steps_fault(
     first: Option<usize>,
     steps: &[(Range, SequenceTree)],
 ) -> Result<Option<usize>, AllocError>
-    ensures { IfOk result (λ r. r ≡ earlier first (least (step_faults (scope_of scope.now) sought (steps_of (map delay_step_of steps.now))))) }
+    ensures { IfOk result (λ r. r ≡ earlier first
+        (least (step_faults (scope_of scope.now) sought
+        (steps_of (map delay_step_of steps.now))))) }
 {
     let mut fault = first;
     for step in steps {
@@ -96,7 +101,9 @@ fn others_fault(
     first: Option<usize>,
     others: &[SequenceTree],
 ) -> Result<Option<usize>, AllocError>
-    ensures { IfOk result (λ r. r ≡ earlier first (least (other_faults (scope_of scope.now) sought (others_of (map sequence_of others.now))))) }
+    ensures { IfOk result (λ r. r ≡ earlier first
+        (least (other_faults (scope_of scope.now) sought
+        (others_of (map sequence_of others.now))))) }
 {
     let mut fault = first;
     for other in others {
@@ -114,7 +121,8 @@ pub(crate) fn property_fault(
     sought: Sought,
     property: &PropertyTree,
 ) -> Result<Option<usize>, AllocError>
-    ensures { IfOk result (λ r. r ≡ least (property_faults (scope_of scope.now) sought (property_of property.now))) }
+    ensures { IfOk result (λ r. r ≡ least (property_faults (scope_of scope.now) sought
+        (property_of property.now))) }
 {
     match property {
         PropertyTree::Plain(sequence) => sequence_fault(alloc, scope, sought, sequence),

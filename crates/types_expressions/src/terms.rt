@@ -7,11 +7,15 @@ ghost use Rattle.expressions.specs.declared.name.Origin.TheVariants.{Signal};
 ghost use Rattle.expressions.specs.Terms.{width_of};
 ghost use Rattle.expressions.specs.Expressions.{term_of};
 ghost use Rattle.types_expressions.specs.declared.own.Sought.{Sought};
-ghost use Rattle.types_expressions.specs.Scopes.{path_text, first_byte, meaning, bits_of, is_narrow};
+ghost use Rattle.types_expressions.specs.Scopes.{path_text, first_byte, meaning, bits_of};
+ghost use Rattle.types_expressions.specs.Scopes.{is_narrow};
 ghost use Rattle.types_expressions.specs.Widths.{ticks_of, parts_width, high_of, low_of};
-ghost use Rattle.types_expressions.specs.Faults.{IsSound, has_bits, path_faults, link_faults, part_faults};
-ghost use Rattle.types_expressions.specs.Columns.{HasColumns, column_of, is_listed, all_listed, path_signals, link_signals, part_signals};
-ghost use Rattle.types_expressions.specs.Meanings.{IsName, IsNameOf, IsRead, Means, Chains, Joins, binary_term, unary_term, call_term};
+ghost use Rattle.types_expressions.specs.Faults.{IsSound, has_bits, path_faults, link_faults};
+ghost use Rattle.types_expressions.specs.Faults.{part_faults};
+ghost use Rattle.types_expressions.specs.Columns.{HasColumns, column_of, is_listed, all_listed};
+ghost use Rattle.types_expressions.specs.Columns.{path_signals, link_signals, part_signals};
+ghost use Rattle.types_expressions.specs.Meanings.{IsName, IsNameOf, IsRead, Means, Chains, Joins};
+ghost use Rattle.types_expressions.specs.Meanings.{binary_term, unary_term, call_term};
 ghost use Rattle.types_expressions.specs.Views.{scope_of, columns_in};
 
 use crate::columns::SignalPaths;
@@ -126,8 +130,11 @@ fn path_name(
     path: &Path,
 ) -> Result<Name, AllocError>
     requires known { IsTrue (is_some (bits_of (meaning (scope_of scope.now) (path_of path.now)))) }
-    requires listed { IsTrue (all_listed (columns_in columns.now) (path_signals (path_text (path_of path.now)) (meaning (scope_of scope.now) (path_of path.now)))) }
-    ensures { IfOk result (IsNameOf (meaning (scope_of scope.now) (path_of path.now)) (column_of (columns_in columns.now) (path_text (path_of path.now)))) }
+    requires listed { IsTrue (all_listed (columns_in columns.now)
+        (path_signals (path_text (path_of path.now))
+        (meaning (scope_of scope.now) (path_of path.now)))) }
+    ensures { IfOk result (IsNameOf (meaning (scope_of scope.now) (path_of path.now))
+        (column_of (columns_in columns.now) (path_text (path_of path.now)))) }
 {
     if path.more.is_empty() {
         let means = scope.meaning_of(path.first.text);
@@ -160,9 +167,13 @@ fn typed_path(
     path: &Path,
     select: Option<Select>,
 ) -> Result<expressions::Expr, AllocError>
-    requires sound { (k : Sought) → path_faults k (first_byte (path_of path.now)) (bits_of (meaning (scope_of scope.now) (path_of path.now))) select ≡ [] }
-    requires listed { IsTrue (all_listed (columns_in columns.now) (path_signals (path_text (path_of path.now)) (meaning (scope_of scope.now) (path_of path.now)))) }
-    ensures { IfOk result (λ e. IsRead (meaning (scope_of scope.now) (path_of path.now)) (column_of (columns_in columns.now) (path_text (path_of path.now))) select (term_of e)) }
+    requires sound { (k : Sought) → path_faults k (first_byte (path_of path.now))
+        (bits_of (meaning (scope_of scope.now) (path_of path.now))) select ≡ [] }
+    requires listed { IsTrue (all_listed (columns_in columns.now)
+        (path_signals (path_text (path_of path.now))
+        (meaning (scope_of scope.now) (path_of path.now)))) }
+    ensures { IfOk result (λ e. IsRead (meaning (scope_of scope.now) (path_of path.now))
+        (column_of (columns_in columns.now) (path_text (path_of path.now))) select (term_of e)) }
 {
     let name = path_name(alloc, scope, columns, path)?;
     match select {
@@ -173,8 +184,8 @@ fn typed_path(
 
 /// The expression that an expression of the text means.
 ///
-/// It has none of the faults that `first_fault` finds, and what it reads is among the columns, as it is after `columns_of` for each expression
-/// of the items.
+/// It has none of the faults that `first_fault` finds, and what it reads is among the columns, as
+/// it is after `columns_of` for each expression of the items.
 #[cycle(expressions)]
 pub fn typed_expression(
     alloc: Global,
@@ -184,7 +195,8 @@ pub fn typed_expression(
 ) -> Result<expressions::Expr, AllocError>
     requires sound { IsSound (scope_of scope.now) (tree_of expr.now) }
     requires listed { HasColumns (scope_of scope.now) (columns_in columns.now) (tree_of expr.now) }
-    ensures { IfOk result (λ e. Means (scope_of scope.now) (columns_in columns.now) (tree_of expr.now) (term_of e)) }
+    ensures { IfOk result (λ e. Means (scope_of scope.now)
+        (columns_in columns.now) (tree_of expr.now) (term_of e)) }
 {
     match expr {
         ExprTree::Number(token) => Ok(expressions::Expr::constant(number_bits(*token))),
@@ -227,9 +239,12 @@ fn chain(
     first: expressions::Expr,
     links: &[(Token, ExprTree)],
 ) -> Result<expressions::Expr, AllocError>
-    requires sound { (k : Sought) → link_faults (scope_of scope.now) k (links_of (map link_of links.now)) ≡ [] }
-    requires listed { IsTrue (all_listed (columns_in columns.now) (link_signals (scope_of scope.now) (links_of (map link_of links.now)))) }
-    ensures { IfOk result (λ e. Chains (scope_of scope.now) (columns_in columns.now) (term_of first) (links_of (map link_of links.now)) (term_of e)) }
+    requires sound { (k : Sought) → link_faults (scope_of scope.now) k
+        (links_of (map link_of links.now)) ≡ [] }
+    requires listed { IsTrue (all_listed (columns_in columns.now)
+        (link_signals (scope_of scope.now) (links_of (map link_of links.now)))) }
+    ensures { IfOk result (λ e. Chains (scope_of scope.now)
+        (columns_in columns.now) (term_of first) (links_of (map link_of links.now)) (term_of e)) }
 {
     let mut whole = first;
     for link in links {
@@ -248,10 +263,14 @@ fn join(
     first: expressions::Expr,
     parts: &[ExprTree],
 ) -> Result<expressions::Expr, AllocError>
-    requires sound { (k : Sought) → part_faults (scope_of scope.now) k (parts_of (map tree_of parts.now)) ≡ [] }
-    requires listed { IsTrue (all_listed (columns_in columns.now) (part_signals (scope_of scope.now) (parts_of (map tree_of parts.now)))) }
-    requires narrow { parts_width (scope_of scope.now) (width_of (term_of first)) (parts_of (map tree_of parts.now)) ≤ 128 }
-    ensures { IfOk result (λ e. Joins (scope_of scope.now) (columns_in columns.now) (term_of first) (parts_of (map tree_of parts.now)) (term_of e)) }
+    requires sound { (k : Sought) → part_faults (scope_of scope.now) k
+        (parts_of (map tree_of parts.now)) ≡ [] }
+    requires listed { IsTrue (all_listed (columns_in columns.now)
+        (part_signals (scope_of scope.now) (parts_of (map tree_of parts.now)))) }
+    requires narrow { parts_width (scope_of scope.now) (width_of (term_of first))
+        (parts_of (map tree_of parts.now)) ≤ 128 }
+    ensures { IfOk result (λ e. Joins (scope_of scope.now)
+        (columns_in columns.now) (term_of first) (parts_of (map tree_of parts.now)) (term_of e)) }
 {
     if parts.is_empty() {
         return first.group(alloc);

@@ -1,5 +1,7 @@
--- Sequences as they are written, with names in them; what they stand for with the names written out (IEEE 1800-2017, 16.8).
-use Rattle.std.specs.Prelude.{ℕ, zero, suc, ◌+◌, List, [], ◌∷◌, ◌++◌, Option, Some, None, slice_get, option_map, option_and_then, length, ◌<◌, ◌≡◌, ◌⊎◌}
+-- Sequences as they are written, with names in them; what they stand for with the names written out
+-- (IEEE 1800-2017, 16.8).
+use Rattle.std.specs.Prelude.{ℕ, zero, suc, ◌+◌, List, [], ◌∷◌, ◌++◌, Option, Some, None, slice_get}
+use Rattle.std.specs.Prelude.{option_map, option_and_then, length, ◌<◌, ◌≡◌, ◌⊎◌}
 use Rattle.assertions.specs.Written.{Written}
 use Rattle.assertions.specs.Written as written
 
@@ -42,9 +44,13 @@ both_there join (Some a) s = option_map (join a) s
 abbrev pub spelling_of : {B : Type 0} → (ℕ → Option (Written B)) → Draft B → Option (Written B)
 spelling_of named (boolean b) = Some (written.boolean b)
 spelling_of named (name p) = named p
-spelling_of named (delay r least extra s) = both_there (λ v w. written.delay v least (least + extra) w) (spelling_of named r) (spelling_of named s)
-spelling_of named (lead least extra s) = option_map (written.lead least (least + extra)) (spelling_of named s)
-spelling_of named (repeat r least extra) = option_map (λ v. written.repeat v least (least + extra)) (spelling_of named r)
+spelling_of named (delay r least extra s) =
+    both_there (λ v w. written.delay v least (least + extra) w) (spelling_of named r)
+    (spelling_of named s)
+spelling_of named (lead least extra s) =
+    option_map (written.lead least (least + extra)) (spelling_of named s)
+spelling_of named (repeat r least extra) =
+    option_map (λ v. written.repeat v least (least + extra)) (spelling_of named r)
 spelling_of named (or r s) = both_there written.or (spelling_of named r) (spelling_of named s)
 spelling_of named (and r s) = both_there written.and (spelling_of named r) (spelling_of named s)
 spelling_of named (throughout b r) = option_map (written.throughout b) (spelling_of named r)
@@ -52,7 +58,8 @@ spelling_of named (throughout b r) = option_map (written.throughout b) (spelling
 -- what a name stands for, where names are nested in its declaration less than so deep
 abbrev pub named_within : {B : Type 0} → List (Draft B) → ℕ → ℕ → Option (Written B)
 named_within bodies zero p = None
-named_within bodies (suc depth) p = option_and_then (spelling_of (named_within bodies depth)) (slice_get bodies p)
+named_within bodies (suc depth) p =
+    option_and_then (spelling_of (named_within bodies depth)) (slice_get bodies p)
 
 -- It is what is written, with the names written out.
 abbrev pub Spells : {B : Type 0} → List (Draft B) → Draft B → Written B → Type 0

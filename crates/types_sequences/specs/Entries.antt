@@ -1,5 +1,6 @@
 -- What is known of a sequence with its names written out.
-use Rattle.std.specs.Prelude.{◌≡◌, ◌⊎◌, ℕ, ◌≤◌, min, List, Bool, true, false, Option, Some, None, Box, slice_get, ◌↔◌}
+use Rattle.std.specs.Prelude.{◌≡◌, ◌⊎◌, ℕ, ◌≤◌, min, List, Bool, true, false, Option, Some, None}
+use Rattle.std.specs.Prelude.{Box, slice_get, ◌↔◌}
 use Rattle.std.specs.declared.alloc.Global.{Global}
 use Rattle.assertions.specs.declared.sequence.Boolean.{Boolean}
 use Rattle.assertions.specs.declared.sequence.Boolean.TheVariants.{One}
@@ -64,7 +65,8 @@ pub record HasEntry (bodies : Bodies) (d : Draft Boolean) (e : Entry) : Type 0 w
 
 -- Each entry of a table is that of the declaration at its place.
 abbrev pub IsTable : Bodies → List (Option Entry) → Type 0
-IsTable bodies table = (p : ℕ) (e : Entry) → slice_get table p ≡ Some (Some e) → IsEntryOf bodies p e
+IsTable bodies table =
+    (p : ℕ) (e : Entry) → slice_get table p ≡ Some (Some e) → IsEntryOf bodies p e
 
 -- whether there is an entry
 abbrev pub is_entry : Option (Option Entry) → Bool

@@ -1,5 +1,6 @@
 -- Tests on the names that a sequence uses.
-use Rattle.std.specs.Prelude.{ℕ, List, [], ◌∷◌, Bool, false, ◌||◌, ◌==◌, slice_index_or, nat_lt, true, ◌&&◌}
+use Rattle.std.specs.Prelude.{ℕ, List, [], ◌∷◌, Bool, false, ◌||◌, ◌==◌, slice_index_or, nat_lt}
+use Rattle.std.specs.Prelude.{true, ◌&&◌}
 
 -- whether one of the numbers passes
 abbrev pub some_use : (ℕ → Bool) → List ℕ → Bool

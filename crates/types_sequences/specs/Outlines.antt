@@ -1,7 +1,8 @@
 -- Sequences with other booleans in the same places.
 use Rattle.assertions.specs.Written as written
 use Rattle.assertions.specs.Written.{Written}
-use Rattle.types_sequences.specs.Drafts.{Draft, boolean, name, delay, lead, repeat, or, and, throughout}
+use Rattle.types_sequences.specs.Drafts.{Draft, boolean, name, delay, lead, repeat, or, and}
+use Rattle.types_sequences.specs.Drafts.{throughout}
 
 abbrev pub map_draft : {B C : Type 0} → (B → C) → Draft B → Draft C
 map_draft f (boolean b) = boolean (f b)
@@ -15,7 +16,8 @@ map_draft f (throughout b r) = throughout (f b) (map_draft f r)
 
 abbrev pub map_written : {B C : Type 0} → (B → C) → Written B → Written C
 map_written f (written.boolean b) = written.boolean (f b)
-map_written f (written.delay r least most s) = written.delay (map_written f r) least most (map_written f s)
+map_written f (written.delay r least most s) =
+    written.delay (map_written f r) least most (map_written f s)
 map_written f (written.lead least most s) = written.lead least most (map_written f s)
 map_written f (written.repeat r least most) = written.repeat (map_written f r) least most
 map_written f (written.or r s) = written.or (map_written f r) (map_written f s)

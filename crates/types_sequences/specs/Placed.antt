@@ -16,13 +16,17 @@ abbrev pub atom_true : List Expr → Samples → Boolean → ℕ → Bool
 atom_true booleans t One k = true
 atom_true booleans t (Listed p) k = is_true_at t (slice_get booleans p) k
 
--- The second matches by an assertion's list of places what the first matches by the places among the suite's expressions, however much was seen.
+-- The second matches by an assertion's list of places what the first matches by the places among
+-- the suite's expressions, however much was seen.
 abbrev pub IsPlaced : List Expr → List ℕ → Written Boolean → Written Boolean → Type 0
-IsPlaced booleans places w u = (t : Samples) (n : ℕ) → Alike (sat (atom_true booleans t) n) (sat (value_in booleans places t) n) (kernel One w) (kernel One u)
+IsPlaced booleans places w u =
+    (t : Samples) (n : ℕ) → Alike (sat (atom_true booleans t) n)
+    (sat (value_in booleans places t) n) (kernel One w) (kernel One u)
 
 -- the same of one boolean
 abbrev pub IsPlacedBoolean : List Expr → List ℕ → Boolean → Boolean → Type 0
-IsPlacedBoolean booleans places a b = (t : Samples) (k : ℕ) → atom_true booleans t a k ≡ value_in booleans places t b k
+IsPlacedBoolean booleans places a b =
+    (t : Samples) (k : ℕ) → atom_true booleans t a k ≡ value_in booleans places t b k
 
 -- more behind what was there
 pub record Extends {A : Type 0} (before after : List A) : Type 0 where

@@ -17,4 +17,5 @@ Covers marks left p = (mark_at marks p ≡ true) ⊎ IsIn p left
 
 -- none of these uses the goal or a mark
 abbrev pub AreQuiet : {B : Type 0} → List (Draft B) → ℕ → List Bool → List ℕ → Type 0
-AreQuiet bodies goal marks left = (p : ℕ) → IsIn p left → some_use (leads marks goal) (uses_at bodies p) ≡ false
+AreQuiet bodies goal marks left =
+    (p : ℕ) → IsIn p left → some_use (leads marks goal) (uses_at bodies p) ≡ false

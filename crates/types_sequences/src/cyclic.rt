@@ -1,6 +1,7 @@
 //! Whether a named sequence reaches itself.
 
-ghost use Rattle.std.specs.Prelude.{◌≡◌, ◌<◌, ◌≤◌, ◌↔◌, ◌⊎◌, ℕ, true, false, map, length, IsTrue, IfOk, OnOk};
+ghost use Rattle.std.specs.Prelude.{◌≡◌, ◌<◌, ◌≤◌, ◌↔◌, ◌⊎◌, ℕ, true, false, map, length, IsTrue};
+ghost use Rattle.std.specs.Prelude.{IfOk, OnOk};
 ghost use Rattle.types_sequences.specs.Drafts.{IsIn, uses, uses_at, IsCyclic};
 ghost use Rattle.types_sequences.specs.Views.{draft_of};
 ghost use Rattle.types_sequences.specs.Marks.{some_use, mark_at, leads};
@@ -48,10 +49,13 @@ fn sweep(
 ) -> Result<Vec<usize>, AllocError>
     requires long { length marks.old.items ≡ length bodies.now }
     ensures long { length marks.new.items ≡ length marks.old.items }
-    ensures sound { AreSound (map draft_of bodies.now) goal marks.old.items → AreSound (map draft_of bodies.now) goal marks.new.items }
-    ensures covers { IfOk result (λ still. (p : ℕ) → p < length bodies.now → Covers marks.old.items places.items p → Covers marks.new.items still.items p) }
+    ensures sound { AreSound (map draft_of bodies.now) goal marks.old.items
+        → AreSound (map draft_of bodies.now) goal marks.new.items }
+    ensures covers { IfOk result (λ still. (p : ℕ) → p < length bodies.now
+        → Covers marks.old.items places.items p → Covers marks.new.items still.items p) }
     ensures fewer { IfOk result (λ still. length still.items ≤ length places.items) }
-    ensures quiet { IfOk result (λ still. length still.items ≡ length places.items → AreQuiet (map draft_of bodies.now) goal marks.new.items still.items) }
+    ensures quiet { IfOk result (λ still. length still.items ≡ length places.items
+        → AreQuiet (map draft_of bodies.now) goal marks.new.items still.items) }
 {
     let mut left = places;
     let mut still = Vec::new(alloc);

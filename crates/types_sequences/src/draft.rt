@@ -1,7 +1,7 @@
 //! Sequences with names in them.
 
-/// A sequence as it is written (IEEE 1800-2017, 16.7 to 16.9), with booleans and named sequences by their places. A range has its
-/// least count, and by how many its largest is more.
+/// A sequence as it is written (IEEE 1800-2017, 16.7 to 16.9), with booleans and named sequences by
+/// their places. A range has its least count, and by how many its largest is more.
 #[derive(Drop)]
 pub enum Draft {
     /// The constant 1.

@@ -3,7 +3,8 @@
 ghost use Rattle.std.specs.Prelude.{◌≡◌, ◌+◌, ◌≤◌, IfOk};
 ghost use Rattle.assertions.specs.declared.sequence.Boolean.{Boolean};
 ghost use Rattle.assertions.specs.declared.sequence.Boolean.TheVariants.{Listed};
-ghost use Rattle.assertions.specs.Written.{Written, boolean, delay, lead, repeat, or, and, throughout, weight, IsOrdered};
+ghost use Rattle.assertions.specs.Written.{Written, boolean, delay, lead, repeat, or, and};
+ghost use Rattle.assertions.specs.Written.{throughout, weight, IsOrdered};
 ghost use Rattle.types_sequences.specs.Entries.{IsFacts, HasSame, IsEntry};
 
 use crate::facts::Facts;
@@ -17,7 +18,8 @@ use std::alloc::{AllocError, Global};
 #[derive(Drop)]
 pub struct Entry {
     pub facts: Facts,
-    /// A sequence that says the same, where it weighs at most 127. Its booleans have the places that the draft has.
+    /// A sequence that says the same, where it weighs at most 127. Its booleans have the places
+    /// that the draft has.
     pub sequence: Option<Box<Sequence>>,
 }
 
@@ -27,7 +29,8 @@ fn entry_with(
     facts: Facts,
     sequence: Option<Box<Sequence>>,
 ) -> Result<Entry, AllocError>
-    ensures { IfOk result (λ e. (w : Written Boolean) → IsOrdered w → IsFacts w facts → (1 ≤ weight w → weight w ≤ 127 → HasSame w sequence) → IsEntry w e) }
+    ensures { IfOk result (λ e. (w : Written Boolean) → IsOrdered w → IsFacts w facts
+        → (1 ≤ weight w → weight w ≤ 127 → HasSame w sequence) → IsEntry w e) }
 {
     if facts.weight == 0 {
         let sequence = Some(weightless(alloc, facts.empty)?);
@@ -77,7 +80,8 @@ impl Entry {
         extra: u8,
         second: Entry,
     ) -> Result<Entry, AllocError>
-        ensures { IfOk result (λ e. (v w : Written Boolean) → IsEntry v self → IsEntry w second → IsEntry (delay v least (least + extra) w) e) }
+        ensures { IfOk result (λ e. (v w : Written Boolean) → IsEntry v self → IsEntry w second
+            → IsEntry (delay v least (least + extra) w) e) }
     {
         let facts = self.facts.delay(least, extra, second.facts);
         let most = least as usize + extra as usize;
@@ -87,7 +91,8 @@ impl Entry {
 
     /// Of `##[least:least + extra] self`, with nothing before it.
     pub(crate) fn lead(self, alloc: Global, least: u8, extra: u8) -> Result<Entry, AllocError>
-        ensures { IfOk result (λ e. (w : Written Boolean) → IsEntry w self → IsEntry (lead least (least + extra) w) e) }
+        ensures { IfOk result (λ e. (w : Written Boolean) → IsEntry w self
+            → IsEntry (lead least (least + extra) w) e) }
     {
         let facts = self.facts.lead(least, extra);
         let most = least as usize + extra as usize;
@@ -97,7 +102,8 @@ impl Entry {
 
     /// Of `self[*least:least + extra]`.
     pub(crate) fn repeat(self, alloc: Global, least: u8, extra: u8) -> Result<Entry, AllocError>
-        ensures { IfOk result (λ e. (w : Written Boolean) → IsEntry w self → IsEntry (repeat w least (least + extra)) e) }
+        ensures { IfOk result (λ e. (w : Written Boolean) → IsEntry w self
+            → IsEntry (repeat w least (least + extra)) e) }
     {
         let facts = self.facts.repeat(least, extra);
         let most = least as usize + extra as usize;
@@ -107,7 +113,8 @@ impl Entry {
 
     /// Of `self or second`.
     pub(crate) fn or(self, alloc: Global, second: Entry) -> Result<Entry, AllocError>
-        ensures { IfOk result (λ e. (v w : Written Boolean) → IsEntry v self → IsEntry w second → IsEntry (or v w) e) }
+        ensures { IfOk result (λ e. (v w : Written Boolean) → IsEntry v self → IsEntry w second
+            → IsEntry (or v w) e) }
     {
         let facts = self.facts.or(second.facts);
         let sequence = either(alloc, self.sequence, second.sequence)?;
@@ -116,7 +123,8 @@ impl Entry {
 
     /// Of `self and second`.
     pub(crate) fn and(self, alloc: Global, second: Entry) -> Result<Entry, AllocError>
-        ensures { IfOk result (λ e. (v w : Written Boolean) → IsEntry v self → IsEntry w second → IsEntry (and v w) e) }
+        ensures { IfOk result (λ e. (v w : Written Boolean) → IsEntry v self → IsEntry w second
+            → IsEntry (and v w) e) }
     {
         let facts = self.facts.and(second.facts);
         let sequence = both(alloc, self.sequence, second.sequence)?;
@@ -125,7 +133,8 @@ impl Entry {
 
     /// Of a boolean throughout `self`.
     pub(crate) fn throughout(self, alloc: Global, place: usize) -> Result<Entry, AllocError>
-        ensures { IfOk result (λ e. (w : Written Boolean) → IsEntry w self → IsEntry (throughout (Listed place) w) e) }
+        ensures { IfOk result (λ e. (w : Written Boolean) → IsEntry w self
+            → IsEntry (throughout (Listed place) w) e) }
     {
         let facts = self.facts;
         let sequence = throughout(alloc, Boolean::Listed(place), self.sequence)?;

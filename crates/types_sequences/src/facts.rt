@@ -2,7 +2,8 @@
 
 ghost use Rattle.std.specs.Prelude.{◌≡◌, ◌+◌, ◌||◌, ◌&&◌, nat_le, min};
 ghost use Rattle.assertions.specs.declared.sequence.Boolean.{Boolean};
-ghost use Rattle.assertions.specs.Written.{Written, boolean, delay, lead, repeat, or, and, throughout};
+ghost use Rattle.assertions.specs.Written.{Written, boolean, delay, lead, repeat, or, and};
+ghost use Rattle.assertions.specs.Written.{throughout};
 ghost use Rattle.types_sequences.specs.Entries.{IsFacts};
 
 /// What the form of a sequence tells, with its names written out.
@@ -51,7 +52,8 @@ impl Facts {
 
     /// Whether both match, and one takes a tick, were every boolean true.
     fn takes_with(self, second: Facts) -> bool
-        ensures { result ≡ ((self.ticks && (second.empty || second.ticks)) || ((self.empty || self.ticks) && second.ticks)) }
+        ensures { result ≡ ((self.ticks && (second.empty || second.ticks))
+            || ((self.empty || self.ticks) && second.ticks)) }
     {
         (self.ticks && second.matches()) || (self.matches() && second.ticks)
     }
@@ -59,7 +61,9 @@ impl Facts {
     /// Whether the delay of two takes a tick, were every boolean true.
     fn delay_takes(self, least: u8, most: usize, second: Facts) -> bool
         ensures { result ≡ ((nat_le least 0 && (self.ticks && second.ticks))
-            || ((nat_le least 1 && nat_le 1 most) && ((self.ticks && (second.empty || second.ticks)) || ((self.empty || self.ticks) && second.ticks)))
+            || ((nat_le least 1 && nat_le 1 most)
+            && ((self.ticks && (second.empty || second.ticks))
+            || ((self.empty || self.ticks) && second.ticks)))
             || (nat_le 2 most && ((self.empty || self.ticks) && (second.empty || second.ticks)))) }
     {
         let shared = least == 0 && self.ticks && second.ticks;
@@ -70,7 +74,8 @@ impl Facts {
 
     /// Of `self ##[least:least + extra] second`.
     pub(crate) fn delay(self, least: u8, extra: u8, second: Facts) -> Facts
-        ensures { (v w : Written Boolean) → IsFacts v self → IsFacts w second → IsFacts (delay v least (least + extra) w) result }
+        ensures { (v w : Written Boolean) → IsFacts v self → IsFacts w second
+            → IsFacts (delay v least (least + extra) w) result }
     {
         let most = usize::from(least) + usize::from(extra);
         Facts {
@@ -82,7 +87,8 @@ impl Facts {
 
     /// Of `##[least:least + extra] self`, with nothing before it.
     pub(crate) fn lead(self, least: u8, extra: u8) -> Facts
-        ensures { (w : Written Boolean) → IsFacts w self → IsFacts (lead least (least + extra) w) result }
+        ensures { (w : Written Boolean) → IsFacts w self
+            → IsFacts (lead least (least + extra) w) result }
     {
         let most = usize::from(least) + usize::from(extra);
         Facts {
@@ -94,7 +100,8 @@ impl Facts {
 
     /// Of `self[*least:least + extra]`.
     pub(crate) fn repeat(self, least: u8, extra: u8) -> Facts
-        ensures { (w : Written Boolean) → IsFacts w self → IsFacts (repeat w least (least + extra)) result }
+        ensures { (w : Written Boolean) → IsFacts w self
+            → IsFacts (repeat w least (least + extra)) result }
     {
         let most = usize::from(least) + usize::from(extra);
         Facts {
@@ -106,7 +113,8 @@ impl Facts {
 
     /// Of `self or second`.
     pub(crate) fn or(self, second: Facts) -> Facts
-        ensures { (v w : Written Boolean) → IsFacts v self → IsFacts w second → IsFacts (or v w) result }
+        ensures { (v w : Written Boolean) → IsFacts v self → IsFacts w second
+            → IsFacts (or v w) result }
     {
         Facts {
             weight: cap(usize::from(self.weight) + usize::from(second.weight)),
@@ -117,7 +125,8 @@ impl Facts {
 
     /// Of `self and second`.
     pub(crate) fn and(self, second: Facts) -> Facts
-        ensures { (v w : Written Boolean) → IsFacts v self → IsFacts w second → IsFacts (and v w) result }
+        ensures { (v w : Written Boolean) → IsFacts v self → IsFacts w second
+            → IsFacts (and v w) result }
     {
         Facts {
             weight: cap((usize::from(self.weight) + 1) * (usize::from(second.weight) + 1)),

@@ -23,7 +23,8 @@ pub fn rewrite_antecedent(
     antecedent: Box<Draft>,
     implication: Implication,
 ) -> Result<Box<Draft>, AllocError>
-    ensures { IfOk result (λ d. draft_of d.value ≡ rewritten_antecedent One implication (draft_of antecedent.value)) }
+    ensures { IfOk result (λ d. draft_of d.value
+        ≡ rewritten_antecedent One implication (draft_of antecedent.value)) }
 {
     match implication {
         Implication::Overlapped => Ok(antecedent),

@@ -1,4 +1,5 @@
-//! Named sequences: which of them reach themselves, what they weigh, and what they stand for with the names written out.
+//! Named sequences: which of them reach themselves, what they weigh, and what they stand for with
+//! the names written out.
 #![tactic(auto)]
 
 mod cyclic;

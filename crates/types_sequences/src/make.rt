@@ -4,7 +4,8 @@ ghost use Rattle.std.specs.Prelude.{◌≡◌, ◌+◌, ◌≤◌, true, false, 
 ghost use Rattle.assertions.specs.declared.sequence.Boolean.{Boolean};
 ghost use Rattle.assertions.specs.declared.sequence.Boolean.TheVariants.{One};
 ghost use Rattle.assertions.specs.Shapes.{written_form};
-ghost use Rattle.assertions.specs.Written.{Written, boolean, delay, lead, repeat, or, and, throughout, weight, IsOrdered};
+ghost use Rattle.assertions.specs.Written.{Written, boolean, delay, lead, repeat, or, and};
+ghost use Rattle.assertions.specs.Written.{throughout, weight, IsOrdered};
 ghost use Rattle.assertions.specs.Emptiness.{admits_empty};
 ghost use Rattle.types_sequences.specs.Entries.{SaysSame, HasSame};
 
@@ -22,7 +23,8 @@ fn empty_segment(alloc: Global) -> Result<Box<Sequence>, AllocError>
 /// What weighs nothing: the empty segment, or no segment.
 #[tactic(auto, using(crate::proofs::SameLaws::says_empty, crate::proofs::SameLaws::says_never))]
 pub(crate) fn weightless(alloc: Global, empty: bool) -> Result<Box<Sequence>, AllocError>
-    ensures { IfOk result (λ b. (w : Written Boolean) → IsOrdered w → weight w ≡ 0 → admits_empty w ≡ empty → SaysSame w (written_form b.value)) }
+    ensures { IfOk result (λ b. (w : Written Boolean) → IsOrdered w → weight w ≡ 0
+        → admits_empty w ≡ empty → SaysSame w (written_form b.value)) }
 {
     let first = empty_segment(alloc)?;
     if empty {
@@ -70,7 +72,8 @@ pub(crate) fn delay_of(
     second: Option<Box<Sequence>>,
 ) -> Result<Option<Box<Sequence>>, AllocError>
     requires { least ≤ most }
-    ensures { IfOk result (λ o. (v w : Written Boolean) → most ≤ 127 → HasSame v first → HasSame w second → HasSame (delay v least most w) o) }
+    ensures { IfOk result (λ o. (v w : Written Boolean) → most ≤ 127 → HasSame v first
+        → HasSame w second → HasSame (delay v least most w) o) }
 {
     if most > 127 {
         return Ok(None);
@@ -92,7 +95,8 @@ pub(crate) fn lead_of(
     body: Option<Box<Sequence>>,
 ) -> Result<Option<Box<Sequence>>, AllocError>
     requires { least ≤ most }
-    ensures { IfOk result (λ o. (w : Written Boolean) → most ≤ 127 → HasSame w body → HasSame (lead least most w) o) }
+    ensures { IfOk result (λ o. (w : Written Boolean) → most ≤ 127 → HasSame w body
+        → HasSame (lead least most w) o) }
 {
     if most > 127 {
         return Ok(None);
@@ -111,7 +115,8 @@ pub(crate) fn repetition_of(
     most: usize,
 ) -> Result<Option<Box<Sequence>>, AllocError>
     requires { least ≤ most }
-    ensures { IfOk result (λ o. (w : Written Boolean) → most ≤ 127 → HasSame w body → HasSame (repeat w least most) o) }
+    ensures { IfOk result (λ o. (w : Written Boolean) → most ≤ 127 → HasSame w body
+        → HasSame (repeat w least most) o) }
 {
     if most > 127 {
         return Ok(None);
@@ -129,7 +134,8 @@ pub(crate) fn either(
     first: Option<Box<Sequence>>,
     second: Option<Box<Sequence>>,
 ) -> Result<Option<Box<Sequence>>, AllocError>
-    ensures { IfOk result (λ o. (v w : Written Boolean) → HasSame v first → HasSame w second → HasSame (or v w) o) }
+    ensures { IfOk result (λ o. (v w : Written Boolean) → HasSame v first → HasSame w second
+        → HasSame (or v w) o) }
 {
     let Some(first) = first else {
         return Ok(None);
@@ -146,7 +152,8 @@ pub(crate) fn both(
     first: Option<Box<Sequence>>,
     second: Option<Box<Sequence>>,
 ) -> Result<Option<Box<Sequence>>, AllocError>
-    ensures { IfOk result (λ o. (v w : Written Boolean) → HasSame v first → HasSame w second → HasSame (and v w) o) }
+    ensures { IfOk result (λ o. (v w : Written Boolean) → HasSame v first → HasSame w second
+        → HasSame (and v w) o) }
 {
     let Some(first) = first else {
         return Ok(None);
@@ -164,7 +171,8 @@ pub(crate) fn throughout(
     boolean: Boolean,
     body: Option<Box<Sequence>>,
 ) -> Result<Option<Box<Sequence>>, AllocError>
-    ensures { IfOk result (λ o. (w : Written Boolean) → HasSame w body → HasSame (throughout boolean w) o) }
+    ensures { IfOk result (λ o. (w : Written Boolean) → HasSame w body
+        → HasSame (throughout boolean w) o) }
 {
     let Some(body) = body else {
         return Ok(None);

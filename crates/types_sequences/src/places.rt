@@ -15,7 +15,8 @@ use std::alloc::{AllocError, Global};
 #[tactic(auto, using(crate::proofs::PlacedLaws::of_pushed))]
 pub fn place_boolean(boolean: Boolean, places: &mut Vec<usize>) -> Result<Boolean, AllocError>
     ensures grows { OnOk result (Extends places.old.items places.new.items) }
-    ensures placed { (booleans : List Expr) (more : List ℕ) → IfOk result (λ b. IsPlacedBoolean booleans (places.new.items ++ more) boolean b) }
+    ensures placed { (booleans : List Expr) (more : List ℕ)
+        → IfOk result (λ b. IsPlacedBoolean booleans (places.new.items ++ more) boolean b) }
     ensures listed { IfOk result (IsListed (length places.new.items)) }
     ensures own { OnOk result (Adds (written.boolean boolean) places.old.items places.new.items) }
 {
@@ -36,9 +37,13 @@ pub fn place_sequence(
     places: &mut Vec<usize>,
 ) -> Result<Box<Sequence>, AllocError>
     ensures grows { OnOk result (Extends places.old.items places.new.items) }
-    ensures placed { (booleans : List Expr) (more : List ℕ) → IfOk result (λ b. IsPlaced booleans (places.new.items ++ more) (written_form sequence.now) (written_form b.value)) }
-    ensures weighs { IfOk result (λ b. weight (written_form b.value) ≡ weight (written_form sequence.now)) }
-    ensures ordered { IfOk result (λ b. IsOrdered (written_form sequence.now) → IsOrdered (written_form b.value)) }
+    ensures placed { (booleans : List Expr) (more : List ℕ)
+        → IfOk result (λ b. IsPlaced booleans
+        (places.new.items ++ more) (written_form sequence.now) (written_form b.value)) }
+    ensures weighs { IfOk result (λ b. weight (written_form b.value)
+        ≡ weight (written_form sequence.now)) }
+    ensures ordered { IfOk result (λ b. IsOrdered (written_form sequence.now)
+        → IsOrdered (written_form b.value)) }
     ensures listed { IfOk result (λ b. AllListed places.new.items (written_form b.value)) }
     ensures own { OnOk result (Adds (written_form sequence.now) places.old.items places.new.items) }
 {

@@ -1,10 +1,12 @@
 //! The entries of named sequences.
 
-ghost use Rattle.std.specs.Prelude.{◌≡◌, ◌<◌, ◌≤◌, ◌⊎◌, ℕ, true, false, List, map, length, IfOk, OnOk, IfNone, IfSome, Some, slice_set};
+ghost use Rattle.std.specs.Prelude.{◌≡◌, ◌<◌, ◌≤◌, ◌⊎◌, ℕ, true, false, List, map, length, IfOk};
+ghost use Rattle.std.specs.Prelude.{OnOk, IfNone, IfSome, Some, slice_set};
 ghost use Rattle.types_sequences.specs.Drafts.{name, uses, uses_at, AllDeclared};
 ghost use Rattle.types_sequences.specs.Cycles.{ReachesCycle};
 ghost use Rattle.types_sequences.specs.Views.{draft_of};
-ghost use Rattle.types_sequences.specs.Entries.{Bodies, HasEntry, IsEntryOf, IsTable, LacksOne, Accounts, AllLack, has_entry};
+ghost use Rattle.types_sequences.specs.Entries.{Bodies, HasEntry, IsEntryOf, IsTable, LacksOne};
+ghost use Rattle.types_sequences.specs.Entries.{Accounts, AllLack, has_entry};
 
 use crate::cyclic::all_places;
 use crate::draft::Draft;
@@ -19,7 +21,8 @@ fn entry_at(
     place: usize,
 ) -> Result<Option<Entry>, AllocError>
     ensures lacking { IfOk result (λ o. IfNone o (has_entry table.now place ≡ false)) }
-    ensures entry { IfOk result (λ o. IfSome o (λ e. (bodies : Bodies) → IsTable bodies table.now → HasEntry bodies (name place) e)) }
+    ensures entry { IfOk result (λ o. IfSome o (λ e. (bodies : Bodies) → IsTable bodies table.now
+        → HasEntry bodies (name place) e)) }
 {
     match table.get(place) {
         Some(Some(entry)) => Ok(Some(entry.copy(alloc)?)),
@@ -35,7 +38,8 @@ pub fn entry_of(
     table: &[Option<Entry>],
 ) -> Result<Option<Entry>, AllocError>
     ensures lacking { IfOk result (λ o. IfNone o (LacksOne table.now (uses (draft_of draft.now)))) }
-    ensures entry { IfOk result (λ o. IfSome o (λ e. (bodies : Bodies) → IsTable bodies table.now → HasEntry bodies (draft_of draft.now) e)) }
+    ensures entry { IfOk result (λ o. IfSome o (λ e. (bodies : Bodies) → IsTable bodies table.now
+        → HasEntry bodies (draft_of draft.now) e)) }
 {
     match draft {
         Draft::One => Ok(Some(Entry::boolean(alloc, Boolean::One)?)),
@@ -89,7 +93,8 @@ pub fn entry_of(
     }
 }
 
-/// The entry of the declaration at a place, if there is such a declaration, and each name that it uses has one.
+/// The entry of the declaration at a place, if there is such a declaration, and each name that it
+/// uses has one.
 fn body_entry(
     alloc: Global,
     bodies: &[Draft],
@@ -97,8 +102,10 @@ fn body_entry(
     table: &[Option<Entry>],
 ) -> Result<Option<Entry>, AllocError>
     requires { place < length bodies.now }
-    ensures lacking { IfOk result (λ o. IfNone o (LacksOne table.now (uses_at (map draft_of bodies.now) place))) }
-    ensures entry { IfOk result (λ o. IfSome o (λ e. IsTable (map draft_of bodies.now) table.now → IsEntryOf (map draft_of bodies.now) place e)) }
+    ensures lacking { IfOk result (λ o. IfNone o
+        (LacksOne table.now (uses_at (map draft_of bodies.now) place))) }
+    ensures entry { IfOk result (λ o. IfSome o (λ e. IsTable (map draft_of bodies.now) table.now
+        → IsEntryOf (map draft_of bodies.now) place e)) }
 {
     entry_of(alloc, &bodies[place], table)
 }
@@ -111,7 +118,8 @@ fn put(table: &mut Vec<Option<Entry>>, place: usize, entry: Entry)
     table[place] = Some(entry);
 }
 
-/// Makes the entries of those of the places whose names all have entries. The others are given back.
+/// Makes the entries of those of the places whose names all have entries. The others are given
+/// back.
 fn sweep(
     alloc: Global,
     bodies: &[Draft],
@@ -120,10 +128,13 @@ fn sweep(
 ) -> Result<Vec<usize>, AllocError>
     requires long { length table.old.items ≡ length bodies.now }
     ensures long { length table.new.items ≡ length table.old.items }
-    ensures entries { IsTable (map draft_of bodies.now) table.old.items → IsTable (map draft_of bodies.now) table.new.items }
-    ensures accounts { IfOk result (λ still. (p : ℕ) → p < length bodies.now → Accounts table.old.items places.items p → Accounts table.new.items still.items p) }
+    ensures entries { IsTable (map draft_of bodies.now) table.old.items
+        → IsTable (map draft_of bodies.now) table.new.items }
+    ensures accounts { IfOk result (λ still. (p : ℕ) → p < length bodies.now
+        → Accounts table.old.items places.items p → Accounts table.new.items still.items p) }
     ensures fewer { IfOk result (λ still. length still.items ≤ length places.items) }
-    ensures lacking { IfOk result (λ still. length still.items ≡ length places.items → AllLack (map draft_of bodies.now) table.new.items still.items) }
+    ensures lacking { IfOk result (λ still. length still.items ≡ length places.items
+        → AllLack (map draft_of bodies.now) table.new.items still.items) }
 {
     let mut left = places;
     let mut still = Vec::new(alloc);
@@ -153,12 +164,14 @@ fn no_entries(alloc: Global, count: usize) -> Result<Vec<Option<Entry>>, AllocEr
     Ok(table)
 }
 
-/// The entries of named sequences, by the places of their declarations. Only those that reach themselves, or a sequence that does, have none.
+/// The entries of named sequences, by the places of their declarations. Only those that reach
+/// themselves, or a sequence that does, have none.
 pub fn resolve(alloc: Global, bodies: &[Draft]) -> Result<Vec<Option<Entry>>, AllocError>
     requires { (p : ℕ) → AllDeclared (map draft_of bodies.now) p }
     ensures long { IfOk result (λ table. length table.items ≡ length bodies.now) }
     ensures entries { IfOk result (λ table. IsTable (map draft_of bodies.now) table.items) }
-    ensures cyclic { IfOk result (λ table. (p : ℕ) → p < length bodies.now → has_entry table.items p ≡ false → ReachesCycle (map draft_of bodies.now) p) }
+    ensures cyclic { IfOk result (λ table. (p : ℕ) → p < length bodies.now
+        → has_entry table.items p ≡ false → ReachesCycle (map draft_of bodies.now) p) }
 {
     let mut table = no_entries(alloc, bodies.len())?;
     let mut left = all_places(alloc, bodies.len())?;

@@ -45,7 +45,8 @@ fn has_sequence(table: &[Option<Entry>], place: usize) -> bool {
     }
 }
 
-/// `s0` is a boolean, and each further one is the one before twice: weights 1, 3, 7 .. and 128 for all above.
+/// `s0` is a boolean, and each further one is the one before twice: weights 1, 3, 7 .. and 128 for
+/// all above.
 #[test]
 fn nested_twice(rt: HostRuntime) -> Result<(), Fail> {
     let alloc = rt.alloc();
