@@ -5,7 +5,8 @@ use signals::{Counted, CutWriter};
 use std::alloc::AllocError;
 use std::test::Fail;
 
-/// A signal of a dump: its name, its width in bits, and its values at the ticks as binary digits, one space between.
+/// A signal of a dump: its name, its width in bits, and its values at the ticks as binary digits,
+/// one space between.
 type Values<'a> = (&'a str, u8, &'a str);
 
 /// The digits at a tick.
@@ -444,13 +445,15 @@ fn empty_parts(rt: HostRuntime) -> Result<(), Fail> {
     Ok(())
 }
 
-/// Named sequences, a label, made labels, brackets round a property, and two assertions in the order of the text.
+/// Named sequences, a label, made labels, brackets round a property, and two assertions in the
+/// order of the text.
 #[test]
 fn several_assertions(rt: HostRuntime) -> Result<(), Fail> {
     let all = [("a", 1, "1 0"), ("b", 1, "0 1"), ("v", 4, "101 110")];
     let dump = dump_of(&rt, 2, all.as_slice())?;
     let text = "sequence s; a ##1 t; endsequence : s\nsequence t; b; endsequence\n\
-        assert property (@(posedge clk) (a |-> s)); q: assume property (@(posedge clk) v[1:0] == 2'b01);\n\
+        assert property (@(posedge clk) (a |-> s)); \
+        q: assume property (@(posedge clk) v[1:0] == 2'b01);\n\
         assert property (@(posedge clk) {a, b} |-> v != $past(v));";
     let written = report_judged(&rt, dump.as_str(), text)?;
     let want = "svamon 1\nclocks 2\n\

@@ -13,15 +13,16 @@ use verdicts::ReportFault;
 
 /// A dump with one tick, at which x is 1 and y is 0.
 const DUMP: &str =
-    "$timescale 1ns $end\n$scope module top $end\n$var wire 1 ! clk $end\n$var wire 1 \" x $end\n$var wire 1 # y $end\n$upscope $end\n$enddefinitions $end\n#0\n0!\n1\"\n0#\n#5\n1!\n#10\n0!\n";
+    "$timescale 1ns $end\n$scope module top $end\n$var wire 1 ! clk $end\n$var wire 1 \" x $end\n\
+    $var wire 1 # y $end\n$upscope $end\n$enddefinitions $end\n#0\n0!\n1\"\n0#\n#5\n1!\n#10\n0!\n";
 
 const OVERLAPPED: &str = "r: assert property (@(posedge top.clk) top.x |-> top.y);\n";
 
 const NON_OVERLAPPED: &str = "assert property (@(posedge top.clk) top.x |=> top.y);";
 
 /// The report on the first over the dump.
-const REPORT: &[u8] =
-    b"svamon 1\nclocks 1\nmonitor r holds 0 vacuous 0 fails 1 disabled 0 open 0\nfail r start 0 clock 0\ntotal holds 0 vacuous 0 fails 1 disabled 0 open 0\n";
+const REPORT: &[u8] = b"svamon 1\nclocks 1\nmonitor r holds 0 vacuous 0 fails 1 disabled 0 open 0\n\
+    fail r start 0 clock 0\ntotal holds 0 vacuous 0 fails 1 disabled 0 open 0\n";
 
 /// What a run left.
 #[derive(Drop)]
@@ -96,8 +97,9 @@ fn fails_at_its_tick(rt: HostRuntime) -> Result<(), Fail> {
 fn no_edge_and_empty_file(rt: HostRuntime) -> Result<(), Fail> {
     let dump = dump_with(&rt, "")?;
     let outcome = run(&rt, dump.as_bytes(), OVERLAPPED, 1024, 10_000)?;
-    let want =
-        b"svamon 1\nclocks 0\nmonitor r holds 0 vacuous 0 fails 0 disabled 0 open 0\ntotal holds 0 vacuous 0 fails 0 disabled 0 open 0\n".as_slice();
+    let want = b"svamon 1\nclocks 0\nmonitor r holds 0 vacuous 0 fails 0 disabled 0 open 0\n\
+        total holds 0 vacuous 0 fails 0 disabled 0 open 0\n"
+        .as_slice();
     assert_eq!(rt; outcome.written.as_slice(), want);
     assert_eq!(rt; status(&outcome.answer), 0);
     let (line, status) = refusal(&rt, b"".as_slice(), OVERLAPPED)?;
@@ -114,8 +116,8 @@ fn next_tick_holds(rt: HostRuntime) -> Result<(), Fail> {
 }
 
 /// A number of 128 bits of which only the highest is 1.
-const HIGHEST: &str =
-    "10000000000000000000000000000000000000000000000000000000000000000000000000000000000000000000000000000000000000000000000000000000";
+const HIGHEST: &str = "1000000000000000000000000000000000000000000000000000000000000000\
+    0000000000000000000000000000000000000000000000000000000000000000";
 
 /// A name of several bits is true where one of its bits is.
 #[test]
@@ -249,7 +251,8 @@ fn cut_dumps(rt: HostRuntime) -> Result<(), Fail> {
     Ok(())
 }
 
-/// A dump that ends early, at a byte, is refused or is a dump of its own; no run hangs or writes and refuses.
+/// A dump that ends early, at a byte, is refused or is a dump of its own; no run hangs or writes
+/// and refuses.
 #[test]
 fn short_dumps(rt: HostRuntime) -> Result<(), Fail> {
     for end in 0..DUMP.len() {

@@ -4,7 +4,8 @@ ghost use Rattle.std.specs.Prelude.{◌≡◌, ◌++◌, OnOk, map};
 ghost use Rattle.expressions.specs.Nodes.{node_term, seen_node, step_of};
 ghost use Rattle.expressions.specs.Expressions.{term_of};
 ghost use Rattle.assertion_reads.specs.Names.{operand_names, part_names};
-ghost use Rattle.assertion_reads.specs.Names.{names_in, expression_names, rule_names, counter_names};
+ghost use Rattle.assertion_reads.specs.Names.{names_in, expression_names, rule_names};
+ghost use Rattle.assertion_reads.specs.Names.{counter_names};
 
 use expressions::{Arithmetic, Comparison, Connective, Counter, Expr, Name, Node, Rule, Shift};
 use std::alloc::AllocError;
@@ -54,7 +55,8 @@ fn add_node(node: &Node, names: &mut Vec<Name>) -> Result<(), AllocError>
 /// Adds the names of the operands of sums.
 #[cycle(naming)]
 fn add_sums(steps: &[(Arithmetic, Node)], names: &mut Vec<Name>) -> Result<(), AllocError>
-    ensures { OnOk result (names.new.items ≡ names.old.items ++ operand_names (map step_of steps.now)) }
+    ensures { OnOk result
+        (names.new.items ≡ names.old.items ++ operand_names (map step_of steps.now)) }
 {
     for step in steps {
         add_node(&step.1, names)?;
@@ -65,7 +67,8 @@ fn add_sums(steps: &[(Arithmetic, Node)], names: &mut Vec<Name>) -> Result<(), A
 /// Adds the names of the operands of shifts.
 #[cycle(naming)]
 fn add_shifts(steps: &[(Shift, Node)], names: &mut Vec<Name>) -> Result<(), AllocError>
-    ensures { OnOk result (names.new.items ≡ names.old.items ++ operand_names (map step_of steps.now)) }
+    ensures { OnOk result
+        (names.new.items ≡ names.old.items ++ operand_names (map step_of steps.now)) }
 {
     for step in steps {
         add_node(&step.1, names)?;
@@ -76,7 +79,8 @@ fn add_shifts(steps: &[(Shift, Node)], names: &mut Vec<Name>) -> Result<(), Allo
 /// Adds the names of the operands of comparisons.
 #[cycle(naming)]
 fn add_comparisons(steps: &[(Comparison, Node)], names: &mut Vec<Name>) -> Result<(), AllocError>
-    ensures { OnOk result (names.new.items ≡ names.old.items ++ operand_names (map step_of steps.now)) }
+    ensures { OnOk result
+        (names.new.items ≡ names.old.items ++ operand_names (map step_of steps.now)) }
 {
     for step in steps {
         add_node(&step.1, names)?;
@@ -87,7 +91,8 @@ fn add_comparisons(steps: &[(Comparison, Node)], names: &mut Vec<Name>) -> Resul
 /// Adds the names of the operands of connectives.
 #[cycle(naming)]
 fn add_connections(steps: &[(Connective, Node)], names: &mut Vec<Name>) -> Result<(), AllocError>
-    ensures { OnOk result (names.new.items ≡ names.old.items ++ operand_names (map step_of steps.now)) }
+    ensures { OnOk result
+        (names.new.items ≡ names.old.items ++ operand_names (map step_of steps.now)) }
 {
     for step in steps {
         add_node(&step.1, names)?;
@@ -98,7 +103,8 @@ fn add_connections(steps: &[(Connective, Node)], names: &mut Vec<Name>) -> Resul
 /// Adds the names of parts side by side.
 #[cycle(naming)]
 fn add_parts(parts: &[Node], names: &mut Vec<Name>) -> Result<(), AllocError>
-    ensures { OnOk result (names.new.items ≡ names.old.items ++ part_names (map seen_node parts.now)) }
+    ensures { OnOk result
+        (names.new.items ≡ names.old.items ++ part_names (map seen_node parts.now)) }
 {
     for part in parts {
         add_node(part, names)?;

@@ -1,6 +1,7 @@
 //! What an assertion reads.
 
-ghost use Rattle.std.specs.Prelude.{◌≡◌, ◌↔◌, ◌<◌, ◌≤◌, ◌++◌, ℕ, true, false, map, length, IfOk, OnOk};
+ghost use Rattle.std.specs.Prelude.{◌≡◌, ◌↔◌, ◌<◌, ◌≤◌, ◌++◌, ℕ, true, false, map, length, IfOk};
+ghost use Rattle.std.specs.Prelude.{OnOk};
 ghost use Rattle.std.specs.Prelude.{MatchOption, slice_get, slice_index_or, Contains};
 ghost use Rattle.std.specs.List.{flat_map};
 ghost use Rattle.expressions.specs.declared.name.Name.{Name};
@@ -27,7 +28,8 @@ fn is_waiting(name: &Name, done: &[bool]) -> bool
 /// The place of the first such name from a place on.
 fn next_waiting(names: &[Name], from: usize, done: &[bool]) -> Option<usize>
     requires { from ≤ length names.now }
-    ensures { MatchOption result (NoneFrom done.now from names.now) (IsNext done.now from names.now) }
+    ensures { MatchOption result (NoneFrom done.now from names.now)
+        (IsNext done.now from names.now) }
 {
     for at in from..names.len() {
         if is_waiting(&names[at], done) {

@@ -1,6 +1,8 @@
--- What becomes of an attempt: ends, obligations, decisions and the verdict (IEEE 1800-2017, 16.12.7 and annex F.5.3).
--- r is the antecedent, s the consequent, c the attempt's first tick; value says which boolean is true at which tick.
-use Rattle.std.specs.Prelude.{◌⊎◌, ℕ, ◌+◌, ◌-◌, ◌<◌, ◌≤◌, Bool, true, false, not, ◌&&◌, ◌||◌, Option, Some, None, IsTrue}
+-- What becomes of an attempt: ends, obligations, decisions and the verdict (IEEE 1800-2017, 16.12.7
+-- and annex F.5.3). r is the antecedent, s the consequent, c the attempt's first tick; value says
+-- which boolean is true at which tick.
+use Rattle.std.specs.Prelude.{◌⊎◌, ℕ, ◌+◌, ◌-◌, ◌<◌, ◌≤◌, Bool, true, false, not, ◌&&◌, ◌||◌}
+use Rattle.std.specs.Prelude.{Option, Some, None, IsTrue}
 use Rattle.assertions.specs.declared.decision.Decision.{Decision}
 use Rattle.assertions.specs.declared.decision.Decision.TheVariants.{Held, Vacuously, Failed}
 use Rattle.signals.specs.declared.verdict.Verdict.{Verdict}
@@ -8,7 +10,8 @@ use Rattle.signals.specs.declared.verdict.Verdict.TheVariants as outcome
 use Rattle.assertions.specs.Quantifiers.{some_in, each_in, first_in, first_true}
 use Rattle.assertions.specs.Segments.{Seq, sat, is_match, Matches, longest}
 
--- A non-empty match of the antecedent from c ends with the tick e, where the ticks below n were seen.
+-- A non-empty match of the antecedent from c ends with the tick e, where the ticks below n were
+-- seen.
 abbrev pub IsEnd : {B : Type 0} → (B → ℕ → Bool) → Seq B → ℕ → ℕ → ℕ → Type 0
 IsEnd value r n c e = (c ≤ e) × (e < n) × Matches (sat value n) r c (e + 1)
 
@@ -30,7 +33,9 @@ Fails value r s n c = (e : ℕ) × IsEnd value r n c e × IsBroken value s n e
 
 -- There is an end, each has a kept obligation, and no longer match of the antecedent is possible.
 abbrev pub Holds : {B : Type 0} → (B → ℕ → Bool) → Seq B → Seq B → ℕ → ℕ → Type 0
-Holds value r s n c = ((e : ℕ) × IsEnd value r n c e) × ((e : ℕ) → IsEnd value r n c e → IsKept value s n e) × IsOver value r n c
+Holds value r s n c =
+    ((e : ℕ) × IsEnd value r n c e) × ((e : ℕ) → IsEnd value r n c e → IsKept value s n e)
+    × IsOver value r n c
 
 -- There is no end, and no longer match of the antecedent is possible.
 abbrev pub IsVacuous : {B : Type 0} → (B → ℕ → Bool) → Seq B → ℕ → ℕ → Type 0
@@ -42,8 +47,10 @@ IsDecided value r s n c Failed = Fails value r s n c
 IsDecided value r s n c Held = Holds value r s n c
 IsDecided value r s n c Vacuously = IsVacuous value r n c
 
--- n is the least number above c, up to the end of the trace, by which the attempt is decided, and d says how.
-pub record IsFirstDecided {B : Type 0} (value : B → ℕ → Bool) (r s : Seq B) (end c n : ℕ) (d : Decision) : Type 0 where
+-- n is the least number above c, up to the end of the trace, by which the attempt is decided, and d
+-- says how.
+pub record IsFirstDecided {B : Type 0} (value : B → ℕ → Bool) (r s : Seq B) (end c n : ℕ)
+    (d : Decision) : Type 0 where
   pub above : c < n
   pub within : n ≤ end
   pub decided : IsDecided value r s n c d
@@ -51,9 +58,11 @@ pub record IsFirstDecided {B : Type 0} (value : B → ℕ → Bool) (r s : Seq B
 
 -- Nothing up to the end of the trace decides it.
 abbrev pub IsUndecided : {B : Type 0} → (B → ℕ → Bool) → Seq B → Seq B → ℕ → ℕ → Type 0
-IsUndecided value r s end c = (m : ℕ) (other : Decision) → c < m → m ≤ end → IsDecided value r s m c other → ⊥
+IsUndecided value r s end c =
+    (m : ℕ) (other : Decision) → c < m → m ≤ end → IsDecided value r s m c other → ⊥
 
--- t is the first tick from c on, below the end, at which the disabling expression is true (16.12, 16.15)
+-- t is the first tick from c on, below the end, at which the disabling expression is true (16.12,
+-- 16.15)
 pub record IsFirstOff (off : ℕ → Bool) (c end t : ℕ) : Type 0 where
   pub from : c ≤ t
   pub below : t < end
@@ -64,13 +73,17 @@ pub record IsFirstOff (off : ℕ → Bool) (c end t : ℕ) : Type 0 where
 abbrev pub IsNeverOff : (ℕ → Bool) → ℕ → ℕ → Type 0
 IsNeverOff off c end = (k : ℕ) → c ≤ k → k < end → IsTrue (off k) → ⊥
 
--- The verdict: the decision by the least n, at the tick n - 1, unless the disabling expression was true at a tick from
--- c to there: then it is disabled at the first such tick. Where nothing decides, it is disabled at the first such
--- tick up to the last of the trace, or else open.
-abbrev pub IsVerdict : {B : Type 0} → (B → ℕ → Bool) → (ℕ → Bool) → Seq B → Seq B → ℕ → ℕ → Verdict → Type 0
-IsVerdict value off r s end c (outcome.Holds t) = IsFirstDecided value r s end c (t + 1) Held × IsNeverOff off c (t + 1)
-IsVerdict value off r s end c (outcome.Vacuous t) = IsFirstDecided value r s end c (t + 1) Vacuously × IsNeverOff off c (t + 1)
-IsVerdict value off r s end c (outcome.Fails t) = IsFirstDecided value r s end c (t + 1) Failed × IsNeverOff off c (t + 1)
+-- The verdict: the decision by the least n, at the tick n - 1, unless the disabling expression was
+-- true at a tick from c to there: then it is disabled at the first such tick. Where nothing
+-- decides, it is disabled at the first such tick up to the last of the trace, or else open.
+abbrev pub IsVerdict : {B : Type 0} → (B → ℕ → Bool) → (ℕ → Bool) → Seq B → Seq B
+    → ℕ → ℕ → Verdict → Type 0
+IsVerdict value off r s end c (outcome.Holds t) =
+    IsFirstDecided value r s end c (t + 1) Held × IsNeverOff off c (t + 1)
+IsVerdict value off r s end c (outcome.Vacuous t) =
+    IsFirstDecided value r s end c (t + 1) Vacuously × IsNeverOff off c (t + 1)
+IsVerdict value off r s end c (outcome.Fails t) =
+    IsFirstDecided value r s end c (t + 1) Failed × IsNeverOff off c (t + 1)
 IsVerdict value off r s end c (outcome.Disabled t) =
     ((n : ℕ) × (d : Decision) × IsFirstDecided value r s end c n d × IsFirstOff off c n t)
     ⊎ (IsUndecided value r s end c × IsFirstOff off c end t)
@@ -90,13 +103,15 @@ abbrev pub goes_on : {B : Type 0} → (B → ℕ → Bool) → Seq B → ℕ →
 goes_on value r n c = some_in (n + 1) (c + longest r + 1) (λ j. is_match (sat value n) r c j)
 
 abbrev pub is_failed : {B : Type 0} → (B → ℕ → Bool) → Seq B → Seq B → ℕ → ℕ → Bool
-is_failed value r s n c = some_in c n (λ e. is_match (sat value n) r c (e + 1) && not (is_possible value s n e))
+is_failed value r s n c =
+    some_in c n (λ e. is_match (sat value n) r c (e + 1) && not (is_possible value s n e))
 
 abbrev pub all_kept : {B : Type 0} → (B → ℕ → Bool) → Seq B → Seq B → ℕ → ℕ → Bool
-all_kept value r s n c = each_in c n (λ e. not (is_match (sat value n) r c (e + 1)) || is_kept value s n e)
+all_kept value r s n c =
+    each_in c n (λ e. not (is_match (sat value n) r c (e + 1)) || is_kept value s n e)
 
--- How it is decided, where an obligation is broken or not, a longer match is possible or not, there is an end or
--- not, and each obligation is kept or not.
+-- How it is decided, where an obligation is broken or not, a longer match is possible or not, there
+-- is an end or not, and each obligation is kept or not.
 abbrev pub decide : Bool → Bool → Bool → Bool → Option Decision
 decide true goes_on has_end all_kept = Some Failed
 decide false true has_end all_kept = None
@@ -106,7 +121,9 @@ decide false false true false = None
 
 -- how the attempt at c is decided by n, if it is
 unfoldable pub decision : {B : Type 0} → (B → ℕ → Bool) → Seq B → Seq B → ℕ → ℕ → Option Decision
-decision value r s n c = decide (is_failed value r s n c) (goes_on value r n c) (has_end value r n c) (all_kept value r s n c)
+decision value r s n c =
+    decide (is_failed value r s n c) (goes_on value r n c) (has_end value r n c)
+    (all_kept value r s n c)
 
 -- the verdict of an attempt that is decided so at a tick
 abbrev pub decided_at : Decision → ℕ → Verdict
@@ -119,11 +136,13 @@ abbrev pub disabled_or : Option ℕ → Verdict → Verdict
 disabled_or None verdict = verdict
 disabled_or (Some tick) verdict = outcome.Disabled tick
 
--- the verdict, from the first decision if there is one; off says at which ticks the disabling expression is true
+-- the verdict, from the first decision if there is one; off says at which ticks the disabling
+-- expression is true
 abbrev pub verdict_by : (ℕ → Bool) → ℕ → ℕ → Option (ℕ × Decision) → Verdict
 verdict_by off c end None = disabled_or (first_true c end off) outcome.Open
 verdict_by off c end (Some (n, d)) = disabled_or (first_true c n off) (decided_at d (n - 1))
 
 -- the verdict on the attempt that begins at c, over so many ticks
 abbrev pub verdict : {B : Type 0} → (B → ℕ → Bool) → (ℕ → Bool) → Seq B → Seq B → ℕ → ℕ → Verdict
-verdict value off r s end c = verdict_by off c end (first_in (c + 1) (end + 1) (λ n. decision value r s n c))
+verdict value off r s end c =
+    verdict_by off c end (first_in (c + 1) (end + 1) (λ n. decision value r s n c))

@@ -1,7 +1,8 @@
 -- That ranges are in order is one fact.
 use mathlib.Core.HLevel.{Unit-prop}
 use denote.Struct.Props.{props}
-use Rattle.assertions.specs.Written.{Written, boolean, delay, lead, repeat, or, and, throughout, IsOrdered}
+use Rattle.assertions.specs.Written.{Written, boolean, delay, lead, repeat, or, and, throughout}
+use Rattle.assertions.specs.Written.{IsOrdered}
 
 pub IsOrdered-prop : {B : Type 0} (r : Written B) → IsProp (IsOrdered r)
 IsOrdered-prop (boolean b) = Unit-prop

@@ -5,7 +5,8 @@ use Rattle.assertions.specs.declared.sequence.Boolean.TheVariants.{One, Listed}
 use Rattle.assertions.specs.declared.sequence.Sequence.{Sequence}
 use Rattle.assertions.specs.declared.sequence.Sequence.TheVariants as form
 use Rattle.assertions.specs.Segments.{Seq}
-use Rattle.assertions.specs.Written.{Written, boolean, delay, lead, repeat, or, and, throughout, kernel, weight, IsOrdered}
+use Rattle.assertions.specs.Written.{Written, boolean, delay, lead, repeat, or, and, throughout}
+use Rattle.assertions.specs.Written.{kernel, weight, IsOrdered}
 use Rattle.expressions.specs.declared.expr.Expr.{Expr}
 use Rattle.expressions.specs.Terms.{Samples, is_true}
 use Rattle.expressions.specs.Expressions.{term_of}
@@ -24,7 +25,8 @@ written_form (form.Throughout' b p r) = throughout b (written_form r)
 abbrev pub shape : Sequence → Seq Boolean
 shape s = kernel One (written_form s)
 
--- It can be no side of an assertion: it weighs over 127, or the first of a range is over the second.
+-- It can be no side of an assertion: it weighs over 127, or the first of a range is over the
+-- second.
 abbrev pub IsUnfit : {B : Type 0} → Written B → Type 0
 IsUnfit r = (127 < weight r) ⊎ (IsOrdered r → ⊥)
 
@@ -38,10 +40,12 @@ abbrev pub expression_at : List Expr → Option ℕ → Option Expr
 expression_at booleans None = None
 expression_at booleans (Some place) = slice_get booleans place
 
--- Whether a boolean is true at a tick, by a suite's expressions and the places that an assertion's list has of them.
+-- Whether a boolean is true at a tick, by a suite's expressions and the places that an assertion's
+-- list has of them.
 abbrev pub value_in : List Expr → List ℕ → Samples → Boolean → ℕ → Bool
 value_in booleans places t One k = true
-value_in booleans places t (Listed i) k = is_true_at t (expression_at booleans (slice_get places i)) k
+value_in booleans places t (Listed i) k =
+    is_true_at t (expression_at booleans (slice_get places i)) k
 
 -- at which ticks the disabling boolean is true, if there is one
 abbrev pub off_in : List Expr → List ℕ → Samples → Option Boolean → ℕ → Bool

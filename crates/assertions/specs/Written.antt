@@ -1,4 +1,5 @@
--- Sequences as they are written, with names written out; what they stand for, and what they weigh (IEEE 1800-2017, 16.7 and 16.9).
+-- Sequences as they are written, with names written out; what they stand for, and what they weigh
+-- (IEEE 1800-2017, 16.7 and 16.9).
 use Rattle.std.specs.Prelude.{ℕ, zero, suc, ◌+◌, ◌-◌, ◌*◌, ◌≤◌}
 use Rattle.assertions.specs.Segments.{Seq, one, chop, fuse, either, both, during, times}
 
@@ -37,8 +38,10 @@ later true_one s (suc n) = chop (ticks true_one (suc n)) s
 -- The kernel that it stands for; true_one is the constant 1. A range is one of its numbers.
 abbrev pub kernel : {B : Type 0} → B → Written B → Seq B
 kernel true_one (boolean b) = one b
-kernel true_one (delay r least most s) = one_of least (most - least) (after true_one (kernel true_one r) (kernel true_one s))
-kernel true_one (lead least most s) = one_of least (most - least) (later true_one (kernel true_one s))
+kernel true_one (delay r least most s) =
+    one_of least (most - least) (after true_one (kernel true_one r) (kernel true_one s))
+kernel true_one (lead least most s) =
+    one_of least (most - least) (later true_one (kernel true_one s))
 kernel true_one (repeat r least most) = times (kernel true_one r) least most
 kernel true_one (or r s) = either (kernel true_one r) (kernel true_one s)
 kernel true_one (and r s) = both (kernel true_one r) (kernel true_one s)

@@ -8,8 +8,8 @@ ghost use Rattle.assertions.specs.Ordered.{IsOrdered-prop};
 use crate::sequence::{Boolean, Sequence};
 use crate::weight::weight_of;
 
-/// An assertion `antecedent |-> consequent`: from the last tick of each match of the antecedent that
-/// isn't empty the consequent must match. Neither weighs more than 127.
+/// An assertion `antecedent |-> consequent`: from the last tick of each match of the antecedent
+/// that isn't empty the consequent must match. Neither weighs more than 127.
 #[derive(Drop)]
 pub struct Assertion {
     /// Its label, or `assert_N` where it has none.
@@ -21,14 +21,17 @@ pub struct Assertion {
     pub disabling: Option<Boolean>,
     /// For each place that a boolean may name, the place of its expression in the suite.
     pub booleans: Vec<usize>,
-    pub ghost antecedent_ordered: { IsOrdered (written_form antecedent) } by { IsOrdered-prop (written_form antecedent) },
+    pub ghost antecedent_ordered: { IsOrdered (written_form antecedent) } by { IsOrdered-prop
+        (written_form antecedent) },
     pub ghost antecedent_bound: { weight (written_form antecedent) ≤ 127 },
-    pub ghost consequent_ordered: { IsOrdered (written_form consequent) } by { IsOrdered-prop (written_form consequent) },
+    pub ghost consequent_ordered: { IsOrdered (written_form consequent) } by { IsOrdered-prop
+        (written_form consequent) },
     pub ghost consequent_bound: { weight (written_form consequent) ≤ 127 },
 }
 
 impl Assertion {
-    /// An assertion, or none where the first of a range is over the second, or a side weighs more than 127.
+    /// An assertion, or none where the first of a range is over the second, or a side weighs more
+    /// than 127.
     pub fn new(
         name: String,
         antecedent: Sequence,

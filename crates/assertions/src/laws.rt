@@ -1,6 +1,8 @@
 //! Laws of the definitions, proved.
 
-ghost use Rattle.assertions.specs.Laws.{MatchesForward, MatchesWithin, TestsMatches, MatchesWithinWeight, HasVerdict, HasOneVerdict, EmptyMatchesAlike, TestsEmpty, TestsDegenerate};
+ghost use Rattle.assertions.specs.Laws.{MatchesForward, MatchesWithin, TestsMatches};
+ghost use Rattle.assertions.specs.Laws.{MatchesWithinWeight, HasVerdict, HasOneVerdict};
+ghost use Rattle.assertions.specs.Laws.{EmptyMatchesAlike, TestsEmpty, TestsDegenerate};
 
 /// A match goes forward, is no longer than the longest, and is found by the test of it.
 pub fn match_law()

@@ -1,4 +1,36 @@
-//! Suites of assertions, and their meaning.
+//! Suites of assertions, and their meaning (IEEE 1800-2017, 16.9, 16.12.7 and annex F.5).
+//!
+//! A suite has the assertions of a text, the path of their clock, and what they read: signals by
+//! path and width, counters, and typed expressions. An assertion is `antecedent |-> consequent`:
+//! from the last tick of each match of the antecedent that isn't empty the consequent must match.
+//! Its sides are sequences as they are written, with names written out. A boolean of a sequence is
+//! the constant 1, or a place in the assertion's own list, which has the place of an expression
+//! among the suite's.
+//!
+//! ```text
+//! let weight = weight_of(&sequence);   // none where it is over 127, or a range is out of order
+//! let assertion = Assertion::new(name, antecedent, consequent, disabling, booleans);
+//! let all = suite.assertions();        // in the order of the text
+//! ```
+//!
+//! There is an assertion of any two sides that weigh at most 127 and have the first of each range
+//! not over the second, and of no others. Its meaning is the verdict on each attempt: it holds,
+//! holds vacuously, fails or is disabled at a tick, or stays open. No code here judges; that of
+//! `judging` does, by the definition.
+//!
+//! The definitions: sequences by their kernel and the ticks that they match, as a relation and as a
+//! test, in `specs/Segments.antt`; sequences as they are written, the kernel that they stand for
+//! and what they weigh in `specs/Written.antt`; what becomes of an attempt in
+//! `specs/Attempts.antt`; the same of a suite's assertion, over rows of the suite's signals, in
+//! `specs/Verdicts.antt`; what the trees stand for and when a boolean is true in
+//! `specs/Shapes.antt`; empty matches, and sequences without a match of a tick or more, by their
+//! form in `specs/Emptiness.antt`; the booleans of a sequence in `specs/Listed.antt`; quantifiers
+//! over ticks in `specs/Quantifiers.antt`. The laws stand in `specs/Laws.antt`: each attempt has
+//! exactly one verdict (`verdict_law`), and no match takes more ticks than the sequence weighs
+//! (`weight_law`).
+//!
+//! Not promised: that a place in a list is one of the suite's expressions, or that a side has a
+//! match at all. A boolean whose expression isn't there is false at each tick.
 #![tactic(auto)]
 
 mod assertion;

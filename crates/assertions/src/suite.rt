@@ -11,7 +11,8 @@ use expressions::{Counter, Expr};
 pub struct Suite {
     /// The path of the clock.
     pub clock: String,
-    /// The signals that expressions name by their place, in the order in which the text names them first.
+    /// The signals that expressions name by their place, in the order in which the text names them
+    /// first.
     pub names: Vec<Signal>,
     /// The counters, in the order of the text.
     pub counters: Vec<Counter>,

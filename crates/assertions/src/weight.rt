@@ -52,11 +52,13 @@ fn capped_weight(sequence: &Sequence) -> usize
     }
 }
 
-/// What the sequence weighs, or none where that is over 127 or the first of a range is over the second.
+/// What the sequence weighs, or none where that is over 127 or the first of a range is over the
+/// second.
 pub fn weight_of(sequence: &Sequence) -> Option<usize>
     ensures { MatchOption result
         (IsUnfit (written_form sequence.now))
-        (λ weight_is. (weight_is ≡ weight (written_form sequence.now)) × (weight_is ≤ 127) × IsOrdered (written_form sequence.now)) }
+        (λ weight_is. (weight_is ≡ weight (written_form sequence.now)) × (weight_is ≤ 127)
+        × IsOrdered (written_form sequence.now)) }
 {
     let weight = capped_weight(sequence);
     if weight > HEAVIEST || !is_ordered(sequence) {

@@ -22,10 +22,11 @@ const PROGRAM: [u8; 114] = [
 
 /// A dump with one tick, at which x is 1 and y is 0.
 const DUMP: &str =
-    "$timescale 1ns $end\n$scope module top $end\n$var wire 1 ! clk $end\n$var wire 1 \" x $end\n$var wire 1 # y $end\n$upscope $end\n$enddefinitions $end\n#0\n0!\n1\"\n0#\n#5\n1!\n#10\n0!\n";
+    "$timescale 1ns $end\n$scope module top $end\n$var wire 1 ! clk $end\n$var wire 1 \" x $end\n\
+    $var wire 1 # y $end\n$upscope $end\n$enddefinitions $end\n#0\n0!\n1\"\n0#\n#5\n1!\n#10\n0!\n";
 
-const REPORT: &[u8] =
-    b"svamon 1\nclocks 1\nmonitor r holds 0 vacuous 0 fails 1 disabled 0 open 0\nfail r start 0 clock 0\ntotal holds 0 vacuous 0 fails 1 disabled 0 open 0\n";
+const REPORT: &[u8] = b"svamon 1\nclocks 1\nmonitor r holds 0 vacuous 0 fails 1 disabled 0 open 0\n\
+    fail r start 0 clock 0\ntotal holds 0 vacuous 0 fails 1 disabled 0 open 0\n";
 
 const LIMITS: &[u8] = b"history 0 stack 1 attempts 1 obligations 1 budget 14\n";
 

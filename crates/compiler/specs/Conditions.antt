@@ -39,8 +39,8 @@ IsAt suite Counter place width = IsCounterAt suite place width
 abbrev pub IsNamed : Suite → Name → Type 0
 IsNamed suite name = IsAt suite name.origin name.place name.width
 
--- An expression that a text of the suite may have: each name is one of the suite's, no part has over
--- 128 bits, no $past looks back over 64 ticks, and at most 64 brackets are open at once.
+-- An expression that a text of the suite may have: each name is one of the suite's, no part has
+-- over 128 bits, no $past looks back over 64 ticks, and at most 64 brackets are open at once.
 pub record IsKnown (suite : Suite) (e : Term) : Type 0 where
   pub names : Each (OfName (IsNamed suite)) e
   pub narrow : Each (λ part. width_of part ≤ 128) e
@@ -51,8 +51,8 @@ pub record IsKnown (suite : Suite) (e : Term) : Type 0 where
 abbrev pub CountsByKnown : Suite → counters.Counter → Type 0
 CountsByKnown suite c = AllByRecursion (IsKnown suite) (counter_terms c)
 
--- What the suite's assertions share: the clock and the signals have paths, and the counters count by
--- known expressions.
+-- What the suite's assertions share: the clock and the signals have paths, and the counters count
+-- by known expressions.
 pub record IsSound (suite : Suite) : Type 0 where
   pub clock : IsTrue (is_path (string_bytes suite.clock))
   pub signals : AllByRecursion (λ s. IsTrue (is_path (string_bytes s.path))) suite.names.items

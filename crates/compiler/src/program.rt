@@ -31,7 +31,8 @@ use std::alloc::{AllocError, Global};
 /// The slots of the names that are read.
 fn table_of(alloc: Global, reading: &Reading) -> Result<SlotTable, AllocError>
     requires signals { reading.now.signal_places.items ≡ places_from 0 reading.now.signals.items }
-    requires counters { reading.now.counter_places.items ≡ places_from 0 reading.now.counters.items }
+    requires counters { reading.now.counter_places.items
+        ≡ places_from 0 reading.now.counters.items }
     requires few { length reading.now.signal_places.items
         + length reading.now.counter_places.items ≤ 255 }
     ensures signals { IfOk result (λ t.

@@ -1,4 +1,5 @@
-//! Prints the report of each example: its assertions, or the rules of its port, judged over its dump.
+//! Prints the report of each example: its assertions, or the rules of its port, judged over its
+//! dump.
 #![tactic(auto)]
 
 use axi4_rules::{joined_text, port_rules};
@@ -75,7 +76,8 @@ fn show_port<R: Files + Print + AllocGlobal>(rt: &R, folder: &str) -> io::Result
     print_report(rt, folder, "axi_port", text.as_str())
 }
 
-/// The folder of the examples: the first word behind the program's name, or the one that it runs in.
+/// The folder of the examples: the first word behind the program's name, or the one that it runs
+/// in.
 fn folder_of<R: Env + AllocGlobal>(rt: &R) -> io::Result<String> {
     match env::args(rt)?.nth(1) {
         Some(folder) => Ok(folder),

@@ -18,7 +18,9 @@ index t = index_of_kind t.at t.kind
 -- a plain decimal has no base
 abbrev pub plain_within : ℕ → ℕ → ℕ → ℕ → Option Base → Option Bound
 plain_within least most at value (Some base) = None
-plain_within least most at value None = if nat_le least value && nat_le value most then Some (record { value = value; at = at }) else None
+plain_within least most at value None =
+    if nat_le least value && nat_le value most then Some (record { value = value; at = at })
+    else None
 
 abbrev pub bound_of_kind : ℕ → ℕ → ℕ → Kind → Option Bound
 bound_of_kind least most at (kinds.Number n) = plain_within least most at n.value n.base

@@ -8,7 +8,8 @@ use Rattle.grammar.specs.declared.terminal.Terminal.{Terminal}
 use Rattle.grammar.specs.declared.terminal.Terminal.TheVariants as terminals
 use Rattle.grammar.specs.declared.mark.Function.TheVariants as function
 use Rattle.grammar.specs.declared.mark.Mark.{Mark}
-use Rattle.grammar.specs.declared.mark.Mark.TheVariants.{Number, Name, Prefix, Opening, Brace, Past, Call, Other}
+use Rattle.grammar.specs.declared.mark.Mark.TheVariants.{Number, Name, Prefix, Opening, Brace, Past}
+use Rattle.grammar.specs.declared.mark.Mark.TheVariants.{Call, Other}
 use Rattle.grammar.specs.Terminals.{terminal}
 
 -- the unary operators ! ~ & ~& | ~| ^ ~^ ^~
@@ -48,9 +49,9 @@ mark_of_terminal _ k = Other
 unfoldable pub mark : Token → Mark
 mark t = mark_of_terminal (terminal t) t.kind
 
--- How loosely a token joins what stands before it to what follows: 1 to 9 are the levels of the left operators, from the
--- tightest, 10 is ?, 11 throughout, 12 [*, 13 ##, 15 and, 16 or, 17 the implications. 0 goes on with a path, 100 with
--- nothing. (14 is left for intersect.)
+-- How loosely a token joins what stands before it to what follows: 1 to 9 are the levels of the
+-- left operators, from the tightest, 10 is ?, 11 throughout, 12 [*, 13 ##, 15 and, 16 or, 17 the
+-- implications. 0 goes on with a path, 100 with nothing. (14 is left for intersect.)
 abbrev pub precedence_of_operator : Kind → ℕ
 precedence_of_operator (kind.Symbol symbol.Plus) = 1
 precedence_of_operator (kind.Symbol symbol.Minus) = 1

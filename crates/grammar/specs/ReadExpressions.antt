@@ -5,11 +5,14 @@ use Rattle.grammar.specs.declared.bound.Select.{Select}
 use Rattle.grammar.specs.declared.mark.Mark.{Mark}
 use Rattle.grammar.specs.declared.mark.Mark.TheVariants as marks
 use Rattle.grammar.specs.declared.mark.Function.{Function}
-use Rattle.grammar.specs.declared.terminal.Terminal.TheVariants.{OpenRound, CloseRound, CloseBrace, OpenSquare, CloseSquare, Comma, Colon, Dot}
+use Rattle.grammar.specs.declared.terminal.Terminal.TheVariants.{OpenRound, CloseRound, CloseBrace}
+use Rattle.grammar.specs.declared.terminal.Terminal.TheVariants.{OpenSquare, CloseSquare, Comma}
+use Rattle.grammar.specs.declared.terminal.Terminal.TheVariants.{Colon, Dot}
 use Rattle.grammar.specs.Terminals.{is, is_name, is_word}
 use Rattle.grammar.specs.Bounds.{index, bound_within}
 use Rattle.grammar.specs.Marks.{mark, has_precedence}
-use Rattle.grammar.specs.Trees.{Tree, number, path, concatenation, past, call, unary, chain, choice, Links, end, link, Parts, no_part, part}
+use Rattle.grammar.specs.Trees.{Tree, number, path, concatenation, past, call, unary, chain, choice}
+use Rattle.grammar.specs.Trees.{Links, end, link, Parts, no_part, part}
 use Rattle.grammar.specs.Readers.{◌>>=◌, Reader, refuse, lead, expect, pick, optional, each}
 
 unfoldable pub name_of : Token → Option Token
@@ -28,7 +31,9 @@ path_words ts = pick name_of ts >>= λ p. members p.1 >>= λ q. Some (p.0 ∷ q.
 
 -- NUM [":" NUM] "]"
 unfoldable pub select : Reader Select
-select ts = pick index ts >>= λ p. optional Colon (pick index) p.1 >>= λ q. expect CloseSquare q.1 >>= λ r. Some (record { high = p.0; low = q.0 }, r.1)
+select ts =
+    pick index ts >>= λ p. optional Colon (pick index) p.1
+    >>= λ q. expect CloseSquare q.1 >>= λ r. Some (record { high = p.0; low = q.0 }, r.1)
 
 -- what may stand inside, one deeper
 pub record Inner : Type 0 where
@@ -46,7 +51,8 @@ parts_of (x ∷ xs) = part x (parts_of xs)
 
 -- behind a path's first word
 unfoldable pub name_reader : Inner → Token → Reader Tree
-name_reader inner t ts = members ts >>= λ p. optional OpenSquare inner.select p.1 >>= λ q. Some (path (t ∷ p.0) q.0, q.1)
+name_reader inner t ts =
+    members ts >>= λ p. optional OpenSquare inner.select p.1 >>= λ q. Some (path (t ∷ p.0) q.0, q.1)
 
 -- behind "("
 unfoldable pub bracket_reader : Inner → Reader Tree
@@ -54,15 +60,21 @@ bracket_reader inner ts = inner.expr ts >>= λ p. expect CloseRound p.1 >>= λ r
 
 -- behind "{"
 unfoldable pub concatenation_reader : Inner → Token → Reader Tree
-concatenation_reader inner t ts = inner.expr ts >>= λ p. each (is Comma) (λ comma. inner.expr) p.1 >>= λ q. expect CloseBrace q.1 >>= λ r. Some (concatenation t p.0 (parts_of q.0), r.1)
+concatenation_reader inner t ts =
+    inner.expr ts >>= λ p. each (is Comma) (λ comma. inner.expr) p.1
+    >>= λ q. expect CloseBrace q.1 >>= λ r. Some (concatenation t p.0 (parts_of q.0), r.1)
 
 -- behind "$past"
 unfoldable pub past_reader : Inner → Token → Reader Tree
-past_reader inner t ts = expect OpenRound ts >>= λ o. inner.expr o.1 >>= λ p. optional Comma (pick (bound_within 1 64)) p.1 >>= λ q. expect CloseRound q.1 >>= λ r. Some (past t p.0 q.0, r.1)
+past_reader inner t ts =
+    expect OpenRound ts >>= λ o. inner.expr o.1
+    >>= λ p. optional Comma (pick (bound_within 1 64)) p.1 >>= λ q. expect CloseRound q.1
+    >>= λ r. Some (past t p.0 q.0, r.1)
 
 -- behind a function's name
 unfoldable pub call_reader : Inner → Function → Token → Reader Tree
-call_reader inner g t ts = expect OpenRound ts >>= λ o. bracket_reader inner o.1 >>= λ p. Some (call g t p.0, p.1)
+call_reader inner g t ts =
+    expect OpenRound ts >>= λ o. bracket_reader inner o.1 >>= λ p. Some (call g t p.0, p.1)
 
 -- behind a unary operator
 unfoldable pub prefix_reader : Inner → Token → Reader Tree
@@ -85,7 +97,8 @@ prefixed_with inner (t ∷ ts) = prefixed_by inner (mark t) t ts
 
 -- operators of level l + 1 with their right operands
 unfoldable pub links : Reader Tree → ℕ → Reader (List (Token × Tree))
-links operand l ts = each (has_precedence (suc l)) (λ t us. operand us >>= λ p. Some ((t, p.0), p.1)) ts
+links operand l ts =
+    each (has_precedence (suc l)) (λ t us. operand us >>= λ p. Some ((t, p.0), p.1)) ts
 
 abbrev pub chain_of : Tree → List (Token × Tree) → Tree
 chain_of first [] = first
@@ -98,14 +111,17 @@ behind reader go ts = reader ts >>= λ p. go p.0 p.1
 -- the operators of the l tightest levels, behind a first operand
 unfoldable pub climb : Reader Tree → ℕ → Tree → Reader Tree
 climb base zero first ts = Some (first, ts)
-climb base (suc l) first ts = climb base l first ts >>= λ p. links (behind base (climb base l)) l p.1 >>= λ q. Some (chain_of p.0 q.0, q.1)
+climb base (suc l) first ts =
+    climb base l first ts >>= λ p. links (behind base (climb base l)) l p.1
+    >>= λ q. Some (chain_of p.0 q.0, q.1)
 
 unfoldable pub level : Reader Tree → ℕ → Reader Tree
 level base l ts = behind base (climb base l) ts
 
 abbrev pub choice_by : Reader Tree → Option (Token × List Token) → Tree → Reader Tree
 choice_by inner None c ts = Some (c, ts)
-choice_by inner (Some t) c ts = inner t.1 >>= λ a. expect Colon a.1 >>= λ r. inner r.1 >>= λ b. Some (choice c a.0 b.0, b.1)
+choice_by inner (Some t) c ts =
+    inner t.1 >>= λ a. expect Colon a.1 >>= λ r. inner r.1 >>= λ b. Some (choice c a.0 b.0, b.1)
 
 -- behind a condition, if it is one
 unfoldable pub choice_with : Reader Tree → Tree → Reader Tree
@@ -121,12 +137,18 @@ expr_with inner base = behind base (finish_with inner base)
 -- what may stand where so many more brackets and operators may open
 unfoldable pub readers : ℕ → Inner
 readers zero = record { expr = refuse; prefixed = refuse; select = refuse }
-readers (suc d) = record { expr = expr_with (readers d) (prefixed_with (readers d)); prefixed = prefixed_with (readers d); select = select }
+readers (suc d) =
+    record {
+      expr = expr_with (readers d) (prefixed_with (readers d));
+      prefixed = prefixed_with (readers d);
+      select = select;
+    }
 
 unfoldable pub unary_reader : ℕ → Reader Tree
 unary_reader d ts = prefixed_with (readers d) ts
 
--- an operand of a left operator looser than l, in which at most d brackets and unfinished operators are open at once
+-- an operand of a left operator looser than l, in which at most d brackets and unfinished operators
+-- are open at once
 unfoldable pub operand : ℕ → ℕ → Reader Tree
 operand d l ts = level (prefixed_with (readers d)) l ts
 

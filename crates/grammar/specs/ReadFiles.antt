@@ -1,11 +1,15 @@
 -- The grammar of files as functions.
-use Rattle.std.specs.Prelude.{◌≡◌, ℕ, List, [], ◌∷◌, Bool, true, false, not, ◌&&◌, ◌||◌, Option, Some, None, if◌then◌else◌}
+use Rattle.std.specs.Prelude.{◌≡◌, ℕ, List, [], ◌∷◌, Bool, true, false, not, ◌&&◌, ◌||◌, Option}
+use Rattle.std.specs.Prelude.{Some, None, if◌then◌else◌}
 use Rattle.std.specs.Str.{bytes_eq}
 use Rattle.lexer.specs.declared.token.Token.{Token}
 use Rattle.grammar.specs.declared.bound.Bound.{Bound}
 use Rattle.grammar.specs.declared.terminal.Terminal.{Terminal}
 use Rattle.grammar.specs.declared.terminal.Terminal.TheVariants as word
-use Rattle.grammar.specs.declared.terminal.Terminal.TheVariants.{OpenRound, CloseRound, OpenSquare, CloseSquare, Comma, Semicolon, Colon, AtSign, Posedge, Disable, Iff, EndSequence, End}
+use Rattle.grammar.specs.declared.terminal.Terminal.TheVariants.{OpenRound, CloseRound, OpenSquare}
+use Rattle.grammar.specs.declared.terminal.Terminal.TheVariants.{CloseSquare, Comma, Semicolon}
+use Rattle.grammar.specs.declared.terminal.Terminal.TheVariants.{Colon, AtSign, Posedge, Disable}
+use Rattle.grammar.specs.declared.terminal.Terminal.TheVariants.{Iff, EndSequence, End}
 use Rattle.grammar.specs.Terminals.{terminal, is, is_name, is_word}
 use Rattle.grammar.specs.Bounds.{bound_within}
 use Rattle.grammar.specs.Trees.{Tree, PropertyForm, ItemForm, counter, declaration, assertion}
@@ -16,22 +20,34 @@ use Rattle.grammar.specs.Files.{most_open, in_one, in_two}
 
 -- behind a word: "(" expr ")"
 unfoldable pub one_operand : ℕ → Reader Tree
-one_operand d ts = expect OpenRound ts >>= λ o. expression d o.1 >>= λ p. expect CloseRound p.1 >>= λ r. Some (p.0, r.1)
+one_operand d ts =
+    expect OpenRound ts >>= λ o. expression d o.1
+    >>= λ p. expect CloseRound p.1 >>= λ r. Some (p.0, r.1)
 
 -- behind a word: "(" expr "," expr ")"
 unfoldable pub two_operands : Reader (Tree × Tree)
-two_operands ts = expect OpenRound ts >>= λ o. expression in_one o.1 >>= λ p. expect Comma p.1 >>= λ m. expression in_one m.1 >>= λ q. expect CloseRound q.1 >>= λ r. Some ((p.0, q.0), r.1)
+two_operands ts =
+    expect OpenRound ts >>= λ o. expression in_one o.1 >>= λ p. expect Comma p.1
+    >>= λ m. expression in_one m.1 >>= λ q. expect CloseRound q.1 >>= λ r. Some ((p.0, q.0), r.1)
 
 -- NAME "[" NUM "]"
 unfoldable pub counter_head : Reader (Token × Bound)
-counter_head ts = pick name_of ts >>= λ n. expect OpenSquare n.1 >>= λ o. pick (bound_within 1 128) o.1 >>= λ w. expect CloseSquare w.1 >>= λ r. Some ((n.0, w.0), r.1)
+counter_head ts =
+    pick name_of ts >>= λ n. expect OpenSquare n.1 >>= λ o. pick (bound_within 1 128) o.1
+    >>= λ w. expect CloseSquare w.1 >>= λ r. Some ((n.0, w.0), r.1)
 
-abbrev pub counter_form : Token → Bound → Option Tree → Option (Tree × Tree) → Option (Tree × Tree) → Option (Tree × Tree) → ItemForm
-counter_form name width clear load add sub = counter (record { name = name; width = width; clear = clear; load = load; add = add; sub = sub })
+abbrev pub counter_form : Token → Bound → Option Tree → Option (Tree × Tree) → Option (Tree × Tree)
+    → Option (Tree × Tree) → ItemForm
+counter_form name width clear load add sub =
+    counter
+    (record { name = name; width = width; clear = clear; load = load; add = add; sub = sub })
 
 -- behind "counter"
 unfoldable pub counter_item : Reader ItemForm
-counter_item ts = counter_head ts >>= λ h. optional word.Clear (one_operand in_one) h.1 >>= λ a. optional word.Load two_operands a.1 >>= λ b. optional word.Add two_operands b.1 >>= λ c. optional word.Sub two_operands c.1
+counter_item ts =
+    counter_head ts >>= λ h. optional word.Clear (one_operand in_one) h.1
+    >>= λ a. optional word.Load two_operands a.1 >>= λ b. optional word.Add two_operands b.1
+    >>= λ c. optional word.Sub two_operands c.1
     >>= λ d. expect Semicolon d.1 >>= λ r. Some (counter_form h.0.0 h.0.1 a.0 b.0 c.0 d.0, r.1)
 
 -- the name once more
@@ -48,11 +64,16 @@ skip wanted ts = skip_by (expect wanted ts) ts
 
 -- behind a declaration's seq
 unfoldable pub ending_of : Token → List Token → Option (List Token)
-ending_of name ts = expect EndSequence (skip Semicolon ts) >>= λ e. optional Colon (pick (again_of name)) e.1 >>= λ q. Some q.1
+ending_of name ts =
+    expect EndSequence (skip Semicolon ts) >>= λ e. optional Colon (pick (again_of name)) e.1
+    >>= λ q. Some q.1
 
 -- behind "sequence"
 unfoldable pub declaration_item : Reader ItemForm
-declaration_item ts = pick name_of ts >>= λ n. expect Semicolon n.1 >>= λ o. whole most_open o.1 >>= λ p. ending_of n.0 p.1 >>= λ rest. Some (declaration (record { name = n.0; body = p.0 }), rest)
+declaration_item ts =
+    pick name_of ts >>= λ n. expect Semicolon n.1
+    >>= λ o. whole most_open o.1 >>= λ p. ending_of n.0 p.1
+    >>= λ rest. Some (declaration (record { name = n.0; body = p.0 }), rest)
 
 unfoldable pub is_verb_token : Token → Bool
 is_verb_token t = is word.Assert t || is word.Assume t
@@ -63,7 +84,9 @@ opening_words ts = expect word.Property ts >>= λ a. expect OpenRound a.1 >>= λ
 
 -- "@" "(" "posedge" path ")"
 unfoldable pub clock_words : Reader (List Token)
-clock_words ts = expect AtSign ts >>= λ a. expect OpenRound a.1 >>= λ b. expect Posedge b.1 >>= λ c. path_words c.1 >>= λ p. expect CloseRound p.1 >>= λ r. Some (p.0, r.1)
+clock_words ts =
+    expect AtSign ts >>= λ a. expect OpenRound a.1 >>= λ b. expect Posedge b.1
+    >>= λ c. path_words c.1 >>= λ p. expect CloseRound p.1 >>= λ r. Some (p.0, r.1)
 
 -- behind "disable"
 unfoldable pub disable_reader : Reader Tree
@@ -71,14 +94,22 @@ disable_reader ts = expect Iff ts >>= λ i. one_operand in_two i.1
 
 -- prop ")" ";"
 unfoldable pub property_end : Reader PropertyForm
-property_end ts = property in_one ts >>= λ p. expect CloseRound p.1 >>= λ a. expect Semicolon a.1 >>= λ r. Some (p.0, r.1)
+property_end ts =
+    property in_one ts >>= λ p. expect CloseRound p.1
+    >>= λ a. expect Semicolon a.1 >>= λ r. Some (p.0, r.1)
 
-abbrev pub assertion_form : Option Token → Token → List Token → Option Tree → PropertyForm → ItemForm
-assertion_form label verb clock disable p = assertion (record { label = label; verb = verb; clock = clock; disable = disable; property = p })
+abbrev pub assertion_form : Option Token → Token → List Token → Option Tree → PropertyForm
+    → ItemForm
+assertion_form label verb clock disable p =
+    assertion
+    (record { label = label; verb = verb; clock = clock; disable = disable; property = p })
 
 -- from "assert" or "assume" on
 unfoldable pub assertion_item : Option Token → Reader ItemForm
-assertion_item label ts = lead is_verb_token ts >>= λ v. opening_words v.1 >>= λ us. clock_words us >>= λ c. optional Disable disable_reader c.1 >>= λ d. property_end d.1 >>= λ p. Some (assertion_form label v.0 c.0 d.0 p.0, p.1)
+assertion_item label ts =
+    lead is_verb_token ts >>= λ v. opening_words v.1 >>= λ us. clock_words us
+    >>= λ c. optional Disable disable_reader c.1 >>= λ d. property_end d.1
+    >>= λ p. Some (assertion_form label v.0 c.0 d.0 p.0, p.1)
 
 abbrev pub labelled_by : Option (Token × List Token) → Reader ItemForm
 labelled_by None ts = assertion_item None ts
@@ -122,7 +153,8 @@ is_more t = not (is End t)
 unfoldable pub items : Reader (List ItemForm)
 items ts = each is_more (λ t us. item (t ∷ us)) ts
 
--- The tokens are read as the items, one of which is an assertion, up to the token of the text's end.
+-- The tokens are read as the items, one of which is an assertion, up to the token of the text's
+-- end.
 pub record ReadsFile (xs : List ItemForm) (tokens : List Token) : Type 0 where
   pub last : Token
   pub ends : terminal last ≡ End

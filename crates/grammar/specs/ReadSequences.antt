@@ -2,22 +2,30 @@
 use Rattle.std.specs.Prelude.{ℕ, zero, suc, List, [], ◌∷◌, Option, Some, None}
 use Rattle.lexer.specs.declared.token.Token.{Token}
 use Rattle.grammar.specs.declared.bound.Range.{Range}
-use Rattle.grammar.specs.declared.terminal.Terminal.TheVariants.{OpenRound, CloseRound, OpenSquare, OpenRepeat, CloseSquare, Colon, Delay, Throughout, And, Or}
+use Rattle.grammar.specs.declared.terminal.Terminal.TheVariants.{OpenRound, CloseRound, OpenSquare}
+use Rattle.grammar.specs.declared.terminal.Terminal.TheVariants.{OpenRepeat, CloseSquare, Colon}
+use Rattle.grammar.specs.declared.terminal.Terminal.TheVariants.{Delay, Throughout, And, Or}
 use Rattle.grammar.specs.Terminals.{is}
 use Rattle.grammar.specs.Bounds.{bound_within}
 use Rattle.grammar.specs.Marks.{has_precedence}
-use Rattle.grammar.specs.Trees.{Tree, SequenceForm, boolean, repeated, late, delayed, throughout, all, either, Steps, no_step, step, Others, no_other, other, PropertyForm, plain, implication}
+use Rattle.grammar.specs.Trees.{Tree, SequenceForm, boolean, repeated, late, delayed, throughout}
+use Rattle.grammar.specs.Trees.{all, either, Steps, no_step, step, Others, no_other, other}
+use Rattle.grammar.specs.Trees.{PropertyForm, plain, implication}
 use Rattle.grammar.specs.Sequences.{bound}
 use Rattle.grammar.specs.Readers.{◌>>=◌, Reader, refuse, lead, expect, pick, optional, each}
 use Rattle.grammar.specs.ReadExpressions.{expression, finish}
 
 -- behind "[*": NUM [":" NUM] "]"
 unfoldable pub times : Reader Range
-times ts = pick bound ts >>= λ p. optional Colon (pick (bound_within p.0.value 127)) p.1 >>= λ q. expect CloseSquare q.1 >>= λ r. Some (record { low = p.0; high = q.0 }, r.1)
+times ts =
+    pick bound ts >>= λ p. optional Colon (pick (bound_within p.0.value 127)) p.1
+    >>= λ q. expect CloseSquare q.1 >>= λ r. Some (record { low = p.0; high = q.0 }, r.1)
 
 -- behind "##" "[": NUM ":" NUM "]"
 unfoldable pub range_between : Reader Range
-range_between ts = pick bound ts >>= λ p. expect Colon p.1 >>= λ o. pick (bound_within p.0.value 127) o.1 >>= λ q. expect CloseSquare q.1 >>= λ r. Some (record { low = p.0; high = Some q.0 }, r.1)
+range_between ts =
+    pick bound ts >>= λ p. expect Colon p.1 >>= λ o. pick (bound_within p.0.value 127) o.1
+    >>= λ q. expect CloseSquare q.1 >>= λ r. Some (record { low = p.0; high = Some q.0 }, r.1)
 
 -- what may stand inside, one deeper
 pub record Inner : Type 0 where
@@ -46,7 +54,8 @@ regroup d (either s more) ts = Some (either s more, ts)
 
 abbrev pub body_by : ℕ → Inner → Option (Token × List Token) → Reader SequenceForm
 body_by d inner None ts = expression d ts >>= λ p. Some (boolean p.0, p.1)
-body_by d inner (Some o) ts = inner.whole o.1 >>= λ p. expect CloseRound p.1 >>= λ r. regroup d p.0 r.1
+body_by d inner (Some o) ts =
+    inner.whole o.1 >>= λ p. expect CloseRound p.1 >>= λ r. regroup d p.0 r.1
 
 -- expr | "(" seq ")"
 unfoldable pub body_with : ℕ → Inner → Reader SequenceForm
@@ -65,7 +74,8 @@ repetition_with d inner ts = body_with d inner ts >>= λ p. repeat_behind inner 
 
 -- behind "##": its count, and what it delays
 unfoldable pub late_part : ℕ → Inner → Reader (Range × SequenceForm)
-late_part d inner ts = delay inner ts >>= λ p. repetition_with d inner p.1 >>= λ q. Some ((p.0, q.0), q.1)
+late_part d inner ts =
+    delay inner ts >>= λ p. repetition_with d inner p.1 >>= λ q. Some ((p.0, q.0), q.1)
 
 abbrev pub steps_of : List (Range × SequenceForm) → Steps
 steps_of [] = no_step
@@ -77,7 +87,8 @@ with_steps s (x ∷ xs) = delayed s (steps_of (x ∷ xs))
 
 -- behind a head: (delay rep)*
 unfoldable pub delayed_behind : ℕ → Inner → SequenceForm → Reader SequenceForm
-delayed_behind d inner s ts = each (is Delay) (λ t. late_part d inner) ts >>= λ q. Some (with_steps s q.0, q.1)
+delayed_behind d inner s ts =
+    each (is Delay) (λ t. late_part d inner) ts >>= λ q. Some (with_steps s q.0, q.1)
 
 -- behind the body of a cat
 unfoldable pub cat_behind : ℕ → Inner → SequenceForm → Reader SequenceForm
@@ -99,7 +110,8 @@ during_behind d inner (either s more) ts = cat_behind d inner (either s more) ts
 
 abbrev pub during_by : ℕ → Inner → Option (Token × List Token) → Reader SequenceForm
 during_by d inner None ts = body_with d inner ts >>= λ p. during_behind d inner p.0 p.1
-during_by d inner (Some t) ts = late_part d inner t.1 >>= λ p. delayed_behind d inner (late t.0 p.0.0 p.0.1) p.1
+during_by d inner (Some t) ts =
+    late_part d inner t.1 >>= λ p. delayed_behind d inner (late t.0 p.0.0 p.0.1) p.1
 
 -- thr
 unfoldable pub during_with : ℕ → Inner → Reader SequenceForm
@@ -115,7 +127,8 @@ with_conjuncts s (x ∷ xs) = all s (others_of (x ∷ xs))
 
 -- behind a thr: ("and" thr)*
 unfoldable pub conjunction_behind : ℕ → Inner → SequenceForm → Reader SequenceForm
-conjunction_behind d inner s ts = each (is And) (λ t. during_with d inner) ts >>= λ q. Some (with_conjuncts s q.0, q.1)
+conjunction_behind d inner s ts =
+    each (is And) (λ t. during_with d inner) ts >>= λ q. Some (with_conjuncts s q.0, q.1)
 
 unfoldable pub conjunction_with : ℕ → Inner → Reader SequenceForm
 conjunction_with d inner ts = during_with d inner ts >>= λ p. conjunction_behind d inner p.0 p.1
@@ -126,11 +139,13 @@ with_alternatives s (x ∷ xs) = either s (others_of (x ∷ xs))
 
 -- behind an and_seq: ("or" and_seq)*
 unfoldable pub alternatives_behind : ℕ → Inner → SequenceForm → Reader SequenceForm
-alternatives_behind d inner s ts = each (is Or) (λ t. conjunction_with d inner) ts >>= λ q. Some (with_alternatives s q.0, q.1)
+alternatives_behind d inner s ts =
+    each (is Or) (λ t. conjunction_with d inner) ts >>= λ q. Some (with_alternatives s q.0, q.1)
 
 -- behind a thr: all that goes on with a seq
 unfoldable pub sides_behind : ℕ → Inner → SequenceForm → Reader SequenceForm
-sides_behind d inner s ts = conjunction_behind d inner s ts >>= λ p. alternatives_behind d inner p.0 p.1
+sides_behind d inner s ts =
+    conjunction_behind d inner s ts >>= λ p. alternatives_behind d inner p.0 p.1
 
 -- seq
 unfoldable pub whole_with : ℕ → Inner → Reader SequenceForm
@@ -139,7 +154,13 @@ whole_with d inner ts = during_with d inner ts >>= λ p. sides_behind d inner p.
 -- what may stand where so many more brackets and operators may open
 unfoldable pub sequences : ℕ → Inner
 sequences zero = record { whole = refuse; during = refuse; times = refuse; between = refuse }
-sequences (suc d) = record { whole = whole_with d (sequences d); during = during_with d (sequences d); times = times; between = range_between }
+sequences (suc d) =
+    record {
+      whole = whole_with d (sequences d);
+      during = during_with d (sequences d);
+      times = times;
+      between = range_between;
+    }
 
 unfoldable pub throughout_reader : ℕ → Reader SequenceForm
 throughout_reader d ts = during_with d (sequences d) ts
@@ -149,7 +170,8 @@ whole d ts = whole_with d (sequences d) ts
 
 -- a seq behind its first body
 unfoldable pub sequence_behind : ℕ → SequenceForm → Reader SequenceForm
-sequence_behind d s ts = during_behind d (sequences d) s ts >>= λ p. sides_behind d (sequences d) p.0 p.1
+sequence_behind d s ts =
+    during_behind d (sequences d) s ts >>= λ p. sides_behind d (sequences d) p.0 p.1
 
 abbrev pub implication_from : ℕ → Option (Token × List Token) → SequenceForm → Reader PropertyForm
 implication_from d None s ts = Some (plain s, ts)
@@ -161,12 +183,14 @@ implication_behind d s ts = implication_from d (lead (has_precedence 17) ts) s t
 
 -- What stood in brackets: a seq may go on behind them.
 unfoldable pub regroup_property : ℕ → PropertyForm → Reader PropertyForm
-regroup_property d (plain s) ts = regroup d s ts >>= λ p. sequence_behind d p.0 p.1 >>= λ q. implication_behind d q.0 q.1
+regroup_property d (plain s) ts =
+    regroup d s ts >>= λ p. sequence_behind d p.0 p.1 >>= λ q. implication_behind d q.0 q.1
 regroup_property d (implication a t c) ts = Some (implication a t c, ts)
 
 abbrev pub property_by : ℕ → Reader PropertyForm → Option (Token × List Token) → Reader PropertyForm
 property_by d inner None ts = whole d ts >>= λ p. implication_behind d p.0 p.1
-property_by d inner (Some o) ts = inner o.1 >>= λ p. expect CloseRound p.1 >>= λ r. regroup_property d p.0 r.1
+property_by d inner (Some o) ts =
+    inner o.1 >>= λ p. expect CloseRound p.1 >>= λ r. regroup_property d p.0 r.1
 
 -- prop, where the property in brackets is read by the reader
 unfoldable pub property_with : ℕ → Reader PropertyForm → Reader PropertyForm

@@ -1,5 +1,6 @@
 -- Reading from the left: a part of the tokens, and those behind it, or nothing.
-use Rattle.std.specs.Prelude.{ℕ, zero, suc, List, [], ◌∷◌, Bool, length, Option, Some, None, option_and_then, option_map, if◌then◌else◌}
+use Rattle.std.specs.Prelude.{ℕ, zero, suc, List, [], ◌∷◌, Bool, length, Option, Some, None}
+use Rattle.std.specs.Prelude.{option_and_then, option_map, if◌then◌else◌}
 use Rattle.lexer.specs.declared.token.Token.{Token}
 use Rattle.grammar.specs.declared.terminal.Terminal.{Terminal}
 use Rattle.grammar.specs.Terminals.{is}
@@ -30,15 +31,18 @@ pick f [] = None
 pick f (t ∷ ts) = option_map (λ a. (a, ts)) (f t)
 
 -- a part that stands behind a terminal, if that is there
-abbrev pub optional_by : {A : Type 0} → Reader A → Option (Token × List Token) → List Token → Option (Option A × List Token)
+abbrev pub optional_by : {A : Type 0} → Reader A → Option (Token × List Token) → List Token
+    → Option (Option A × List Token)
 optional_by r None ts = Some (None, ts)
 optional_by r (Some p) ts = r p.1 >>= λ q. Some (Some q.0, q.1)
 
 unfoldable pub optional : {A : Type 0} → Terminal → Reader A → Reader (Option A)
 optional wanted r ts = optional_by r (expect wanted ts) ts
 
--- Parts as long as a token that passes the test stands before each. The number bounds the turns; the count of the tokens is enough.
-abbrev pub many_by : {A : Type 0} → (Token → Reader A) → Reader (List A) → Option (Token × List Token) → List Token → Option (List A × List Token)
+-- Parts as long as a token that passes the test stands before each. The number bounds the turns;
+-- the count of the tokens is enough.
+abbrev pub many_by : {A : Type 0} → (Token → Reader A) → Reader (List A)
+    → Option (Token × List Token) → List Token → Option (List A × List Token)
 many_by r go None ts = Some ([], ts)
 many_by r go (Some p) ts = r p.0 p.1 >>= λ q. go q.1 >>= λ s. Some (q.0 ∷ s.0, s.1)
 

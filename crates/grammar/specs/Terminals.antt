@@ -7,23 +7,53 @@ use Rattle.lexer.specs.declared.token.Kind.{Kind}
 use Rattle.lexer.specs.declared.token.Kind.TheVariants as kinds
 use Rattle.lexer.specs.declared.token.Token.{Token}
 use Rattle.grammar.specs.declared.terminal.Terminal.{Terminal}
-use Rattle.grammar.specs.declared.terminal.Terminal.TheVariants.{Counter, Clear, Load, Add, Sub, Sequence, EndSequence, Assert, Assume, Property, Posedge, Disable, Iff, Or, And, Throughout, ForeignWord, Name, Past, Rose, Fell, Stable, Changed, OneHot, OneHot0, ForeignSystem, Number, OpenRound, CloseRound, OpenBrace, CloseBrace, OpenSquare, OpenRepeat, CloseSquare, Comma, Semicolon, Colon, AtSign, Dot, Delay, Overlapped, Following, ForeignSymbol, Operator, End}
+use Rattle.grammar.specs.declared.terminal.Terminal.TheVariants.{Counter, Clear, Load, Add, Sub}
+use Rattle.grammar.specs.declared.terminal.Terminal.TheVariants.{Sequence, EndSequence, Assert}
+use Rattle.grammar.specs.declared.terminal.Terminal.TheVariants.{Assume, Property, Posedge, Disable}
+use Rattle.grammar.specs.declared.terminal.Terminal.TheVariants.{Iff, Or, And, Throughout}
+use Rattle.grammar.specs.declared.terminal.Terminal.TheVariants.{ForeignWord, Name, Past, Rose}
+use Rattle.grammar.specs.declared.terminal.Terminal.TheVariants.{Fell, Stable, Changed, OneHot}
+use Rattle.grammar.specs.declared.terminal.Terminal.TheVariants.{OneHot0, ForeignSystem, Number}
+use Rattle.grammar.specs.declared.terminal.Terminal.TheVariants.{OpenRound, CloseRound, OpenBrace}
+use Rattle.grammar.specs.declared.terminal.Terminal.TheVariants.{CloseBrace, OpenSquare, OpenRepeat}
+use Rattle.grammar.specs.declared.terminal.Terminal.TheVariants.{CloseSquare, Comma, Semicolon}
+use Rattle.grammar.specs.declared.terminal.Terminal.TheVariants.{Colon, AtSign, Dot, Delay}
+use Rattle.grammar.specs.declared.terminal.Terminal.TheVariants.{Overlapped, Following}
+use Rattle.grammar.specs.declared.terminal.Terminal.TheVariants.{ForeignSymbol, Operator, End}
 
--- Words of constructs that the profile leaves out. (`property` where an item begins, and `iff` other than behind `disable`, are left out too.)
+-- Words of constructs that the profile leaves out. (`property` where an item begins, and `iff`
+-- other than behind `disable`, are left out too.)
 unfoldable pub foreign_1 : List ℕ → Bool
-foreign_1 text = bytes_eq text (codes "intersect") || bytes_eq text (codes "within") || bytes_eq text (codes "first_match") || bytes_eq text (codes "strong") || bytes_eq text (codes "weak") || bytes_eq text (codes "not") || bytes_eq text (codes "if") || bytes_eq text (codes "else")
+foreign_1 text =
+    bytes_eq text (codes "intersect") || bytes_eq text (codes "within")
+    || bytes_eq text (codes "first_match") || bytes_eq text (codes "strong")
+    || bytes_eq text (codes "weak") || bytes_eq text (codes "not") || bytes_eq text (codes "if")
+    || bytes_eq text (codes "else")
 
 unfoldable pub foreign_2 : List ℕ → Bool
-foreign_2 text = bytes_eq text (codes "case") || bytes_eq text (codes "always") || bytes_eq text (codes "nexttime") || bytes_eq text (codes "eventually") || bytes_eq text (codes "until") || bytes_eq text (codes "s_always") || bytes_eq text (codes "s_nexttime") || bytes_eq text (codes "s_eventually")
+foreign_2 text =
+    bytes_eq text (codes "case") || bytes_eq text (codes "always")
+    || bytes_eq text (codes "nexttime") || bytes_eq text (codes "eventually")
+    || bytes_eq text (codes "until") || bytes_eq text (codes "s_always")
+    || bytes_eq text (codes "s_nexttime") || bytes_eq text (codes "s_eventually")
 
 unfoldable pub foreign_3 : List ℕ → Bool
-foreign_3 text = bytes_eq text (codes "s_until") || bytes_eq text (codes "s_until_with") || bytes_eq text (codes "until_with") || bytes_eq text (codes "implies") || bytes_eq text (codes "accept_on") || bytes_eq text (codes "reject_on") || bytes_eq text (codes "cover") || bytes_eq text (codes "restrict")
+foreign_3 text =
+    bytes_eq text (codes "s_until") || bytes_eq text (codes "s_until_with")
+    || bytes_eq text (codes "until_with") || bytes_eq text (codes "implies")
+    || bytes_eq text (codes "accept_on") || bytes_eq text (codes "reject_on")
+    || bytes_eq text (codes "cover") || bytes_eq text (codes "restrict")
 
 unfoldable pub foreign_4 : List ℕ → Bool
-foreign_4 text = bytes_eq text (codes "default") || bytes_eq text (codes "clocking") || bytes_eq text (codes "negedge") || bytes_eq text (codes "edge") || bytes_eq text (codes "local")
+foreign_4 text =
+    bytes_eq text (codes "default") || bytes_eq text (codes "clocking")
+    || bytes_eq text (codes "negedge") || bytes_eq text (codes "edge")
+    || bytes_eq text (codes "local")
 
 abbrev pub foreign_word : List ℕ → Terminal
-foreign_word text = if foreign_1 text || foreign_2 text || foreign_3 text || foreign_4 text then ForeignWord else Name
+foreign_word text =
+    if foreign_1 text || foreign_2 text || foreign_3 text || foreign_4 text then ForeignWord
+    else Name
 
 -- the words that the rules quote
 unfoldable pub inner_word : List ℕ → Terminal
@@ -92,7 +122,8 @@ kind_terminal kinds.End text = End
 abbrev pub terminal : Token → Terminal
 terminal t = kind_terminal t.kind t.text.now
 
--- NAME: any word but those that the rules quote and those of constructs that the profile leaves out. The words of a counter are names too.
+-- NAME: any word but those that the rules quote and those of constructs that the profile leaves
+-- out. The words of a counter are names too.
 abbrev pub names : Terminal → Bool
 names Counter = true
 names Clear = true

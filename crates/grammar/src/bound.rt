@@ -5,7 +5,8 @@ ghost use Rattle.grammar.specs.Bounds.{plain_within, bound_within, index};
 
 use lexer::{Kind, Number, Token};
 
-/// A bound of a delay, a repetition or `$past`, or a counter's width; with the byte where it begins.
+/// A bound of a delay, a repetition or `$past`, or a counter's width; with the byte where it
+/// begins.
 #[derive(Clone, Copy, Debug, PartialEq, Eq)]
 pub struct Bound {
     pub value: u8,

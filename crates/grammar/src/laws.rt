@@ -1,9 +1,13 @@
 //! Laws of the definitions, proved.
 
-ghost use Rattle.grammar.specs.Laws.{SpelledFilesAreRead, ReadFilesAreSpelled, TokensSpellOneFile, SpelledExpressionsAreRead, ReadExpressionsAreSpelled, TokensSpellOneExpression, SpelledSequencesAreRead, ReadSequencesAreSpelled, SpelledPropertiesAreRead, ReadPropertiesAreSpelled};
+ghost use Rattle.grammar.specs.Laws.{SpelledFilesAreRead, ReadFilesAreSpelled, TokensSpellOneFile};
+ghost use Rattle.grammar.specs.Laws.{SpelledExpressionsAreRead, ReadExpressionsAreSpelled};
+ghost use Rattle.grammar.specs.Laws.{TokensSpellOneExpression, SpelledSequencesAreRead};
+ghost use Rattle.grammar.specs.Laws.{ReadSequencesAreSpelled, SpelledPropertiesAreRead};
+ghost use Rattle.grammar.specs.Laws.{ReadPropertiesAreSpelled};
 
-/// Reading from the left finds the tree that the grammar's rules say, and nothing else: for files, expressions,
-/// sequences and properties. So tokens spell at most one file.
+/// Reading from the left finds the tree that the grammar's rules say, and nothing else: for files,
+/// expressions, sequences and properties. So tokens spell at most one file.
 pub fn grammar_law()
     ensures spelled_file { SpelledFilesAreRead }
     ensures read_file { ReadFilesAreSpelled }

@@ -1,5 +1,34 @@
-//! The grammar of the assertion language: what its tokens are, which trees there are, which tokens a tree spells, and
-//! that reading from the left finds that tree, and finds nothing where there is none.
+//! The grammar of the assertion language: what its tokens are, which trees there are, which tokens
+//! a tree spells, and that reading from the left finds that tree, and finds nothing where there is
+//! none.
+//!
+//! The grammar stands here twice: rule by rule, as relations between trees and the tokens that they
+//! spell, and as functions that read the tokens from the left. `grammar_law` says that the two
+//! agree for files, and for expressions, sequences and properties where no operator behind them
+//! goes on; and that tokens spell at most one file. The readers themselves, with trees in memory,
+//! are `parser_expressions`, `parser_sequences` and `parser`, whose contracts go by these
+//! definitions. The code here says what a single token is to the grammar:
+//!
+//! ```text
+//! let terminal = terminal_of(token);       // Terminal::Sequence, Terminal::Name, ..
+//! let dot = is(Terminal::Dot, token);      // is_name and is_word ask for words
+//! let mark = mark_of(token);               // how it may begin a primary: Mark::Prefix, ..
+//! let looseness = precedence_of(token);    // 1 for + and -, up to 9 for ||, 10 for ?, ..
+//! let ticks = bound_of(token, 1, 64);      // a plain decimal within bounds, or none
+//! let bit = index_of(token);               // any number
+//! ```
+//!
+//! The definitions: what a token is to the rules in `specs/Terminals.antt`, and numbers as bounds
+//! in `specs/Bounds.antt`; how a token may begin a primary, and how loosely it joins, in
+//! `specs/Marks.antt`; the trees in `specs/Trees.antt`. The rules stand in
+//! `specs/Expressions.antt`, `specs/Sequences.antt` and `specs/Files.antt` (`IsFile`), the
+//! functions in `specs/ReadExpressions.antt`, `specs/ReadSequences.antt` and
+//! `specs/ReadFiles.antt`, with their common parts in `specs/Readers.antt`; what the law says
+//! stands in `specs/Laws.antt`. Of IEEE 1800-2017 the rules have a part of clauses 11 and 16.7 to
+//! 16.12 and of annexes A.8 and F.
+//!
+//! Not promised: that a file which tokens spell means anything; names, widths and types are looked
+//! at by `types`. Nor does the grammar say at which token those that spell no file go wrong.
 #![tactic(auto)]
 
 mod bound;

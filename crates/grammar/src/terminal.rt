@@ -1,7 +1,9 @@
 //! What a token is to the grammar.
 
 ghost use Rattle.std.specs.Prelude.{◌≡◌};
-ghost use Rattle.grammar.specs.Terminals.{foreign_1, foreign_2, foreign_3, foreign_4, foreign_word, inner_word, word_terminal, system_terminal, symbol_terminal, terminal, is, is_name, is_word};
+ghost use Rattle.grammar.specs.Terminals.{foreign_1, foreign_2, foreign_3, foreign_4, foreign_word};
+ghost use Rattle.grammar.specs.Terminals.{inner_word, word_terminal, system_terminal};
+ghost use Rattle.grammar.specs.Terminals.{symbol_terminal, terminal, is, is_name, is_word};
 
 use lexer::{Kind, Symbol, Token};
 

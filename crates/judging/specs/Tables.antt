@@ -1,5 +1,7 @@
--- Tables of marks, with a row for each start: which places a sequence reaches from it. Place k is the tick that lies k behind the attempt's first.
-use Rattle.std.specs.Prelude.{◌≡◌, ℕ, ◌+◌, ◌<◌, ◌&&◌, ◌||◌, ◌-◌, List, [], Bool, true, false, Option, Some, None, IsTrue, nat_le, length, slice_index_or}
+-- Tables of marks, with a row for each start: which places a sequence reaches from it. Place k is
+-- the tick that lies k behind the attempt's first.
+use Rattle.std.specs.Prelude.{◌≡◌, ℕ, ◌+◌, ◌<◌, ◌&&◌, ◌||◌, ◌-◌, List, [], Bool, true, false}
+use Rattle.std.specs.Prelude.{Option, Some, None, IsTrue, nat_le, length, slice_index_or}
 use Rattle.assertions.specs.declared.sequence.Boolean.{Boolean}
 use Rattle.assertions.specs.declared.sequence.Boolean.TheVariants.{One, Listed}
 use Rattle.assertions.specs.declared.decision.Decision.{Decision}
@@ -18,8 +20,10 @@ row_at rows i = slice_index_or rows i []
 abbrev pub links : List (List Bool) → ℕ → ℕ → Bool
 links rows i j = marks (row_at rows i) j
 
--- For each marked start the table has the places that pass. Nothing is said of the rows of other starts.
-pub record IsRelation (test : ℕ → ℕ → Bool) (starts : List Bool) (rows : List (List Bool)) : Type 0 where
+-- For each marked start the table has the places that pass. Nothing is said of the rows of other
+-- starts.
+pub record IsRelation (test : ℕ → ℕ → Bool) (starts : List Bool)
+    (rows : List (List Bool)) : Type 0 where
   pub each : (i j : ℕ) → IsTrue (marks starts i) → j < length starts → links rows i j ≡ test i j
 
 -- A row of so many places has those that pass.
@@ -29,11 +33,15 @@ pub record IsRow (test : ℕ → Bool) (count : ℕ) (row : List Bool) : Type 0 
 
 -- what the second table reaches from the places of the first, so many ticks further on at least
 abbrev pub reached_from : List (List Bool) → List (List Bool) → ℕ → ℕ → ℕ → Bool
-reached_from front rest gap i j = some_in 0 (length (row_at front i)) (λ m. marks (row_at front i) m && (nat_le (m + gap) j && links rest m j))
+reached_from front rest gap i j =
+    some_in 0 (length (row_at front i))
+    (λ m. marks (row_at front i) m && (nat_le (m + gap) j && links rest m j))
 
 -- What passes from a place of the one table, or behind a place of the other.
 abbrev pub behind : List (List Bool) → List (List Bool) → (ℕ → ℕ → Bool) → ℕ → ℕ → Bool
-behind moved shared test i j = some_in 0 (j + 1) (λ m. links moved i m && test m j) || some_in 0 j (λ m. links shared i m && test m j)
+behind moved shared test i j =
+    some_in 0 (j + 1) (λ m. links moved i m && test m j)
+    || some_in 0 j (λ m. links shared i m && test m j)
 
 -- a boolean's value at a place, where row k of the values is of place k
 abbrev pub value_at : List (List Bool) → Boolean → ℕ → Bool
@@ -45,7 +53,8 @@ abbrev pub held_at : List (List Bool) → Boolean → ℕ → Bool
 held_at values = sat (value_at values) (length values)
 
 -- The rows are what the booleans are from the first tick on.
-pub record HasSeen (value : Boolean → ℕ → Bool) (first : ℕ) (values : List (List Bool)) : Type 0 where
+pub record HasSeen (value : Boolean → ℕ → Bool) (first : ℕ)
+    (values : List (List Bool)) : Type 0 where
   pub each : (b : Boolean) (k : ℕ) → k < length values → value_at values b k ≡ value b (first + k)
 
 -- at which ticks the disabling boolean was seen to be true, if there is one

@@ -27,7 +27,8 @@ pub(crate) fn ends_from(
     starts: &[bool],
 ) -> Result<Table, AllocError>
     requires { length starts.now < 2 ^ 61 }
-    ensures { IfOk result (IsRelation (is_match (held_at seen.now.values) (shape sequence.now)) starts.now) }
+    ensures { IfOk result
+        (IsRelation (is_match (held_at seen.now.values) (shape sequence.now)) starts.now) }
 {
     if !some_mark(starts, 0, starts.len()) {
         return Ok(Table::new(alloc));
@@ -61,7 +62,8 @@ pub(crate) fn ends_from(
     }
 }
 
-/// The places up to which the second matches a number of ticks behind the first, of which the table has the ends.
+/// The places up to which the second matches a number of ticks behind the first, of which the table
+/// has the ends.
 #[cycle(ends)]
 fn ends_delayed(
     alloc: Global,
@@ -73,8 +75,10 @@ fn ends_delayed(
     starts: &[bool],
 ) -> Result<Table, AllocError>
     requires { length starts.now < 2 ^ 61 }
-    ensures { IfOk result (λ v. (r : Seq Boolean) → IsRelation (is_match (held_at seen.now.values) r) starts.now fronts.now
-        → IsRelation (is_match (held_at seen.now.values) (one_of least (most - least) (after One r (shape second.now)))) starts.now v) }
+    ensures { IfOk result (λ v. (r : Seq Boolean)
+        → IsRelation (is_match (held_at seen.now.values) r) starts.now fronts.now
+        → IsRelation (is_match (held_at seen.now.values)
+        (one_of least (most - least) (after One r (shape second.now)))) starts.now v) }
 {
     let end = least.max(most) as usize;
     let apart = moved_places(alloc, fronts, least.saturating_sub(1) as usize, end, starts)?;
@@ -93,7 +97,8 @@ fn ends_late(
     starts: &[bool],
 ) -> Result<Table, AllocError>
     requires { length starts.now < 2 ^ 61 }
-    ensures { IfOk result (IsRelation (is_match (held_at seen.now.values) (one_of least (most - least) (later One (shape body.now)))) starts.now) }
+    ensures { IfOk result (IsRelation (is_match (held_at seen.now.values)
+        (one_of least (most - least) (later One (shape body.now)))) starts.now) }
 {
     let here = same(alloc, true, starts)?;
     let end = least.max(most) as usize + 1;
@@ -102,7 +107,8 @@ fn ends_late(
     ends_behind(alloc, &apart, &none, body, seen, starts)
 }
 
-/// The places up to which the rest matches from those of the one table, or behind those of the other.
+/// The places up to which the rest matches from those of the one table, or behind those of the
+/// other.
 #[cycle(ends)]
 fn ends_behind(
     alloc: Global,
@@ -113,7 +119,8 @@ fn ends_behind(
     starts: &[bool],
 ) -> Result<Table, AllocError>
     requires { length starts.now < 2 ^ 61 }
-    ensures { IfOk result (IsRelation (behind apart.now together.now (is_match (held_at seen.now.values) (shape rest.now))) starts.now) }
+    ensures { IfOk result (IsRelation (behind apart.now together.now
+        (is_match (held_at seen.now.values) (shape rest.now))) starts.now) }
 {
     let begins = starts_behind(alloc, apart, together, starts)?;
     let rests = ends_from(alloc, rest, seen, begins.as_slice())?;

@@ -1,4 +1,27 @@
 //! The verdict on an attempt, straight from the definition: the measure of all faster ways.
+//!
+//! `judge` takes an assertion, its suite, rows of the suite's signals with what its counters count
+//! over them, and the tick at which the attempt begins. It answers the verdict that the definition
+//! gives over all the rows, and refuses nothing but for want of memory. The tick is that of a row.
+//!
+//! ```text
+//! let rows = count(alloc, signals, suite.counters.as_slice())?;
+//! let verdict = judge(alloc, &assertion, &suite, &rows, 0)?;   // Holds(3), Fails(2), Open, ..
+//! ```
+//!
+//! It goes on tick by tick, from the attempt's first. At each it takes the values of the
+//! assertion's booleans, and works out from all that were seen whether the attempt is decided, by
+//! tables that say which places each part of a sequence reaches from which. The first decision ends
+//! it, or the last row does. Then it looks for the first of these ticks at which the disabling
+//! boolean was true. So each boolean is evaluated at most once at each tick, and at none behind the
+//! one that decides.
+//!
+//! The definitions: the verdict is that of `assertions`, in its `specs/Attempts.antt`, and over
+//! rows in its `specs/Verdicts.antt`; rows and counts are those of `expressions`, in its
+//! `specs/Rows.antt`. What the tables hold stands in `specs/Tables.antt`, and what an attempt sees
+//! of rows and how that decides it in `specs/Courses.antt`.
+//!
+//! Not promised: that memory suffices, or that it is fast. The tables are made anew at each tick.
 #![tactic(auto, using(crate::proofs::Searches::searches))]
 
 mod course;

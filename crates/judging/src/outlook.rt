@@ -16,7 +16,8 @@ pub(crate) fn obligations_at(
     count: usize,
 ) -> Result<Vec<bool>, AllocError>
     requires { count < 2 ^ 61 }
-    ensures { IfOk result (λ row. IsRow (λ e. nat_le (e + 1) below && marks ends.now (e + 1)) count row.items) }
+    ensures { IfOk result
+        (λ row. IsRow (λ e. nat_le (e + 1) below && marks ends.now (e + 1)) count row.items) }
 {
     let mut row = Vec::with_capacity(alloc, count)?;
     for tick in 0..count {
@@ -25,8 +26,8 @@ pub(crate) fn obligations_at(
     Ok(row)
 }
 
-/// What stands at a tick, or at several: whether the antecedent ends there, whether an end has a broken obligation,
-/// and whether each end has a kept one.
+/// What stands at a tick, or at several: whether the antecedent ends there, whether an end has a
+/// broken obligation, and whether each end has a kept one.
 #[derive(Clone, Copy)]
 pub(crate) struct Outlook {
     pub ends: bool,
@@ -49,7 +50,8 @@ impl Outlook {
     }
 }
 
-/// What stands at a tick where the antecedent ends or not, and up to which places the consequent matches from there.
+/// What stands at a tick where the antecedent ends or not, and up to which places the consequent
+/// matches from there.
 fn outlook_at(ends: bool, consequent: &[bool], tick: usize, below: usize, count: usize) -> Outlook
     requires { below < 2 ^ 60 }
     ensures ends { result.ends ≡ ends }
@@ -63,12 +65,15 @@ fn outlook_at(ends: bool, consequent: &[bool], tick: usize, below: usize, count:
     }
 }
 
-/// What stands at the ticks of an attempt below a bound, of whose antecedent and consequent the tables have the ends.
+/// What stands at the ticks of an attempt below a bound, of whose antecedent and consequent the
+/// tables have the ends.
 pub(crate) fn outlook_of(ends: &[bool], consequents: &Table, below: usize, count: usize) -> Outlook
     requires { below < 2 ^ 60 }
     ensures ends { result.ends ≡ some_in 0 below (λ e. marks ends.now (e + 1)) }
-    ensures broken { result.broken ≡ some_in 0 below (λ e. marks ends.now (e + 1) && not (some_in e count (links consequents.now e))) }
-    ensures kept { result.kept ≡ each_in 0 below (λ e. not (marks ends.now (e + 1)) || some_in e (below + 1) (links consequents.now e)) }
+    ensures broken { result.broken ≡ some_in 0 below (λ e.
+        marks ends.now (e + 1) && not (some_in e count (links consequents.now e))) }
+    ensures kept { result.kept ≡ each_in 0 below (λ e.
+        not (marks ends.now (e + 1)) || some_in e (below + 1) (links consequents.now e)) }
 {
     let mut all = Outlook {
         ends: false,

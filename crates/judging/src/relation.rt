@@ -1,6 +1,7 @@
 //! Tables of what starts reach, made from others. Each row is made for one marked start.
 
-ghost use Rattle.std.specs.Prelude.{◌≡◌, ℕ, ◌+◌, ◌-◌, ◌<◌, ◌≤◌, ◌&&◌, ◌||◌, ◌==◌, ◌^◌, true, nat_le, IsTrue, IfOk, length};
+ghost use Rattle.std.specs.Prelude.{◌≡◌, ℕ, ◌+◌, ◌-◌, ◌<◌, ◌≤◌, ◌&&◌, ◌||◌, ◌==◌, ◌^◌, true};
+ghost use Rattle.std.specs.Prelude.{nat_le, IsTrue, IfOk, length};
 ghost use Rattle.assertions.specs.Quantifiers.{some_in, each_in};
 ghost use Rattle.assertions.specs.Segments.{chain};
 ghost use Rattle.judging.specs.Tables.{marks, links, held_at, reached_from, IsRelation};
@@ -37,7 +38,8 @@ pub(crate) fn next(
     starts: &[bool],
 ) -> Result<Table, AllocError>
     requires { length starts.now < 2 ^ 61 }
-    ensures { IfOk result (IsRelation (λ i j. (j == i + 1) && held_at seen.now.values boolean i) starts.now) }
+    ensures { IfOk result
+        (IsRelation (λ i j. (j == i + 1) && held_at seen.now.values boolean i) starts.now) }
 {
     let mut all = Table::new(alloc);
     for place in 0..starts.len() {
@@ -59,7 +61,8 @@ pub(crate) fn moved_places(
     end: usize,
     starts: &[bool],
 ) -> Result<Table, AllocError>
-    ensures { IfOk result (IsRelation (λ i j. some_in least end (λ gap. nat_le gap j && links front.now i (j - gap))) starts.now) }
+    ensures { IfOk result (IsRelation (λ i j.
+        some_in least end (λ gap. nat_le gap j && links front.now i (j - gap))) starts.now) }
 {
     let mut all = Table::new(alloc);
     for place in 0..starts.len() {
@@ -81,7 +84,8 @@ pub(crate) fn last_ticks(
     starts: &[bool],
 ) -> Result<Table, AllocError>
     requires { length starts.now < 2 ^ 61 }
-    ensures { IfOk result (IsRelation (λ i j. wanted && (nat_le i j && links front.now i (j + 1))) starts.now) }
+    ensures { IfOk result
+        (IsRelation (λ i j. wanted && (nat_le i j && links front.now i (j + 1))) starts.now) }
 {
     let mut all = Table::new(alloc);
     for place in 0..starts.len() {
@@ -125,7 +129,8 @@ pub(crate) fn union_of(
     other: &Table,
     starts: &[bool],
 ) -> Result<Table, AllocError>
-    ensures { IfOk result (IsRelation (λ i j. links one.now i j || links other.now i j) starts.now) }
+    ensures { IfOk result
+        (IsRelation (λ i j. links one.now i j || links other.now i j) starts.now) }
 {
     let mut all = Table::new(alloc);
     for place in 0..starts.len() {
@@ -146,7 +151,9 @@ pub(crate) fn both(
     other: &Table,
     starts: &[bool],
 ) -> Result<Table, AllocError>
-    ensures { IfOk result (IsRelation (λ i j. (links one.now i j && some_in 0 (j + 1) (links other.now i)) || (some_in 0 (j + 1) (links one.now i) && links other.now i j)) starts.now) }
+    ensures { IfOk result (IsRelation (λ i j.
+        (links one.now i j && some_in 0 (j + 1) (links other.now i))
+        || (some_in 0 (j + 1) (links one.now i) && links other.now i j)) starts.now) }
 {
     let mut all = Table::new(alloc);
     for place in 0..starts.len() {
@@ -168,7 +175,8 @@ pub(crate) fn places_throughout(
     seen: &Seen,
     starts: &[bool],
 ) -> Result<Table, AllocError>
-    ensures { IfOk result (IsRelation (λ i j. links body.now i j && each_in i j (held_at seen.now.values boolean)) starts.now) }
+    ensures { IfOk result (IsRelation
+        (λ i j. links body.now i j && each_in i j (held_at seen.now.values boolean)) starts.now) }
 {
     let mut all = Table::new(alloc);
     for place in 0..starts.len() {
@@ -189,7 +197,8 @@ pub(crate) fn reached_places(
     starts: &[bool],
 ) -> Result<Vec<bool>, AllocError>
     ensures long { IfOk result (λ v. length v.items ≡ length starts.now) }
-    ensures each { IfOk result (λ v. (i j : ℕ) → IsTrue (marks starts.now i) → j < length starts.now → IsTrue (links table.now i j) → IsTrue (marks v.items j)) }
+    ensures each { IfOk result (λ v. (i j : ℕ) → IsTrue (marks starts.now i) → j < length starts.now
+        → IsTrue (links table.now i j) → IsTrue (marks v.items j)) }
 {
     let mut all = only(alloc, 0, false, starts.len())?;
     for place in 0..starts.len() {
@@ -208,8 +217,10 @@ pub(crate) fn starts_behind(
     starts: &[bool],
 ) -> Result<Vec<bool>, AllocError>
     ensures long { IfOk result (λ v. length v.items ≡ length starts.now) }
-    ensures moved { IfOk result (λ v. (i j : ℕ) → IsTrue (marks starts.now i) → j < length starts.now → IsTrue (links moved.now i j) → IsTrue (marks v.items j)) }
-    ensures shared { IfOk result (λ v. (i j : ℕ) → IsTrue (marks starts.now i) → j < length starts.now → IsTrue (links shared.now i j) → IsTrue (marks v.items j)) }
+    ensures moved { IfOk result (λ v. (i j : ℕ) → IsTrue (marks starts.now i)
+        → j < length starts.now → IsTrue (links moved.now i j) → IsTrue (marks v.items j)) }
+    ensures shared { IfOk result (λ v. (i j : ℕ) → IsTrue (marks starts.now i)
+        → j < length starts.now → IsTrue (links shared.now i j) → IsTrue (marks v.items j)) }
 {
     let mut all = reached_places(alloc, moved, starts)?;
     let more = reached_places(alloc, shared, starts)?;
@@ -225,7 +236,9 @@ pub(crate) fn composition_behind(
     rests: &Table,
     starts: &[bool],
 ) -> Result<Table, AllocError>
-    ensures { IfOk result (IsRelation (λ i j. reached_from moved.now rests.now 0 i j || reached_from shared.now rests.now 1 i j) starts.now) }
+    ensures { IfOk result (IsRelation (λ i j.
+        reached_from moved.now rests.now 0 i j
+        || reached_from shared.now rests.now 1 i j) starts.now) }
 {
     let apart = composition_of(alloc, moved, rests, 0, starts)?;
     let together = composition_of(alloc, shared, rests, 1, starts)?;
@@ -240,7 +253,8 @@ pub(crate) fn repetition_of(
     most: u8,
     starts: &[bool],
 ) -> Result<Table, AllocError>
-    ensures { IfOk result (IsRelation (λ i j. some_in least (most + 1) (λ k. chain (links bodies.now) k i j)) starts.now) }
+    ensures { IfOk result (IsRelation
+        (λ i j. some_in least (most + 1) (λ k. chain (links bodies.now) k i j)) starts.now) }
 {
     let mut last = same(alloc, true, starts)?;
     let mut all = same(alloc, least == 0, starts)?;

@@ -1,6 +1,7 @@
 //! Rows of marks, each made for one start.
 
-ghost use Rattle.std.specs.Prelude.{◌≡◌, ℕ, ◌+◌, ◌-◌, ◌<◌, ◌≤◌, ◌&&◌, ◌||◌, ◌==◌, ◌^◌, true, nat_le, IfOk, length};
+ghost use Rattle.std.specs.Prelude.{◌≡◌, ℕ, ◌+◌, ◌-◌, ◌<◌, ◌≤◌, ◌&&◌, ◌||◌, ◌==◌, ◌^◌, true};
+ghost use Rattle.std.specs.Prelude.{nat_le, IfOk, length};
 ghost use Rattle.assertions.specs.Quantifiers.{some_in, each_in};
 ghost use Rattle.judging.specs.Tables.{marks, links, held_at, IsRow};
 
@@ -51,7 +52,8 @@ pub(crate) fn every_place(alloc: Global, count: usize) -> Result<Vec<bool>, Allo
 /// Marks what lies so far behind the places of the other row.
 fn merge_behind(row: &mut Vec<bool>, front: &[bool], gap: usize)
     ensures long { length row.new.items ≡ length row.old.items }
-    ensures each { (j : ℕ) → j < length row.old.items → marks row.new.items j ≡ (marks row.old.items j || (nat_le gap j && marks front.now (j - gap))) }
+    ensures each { (j : ℕ) → j < length row.old.items → marks row.new.items j
+        ≡ (marks row.old.items j || (nat_le gap j && marks front.now (j - gap))) }
 {
     let room = row.len().saturating_sub(gap);
     for place in 0..front.len().min(room) {
@@ -67,7 +69,8 @@ pub(crate) fn moved_row(
     end: usize,
     count: usize,
 ) -> Result<Vec<bool>, AllocError>
-    ensures { IfOk result (λ row. IsRow (λ j. some_in least end (λ gap. nat_le gap j && marks front.now (j - gap))) count row.items) }
+    ensures { IfOk result (λ row. IsRow (λ j.
+        some_in least end (λ gap. nat_le gap j && marks front.now (j - gap))) count row.items) }
 {
     let mut row = only(alloc, 0, false, count)?;
     for gap in least..end {
@@ -98,7 +101,8 @@ pub(crate) fn shared_row(
 /// Marks what the other row has from a place on.
 pub(crate) fn merge_from(row: &mut Vec<bool>, more: &[bool], from: usize)
     ensures long { length row.new.items ≡ length row.old.items }
-    ensures each { (j : ℕ) → j < length row.old.items → marks row.new.items j ≡ (marks row.old.items j || (nat_le from j && marks more.now j)) }
+    ensures each { (j : ℕ) → j < length row.old.items
+        → marks row.new.items j ≡ (marks row.old.items j || (nat_le from j && marks more.now j)) }
 {
     for place in from..row.len().min(more.len()) {
         row[place] |= more[place];
@@ -114,7 +118,8 @@ pub(crate) fn joined_row(
     count: usize,
 ) -> Result<Vec<bool>, AllocError>
     requires { gap ≤ 1 }
-    ensures { IfOk result (λ row. IsRow (λ j. some_in 0 (length front.now) (λ m. marks front.now m && (nat_le (m + gap) j && links rest.now m j))) count row.items) }
+    ensures { IfOk result (λ row. IsRow (λ j. some_in 0 (length front.now)
+        (λ m. marks front.now m && (nat_le (m + gap) j && links rest.now m j))) count row.items) }
 {
     let mut row = only(alloc, 0, false, count)?;
     for place in 0..front.len() {
@@ -133,7 +138,8 @@ pub(crate) fn merged_row(
     other: &[bool],
     count: usize,
 ) -> Result<Vec<bool>, AllocError>
-    ensures { IfOk result (λ row. IsRow (λ j. marks one.now j || marks other.now j) count row.items) }
+    ensures { IfOk result
+        (λ row. IsRow (λ j. marks one.now j || marks other.now j) count row.items) }
 {
     let mut row = Vec::with_capacity(alloc, count)?;
     for place in 0..count {
@@ -156,7 +162,9 @@ pub(crate) fn both_row(
     other: &[bool],
     count: usize,
 ) -> Result<Vec<bool>, AllocError>
-    ensures { IfOk result (λ row. IsRow (λ j. (marks one.now j && some_in 0 (j + 1) (marks other.now)) || (some_in 0 (j + 1) (marks one.now) && marks other.now j)) count row.items) }
+    ensures { IfOk result (λ row. IsRow (λ j.
+        (marks one.now j && some_in 0 (j + 1) (marks other.now))
+        || (some_in 0 (j + 1) (marks one.now) && marks other.now j)) count row.items) }
 {
     let mut row = Vec::with_capacity(alloc, count)?;
     let mut one_ended = false;

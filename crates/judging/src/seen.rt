@@ -10,7 +10,8 @@ use assertions::Boolean;
 use expressions::{Expr, Rows, is_true};
 use std::alloc::{AllocError, Global};
 
-/// The values of an assertion's booleans, with a row for each tick that was seen, from the attempt's first on.
+/// The values of an assertion's booleans, with a row for each tick that was seen, from the
+/// attempt's first on.
 #[derive(Drop)]
 pub(crate) struct Seen {
     pub values: Table,
@@ -53,7 +54,8 @@ pub(crate) fn values_at(
     rows: &Rows,
     tick: usize,
 ) -> Result<Vec<bool>, AllocError>
-    ensures { IfOk result (λ v. (i : ℕ) → marks v.items i ≡ is_true_at (samples_of rows.now) (expression_at all.now (slice_get places.now i)) tick) }
+    ensures { IfOk result (λ v. (i : ℕ) → marks v.items i
+        ≡ is_true_at (samples_of rows.now) (expression_at all.now (slice_get places.now i)) tick) }
 {
     let mut values = Vec::with_capacity(alloc, places.len())?;
     for place in places {

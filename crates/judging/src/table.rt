@@ -1,6 +1,7 @@
 //! Tables of marks.
 
-ghost use Rattle.std.specs.Prelude.{◌≡◌, ◌<◌, ◌^◌, Bool, List, [], ◌∷◌, ◌++◌, length, map, OnOk, OnErr};
+ghost use Rattle.std.specs.Prelude.{◌≡◌, ◌<◌, ◌^◌, Bool, List, [], ◌∷◌, ◌++◌, length, map, OnOk};
+ghost use Rattle.std.specs.Prelude.{OnErr};
 ghost use Rattle.judging.specs.Tables.{marks, row_at};
 
 use std::alloc::{AllocError, Global};

@@ -14,7 +14,8 @@ use expressions::Rows;
 use signals::Verdict;
 use std::alloc::{AllocError, Global};
 
-/// The verdict, were the attempt not disabled at a tick from `start` up to `end`, each of which it has seen.
+/// The verdict, were the attempt not disabled at a tick from `start` up to `end`, each of which it
+/// has seen.
 fn unless_disabled(
     assertion: &Assertion,
     seen: &Seen,
@@ -64,8 +65,8 @@ fn verdict_from(assertion: &Assertion, course: &Course, start: usize, end: usize
     }
 }
 
-/// The verdict on the attempt of the assertion that begins at a tick (IEEE 1800-2017, 16.12.7), over
-/// rows of the suite's signals and what its counters count over them.
+/// The verdict on the attempt of the assertion that begins at a tick (IEEE 1800-2017, 16.12.7),
+/// over rows of the suite's signals and what its counters count over them.
 ///
 /// Each boolean is evaluated at most once at each tick, and at none beyond the one that decides.
 /// Only want of memory is refused.

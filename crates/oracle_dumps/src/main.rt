@@ -1,5 +1,6 @@
-//! Reads dumps that real simulators wrote, and prints what is in them. The file traces.txt has a line for each dump: its file, its
-//! clock's path, and the paths whose values are printed at some ticks.
+//! Reads dumps that real simulators wrote, and prints what is in them. The file traces.txt has a
+//! line for each dump: its file, its clock's path, and the paths whose values are printed at some
+//! ticks.
 #![tactic(auto)]
 
 ghost use Rattle.cycle_window.specs.Held.{AreClocksOf};

@@ -140,8 +140,8 @@ fn refusal(
     Ok(refusal)
 }
 
-const FRONT: &str =
-    "$timescale 1ns $end\n$scope module top $end\n$var wire 1 ! clk $end\n$var reg 8 % d [7:0] $end\n$upscope $end\n$enddefinitions $end\n";
+const FRONT: &str = "$timescale 1ns $end\n$scope module top $end\n$var wire 1 ! clk $end\n\
+    $var reg 8 % d [7:0] $end\n$upscope $end\n$enddefinitions $end\n";
 
 #[test]
 fn vector_extension(rt: HostRuntime) -> Result<(), Fail> {
@@ -169,7 +169,8 @@ fn vector_extension(rt: HostRuntime) -> Result<(), Fail> {
 fn equal_codes(rt: HostRuntime) -> Result<(), Fail> {
     let alloc = rt.alloc();
     let text =
-        b"$scope module top $end $var wire 1 ! clk $end $var reg 8 % d $end $var reg 4 % e $end $upscope $end $enddefinitions $end\n\
+        b"$scope module top $end $var wire 1 ! clk $end $var reg 8 % d $end $var reg 4 % e $end \
+        $upscope $end $enddefinitions $end\n\
         #0\n0!\nb10110 %\n#5\n1!\n"
             .as_slice();
     assert_eq!(rt;
@@ -217,7 +218,8 @@ $enddefinitions $end
 0!
 ";
 
-/// Cut behind line 6, inside line 3, inside line 7, behind the digit of line 9, behind the `#` of line 12, and inside line 14.
+/// Cut behind line 6, inside line 3, inside line 7, behind the digit of line 9, behind the `#` of
+/// line 12, and inside line 14.
 #[test]
 fn cut_dumps(rt: HostRuntime) -> Result<(), Fail> {
     let alloc = rt.alloc();
@@ -298,14 +300,17 @@ fn failed_reads(rt: HostRuntime) -> Result<(), Fail> {
     Ok(())
 }
 
-/// Accepted: a scope word alone, an `$upscope` at the top, sizes to 2^32 - 1, skipped sections and values, equal times, changes before any time.
+/// Accepted: a scope word alone, an `$upscope` at the top, sizes to 2^32 - 1, skipped sections and
+/// values, equal times, changes before any time.
 #[test]
 fn accepted_forms(rt: HostRuntime) -> Result<(), Fail> {
     let alloc = rt.alloc();
-    let text =
-        "$upscope $end $ x $end $scope a top $end $var wire 1 ! clk $end $var x 8 \"& v [7 :0] $end $var real 64 r f $end\n\
-        $var wire 4294967295 w wide $end $var wire 8 \"& v [3:0] $end $var wire 0 n none $end $upscope $end $enddefinitions $end\n\
-        0! b10 \"& r1.5 r sabc ? $dumpvars 1n $end $comment 1! #9 $end $dumpoff $dumpon $dumpall #5 #5 1! #18446744073709551615";
+    let text = "$upscope $end $ x $end $scope a top $end $var wire 1 ! clk $end \
+        $var x 8 \"& v [7 :0] $end $var real 64 r f $end\n\
+        $var wire 4294967295 w wide $end $var wire 8 \"& v [3:0] $end $var wire 0 n none $end \
+        $upscope $end $enddefinitions $end\n\
+        0! b10 \"& r1.5 r sabc ? $dumpvars 1n $end $comment 1! #9 $end \
+        $dumpoff $dumpon $dumpall #5 #5 1! #18446744073709551615";
     assert_eq!(rt;
         values_of(alloc, text.as_bytes(), "top.v", 8)?.as_slice(),
         [2].as_slice()
@@ -326,7 +331,8 @@ fn accepted_forms(rt: HostRuntime) -> Result<(), Fail> {
 fn equal_paths(rt: HostRuntime) -> Result<(), Fail> {
     let alloc = rt.alloc();
     let text =
-        "$var real 64 ! a $end $var wire 1 \" a $end $var wire 3 # b $end $var wire 4 $ b $end $enddefinitions $end";
+        "$var real 64 ! a $end $var wire 1 \" a $end $var wire 3 # b $end $var wire 4 $ b $end \
+        $enddefinitions $end";
     let widths = widths_of(alloc, text, &["a", "b"])?;
     assert_eq!(rt; widths.as_slice(), [0, 3].as_slice());
     assert_eq!(rt; names_of(alloc, text)?.len(), 1);
@@ -336,8 +342,8 @@ fn equal_paths(rt: HostRuntime) -> Result<(), Fail> {
 #[test]
 fn rows_in_any_window(rt: HostRuntime) -> Result<(), Fail> {
     let alloc = rt.alloc();
-    let text =
-        "$var wire 1 ! clk $end $var wire 4 n n $end $enddefinitions $end #0 0! b0 n #1 1! b1 n #2 0! #3 1! b10 n #4 0! #5 1! b11 n #6 0! #7 1!";
+    let text = "$var wire 1 ! clk $end $var wire 4 n n $end $enddefinitions $end \
+        #0 0! b0 n #1 1! b1 n #2 0! #3 1! b10 n #4 0! #5 1! b11 n #6 0! #7 1!";
     let signals = [WatchedSignal {
         path: "n",
         width: 4,
@@ -355,7 +361,8 @@ fn rows_in_any_window(rt: HostRuntime) -> Result<(), Fail> {
 fn repeated_signals(rt: HostRuntime) -> Result<(), Fail> {
     let alloc = rt.alloc();
     let text =
-        b"$scope module top $end $var wire 1 ! clk $end $var reg 8 % d $end $var reg 4 % e $end $upscope $end $enddefinitions $end\n\
+        b"$scope module top $end $var wire 1 ! clk $end $var reg 8 % d $end $var reg 4 % e $end \
+        $upscope $end $enddefinitions $end\n\
         #0\n0!\nb10110 %\n#5\n1!\n#10\n0!\nb11111111 %\n#15\n1!\n#20\n0!\n#25\n1!\nb0 %\n"
             .as_slice();
     let d = WatchedSignal {
@@ -416,9 +423,10 @@ fn refusals(rt: HostRuntime) -> Result<(), Fail> {
 #[test]
 fn scopes_that_open_again(rt: HostRuntime) -> Result<(), Fail> {
     let alloc = rt.alloc();
-    let text =
-        "$scope module a $end $scope module b $end $var wire 2 ! x $end $upscope $end $upscope $end $var wire 3 ! x $end\n\
-        $scope module a $end $var wire 4 ! b $end $scope module b $end $var wire 5 ! x $end $var wire 6 ! y $end $upscope $end $var wire 7 ! x $end $upscope $end\n\
+    let text = "$scope module a $end $scope module b $end $var wire 2 ! x $end $upscope $end \
+        $upscope $end $var wire 3 ! x $end\n\
+        $scope module a $end $var wire 4 ! b $end $scope module b $end $var wire 5 ! x $end \
+        $var wire 6 ! y $end $upscope $end $var wire 7 ! x $end $upscope $end\n\
         $enddefinitions $end";
     let found = widths_of(alloc, text, &["a.b.x", "x", "a.b", "a.b.y", "a.x"])?;
     assert_eq!(rt; found.as_slice(), [2, 3, 4, 6, 7].as_slice());
@@ -433,10 +441,12 @@ fn scopes_that_open_again(rt: HostRuntime) -> Result<(), Fail> {
 #[test]
 fn names_with_dots(rt: HostRuntime) -> Result<(), Fail> {
     let alloc = rt.alloc();
-    let text =
-        "$scope module a $end $scope module b $end $var wire 2 ! c $end $upscope $end $var wire 3 ! b.c $end $var wire 4 ! b.d $end $upscope $end\n\
-        $scope module a.b $end $var wire 5 ! c $end $var wire 6 ! d $end $var wire 7 ! e $end $upscope $end $var wire 8 ! a.b.e $end\n\
-        $scope module a $end $scope module b $end $var wire 9 ! e $end $upscope $end $var wire 10 ! e $end $upscope $end\n\
+    let text = "$scope module a $end $scope module b $end $var wire 2 ! c $end $upscope $end \
+        $var wire 3 ! b.c $end $var wire 4 ! b.d $end $upscope $end\n\
+        $scope module a.b $end $var wire 5 ! c $end $var wire 6 ! d $end $var wire 7 ! e $end \
+        $upscope $end $var wire 8 ! a.b.e $end\n\
+        $scope module a $end $scope module b $end $var wire 9 ! e $end $upscope $end \
+        $var wire 10 ! e $end $upscope $end\n\
         $enddefinitions $end";
     let names = names_of(alloc, text)?;
     let expected = [("a.b.c", 2), ("a.b.d", 4), ("a.b.e", 7), ("a.e", 10)];

@@ -1,10 +1,10 @@
 //! Runs programs over rows, and prints what each clock came to.
 //!
-//! Standard input has cases: a line `case NAME`, a line `program HEX` of a file of bytecode, and for
-//! each clock a line `row V V ..` of the signals' values. Of each case it prints `case NAME`, for
-//! each clock a line `ticks T (START VERDICT CLOCK) ..`, and a line `open START ..` of the attempts
-//! that are live behind the last clock. A script (`scripts/machine_cases.py`) made the cases, with
-//! the answers of a machine of its own.
+//! Standard input has cases: a line `case NAME`, a line `program HEX` of a file of bytecode, and
+//! for each clock a line `row V V ..` of the signals' values. Of each case it prints `case NAME`,
+//! for each clock a line `ticks T (START VERDICT CLOCK) ..`, and a line `open START ..` of the
+//! attempts that are live behind the last clock. A script (`scripts/machine_cases.py`) made the
+//! cases, with the answers of a machine of its own.
 //!
 //! With a file of hexadecimal digits and a number of clocks as its words it runs the program of
 //! that file over so many clocks of a made-up trace, and prints how long they took.

@@ -87,8 +87,8 @@ fn sums_of(run: &mut Run, trace: &[Vec<u128>], clocks: u64) -> Result<Sums> {
     Ok(sums)
 }
 
-/// Runs so many clocks over the trace, and prints how many microseconds they took and what they came
-/// to.
+/// Runs so many clocks over the trace, and prints how many microseconds they took and what they
+/// came to.
 fn time_over(rt: &HostRuntime, run: &mut Run, trace: &[Vec<u128>], clocks: u64) -> Result<()> {
     let start = Instant::now(rt)?;
     let sums = sums_of(run, trace, clocks)?;

@@ -1,6 +1,7 @@
-//! Checks the texts of `suites.txt`, one a line, over a few signals, and prints of each how many assertions its suite has, or else its first
-//! fault. With two files' names as its words it checks the second file as one text over the paths of the first, a path and a width a line, and
-//! prints how long that took.
+//! Checks the texts of `suites.txt`, one a line, over a few signals, and prints of each how many
+//! assertions its suite has, or else its first fault. With two files' names as its words it checks
+//! the second file as one text over the paths of the first, a path and a width a line, and prints
+//! how long that took.
 #![tactic(auto)]
 
 #[cfg(test)]

@@ -1,4 +1,5 @@
-//! Faults with their places, own widths and columns, worked out by hand from the standard's table of widths (IEEE 1800-2017, table 11-21).
+//! Faults with their places, own widths and columns, worked out by hand from the standard's table
+//! of widths (IEEE 1800-2017, table 11-21).
 
 use lexer::lex;
 use parser::{ExprTree, File, ItemTree, PropertyTree, SequenceTree, parse};
@@ -42,7 +43,8 @@ fn assertion_of(alloc: Global, text: &str) -> Result<[Option<usize>; 3], Fail> {
     faults(alloc, text.as_str())
 }
 
-/// Whether an expression has so many bits: as many as fill 128 stand beside it, and one more does not.
+/// Whether an expression has so many bits: as many as fill 128 stand beside it, and one more does
+/// not.
 fn has_width(alloc: Global, text: &str, width: u8) -> Result<bool, Fail> {
     let rest = 128u8.saturating_sub(width);
     let full = format!(in alloc; "{{{text}, {rest}'d0}}")?;
@@ -185,7 +187,8 @@ fn names_of_the_text(rt: HostRuntime) -> Result<(), Fail> {
             [Some(46), None, None],
         ),
         (
-            "counter n [2] load(a, {w, w}) sub(b, 1); assert property (@(posedge c) disable iff (d) a);",
+            "counter n [2] load(a, {w, w}) sub(b, 1); \
+            assert property (@(posedge c) disable iff (d) a);",
             [Some(34), Some(22), None],
         ),
         (
@@ -255,8 +258,9 @@ fn columns(alloc: Global, text: &str) -> Result<Option<SignalPaths>, Fail> {
 
 #[test]
 fn columns_in_order(rt: HostRuntime) -> Result<(), Fail> {
-    let text =
-        "counter w [3] add(v == 1, w); assert property (@(posedge c) disable iff (top.v == 0) a ##1 v[1] |-> q); sequence q; a endsequence";
+    let text = "counter w [3] add(v == 1, w); \
+        assert property (@(posedge c) disable iff (top.v == 0) a ##1 v[1] |-> q); \
+        sequence q; a endsequence";
     let found = columns(rt.alloc(), text)?.ok_or("a text")?;
     assert_eq!(rt; found.len(), 3);
     assert!(rt; !found.is_empty());

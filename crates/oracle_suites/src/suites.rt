@@ -57,14 +57,16 @@ fn weight_limit(rt: HostRuntime) -> Result<(), Fail> {
             Some(TypeFault::TooWide(39)),
         ),
         (
-            "r: assert property (@(posedge top.clk) (top.a[*127] ##1 top.a[*127])[*0] or top.b |-> top.a);",
+            "r: assert property (@(posedge top.clk) \
+            (top.a[*127] ##1 top.a[*127])[*0] or top.b |-> top.a);",
             None,
         ),
     ];
     assert_answers(rt.alloc(), &cases)
 }
 
-/// A sequence that reaches itself is refused, used or not; one that reaches such a sequence is not the one that is named.
+/// A sequence that reaches itself is refused, used or not; one that reaches such a sequence is not
+/// the one that is named.
 #[test]
 fn cyclic_sequence(rt: HostRuntime) -> Result<(), Fail> {
     let cases = [
@@ -73,14 +75,16 @@ fn cyclic_sequence(rt: HostRuntime) -> Result<(), Fail> {
             Some(TypeFault::CyclicSequence(9)),
         ),
         (
-            "sequence t; s endsequence sequence s; top.a ##1 u endsequence sequence u; s endsequence r: assert property (@(posedge top.clk) top.a);",
+            "sequence t; s endsequence sequence s; top.a ##1 u endsequence \
+            sequence u; s endsequence r: assert property (@(posedge top.clk) top.a);",
             Some(TypeFault::CyclicSequence(35)),
         ),
     ];
     assert_answers(rt.alloc(), &cases)
 }
 
-/// An antecedent or a consequent without a match of a tick or more, and a consequent with an empty match.
+/// An antecedent or a consequent without a match of a tick or more, and a consequent with an empty
+/// match.
 #[test]
 fn degenerate_and_empty(rt: HostRuntime) -> Result<(), Fail> {
     let cases = [
@@ -112,11 +116,12 @@ fn degenerate_and_empty(rt: HostRuntime) -> Result<(), Fail> {
     assert_answers(rt.alloc(), &cases)
 }
 
-/// Counters may read themselves and one another, and what is named may be declared later; the suite has the text's signals, counters and assertions.
+/// Counters may read themselves and one another, and what is named may be declared later; the suite
+/// has the text's signals, counters and assertions.
 #[test]
 fn names(rt: HostRuntime) -> Result<(), Fail> {
-    let text =
-        "counter c [4] add(c < d, 1); counter d [8] load(c == 3, d + 1); assert property (@(posedge top.clk) s |-> c < d); sequence s; c == 2 ##1 top.a endsequence";
+    let text = "counter c [4] add(c < d, 1); counter d [8] load(c == 3, d + 1); \
+        assert property (@(posedge top.clk) s |-> c < d); sequence s; c == 2 ##1 top.a endsequence";
     let Ok(suite) = suite_checked(rt.alloc(), text)? else {
         return Err(Fail::new("the text is refused"));
     };

@@ -1,5 +1,6 @@
-//! Reads the texts of `texts.txt`, one a line, and prints of each whether it is a file, or else its fault. With a file's name as its word
-//! it reads that file as one text, and prints how long cutting it into tokens and reading them took.
+//! Reads the texts of `texts.txt`, one a line, and prints of each whether it is a file, or else its
+//! fault. With a file's name as its word it reads that file as one text, and prints how long
+//! cutting it into tokens and reading them took.
 #![tactic(auto)]
 
 #[cfg(test)]

@@ -1,6 +1,7 @@
-//! Texts, and what stands at the root of the trees that they have, worked out by hand from the grammar and from the standard's
-//! table of precedence (IEEE 1800-2017, table 11-2, and 16.9 for sequences). Texts with faults, and where those stand, are
-//! the table of this program. The tests of `parser` stand here, so that it is proved once.
+//! Texts, and what stands at the root of the trees that they have, worked out by hand from the
+//! grammar and from the standard's table of precedence (IEEE 1800-2017, table 11-2, and 16.9 for
+//! sequences). Texts with faults, and where those stand, are the table of this program. The tests
+//! of `parser` stand here, so that it is proved once.
 
 use lexer::{Token, lex};
 use parser::{
@@ -205,8 +206,8 @@ fn roots_of_sequences(rt: HostRuntime) -> Result<(), Fail> {
 #[test]
 fn items_of_a_file(rt: HostRuntime) -> Result<(), Fail> {
     let alloc = rt.alloc();
-    let text =
-        "counter n [128] clear(r) sub(s, 2); sequence s; a ##1 b endsequence counter: assume property (@(posedge t.c) disable iff (!r) s);";
+    let text = "counter n [128] clear(r) sub(s, 2); sequence s; a ##1 b endsequence \
+        counter: assume property (@(posedge t.c) disable iff (!r) s);";
     let tokens = lex(alloc, text)?;
     let Ok(file) = parse(alloc, tokens.as_slice()) else {
         assert!(rt; false);

@@ -1,4 +1,5 @@
-//! Reads expressions and prints their values: for each line `value`, the own width and the value at each tick.
+//! Reads expressions and prints their values: for each line `value`, the own width and the value at
+//! each tick.
 #![tactic(auto)]
 
 mod words;
@@ -61,7 +62,8 @@ fn expression_of(alloc: Global, line: &str) -> Result<Expr> {
     words::pop(&mut stack)
 }
 
-/// Prints the own width and the value at each tick, in a context of so many bits or, where that is 0, of the own width.
+/// Prints the own width and the value at each tick, in a context of so many bits or, where that is
+/// 0, of the own width.
 fn show<R: Print + AllocGlobal>(rt: &R, line: &str, rows: &Rows) -> Result<()> {
     let (context, words) = line.split_once(' ').context("no expression")?;
     let expr = expression_of(rt.alloc(), words)?;

@@ -135,7 +135,8 @@ fn apply_more(alloc: Global, stack: &mut Vec<Expr>, word: &str) -> Result<bool> 
     Ok(true)
 }
 
-/// `WIDTH'VALUE`, or `signal:PLACE:WIDTH` or `counter:PLACE:WIDTH`, and `:HIGH:LOW` behind these for some bits.
+/// `WIDTH'VALUE`, or `signal:PLACE:WIDTH` or `counter:PLACE:WIDTH`, and `:HIGH:LOW` behind these
+/// for some bits.
 fn leaf(word: &str) -> Result<Expr> {
     if let Some((width, value)) = word.split_once('\'') {
         let bits = Bits::new(width.parse::<u8>()?, value.parse::<u128>()?);

@@ -1,4 +1,5 @@
-//! Values and verdicts that were worked out by hand from the standard, as tests of `expressions` and `judging`.
+//! Values and verdicts that were worked out by hand from the standard, as tests of `expressions`
+//! and `judging`.
 #![tactic(auto)]
 
 #[cfg(test)]

@@ -144,7 +144,8 @@ fn serve_code<R: Files + Print + Eprint + AllocGlobal>(rt: &R, path: &str) -> u8
     }
 }
 
-/// Runs a program over a dump, through windows of so many clocks; the report goes to standard output.
+/// Runs a program over a dump, through windows of so many clocks; the report goes to standard
+/// output.
 fn run_bytes<R: Files + Print + AllocGlobal>(
     rt: &R,
     dump: R::File,

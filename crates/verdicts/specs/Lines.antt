@@ -17,7 +17,8 @@ line l = record { name = string_bytes l.name; counts = l.counts; fails = l.fails
 
 -- the line of an assertion with that name and these verdicts, one for each attempt, by start
 abbrev pub line_data_of : List ℕ → List Verdict → LineData
-line_data_of name verdicts = record { name = name; counts = tally_of verdicts; fails = failing_of verdicts }
+line_data_of name verdicts =
+    record { name = name; counts = tally_of verdicts; fails = failing_of verdicts }
 
 -- what the whole report says
 pub record ReportData : Type 0 where

@@ -1,7 +1,9 @@
 -- What the verdicts on the attempts of an assertion come to.
-use Rattle.std.specs.Prelude.{◌≡◌, ℕ, zero, suc, ◌≤◌, ◌==◌, List, [], ◌∷◌, ◌++◌, Bool, true, false, max, length, count_by, if◌then◌else◌}
+use Rattle.std.specs.Prelude.{◌≡◌, ℕ, zero, suc, ◌≤◌, ◌==◌, List, [], ◌∷◌, ◌++◌, Bool, true, false}
+use Rattle.std.specs.Prelude.{max, length, count_by, if◌then◌else◌}
 use Rattle.signals.specs.declared.verdict.Verdict.{Verdict}
-use Rattle.signals.specs.declared.verdict.Verdict.TheVariants.{Holds, Vacuous, Fails, Disabled, Open}
+use Rattle.signals.specs.declared.verdict.Verdict.TheVariants.{Holds, Vacuous, Fails, Disabled}
+use Rattle.signals.specs.declared.verdict.Verdict.TheVariants.{Open}
 use Rattle.verdicts.specs.declared.line.Counts.{Counts}
 use Rattle.verdicts.specs.declared.line.Failure.{Failure}
 
@@ -58,11 +60,14 @@ fails_at clock (Fails t) = t == clock
 fails_at clock (Disabled t) = false
 fails_at clock Open = false
 
--- the attempts that fail at the clock, in order of their start; the first verdict is that of the attempt at start
+-- the attempts that fail at the clock, in order of their start; the first verdict is that of the
+-- attempt at start
 unfoldable pub failing_at : ℕ → ℕ → List Verdict → List Failure
 failing_at clock start [] = []
 failing_at clock start (v ∷ vs) =
-    if fails_at clock v then record { start = start; clock = clock } ∷ failing_at clock (suc start) vs else failing_at clock (suc start) vs
+    if fails_at clock v
+    then record { start = start; clock = clock } ∷ failing_at clock (suc start) vs
+    else failing_at clock (suc start) vs
 
 -- those that fail at one of so many clocks from the first one on, by clock, then start
 unfoldable pub failing_in : ℕ → ℕ → List Verdict → List Failure
@@ -86,7 +91,8 @@ end_of (v ∷ vs) = max (clock_behind v) (end_of vs)
 abbrev pub failing_of : List Verdict → List Failure
 failing_of vs = failing_in 0 (end_of vs) vs
 
--- one more verdict, on the attempt that begins at start: those that fail before become those with it
+-- one more verdict, on the attempt that begins at start: those that fail before become those with
+-- it
 abbrev pub TakesIn : List Failure → List Failure → ℕ → Verdict → Type 0
 TakesIn old new start v = (vs : List Verdict) (clocks : ℕ) → clock_behind v ≤ clocks
     → length vs ≡ start → old ≡ failing_in 0 clocks vs → new ≡ failing_in 0 clocks (vs ++ v ∷ [])

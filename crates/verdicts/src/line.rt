@@ -1,7 +1,8 @@
 //! What a report says of one assertion.
 
 ghost use Rattle.std.specs.Prelude.{◌≡◌, IfOk, count_by};
-ghost use Rattle.verdicts.specs.Tallies.{tally_of, is_holds, is_vacuous, is_fails, is_disabled, is_open};
+ghost use Rattle.verdicts.specs.Tallies.{tally_of, is_holds, is_vacuous, is_fails, is_disabled};
+ghost use Rattle.verdicts.specs.Tallies.{is_open};
 
 use crate::failures::failures_of;
 use signals::Verdict;

@@ -20,7 +20,13 @@ impl Counts {
 
     /// No attempt.
     pub fn none() -> Counts
-        ensures { result ≡ record { holds = 0; vacuous = 0; fails = 0; disabled = 0; still_open = 0 } }
+        ensures { result ≡ record {
+          holds = 0;
+          vacuous = 0;
+          fails = 0;
+          disabled = 0;
+          still_open = 0;
+        } }
     {
         Counts {
             holds: 0,

@@ -7,9 +7,13 @@ use std::io;
 use std::io::Write;
 use std::test::Fail;
 
-/// A report over three clocks: `first` with two failures out of their order, and `second` without attempts that failed.
+/// A report over three clocks: `first` with two failures out of their order, and `second` without
+/// attempts that failed.
 const TEXT: &[u8] =
-    b"svamon 1\nclocks 4\nmonitor first holds 0 vacuous 1 fails 2 disabled 0 open 1\nfail first start 1 clock 2\nfail first start 0 clock 3\nmonitor second holds 2 vacuous 0 fails 0 disabled 2 open 0\ntotal holds 2 vacuous 1 fails 2 disabled 2 open 1\n";
+    b"svamon 1\nclocks 4\nmonitor first holds 0 vacuous 1 fails 2 disabled 0 open 1\n\
+    fail first start 1 clock 2\nfail first start 0 clock 3\n\
+    monitor second holds 2 vacuous 0 fails 0 disabled 2 open 0\n\
+    total holds 2 vacuous 1 fails 2 disabled 2 open 1\n";
 
 fn line(alloc: Global, name: &str, verdicts: &[Verdict]) -> Result<Line, AllocError> {
     Line::new(alloc, String::from_str(alloc, name)?, verdicts)

@@ -3,7 +3,8 @@
 ghost use Rattle.std.specs.Prelude.{◌≡◌, ◌++◌, OnOk, IfOk, string_bytes};
 ghost use Rattle.verdicts.specs.Lines.{line};
 ghost use Rattle.verdicts.specs.Shown.{data_of};
-ghost use Rattle.verdicts.specs.Texts.{Grows, field_text, counts_text, fail_text, line_text, report_text};
+ghost use Rattle.verdicts.specs.Texts.{Grows, field_text, counts_text, fail_text, line_text};
+ghost use Rattle.verdicts.specs.Texts.{report_text};
 
 use crate::line::{Counts, Failure, Line};
 use crate::report::Report;
@@ -20,14 +21,16 @@ fn push_text(text: &mut String, piece: &str) -> Result<(), AllocError>
 
 /// Adds a label and a number.
 fn push_field(text: &mut String, label: &str, number: u64) -> Result<(), AllocError>
-    ensures { OnOk result (Grows (string_bytes text.old) (string_bytes text.new) (field_text label.now number)) }
+    ensures { OnOk result
+        (Grows (string_bytes text.old) (string_bytes text.new) (field_text label.now number)) }
 {
     write!(text, "{label}{number}")
 }
 
 /// Adds the counts and the end of the line.
 fn push_counts(text: &mut String, counts: &Counts) -> Result<(), AllocError>
-    ensures { OnOk result (Grows (string_bytes text.old) (string_bytes text.new) (counts_text counts.now)) }
+    ensures { OnOk result
+        (Grows (string_bytes text.old) (string_bytes text.new) (counts_text counts.now)) }
 {
     push_field(text, " holds ", counts.holds)?;
     push_field(text, " vacuous ", counts.vacuous)?;
@@ -40,7 +43,8 @@ fn push_counts(text: &mut String, counts: &Counts) -> Result<(), AllocError>
 
 /// Adds the line of a failed attempt.
 fn push_failure(text: &mut String, name: &str, failure: &Failure) -> Result<(), AllocError>
-    ensures { OnOk result (Grows (string_bytes text.old) (string_bytes text.new) (fail_text name.now failure.now)) }
+    ensures { OnOk result
+        (Grows (string_bytes text.old) (string_bytes text.new) (fail_text name.now failure.now)) }
 {
     push_text(text, "fail ")?;
     push_text(text, name)?;
@@ -52,7 +56,8 @@ fn push_failure(text: &mut String, name: &str, failure: &Failure) -> Result<(), 
 
 /// Adds the lines of an assertion.
 fn push_line(text: &mut String, of: &Line) -> Result<(), AllocError>
-    ensures { OnOk result (Grows (string_bytes text.old) (string_bytes text.new) (line_text (line of.now))) }
+    ensures { OnOk result
+        (Grows (string_bytes text.old) (string_bytes text.new) (line_text (line of.now))) }
 {
     let name = of.name.as_str();
     push_text(text, "monitor ")?;
