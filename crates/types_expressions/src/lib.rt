@@ -1,4 +1,35 @@
-//! Names, and the expressions of a text as typed expressions.
+//! What the names of a text stand for over a dump, and its expressions as typed expressions.
+//!
+//! `Names` are the paths of a dump with their widths, of equal paths the first. A `Scope` has them
+//! and the names that the text declares, its counters and named sequences. The text's own names
+//! come before the dump's paths, and with a name declared twice the first declaration counts.
+//!
+//! `first_fault` gives the least byte at which a fault of one kind stands in the items, clocks'
+//! paths left out: a path that stands for nothing that an expression can read (Y1), a concatenation
+//! of more than 128 bits (Y3), or a select of bits that its name doesn't have (Y4). The name of a
+//! named sequence is no fault where it stands as a boolean of a sequence. `columns_of` lists the
+//! signals that the items read, each once, in the order of the text; a path's place there is its
+//! column. `typed_expression` makes the expression that one of the text means.
+//!
+//! ```text
+//! let names = Names::of(alloc, &[("top.req", 1), ("top.data", 8)])?;
+//! let scope = Scope::of(alloc, &names, items)?;
+//! let unknown = first_fault(alloc, &scope, Sought::Unknown, items)?;    // a byte, or None
+//! let columns = columns_of(alloc, &scope, items)?;
+//! let typed = typed_expression(alloc, &scope, &columns, expr)?;
+//! ```
+//!
+//! The definitions: `specs/Scopes.antt` (what paths stand for), `specs/Widths.antt` (operators of
+//! the text, and own widths), `specs/Faults.antt` (where faults stand), `specs/Columns.antt` (the
+//! signals that are read), `specs/Meanings.antt` (which terms an expression means),
+//! `specs/Entries.antt` (lists in which each name stands once), `specs/Views.antt` (what `Names`,
+//! `Scope` and `SignalPaths` stand for), `specs/Laws.antt` (what `meaning_law` says: a term that is
+//! meant has the expression's own width, and all that are meant have one value at each tick, in
+//! each context). Terms are those of `expressions`, and the trees of a text those of `grammar`.
+//!
+//! Not promised: that memory suffices, or that a name is declared once; nor what an expression with
+//! a fault means. `typed_expression` asks that there is none of these faults in the expression, and
+//! that each signal that it reads is among the columns.
 #![tactic(auto)]
 
 mod columns;
