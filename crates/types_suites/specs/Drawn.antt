@@ -28,7 +28,8 @@ IsDisabledBy s columns booleans (Some t) None = ⊥
 IsDisabledBy s columns booleans (Some t) (Some p) = IsAtom s columns booleans t (Listed p)
 
 -- The sides of an assertion, before which so many stand, as drafts.
-pub record IsDrawn (s : Scope) (columns : List (List ℕ)) (booleans : List Expr) (before : ℕ) (a : trees.AssertionForm) (m : Drawn) : Type 0 where
+pub record IsDrawn (s : Scope) (columns : List (List ℕ)) (booleans : List Expr) (before : ℕ)
+    (a : trees.AssertionForm) (m : Drawn) : Type 0 where
   pub name : string_bytes m.name ≡ label_text before a.label
   pub antecedent : ReadsAntecedent s columns booleans a.property (draft_of m.antecedent.value)
   pub consequent : ReadsConsequent s columns booleans a.property (draft_of m.consequent.value)

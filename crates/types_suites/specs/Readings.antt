@@ -1,8 +1,11 @@
--- What the sequences of a text say: by their outlines, and with their expressions' meanings (IEEE 1800-2017, 16.7 to 16.9).
+-- What the sequences of a text say: by their outlines, and with their expressions' meanings (IEEE
+-- 1800-2017, 16.7 to 16.9).
 use Rattle.std.specs.Prelude.{◌≡◌, ℕ, ◌-◌, List, [], ◌∷◌, map, Option, Some, None, slice_get}
 use Rattle.grammar.specs.declared.bound.Bound.{Bound}
 use Rattle.grammar.specs.declared.bound.Range.{Range}
-use Rattle.grammar.specs.Trees.{Tree, SequenceForm, boolean, repeated, late, delayed, throughout, all, either, Steps, no_step, step, Others, no_other, other, ItemForm}
+use Rattle.grammar.specs.Trees.{Tree, SequenceForm, boolean, repeated, late, delayed, throughout}
+use Rattle.grammar.specs.Trees.{all, either, Steps, no_step, step, Others, no_other, other}
+use Rattle.grammar.specs.Trees.{ItemForm}
 use Rattle.expressions.specs.declared.expr.Expr.{Expr}
 use Rattle.expressions.specs.Expressions.{term_of}
 use Rattle.assertions.specs.declared.sequence.Boolean.{Boolean}
@@ -13,7 +16,8 @@ use Rattle.types_expressions.specs.Scopes.{Scope, sequence_named}
 use Rattle.types_expressions.specs.Meanings.{Means}
 use Rattle.types_suites.specs.Texts.{declarations_of}
 
--- A range [least:most] has its least count and by how many its largest is more; one count n is [n:n].
+-- A range [least:most] has its least count and by how many its largest is more; one count n is
+-- [n:n].
 abbrev pub least_of : Range → ℕ
 least_of r = r.low.value
 
@@ -25,50 +29,74 @@ abbrev pub extra_of : Range → ℕ
 extra_of r = extra_or r.low.value r.high
 
 -- The expression is the boolean: its place has what the expression means.
-pub record IsAtom (s : Scope) (columns : List (List ℕ)) (booleans : List Expr) (tree : Tree) (b : Boolean) : Type 0 where
+pub record IsAtom (s : Scope) (columns : List (List ℕ)) (booleans : List Expr) (tree : Tree)
+    (b : Boolean) : Type 0 where
   pub place : ℕ
   pub expression : Expr
   pub is : b ≡ Listed place
   pub found : slice_get booleans place ≡ Some expression
   pub means : Means s columns tree (term_of expression)
 
--- A boolean of a sequence that is the name of a named sequence stands for it; any other is an expression.
-abbrev pub ReadsBoolean : Scope → List (List ℕ) → List Expr → Option ℕ → Tree → Draft Boolean → Type 0
+-- A boolean of a sequence that is the name of a named sequence stands for it; any other is an
+-- expression.
+abbrev pub ReadsBoolean : Scope → List (List ℕ) → List Expr → Option ℕ → Tree → Draft Boolean
+    → Type 0
 ReadsBoolean s columns booleans (Some p) tree d = d ≡ drafts.name p
-ReadsBoolean s columns booleans None tree d = (b : Boolean) × IsAtom s columns booleans tree b × (d ≡ drafts.boolean b)
+ReadsBoolean s columns booleans None tree d =
+    (b : Boolean) × IsAtom s columns booleans tree b × (d ≡ drafts.boolean b)
 
--- What a sequence of the text says, each expression by its place in a list of typed ones. Delays, and the sides of "and" and "or", group to the left.
+-- What a sequence of the text says, each expression by its place in a list of typed ones. Delays,
+-- and the sides of "and" and "or", group to the left.
 unfoldable mutual
   pub Reads : Scope → List (List ℕ) → List Expr → SequenceForm → Draft Boolean → Type 0
-  Reads s columns booleans (boolean tree) d = ReadsBoolean s columns booleans (sequence_named s tree) tree d
-  Reads s columns booleans (repeated q r) d = (a : Draft Boolean) × Reads s columns booleans q a × (d ≡ drafts.repeat a (least_of r) (extra_of r))
-  Reads s columns booleans (late t r q) d = (a : Draft Boolean) × Reads s columns booleans q a × (d ≡ drafts.lead (least_of r) (extra_of r) a)
-  Reads s columns booleans (delayed q steps) d = (a : Draft Boolean) × Reads s columns booleans q a × ReadsSteps s columns booleans a steps d
-  Reads s columns booleans (throughout tree q) d = (b : Boolean) × (a : Draft Boolean) × IsAtom s columns booleans tree b × Reads s columns booleans q a × (d ≡ drafts.throughout b a)
-  Reads s columns booleans (all q others) d = (a : Draft Boolean) × Reads s columns booleans q a × ReadsAll s columns booleans a others d
-  Reads s columns booleans (either q others) d = (a : Draft Boolean) × Reads s columns booleans q a × ReadsAny s columns booleans a others d
+  Reads s columns booleans (boolean tree) d =
+      ReadsBoolean s columns booleans (sequence_named s tree) tree d
+  Reads s columns booleans (repeated q r) d =
+      (a : Draft Boolean) × Reads s columns booleans q a
+      × (d ≡ drafts.repeat a (least_of r) (extra_of r))
+  Reads s columns booleans (late t r q) d =
+      (a : Draft Boolean) × Reads s columns booleans q a
+      × (d ≡ drafts.lead (least_of r) (extra_of r) a)
+  Reads s columns booleans (delayed q steps) d =
+      (a : Draft Boolean) × Reads s columns booleans q a × ReadsSteps s columns booleans a steps d
+  Reads s columns booleans (throughout tree q) d =
+      (b : Boolean) × (a : Draft Boolean) × IsAtom s columns booleans tree b
+      × Reads s columns booleans q a × (d ≡ drafts.throughout b a)
+  Reads s columns booleans (all q others) d =
+      (a : Draft Boolean) × Reads s columns booleans q a × ReadsAll s columns booleans a others d
+  Reads s columns booleans (either q others) d =
+      (a : Draft Boolean) × Reads s columns booleans q a × ReadsAny s columns booleans a others d
 
   -- a, and each delay with what it delays
-  pub ReadsSteps : Scope → List (List ℕ) → List Expr → Draft Boolean → Steps → Draft Boolean → Type 0
+  pub ReadsSteps : Scope → List (List ℕ) → List Expr → Draft Boolean → Steps → Draft Boolean
+      → Type 0
   ReadsSteps s columns booleans a no_step d = d ≡ a
-  ReadsSteps s columns booleans a (step r q steps) d = (b : Draft Boolean) × Reads s columns booleans q b × ReadsSteps s columns booleans (drafts.delay a (least_of r) (extra_of r) b) steps d
+  ReadsSteps s columns booleans a (step r q steps) d =
+      (b : Draft Boolean) × Reads s columns booleans q b
+      × ReadsSteps s columns booleans (drafts.delay a (least_of r) (extra_of r) b) steps d
 
   -- a, and each further side of "and"
   pub ReadsAll : Scope → List (List ℕ) → List Expr → Draft Boolean → Others → Draft Boolean → Type 0
   ReadsAll s columns booleans a no_other d = d ≡ a
-  ReadsAll s columns booleans a (other q others) d = (b : Draft Boolean) × Reads s columns booleans q b × ReadsAll s columns booleans (drafts.and a b) others d
+  ReadsAll s columns booleans a (other q others) d =
+      (b : Draft Boolean) × Reads s columns booleans q b
+      × ReadsAll s columns booleans (drafts.and a b) others d
 
   -- a, and each further side of "or"
   pub ReadsAny : Scope → List (List ℕ) → List Expr → Draft Boolean → Others → Draft Boolean → Type 0
   ReadsAny s columns booleans a no_other d = d ≡ a
-  ReadsAny s columns booleans a (other q others) d = (b : Draft Boolean) × Reads s columns booleans q b × ReadsAny s columns booleans (drafts.or a b) others d
+  ReadsAny s columns booleans a (other q others) d =
+      (b : Draft Boolean) × Reads s columns booleans q b
+      × ReadsAny s columns booleans (drafts.or a b) others d
 
 -- the same of several sequences, in their order
-abbrev pub AllRead : Scope → List (List ℕ) → List Expr → List SequenceForm → List (Draft Boolean) → Type 0
+abbrev pub AllRead : Scope → List (List ℕ) → List Expr → List SequenceForm → List (Draft Boolean)
+    → Type 0
 AllRead s columns booleans [] [] = Unit {0}
 AllRead s columns booleans [] (d ∷ ds) = ⊥
 AllRead s columns booleans (q ∷ qs) [] = ⊥
-AllRead s columns booleans (q ∷ qs) (d ∷ ds) = Reads s columns booleans q d × AllRead s columns booleans qs ds
+AllRead s columns booleans (q ∷ qs) (d ∷ ds) =
+    Reads s columns booleans q d × AllRead s columns booleans qs ds
 
 -- a dot where an expression stands
 pub data Dot : Type 0 where
@@ -78,7 +106,8 @@ abbrev pub outline_by : Option ℕ → Draft Dot
 outline_by (Some p) = drafts.name p
 outline_by None = drafts.boolean dot
 
--- The outline of a sequence of the text: its names and forms, with a dot for each expression. Weights, emptiness and cycles are told by it.
+-- The outline of a sequence of the text: its names and forms, with a dot for each expression.
+-- Weights, emptiness and cycles are told by it.
 unfoldable mutual
   pub outline : Scope → SequenceForm → Draft Dot
   outline s (boolean tree) = outline_by (sequence_named s tree)
@@ -91,7 +120,8 @@ unfoldable mutual
 
   pub outline_steps : Scope → Draft Dot → Steps → Draft Dot
   outline_steps s a no_step = a
-  outline_steps s a (step r q steps) = outline_steps s (drafts.delay a (least_of r) (extra_of r) (outline s q)) steps
+  outline_steps s a (step r q steps) =
+      outline_steps s (drafts.delay a (least_of r) (extra_of r) (outline s q)) steps
 
   pub outline_all : Scope → Draft Dot → Others → Draft Dot
   outline_all s a no_other = a

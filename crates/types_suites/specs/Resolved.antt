@@ -14,13 +14,16 @@ use Rattle.types_suites.specs.Suites.{ReadsAntecedent, ReadsConsequent}
 use Rattle.types_suites.specs.Drawn.{antecedent_byte, consequent_byte, IsDisabledBy}
 
 -- The table has entries of the named sequences of a text.
-pub record HasBodies (s : Scope) (columns : List (List ℕ)) (booleans : List Expr) (items : List trees.ItemForm) (table : List (Option Entry)) : Type 0 where
+pub record HasBodies (s : Scope) (columns : List (List ℕ)) (booleans : List Expr)
+    (items : List trees.ItemForm) (table : List (Option Entry)) : Type 0 where
   pub bodies : List (Draft Boolean)
   pub read : AllRead s columns booleans (map (λ d. d.body) (declarations_of items)) bodies
   pub entries : IsTable bodies table
 
 -- The entries of what an assertion's sides say, before which so many assertions stand.
-pub record IsResolved (s : Scope) (columns : List (List ℕ)) (booleans : List Expr) (bodies : List (Draft Boolean)) (before : ℕ) (a : trees.AssertionForm) (m : Resolved) : Type 0 where
+pub record IsResolved (s : Scope) (columns : List (List ℕ)) (booleans : List Expr)
+    (bodies : List (Draft Boolean)) (before : ℕ) (a : trees.AssertionForm)
+    (m : Resolved) : Type 0 where
   pub antecedent : Draft Boolean
   pub consequent : Draft Boolean
   pub name : string_bytes m.name ≡ label_text before a.label
@@ -33,9 +36,11 @@ pub record IsResolved (s : Scope) (columns : List (List ℕ)) (booleans : List E
   pub disabling : IsDisabledBy s columns booleans a.disable m.disabling
 
 -- the same of several, in their order
-abbrev pub AreResolved : Scope → List (List ℕ) → List Expr → List (Draft Boolean) → ℕ → List trees.AssertionForm → List Resolved → Type 0
+abbrev pub AreResolved : Scope → List (List ℕ) → List Expr → List (Draft Boolean) → ℕ
+    → List trees.AssertionForm → List Resolved → Type 0
 AreResolved s columns booleans bodies before [] [] = Unit {0}
 AreResolved s columns booleans bodies before [] (m ∷ ms) = ⊥
 AreResolved s columns booleans bodies before (a ∷ more) [] = ⊥
 AreResolved s columns booleans bodies before (a ∷ more) (m ∷ ms) =
-    IsResolved s columns booleans bodies before a m × AreResolved s columns booleans bodies (before + 1) more ms
+    IsResolved s columns booleans bodies before a m
+    × AreResolved s columns booleans bodies (before + 1) more ms

@@ -24,14 +24,16 @@ use Rattle.types_expressions.specs.Scopes.{Scope, width_in}
 use Rattle.types_expressions.specs.Columns.{columns_of}
 use Rattle.types_expressions.specs.Meanings.{Means}
 use Rattle.types_suites.specs.Readings.{IsAtom, Reads, AllRead}
-use Rattle.types_suites.specs.Texts.{declarations_of, counters_of, assertions_of, clock_of, label_text, implication_by}
+use Rattle.types_suites.specs.Texts.{declarations_of, counters_of, assertions_of, clock_of}
+use Rattle.types_suites.specs.Texts.{label_text, implication_by}
 
 -- Each signal that the text reads, with its width.
 abbrev pub AreSignals : Scope → List (List ℕ) → List Signal → Type 0
 AreSignals s [] [] = Unit {0}
 AreSignals s [] (x ∷ xs) = ⊥
 AreSignals s (p ∷ ps) [] = ⊥
-AreSignals s (p ∷ ps) (x ∷ xs) = (string_bytes x.path ≡ p) × (s.dump p ≡ Some x.width) × AreSignals s ps xs
+AreSignals s (p ∷ ps) (x ∷ xs) =
+    (string_bytes x.path ≡ p) × (s.dump p ≡ Some x.width) × AreSignals s ps xs
 
 -- A condition that may be left out, and a condition with a value.
 abbrev pub IsCondition : Scope → List (List ℕ) → Option Tree → Option Expr → Type 0
@@ -44,10 +46,12 @@ abbrev pub IsRule : Scope → List (List ℕ) → Option (Tree × Tree) → Opti
 IsRule s columns None None = Unit {0}
 IsRule s columns None (Some r) = ⊥
 IsRule s columns (Some p) None = ⊥
-IsRule s columns (Some p) (Some r) = Means s columns p.0 (term_of r.when) × Means s columns p.1 (term_of r.by)
+IsRule s columns (Some p) (Some r) =
+    Means s columns p.0 (term_of r.when) × Means s columns p.1 (term_of r.by)
 
 -- A counter of the text.
-pub record IsCounter (s : Scope) (columns : List (List ℕ)) (c : trees.CounterForm) (made : Counter) : Type 0 where
+pub record IsCounter (s : Scope) (columns : List (List ℕ)) (c : trees.CounterForm)
+    (made : Counter) : Type 0 where
   pub width : made.width ≡ width_in c.width.value
   pub clear : IsCondition s columns c.clear made.clear
   pub load : IsRule s columns c.load made.load
@@ -60,27 +64,33 @@ AreCounters s columns [] (m ∷ ms) = ⊥
 AreCounters s columns (c ∷ cs) [] = ⊥
 AreCounters s columns (c ∷ cs) (m ∷ ms) = IsCounter s columns c m × AreCounters s columns cs ms
 
--- What a property says: its antecedent, that of a plain sequence being 1, and that of |=> the one of |-> (16.12.7), and its consequent.
+-- What a property says: its antecedent, that of a plain sequence being 1, and that of |=> the one
+-- of |-> (16.12.7), and its consequent.
 abbrev pub before_by : Implication → Draft Boolean → Draft Boolean
 before_by k d = rewritten_antecedent One k d
 
-abbrev pub ReadsAntecedent : Scope → List (List ℕ) → List Expr → PropertyForm → Draft Boolean → Type 0
+abbrev pub ReadsAntecedent : Scope → List (List ℕ) → List Expr → PropertyForm → Draft Boolean
+    → Type 0
 ReadsAntecedent s columns booleans (plain q) d = d ≡ drafts.boolean One
-ReadsAntecedent s columns booleans (implication a t c) d = (r : Draft Boolean) × Reads s columns booleans a r × (d ≡ before_by (implication_by t.kind) r)
+ReadsAntecedent s columns booleans (implication a t c) d =
+    (r : Draft Boolean) × Reads s columns booleans a r × (d ≡ before_by (implication_by t.kind) r)
 
-abbrev pub ReadsConsequent : Scope → List (List ℕ) → List Expr → PropertyForm → Draft Boolean → Type 0
+abbrev pub ReadsConsequent : Scope → List (List ℕ) → List Expr → PropertyForm → Draft Boolean
+    → Type 0
 ReadsConsequent s columns booleans (plain q) d = Reads s columns booleans q d
 ReadsConsequent s columns booleans (implication a t c) d = Reads s columns booleans c d
 
 -- What a side says with the names written out, and that an assertion's sequence matches the same,
 -- by booleans of the assertion's list.
-pub record IsMeant (bodies : List (Draft Boolean)) (booleans : List Expr) (places : List ℕ) (d : Draft Boolean) (made : Written Boolean) : Type 0 where
+pub record IsMeant (bodies : List (Draft Boolean)) (booleans : List Expr) (places : List ℕ)
+    (d : Draft Boolean) (made : Written Boolean) : Type 0 where
   pub meant : Written Boolean
   pub spells : Spells bodies d meant
   pub placed : IsPlaced booleans places meant made
   pub listed : AllListed places made
 
-abbrev pub IsDisabling : Scope → List (List ℕ) → List Expr → List ℕ → Option Tree → Option Boolean → Type 0
+abbrev pub IsDisabling : Scope → List (List ℕ) → List Expr → List ℕ → Option Tree → Option Boolean
+    → Type 0
 IsDisabling s columns booleans places None None = Unit {0}
 IsDisabling s columns booleans places None (Some b) = ⊥
 IsDisabling s columns booleans places (Some t) None = ⊥
@@ -100,25 +110,31 @@ IsUsedPlace s columns booleans disable v w p =
     IsUsed (Listed p) v ⊎ (IsUsed (Listed p) w ⊎ IsDisablingPlace s columns booleans disable p)
 
 -- An assertion of the text, before which so many stand.
-pub record IsAssertion (s : Scope) (columns : List (List ℕ)) (booleans : List Expr) (bodies : List (Draft Boolean)) (before : ℕ) (a : trees.AssertionForm) (made : Assertion) : Type 0 where
+pub record IsAssertion (s : Scope) (columns : List (List ℕ)) (booleans : List Expr)
+    (bodies : List (Draft Boolean)) (before : ℕ) (a : trees.AssertionForm)
+    (made : Assertion) : Type 0 where
   pub antecedent : Draft Boolean
   pub consequent : Draft Boolean
   pub name : string_bytes made.name ≡ label_text before a.label
   pub reads_antecedent : ReadsAntecedent s columns booleans a.property antecedent
   pub reads_consequent : ReadsConsequent s columns booleans a.property consequent
-  pub antecedent_meant : IsMeant bodies booleans made.booleans.items antecedent (written_form made.antecedent)
-  pub consequent_meant : IsMeant bodies booleans made.booleans.items consequent (written_form made.consequent)
+  pub antecedent_meant : IsMeant bodies booleans made.booleans.items antecedent
+      (written_form made.antecedent)
+  pub consequent_meant : IsMeant bodies booleans made.booleans.items consequent
+      (written_form made.consequent)
   pub disabling : IsDisabling s columns booleans made.booleans.items a.disable made.disabling
   pub used :
       (p : ℕ) → IsIn p made.booleans.items →
       IsUsedPlace s columns booleans a.disable antecedent_meant.meant consequent_meant.meant p
 
-abbrev pub AreAssertions : Scope → List (List ℕ) → List Expr → List (Draft Boolean) → ℕ → List trees.AssertionForm → List Assertion → Type 0
+abbrev pub AreAssertions : Scope → List (List ℕ) → List Expr → List (Draft Boolean) → ℕ
+    → List trees.AssertionForm → List Assertion → Type 0
 AreAssertions s columns booleans bodies before [] [] = Unit {0}
 AreAssertions s columns booleans bodies before [] (m ∷ ms) = ⊥
 AreAssertions s columns booleans bodies before (a ∷ more) [] = ⊥
 AreAssertions s columns booleans bodies before (a ∷ more) (m ∷ ms) =
-    IsAssertion s columns booleans bodies before a m × AreAssertions s columns booleans bodies (before + 1) more ms
+    IsAssertion s columns booleans bodies before a m
+    × AreAssertions s columns booleans bodies (before + 1) more ms
 
 -- The suite says what the text says.
 pub record IsSuite (s : Scope) (items : List ItemForm) (suite : Suite) : Type 0 where
@@ -126,5 +142,7 @@ pub record IsSuite (s : Scope) (items : List ItemForm) (suite : Suite) : Type 0 
   pub clock : string_bytes suite.clock ≡ clock_of (assertions_of items)
   pub signals : AreSignals s (columns_of s items) suite.names.items
   pub counters : AreCounters s (columns_of s items) (counters_of items) suite.counters.items
-  pub read : AllRead s (columns_of s items) suite.booleans.items (map (λ d. d.body) (declarations_of items)) bodies
-  pub assertions : AreAssertions s (columns_of s items) suite.booleans.items bodies 0 (assertions_of items) suite.assertions.items
+  pub read : AllRead s (columns_of s items) suite.booleans.items
+      (map (λ d. d.body) (declarations_of items)) bodies
+  pub assertions : AreAssertions s (columns_of s items) suite.booleans.items bodies 0
+      (assertions_of items) suite.assertions.items

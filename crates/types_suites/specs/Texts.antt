@@ -1,14 +1,19 @@
 -- The items of a text by their kinds, their names and their places.
-use Rattle.std.specs.Prelude.{ℕ, ◌+◌, List, [], ◌∷◌, ◌++◌, Option, Some, None, codes, Bool, bytes_eq, if◌then◌else◌}
+use Rattle.std.specs.Prelude.{ℕ, ◌+◌, List, [], ◌∷◌, ◌++◌, Option, Some, None, codes, Bool}
+use Rattle.std.specs.Prelude.{bytes_eq, if◌then◌else◌}
 use Rattle.std.specs.List.{list_any}
 use Rattle.std.specs.Fmt.{decimal}
 use Rattle.lexer.specs.declared.token.Token.{Token}
 use Rattle.lexer.specs.declared.token.Symbol.TheVariants as symbol
 use Rattle.lexer.specs.declared.token.Kind.{Kind}
 use Rattle.lexer.specs.declared.token.Kind.TheVariants as kinds
-use Rattle.grammar.specs.Trees.{Tree, number, path, concatenation, past, call, unary, chain, choice, SequenceForm, boolean, repeated, late, delayed, throughout, all, either, CounterForm, DeclarationForm, AssertionForm, ItemForm, counter, declaration, assertion}
+use Rattle.grammar.specs.Trees.{Tree, number, path, concatenation, past, call, unary, chain, choice}
+use Rattle.grammar.specs.Trees.{SequenceForm, boolean, repeated, late, delayed, throughout, all}
+use Rattle.grammar.specs.Trees.{either, CounterForm, DeclarationForm, AssertionForm, ItemForm}
+use Rattle.grammar.specs.Trees.{counter, declaration, assertion}
 use Rattle.types_sequences.specs.declared.implication.Implication.{Implication}
-use Rattle.types_sequences.specs.declared.implication.Implication.TheVariants.{Overlapped, NonOverlapped}
+use Rattle.types_sequences.specs.declared.implication.Implication.TheVariants.{Overlapped}
+use Rattle.types_sequences.specs.declared.implication.Implication.TheVariants.{NonOverlapped}
 use Rattle.types_expressions.specs.Scopes.{path_text, first_byte}
 
 -- the items of each kind, in the order of the text
@@ -30,7 +35,8 @@ assertions_of (counter c ∷ items) = assertions_of items
 assertions_of (declaration d ∷ items) = assertions_of items
 assertions_of (assertion a ∷ items) = a ∷ assertions_of items
 
--- An assertion's name: its label, or assert_N where it has none; so many assertions stand before it.
+-- An assertion's name: its label, or assert_N where it has none; so many assertions stand before
+-- it.
 abbrev pub label_text : ℕ → Option Token → List ℕ
 label_text before None = codes "assert_" ++ decimal (before + 1)
 label_text before (Some t) = t.text.now
@@ -40,7 +46,8 @@ abbrev pub label_byte : AssertionForm → Option Token → ℕ
 label_byte a None = a.verb.at
 label_byte a (Some t) = t.at
 
--- The name that an item makes, with the byte where it stands. Counters, sequences and assertions share one name space.
+-- The name that an item makes, with the byte where it stands. Counters, sequences and assertions
+-- share one name space.
 abbrev pub name_made : ℕ → ItemForm → List ℕ × ℕ
 name_made before (counter c) = (c.name.text.now, c.name.at)
 name_made before (declaration d) = (d.name.text.now, d.name.at)
@@ -62,16 +69,21 @@ is_among known name = list_any (bytes_eq name) known
 -- the places of names that stand before, or were known
 abbrev pub repeated_names : List (List ℕ) → List (List ℕ × ℕ) → List ℕ
 repeated_names known [] = []
-repeated_names known (n ∷ names) = if is_among known n.0 then n.1 ∷ repeated_names known names else repeated_names (known ++ n.0 ∷ []) names
+repeated_names known (n ∷ names) =
+    if is_among known n.0 then n.1 ∷ repeated_names known names
+    else repeated_names (known ++ n.0 ∷ []) names
 
 -- where a name is declared again (Y2)
 abbrev pub duplicates : List ItemForm → List ℕ
 duplicates items = repeated_names [] (names_from 0 items)
 
--- where a clock is another than the first (Y7): paths are compared by their words, which hold no dots
+-- where a clock is another than the first (Y7): paths are compared by their words, which hold no
+-- dots
 abbrev pub clocks_unlike : List ℕ → List AssertionForm → List ℕ
 clocks_unlike clock [] = []
-clocks_unlike clock (a ∷ more) = if bytes_eq (path_text a.clock) clock then clocks_unlike clock more else first_byte a.clock ∷ clocks_unlike clock more
+clocks_unlike clock (a ∷ more) =
+    if bytes_eq (path_text a.clock) clock then clocks_unlike clock more
+    else first_byte a.clock ∷ clocks_unlike clock more
 
 -- the clock of the first assertion
 abbrev pub clock_of : List AssertionForm → List ℕ

@@ -17,7 +17,8 @@ use std::alloc::{AllocError, Global};
 use types_expressions::{Scope, SignalPaths};
 use types_sequences::Draft;
 
-/// What the named sequences say, in the order of the text, their expressions typed and put behind the others.
+/// What the named sequences say, in the order of the text, their expressions typed and put behind
+/// the others.
 pub fn bodies_of(
     alloc: Global,
     scope: &Scope,
@@ -25,10 +26,14 @@ pub fn bodies_of(
     items: &[ItemTree],
     booleans: &mut Vec<expressions::Expr>,
 ) -> Result<Vec<Draft>, AllocError>
-    requires sound { (k : Sought) → file_faults (scope_of scope.now) k (map item_of items.now) ≡ [] }
-    requires listed { IsTrue (all_listed (columns_in columns.now) (file_signals (scope_of scope.now) (map item_of items.now))) }
+    requires sound { (k : Sought)
+        → file_faults (scope_of scope.now) k (map item_of items.now) ≡ [] }
+    requires listed { IsTrue (all_listed (columns_in columns.now)
+        (file_signals (scope_of scope.now) (map item_of items.now))) }
     ensures grows { OnOk result (Extends booleans.old.items booleans.new.items) }
-    ensures read { IfOk result (λ v. AllRead (scope_of scope.now) (columns_in columns.now) booleans.new.items (map (λ d. d.body) (declarations_of (map item_of items.now))) (map draft_of v.items)) }
+    ensures read { IfOk result (λ v.
+        AllRead (scope_of scope.now) (columns_in columns.now) booleans.new.items
+        (map (λ d. d.body) (declarations_of (map item_of items.now))) (map draft_of v.items)) }
 {
     let mut bodies = Vec::new(alloc);
     for item in items {
@@ -47,7 +52,8 @@ pub fn bodies_of(
 
 /// Where the names of the named sequences stand, in the order of the text.
 pub fn name_bytes(alloc: Global, items: &[ItemTree]) -> Result<Vec<usize>, AllocError>
-    ensures { IfOk result (λ v. v.items ≡ map (λ d. d.name.at) (declarations_of (map item_of items.now))) }
+    ensures { IfOk result
+        (λ v. v.items ≡ map (λ d. d.name.at) (declarations_of (map item_of items.now))) }
 {
     let mut bytes = Vec::new(alloc);
     for item in items {

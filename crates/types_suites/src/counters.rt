@@ -5,8 +5,10 @@ ghost use Rattle.parser_expressions.specs.Views.{boxed_of};
 ghost use Rattle.parser.specs.Views.{pair_of, counter_of, item_of};
 ghost use Rattle.types_expressions.specs.declared.own.Sought.{Sought};
 ghost use Rattle.types_expressions.specs.Scopes.{width_in};
-ghost use Rattle.types_expressions.specs.Faults.{optional_faults, clause_faults, counter_faults, file_faults};
-ghost use Rattle.types_expressions.specs.Columns.{all_listed, optional_signals, clause_signals, counter_signals, file_signals};
+ghost use Rattle.types_expressions.specs.Faults.{optional_faults, clause_faults, counter_faults};
+ghost use Rattle.types_expressions.specs.Faults.{file_faults};
+ghost use Rattle.types_expressions.specs.Columns.{all_listed, optional_signals, clause_signals};
+ghost use Rattle.types_expressions.specs.Columns.{counter_signals, file_signals};
 ghost use Rattle.types_expressions.specs.Views.{scope_of, columns_in};
 ghost use Rattle.types_suites.specs.Texts.{counters_of};
 ghost use Rattle.types_suites.specs.Suites.{IsCondition, IsRule, IsCounter, AreCounters};
@@ -43,9 +45,12 @@ fn condition_of(
     columns: &SignalPaths,
     expr: &Option<Box<ExprTree>>,
 ) -> Result<Option<expressions::Expr>, AllocError>
-    requires sound { (k : Sought) → optional_faults (scope_of scope.now) k (option_map boxed_of expr.now) ≡ [] }
-    requires listed { IsTrue (all_listed (columns_in columns.now) (optional_signals (scope_of scope.now) (option_map boxed_of expr.now))) }
-    ensures { IfOk result (λ o. IsCondition (scope_of scope.now) (columns_in columns.now) (option_map boxed_of expr.now) o) }
+    requires sound { (k : Sought)
+        → optional_faults (scope_of scope.now) k (option_map boxed_of expr.now) ≡ [] }
+    requires listed { IsTrue (all_listed (columns_in columns.now)
+        (optional_signals (scope_of scope.now) (option_map boxed_of expr.now))) }
+    ensures { IfOk result (λ o. IsCondition (scope_of scope.now) (columns_in columns.now)
+        (option_map boxed_of expr.now) o) }
 {
     match expr {
         None => Ok(None),
@@ -60,9 +65,12 @@ fn rule_of(
     columns: &SignalPaths,
     clause: &Option<Operands>,
 ) -> Result<Option<Rule>, AllocError>
-    requires sound { (k : Sought) → clause_faults (scope_of scope.now) k (option_map pair_of clause.now) ≡ [] }
-    requires listed { IsTrue (all_listed (columns_in columns.now) (clause_signals (scope_of scope.now) (option_map pair_of clause.now))) }
-    ensures { IfOk result (λ o. IsRule (scope_of scope.now) (columns_in columns.now) (option_map pair_of clause.now) o) }
+    requires sound { (k : Sought)
+        → clause_faults (scope_of scope.now) k (option_map pair_of clause.now) ≡ [] }
+    requires listed { IsTrue (all_listed (columns_in columns.now)
+        (clause_signals (scope_of scope.now) (option_map pair_of clause.now))) }
+    ensures { IfOk result (λ o.
+        IsRule (scope_of scope.now) (columns_in columns.now) (option_map pair_of clause.now) o) }
 {
     match clause {
         None => Ok(None),
@@ -81,11 +89,16 @@ fn rules_of(
     columns: &SignalPaths,
     counter: &CounterTree,
 ) -> Result<Rules, AllocError>
-    requires sound { (k : Sought) → counter_faults (scope_of scope.now) k (counter_of counter.now) ≡ [] }
-    requires listed { IsTrue (all_listed (columns_in columns.now) (counter_signals (scope_of scope.now) (counter_of counter.now))) }
-    ensures load { IfOk result (λ r. IsRule (scope_of scope.now) (columns_in columns.now) (option_map pair_of counter.now.load) r.load) }
-    ensures add { IfOk result (λ r. IsRule (scope_of scope.now) (columns_in columns.now) (option_map pair_of counter.now.add) r.add) }
-    ensures sub { IfOk result (λ r. IsRule (scope_of scope.now) (columns_in columns.now) (option_map pair_of counter.now.sub) r.sub) }
+    requires sound { (k : Sought)
+        → counter_faults (scope_of scope.now) k (counter_of counter.now) ≡ [] }
+    requires listed { IsTrue (all_listed (columns_in columns.now)
+        (counter_signals (scope_of scope.now) (counter_of counter.now))) }
+    ensures load { IfOk result (λ r. IsRule (scope_of scope.now) (columns_in columns.now)
+        (option_map pair_of counter.now.load) r.load) }
+    ensures add { IfOk result (λ r. IsRule (scope_of scope.now) (columns_in columns.now)
+        (option_map pair_of counter.now.add) r.add) }
+    ensures sub { IfOk result (λ r. IsRule (scope_of scope.now) (columns_in columns.now)
+        (option_map pair_of counter.now.sub) r.sub) }
 {
     let load = rule_of(alloc, scope, columns, &counter.load)?;
     let add = rule_of(alloc, scope, columns, &counter.add)?;
@@ -100,9 +113,12 @@ pub(crate) fn counter_of(
     columns: &SignalPaths,
     counter: &CounterTree,
 ) -> Result<expressions::Counter, AllocError>
-    requires sound { (k : Sought) → counter_faults (scope_of scope.now) k (counter_of counter.now) ≡ [] }
-    requires listed { IsTrue (all_listed (columns_in columns.now) (counter_signals (scope_of scope.now) (counter_of counter.now))) }
-    ensures { IfOk result (λ c. IsCounter (scope_of scope.now) (columns_in columns.now) (counter_of counter.now) c) }
+    requires sound { (k : Sought)
+        → counter_faults (scope_of scope.now) k (counter_of counter.now) ≡ [] }
+    requires listed { IsTrue (all_listed (columns_in columns.now)
+        (counter_signals (scope_of scope.now) (counter_of counter.now))) }
+    ensures { IfOk result
+        (λ c. IsCounter (scope_of scope.now) (columns_in columns.now) (counter_of counter.now) c) }
 {
     let rules = rules_of(alloc, scope, columns, counter)?;
     let clear = condition_of(alloc, scope, columns, &counter.clear)?;
@@ -122,9 +138,12 @@ pub fn counters_of(
     columns: &SignalPaths,
     items: &[ItemTree],
 ) -> Result<Vec<expressions::Counter>, AllocError>
-    requires sound { (k : Sought) → file_faults (scope_of scope.now) k (map item_of items.now) ≡ [] }
-    requires listed { IsTrue (all_listed (columns_in columns.now) (file_signals (scope_of scope.now) (map item_of items.now))) }
-    ensures { IfOk result (λ v. AreCounters (scope_of scope.now) (columns_in columns.now) (counters_of (map item_of items.now)) v.items) }
+    requires sound { (k : Sought)
+        → file_faults (scope_of scope.now) k (map item_of items.now) ≡ [] }
+    requires listed { IsTrue (all_listed (columns_in columns.now)
+        (file_signals (scope_of scope.now) (map item_of items.now))) }
+    ensures { IfOk result (λ v. AreCounters (scope_of scope.now) (columns_in columns.now)
+        (counters_of (map item_of items.now)) v.items) }
 {
     let mut counters = Vec::new(alloc);
     for item in items {

@@ -9,10 +9,13 @@ ghost use Rattle.types_sequences.specs.Drafts.{name, delay, lead, repeat, or, an
 ghost use Rattle.types_sequences.specs.Views.{draft_of};
 ghost use Rattle.types_expressions.specs.declared.own.Sought.{Sought};
 ghost use Rattle.types_expressions.specs.Scopes.{sequence_named};
-ghost use Rattle.types_expressions.specs.Faults.{IsSound, boolean_faults, sequence_faults, step_faults, other_faults};
-ghost use Rattle.types_expressions.specs.Columns.{HasColumns, all_listed, sequence_signals, step_signals, other_signals};
+ghost use Rattle.types_expressions.specs.Faults.{IsSound, boolean_faults, sequence_faults};
+ghost use Rattle.types_expressions.specs.Faults.{step_faults, other_faults};
+ghost use Rattle.types_expressions.specs.Columns.{HasColumns, all_listed, sequence_signals};
+ghost use Rattle.types_expressions.specs.Columns.{step_signals, other_signals};
 ghost use Rattle.types_expressions.specs.Views.{scope_of, columns_in};
-ghost use Rattle.types_suites.specs.Readings.{least_of, extra_of, IsAtom, ReadsBoolean, Reads, ReadsSteps, ReadsAll, ReadsAny};
+ghost use Rattle.types_suites.specs.Readings.{least_of, extra_of, IsAtom, ReadsBoolean, Reads};
+ghost use Rattle.types_suites.specs.Readings.{ReadsSteps, ReadsAll, ReadsAny};
 ghost use Rattle.types_sequences.specs.Placed.{Extends};
 
 use grammar::Range;
@@ -35,7 +38,8 @@ fn extent(range: Range) -> (u8, u8)
 
 /// A sequence that is repeated.
 fn repeated_draft(alloc: Global, body: Box<Draft>, range: Range) -> Result<Box<Draft>, AllocError>
-    ensures { IfOk result (λ d. draft_of d.value ≡ repeat (draft_of body.value) (least_of range) (extra_of range)) }
+    ensures { IfOk result
+        (λ d. draft_of d.value ≡ repeat (draft_of body.value) (least_of range) (extra_of range)) }
 {
     let (least, extra) = extent(range);
     Ok(Box::new(alloc, Draft::Repeat(body, least, extra))?)
@@ -43,7 +47,8 @@ fn repeated_draft(alloc: Global, body: Box<Draft>, range: Range) -> Result<Box<D
 
 /// A delay with nothing before it.
 fn late_draft(alloc: Global, range: Range, body: Box<Draft>) -> Result<Box<Draft>, AllocError>
-    ensures { IfOk result (λ d. draft_of d.value ≡ lead (least_of range) (extra_of range) (draft_of body.value)) }
+    ensures { IfOk result
+        (λ d. draft_of d.value ≡ lead (least_of range) (extra_of range) (draft_of body.value)) }
 {
     let (least, extra) = extent(range);
     Ok(Box::new(alloc, Draft::Lead(least, extra, body))?)
@@ -56,7 +61,8 @@ fn delayed_draft(
     range: Range,
     second: Box<Draft>,
 ) -> Result<Box<Draft>, AllocError>
-    ensures { IfOk result (λ d. draft_of d.value ≡ delay (draft_of first.value) (least_of range) (extra_of range) (draft_of second.value)) }
+    ensures { IfOk result (λ d. draft_of d.value
+        ≡ delay (draft_of first.value) (least_of range) (extra_of range) (draft_of second.value)) }
 {
     let (least, extra) = extent(range);
     Ok(Box::new(alloc, Draft::Delay(first, least, extra, second))?)
@@ -73,7 +79,8 @@ pub(crate) fn atom(
     requires sound { IsSound (scope_of scope.now) (tree_of expr.now) }
     requires listed { HasColumns (scope_of scope.now) (columns_in columns.now) (tree_of expr.now) }
     ensures grows { OnOk result (Extends booleans.old.items booleans.new.items) }
-    ensures atom { IfOk result (λ p. IsAtom (scope_of scope.now) (columns_in columns.now) booleans.new.items (tree_of expr.now) (Listed p)) }
+    ensures atom { IfOk result (λ p. IsAtom (scope_of scope.now)
+        (columns_in columns.now) booleans.new.items (tree_of expr.now) (Listed p)) }
 {
     let place = booleans.len();
     let expression = typed_expression(alloc, scope, columns, expr)?;
@@ -92,7 +99,9 @@ fn boolean(
     requires sound { (k : Sought) → boolean_faults (scope_of scope.now) k (tree_of expr.now) ≡ [] }
     requires listed { HasColumns (scope_of scope.now) (columns_in columns.now) (tree_of expr.now) }
     ensures grows { OnOk result (Extends booleans.old.items booleans.new.items) }
-    ensures reads { IfOk result (λ d. ReadsBoolean (scope_of scope.now) (columns_in columns.now) booleans.new.items (sequence_named (scope_of scope.now) (tree_of expr.now)) (tree_of expr.now) (draft_of d.value)) }
+    ensures reads { IfOk result (λ d. ReadsBoolean (scope_of scope.now) (columns_in columns.now)
+        booleans.new.items (sequence_named (scope_of scope.now) (tree_of expr.now))
+        (tree_of expr.now) (draft_of d.value)) }
 {
     match scope.sequence_named(expr) {
         Some(place) => Ok(Box::new(alloc, Draft::Name(place))?),
@@ -112,10 +121,13 @@ pub(crate) fn draft_of(
     sequence: &SequenceTree,
     booleans: &mut Vec<expressions::Expr>,
 ) -> Result<Box<Draft>, AllocError>
-    requires sound { (k : Sought) → sequence_faults (scope_of scope.now) k (sequence_of sequence.now) ≡ [] }
-    requires listed { IsTrue (all_listed (columns_in columns.now) (sequence_signals (scope_of scope.now) (sequence_of sequence.now))) }
+    requires sound { (k : Sought)
+        → sequence_faults (scope_of scope.now) k (sequence_of sequence.now) ≡ [] }
+    requires listed { IsTrue (all_listed (columns_in columns.now)
+        (sequence_signals (scope_of scope.now) (sequence_of sequence.now))) }
     ensures grows { OnOk result (Extends booleans.old.items booleans.new.items) }
-    ensures reads { IfOk result (λ d. Reads (scope_of scope.now) (columns_in columns.now) booleans.new.items (sequence_of sequence.now) (draft_of d.value)) }
+    ensures reads { IfOk result (λ d. Reads (scope_of scope.now)
+        (columns_in columns.now) booleans.new.items (sequence_of sequence.now) (draft_of d.value)) }
 {
     match sequence {
         SequenceTree::Boolean(expr) => boolean(alloc, scope, columns, expr, booleans),
@@ -157,10 +169,14 @@ fn with_steps(
     first: Box<Draft>,
     booleans: &mut Vec<expressions::Expr>,
 ) -> Result<Box<Draft>, AllocError>
-    requires sound { (k : Sought) → step_faults (scope_of scope.now) k (steps_of (map delay_step_of steps.now)) ≡ [] }
-    requires listed { IsTrue (all_listed (columns_in columns.now) (step_signals (scope_of scope.now) (steps_of (map delay_step_of steps.now)))) }
+    requires sound { (k : Sought)
+        → step_faults (scope_of scope.now) k (steps_of (map delay_step_of steps.now)) ≡ [] }
+    requires listed { IsTrue (all_listed (columns_in columns.now)
+        (step_signals (scope_of scope.now) (steps_of (map delay_step_of steps.now)))) }
     ensures grows { OnOk result (Extends booleans.old.items booleans.new.items) }
-    ensures reads { IfOk result (λ d. ReadsSteps (scope_of scope.now) (columns_in columns.now) booleans.new.items (draft_of first.value) (steps_of (map delay_step_of steps.now)) (draft_of d.value)) }
+    ensures reads { IfOk result (λ d.
+        ReadsSteps (scope_of scope.now) (columns_in columns.now) booleans.new.items
+        (draft_of first.value) (steps_of (map delay_step_of steps.now)) (draft_of d.value)) }
 {
     let mut whole = first;
     for step in steps {
@@ -180,10 +196,14 @@ fn with_all(
     first: Box<Draft>,
     booleans: &mut Vec<expressions::Expr>,
 ) -> Result<Box<Draft>, AllocError>
-    requires sound { (k : Sought) → other_faults (scope_of scope.now) k (others_of (map sequence_of others.now)) ≡ [] }
-    requires listed { IsTrue (all_listed (columns_in columns.now) (other_signals (scope_of scope.now) (others_of (map sequence_of others.now)))) }
+    requires sound { (k : Sought)
+        → other_faults (scope_of scope.now) k (others_of (map sequence_of others.now)) ≡ [] }
+    requires listed { IsTrue (all_listed (columns_in columns.now)
+        (other_signals (scope_of scope.now) (others_of (map sequence_of others.now)))) }
     ensures grows { OnOk result (Extends booleans.old.items booleans.new.items) }
-    ensures reads { IfOk result (λ d. ReadsAll (scope_of scope.now) (columns_in columns.now) booleans.new.items (draft_of first.value) (others_of (map sequence_of others.now)) (draft_of d.value)) }
+    ensures reads { IfOk result (λ d.
+        ReadsAll (scope_of scope.now) (columns_in columns.now) booleans.new.items
+        (draft_of first.value) (others_of (map sequence_of others.now)) (draft_of d.value)) }
 {
     let mut whole = first;
     for other in others {
@@ -203,10 +223,14 @@ fn with_any(
     first: Box<Draft>,
     booleans: &mut Vec<expressions::Expr>,
 ) -> Result<Box<Draft>, AllocError>
-    requires sound { (k : Sought) → other_faults (scope_of scope.now) k (others_of (map sequence_of others.now)) ≡ [] }
-    requires listed { IsTrue (all_listed (columns_in columns.now) (other_signals (scope_of scope.now) (others_of (map sequence_of others.now)))) }
+    requires sound { (k : Sought)
+        → other_faults (scope_of scope.now) k (others_of (map sequence_of others.now)) ≡ [] }
+    requires listed { IsTrue (all_listed (columns_in columns.now)
+        (other_signals (scope_of scope.now) (others_of (map sequence_of others.now)))) }
     ensures grows { OnOk result (Extends booleans.old.items booleans.new.items) }
-    ensures reads { IfOk result (λ d. ReadsAny (scope_of scope.now) (columns_in columns.now) booleans.new.items (draft_of first.value) (others_of (map sequence_of others.now)) (draft_of d.value)) }
+    ensures reads { IfOk result (λ d.
+        ReadsAny (scope_of scope.now) (columns_in columns.now) booleans.new.items
+        (draft_of first.value) (others_of (map sequence_of others.now)) (draft_of d.value)) }
 {
     let mut whole = first;
     for other in others {

@@ -5,8 +5,10 @@ ghost use Rattle.parser_expressions.specs.Views.{boxed_of};
 ghost use Rattle.parser.specs.Views.{property_of, assertion_of};
 ghost use Rattle.types_sequences.specs.Views.{draft_of};
 ghost use Rattle.types_expressions.specs.declared.own.Sought.{Sought};
-ghost use Rattle.types_expressions.specs.Columns.{all_listed, property_signals, optional_signals, assertion_signals};
-ghost use Rattle.types_expressions.specs.Faults.{property_faults, optional_faults, assertion_faults};
+ghost use Rattle.types_expressions.specs.Columns.{all_listed, property_signals, optional_signals};
+ghost use Rattle.types_expressions.specs.Columns.{assertion_signals};
+ghost use Rattle.types_expressions.specs.Faults.{property_faults, optional_faults};
+ghost use Rattle.types_expressions.specs.Faults.{assertion_faults};
 ghost use Rattle.types_expressions.specs.Views.{scope_of, columns_in};
 ghost use Rattle.types_sequences.specs.Placed.{Extends};
 ghost use Rattle.types_suites.specs.Texts.{implication_by};
@@ -22,7 +24,8 @@ use std::alloc::{AllocError, Global};
 use types_expressions::{Scope, SignalPaths};
 use types_sequences::{Draft, Implication, rewrite_antecedent};
 
-/// An assertion with its sides as drafts: the antecedent of `|=>` as that of `|->`, and 1 where a sequence is asserted alone.
+/// An assertion with its sides as drafts: the antecedent of `|=>` as that of `|->`, and 1 where a
+/// sequence is asserted alone.
 #[derive(Drop)]
 pub(crate) struct Drawn {
     pub name: String,
@@ -73,10 +76,13 @@ fn antecedent_of(
     property: &PropertyTree,
     booleans: &mut Vec<expressions::Expr>,
 ) -> Result<Box<Draft>, AllocError>
-    requires sound { (k : Sought) → property_faults (scope_of scope.now) k (property_of property.now) ≡ [] }
-    requires listed { IsTrue (all_listed (columns_in columns.now) (property_signals (scope_of scope.now) (property_of property.now))) }
+    requires sound { (k : Sought)
+        → property_faults (scope_of scope.now) k (property_of property.now) ≡ [] }
+    requires listed { IsTrue (all_listed (columns_in columns.now)
+        (property_signals (scope_of scope.now) (property_of property.now))) }
     ensures grows { OnOk result (Extends booleans.old.items booleans.new.items) }
-    ensures reads { IfOk result (λ d. ReadsAntecedent (scope_of scope.now) (columns_in columns.now) booleans.new.items (property_of property.now) (draft_of d.value)) }
+    ensures reads { IfOk result (λ d. ReadsAntecedent (scope_of scope.now)
+        (columns_in columns.now) booleans.new.items (property_of property.now) (draft_of d.value)) }
 {
     match property {
         PropertyTree::Plain(_) => Ok(Box::new(alloc, Draft::One)?),
@@ -95,10 +101,13 @@ fn consequent_of(
     property: &PropertyTree,
     booleans: &mut Vec<expressions::Expr>,
 ) -> Result<Box<Draft>, AllocError>
-    requires sound { (k : Sought) → property_faults (scope_of scope.now) k (property_of property.now) ≡ [] }
-    requires listed { IsTrue (all_listed (columns_in columns.now) (property_signals (scope_of scope.now) (property_of property.now))) }
+    requires sound { (k : Sought)
+        → property_faults (scope_of scope.now) k (property_of property.now) ≡ [] }
+    requires listed { IsTrue (all_listed (columns_in columns.now)
+        (property_signals (scope_of scope.now) (property_of property.now))) }
     ensures grows { OnOk result (Extends booleans.old.items booleans.new.items) }
-    ensures reads { IfOk result (λ d. ReadsConsequent (scope_of scope.now) (columns_in columns.now) booleans.new.items (property_of property.now) (draft_of d.value)) }
+    ensures reads { IfOk result (λ d. ReadsConsequent (scope_of scope.now)
+        (columns_in columns.now) booleans.new.items (property_of property.now) (draft_of d.value)) }
 {
     match property {
         PropertyTree::Plain(sequence) => draft_of(alloc, scope, columns, sequence, booleans),
@@ -116,10 +125,13 @@ fn disabling_of(
     disable: &Option<Box<ExprTree>>,
     booleans: &mut Vec<expressions::Expr>,
 ) -> Result<Option<usize>, AllocError>
-    requires sound { (k : Sought) → optional_faults (scope_of scope.now) k (option_map boxed_of disable.now) ≡ [] }
-    requires listed { IsTrue (all_listed (columns_in columns.now) (optional_signals (scope_of scope.now) (option_map boxed_of disable.now))) }
+    requires sound { (k : Sought)
+        → optional_faults (scope_of scope.now) k (option_map boxed_of disable.now) ≡ [] }
+    requires listed { IsTrue (all_listed (columns_in columns.now)
+        (optional_signals (scope_of scope.now) (option_map boxed_of disable.now))) }
     ensures grows { OnOk result (Extends booleans.old.items booleans.new.items) }
-    ensures disabled { IfOk result (IsDisabledBy (scope_of scope.now) (columns_in columns.now) booleans.new.items (option_map boxed_of disable.now)) }
+    ensures disabled { IfOk result (IsDisabledBy (scope_of scope.now)
+        (columns_in columns.now) booleans.new.items (option_map boxed_of disable.now)) }
 {
     match disable {
         None => Ok(None),
@@ -137,10 +149,13 @@ pub(crate) fn drawn_of(
     booleans: &mut Vec<expressions::Expr>,
 ) -> Result<Drawn, AllocError>
     requires room { before < 18446744073709551615 }
-    requires sound { (k : Sought) → assertion_faults (scope_of scope.now) k (assertion_of assertion.now) ≡ [] }
-    requires listed { IsTrue (all_listed (columns_in columns.now) (assertion_signals (scope_of scope.now) (assertion_of assertion.now))) }
+    requires sound { (k : Sought)
+        → assertion_faults (scope_of scope.now) k (assertion_of assertion.now) ≡ [] }
+    requires listed { IsTrue (all_listed (columns_in columns.now)
+        (assertion_signals (scope_of scope.now) (assertion_of assertion.now))) }
     ensures grows { OnOk result (Extends booleans.old.items booleans.new.items) }
-    ensures drawn { IfOk result (IsDrawn (scope_of scope.now) (columns_in columns.now) booleans.new.items before (assertion_of assertion.now)) }
+    ensures drawn { IfOk result (IsDrawn (scope_of scope.now)
+        (columns_in columns.now) booleans.new.items before (assertion_of assertion.now)) }
 {
     let name = label_string(alloc, before, assertion.label)?;
     let disabling = disabling_of(alloc, scope, columns, &assertion.disable, booleans)?;

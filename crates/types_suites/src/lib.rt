@@ -5,7 +5,7 @@
 //!
 //! ```text
 //! let bodies = bodies_of(alloc, scope, &columns, items, &mut expressions)?;
-//! let assertions = all_resolved(alloc, scope, &columns, items, &entries, &mut expressions)?;
+//! let assertions = all_resolved(alloc, scope, &columns, &entries, items, &mut expressions)?;
 //! ```
 //!
 //! The definitions: what a text says in `specs/Suites.antt`, and of a sequence in

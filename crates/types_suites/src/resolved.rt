@@ -37,7 +37,8 @@ pub struct Resolved {
 /// The entry of a sequence whose names all have entries.
 fn entry_in(alloc: Global, draft: &Draft, table: &[Option<Entry>]) -> Result<Entry, AllocError>
     requires { (p : ℕ) → IsIn p (uses (draft_of draft.now)) → has_entry table.now p ≡ true }
-    ensures { (bodies : Bodies) → IsTable bodies table.now → IfOk result (HasEntry bodies (draft_of draft.now)) }
+    ensures { (bodies : Bodies) → IsTable bodies table.now
+        → IfOk result (HasEntry bodies (draft_of draft.now)) }
 {
     match entry_of(alloc, draft, table)? {
         Some(entry) => Ok(entry),
@@ -56,12 +57,17 @@ fn resolved_of(
     booleans: &mut Vec<expressions::Expr>,
 ) -> Result<Resolved, AllocError>
     requires room { before < 18446744073709551615 }
-    requires sound { (k : Sought) → assertion_faults (scope_of scope.now) k (assertion_of assertion.now) ≡ [] }
-    requires listed { IsTrue (all_listed (columns_in columns.now) (assertion_signals (scope_of scope.now) (assertion_of assertion.now))) }
-    requires declared { (t : Tree) (p : ℕ) → sequence_named (scope_of scope.now) t ≡ Some p → p < length table.now }
+    requires sound { (k : Sought)
+        → assertion_faults (scope_of scope.now) k (assertion_of assertion.now) ≡ [] }
+    requires listed { IsTrue (all_listed (columns_in columns.now)
+        (assertion_signals (scope_of scope.now) (assertion_of assertion.now))) }
+    requires declared { (t : Tree) (p : ℕ) → sequence_named (scope_of scope.now) t ≡ Some p
+        → p < length table.now }
     requires entries { (p : ℕ) → p < length table.now → has_entry table.now p ≡ true }
     ensures grows { OnOk result (Extends booleans.old.items booleans.new.items) }
-    ensures resolved { (bodies : Bodies) → IsTable bodies table.now → IfOk result (IsResolved (scope_of scope.now) (columns_in columns.now) booleans.new.items bodies before (assertion_of assertion.now)) }
+    ensures resolved { (bodies : Bodies) → IsTable bodies table.now
+        → IfOk result (IsResolved (scope_of scope.now) (columns_in columns.now) booleans.new.items
+        bodies before (assertion_of assertion.now)) }
 {
     let drawn = drawn_of(alloc, scope, columns, before, assertion, booleans)?;
     let antecedent = entry_in(alloc, &drawn.antecedent, table)?;
@@ -76,7 +82,8 @@ fn resolved_of(
     })
 }
 
-/// The assertions of the items with the entries of their sides, their expressions typed and put behind the others.
+/// The assertions of the items with the entries of their sides, their expressions typed and put
+/// behind the others.
 pub fn all_resolved(
     alloc: Global,
     scope: &Scope,
@@ -85,12 +92,17 @@ pub fn all_resolved(
     items: &[ItemTree],
     booleans: &mut Vec<expressions::Expr>,
 ) -> Result<Vec<Resolved>, AllocError>
-    requires sound { (k : Sought) → file_faults (scope_of scope.now) k (map item_of items.now) ≡ [] }
-    requires listed { IsTrue (all_listed (columns_in columns.now) (file_signals (scope_of scope.now) (map item_of items.now))) }
-    requires declared { (t : Tree) (p : ℕ) → sequence_named (scope_of scope.now) t ≡ Some p → p < length table.now }
+    requires sound { (k : Sought)
+        → file_faults (scope_of scope.now) k (map item_of items.now) ≡ [] }
+    requires listed { IsTrue (all_listed (columns_in columns.now)
+        (file_signals (scope_of scope.now) (map item_of items.now))) }
+    requires declared { (t : Tree) (p : ℕ) → sequence_named (scope_of scope.now) t ≡ Some p
+        → p < length table.now }
     requires entries { (p : ℕ) → p < length table.now → has_entry table.now p ≡ true }
     ensures grows { OnOk result (Extends booleans.old.items booleans.new.items) }
-    ensures resolved { (bodies : Bodies) → IsTable bodies table.now → IfOk result (λ v. AreResolved (scope_of scope.now) (columns_in columns.now) booleans.new.items bodies 0 (assertions_of (map item_of items.now)) v.items) }
+    ensures resolved { (bodies : Bodies) → IsTable bodies table.now → IfOk result (λ v.
+        AreResolved (scope_of scope.now) (columns_in columns.now) booleans.new.items bodies 0
+        (assertions_of (map item_of items.now)) v.items) }
 {
     let mut resolved = Vec::new(alloc);
     for item in items {

@@ -43,7 +43,8 @@ fn disabling_of(
     places: &mut Vec<usize>,
 ) -> Result<Option<Boolean>, AllocError>
     ensures grows { OnOk result (Extends places.old.items places.new.items) }
-    ensures placed { (booleans : Expressions) → IfOk result (IsPlacedAt booleans places.new.items place) }
+    ensures placed { (booleans : Expressions)
+        → IfOk result (IsPlacedAt booleans places.new.items place) }
     ensures used { OnOk result (AreAt place places.old.items places.new.items) }
 {
     match place {
@@ -56,8 +57,10 @@ fn disabling_of(
 fn assertion_of(alloc: Global, resolved: &Resolved) -> Result<Assertion, AllocError>
     requires antecedent { IsFitting resolved.now.antecedent }
     requires consequent { IsFitting resolved.now.consequent }
-    ensures { (s : Where) (columns : List (List ℕ)) (booleans : Expressions) (bodies : Bodies) (before : ℕ) (a : Statement) →
-        IsResolved s columns booleans bodies before a resolved.now → IfOk result (IsAssertion s columns booleans bodies before a) }
+    ensures { (s : Where) (columns : List (List ℕ)) (booleans : Expressions) (bodies : Bodies)
+        (before : ℕ) (a : Statement)
+        → IsResolved s columns booleans bodies before a resolved.now
+        → IfOk result (IsAssertion s columns booleans bodies before a) }
 {
     let mut places = Vec::new(alloc);
     let antecedent = side_of(alloc, &resolved.antecedent, &mut places)?;
@@ -79,8 +82,10 @@ fn assertion_of(alloc: Global, resolved: &Resolved) -> Result<Assertion, AllocEr
 /// The assertions whose sides weigh at most 127, in the order of the text.
 pub fn assertions_of(alloc: Global, resolved: &[Resolved]) -> Result<Vec<Assertion>, AllocError>
     requires { AreFitting resolved.now }
-    ensures { (s : Where) (columns : List (List ℕ)) (booleans : Expressions) (bodies : Bodies) (all : Statements) →
-        AreResolved s columns booleans bodies 0 all resolved.now → IfOk result (λ v. AreAssertions s columns booleans bodies 0 all v.items) }
+    ensures { (s : Where) (columns : List (List ℕ)) (booleans : Expressions) (bodies : Bodies)
+        (all : Statements)
+        → AreResolved s columns booleans bodies 0 all resolved.now
+        → IfOk result (λ v. AreAssertions s columns booleans bodies 0 all v.items) }
 {
     let mut assertions = Vec::with_capacity(alloc, resolved.len())?;
     for one in resolved {
