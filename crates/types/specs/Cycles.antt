@@ -1,5 +1,6 @@
 -- The first declaration that reaches itself, by the bytes of the declarations.
-use Rattle.std.specs.Prelude.{◌≡◌, ℕ, ◌<◌, ◌≤◌, List, length, map, slice_index_or, Option, Some, None, false}
+use Rattle.std.specs.Prelude.{◌≡◌, ℕ, ◌<◌, ◌≤◌, List, length, map, slice_index_or, Option, Some}
+use Rattle.std.specs.Prelude.{None, false}
 use Rattle.grammar.specs.Trees.{ItemForm}
 use Rattle.assertions.specs.declared.sequence.Boolean.{Boolean}
 use Rattle.types_sequences.specs.Drafts.{Draft, IsCyclic}
@@ -11,8 +12,10 @@ use Rattle.types_suites.specs.Readings.{dot}
 use Rattle.types_suites.specs.Texts.{declarations_of}
 use Rattle.types_suites.specs.Readings.{outlines_of}
 
--- One of the first so many declarations reaches itself and has the byte, and none of these that does has a lower one.
-pub record IsLowest {B : Type 0} (bodies : List (Draft B)) (bytes : List ℕ) (below at : ℕ) : Type 0 where
+-- One of the first so many declarations reaches itself and has the byte, and none of these that
+-- does has a lower one.
+pub record IsLowest {B : Type 0} (bodies : List (Draft B)) (bytes : List ℕ)
+    (below at : ℕ) : Type 0 where
   pub place : ℕ
   pub inside : place < below
   pub cyclic : IsCyclic bodies place
@@ -30,7 +33,8 @@ IsAtMost None byte = ⊥
 IsAtMost (Some at) byte = at ≤ byte
 
 -- Drafts of the named sequences, with the bytes where they are declared.
-pub record AreOutlined (s : Scope) (items : List ItemForm) (bodies : List (Draft Boolean)) (bytes : List ℕ) : Type 0 where
+pub record AreOutlined (s : Scope) (items : List ItemForm) (bodies : List (Draft Boolean))
+    (bytes : List ℕ) : Type 0 where
   pub outlines : map (map_draft (λ b. dot)) bodies ≡ outlines_of s items
   pub declared : bytes ≡ map (λ d. d.name.at) (declarations_of items)
 

@@ -1,6 +1,7 @@
 -- Where faults of types stand in a text.
 use Rattle.std.specs.Prelude.{◌≡◌, ◌⊎◌, ℕ, ◌<◌, ◌≤◌, List, [], ◌∷◌, ◌++◌, map, Some, slice_get}
-use Rattle.grammar.specs.Trees.{PropertyForm, plain, implication, DeclarationForm, AssertionForm, ItemForm}
+use Rattle.grammar.specs.Trees.{PropertyForm, plain, implication, DeclarationForm, AssertionForm}
+use Rattle.grammar.specs.Trees.{ItemForm}
 use Rattle.assertions.specs.Segments.{IsDegenerate, AdmitsEmpty}
 use Rattle.assertions.specs.Written.{Written, kernel, weight}
 use Rattle.types_sequences.specs.Drafts.{Draft, IsIn, Spells, IsCyclic}
@@ -10,15 +11,20 @@ use Rattle.types_expressions.specs.Scopes.{Scope}
 use Rattle.types_expressions.specs.Faults.{file_faults}
 use Rattle.types_sequences.specs.declared.implication.Implication.{Implication}
 use Rattle.types.specs.declared.fault.TypeFault.{TypeFault}
-use Rattle.types.specs.declared.fault.TypeFault.TheVariants.{UnknownName, Duplicate, WiderThan128, SliceRange, Degenerate, AdmitsEmpty as Empty, OtherClock, CyclicSequence, TooWide, Memory}
+use Rattle.types.specs.declared.fault.TypeFault.TheVariants.{UnknownName, Duplicate, WiderThan128}
+use Rattle.types.specs.declared.fault.TypeFault.TheVariants.{SliceRange, Degenerate}
+use Rattle.types.specs.declared.fault.TypeFault.TheVariants.{AdmitsEmpty as Empty, OtherClock}
+use Rattle.types.specs.declared.fault.TypeFault.TheVariants.{CyclicSequence, TooWide, Memory}
 use Rattle.types_suites.specs.Readings.{Dot, dot, outline, outlines_of}
-use Rattle.types_suites.specs.Texts.{declarations_of, assertions_of, duplicates, other_clocks, sequence_byte, implication_by}
+use Rattle.types_suites.specs.Texts.{declarations_of, assertions_of, duplicates, other_clocks}
+use Rattle.types_suites.specs.Texts.{sequence_byte, implication_by}
 
 -- a text, item by item
 abbrev pub Text : Type 0
 Text = List ItemForm
 
--- A side of an assertion: its outline, with the antecedent of |=> as that of |->, and the byte of its first token but brackets.
+-- A side of an assertion: its outline, with the antecedent of |=> as that of |->, and the byte of
+-- its first token but brackets.
 pub record Side : Type 0 where
   pub outline : Draft Dot
   pub byte : ℕ
@@ -30,7 +36,11 @@ outline_before k d = rewritten_antecedent dot k d
 -- the antecedent that is written, if there is one
 abbrev pub antecedents_in : Scope → PropertyForm → List Side
 antecedents_in s (plain q) = []
-antecedents_in s (implication a t c) = record { outline = outline_before (implication_by t.kind) (outline s a); byte = sequence_byte a } ∷ []
+antecedents_in s (implication a t c) =
+    record {
+      outline = outline_before (implication_by t.kind) (outline s a);
+      byte = sequence_byte a;
+    } ∷ []
 
 -- A plain sequence is a consequent alone.
 abbrev pub consequent_in : Scope → PropertyForm → Side
@@ -39,7 +49,8 @@ consequent_in s (implication a t c) = record { outline = outline s c; byte = seq
 
 abbrev pub sides_of : Scope → List AssertionForm → List Side
 sides_of s [] = []
-sides_of s (a ∷ more) = (antecedents_in s a.property ++ consequent_in s a.property ∷ []) ++ sides_of s more
+sides_of s (a ∷ more) =
+    (antecedents_in s a.property ++ consequent_in s a.property ∷ []) ++ sides_of s more
 
 abbrev pub consequents_of : Scope → List AssertionForm → List Side
 consequents_of s [] = []
@@ -59,7 +70,8 @@ pub record CycleAt (s : Scope) (items : List ItemForm) (at : ℕ) : Type 0 where
   pub byte : at ≡ declared.name.at
 
 -- One of the sides stands at the byte, and is so, with its names written out.
-pub record SideAt (bodies : List (Draft Dot)) (sides : List Side) (IsSo : Written Dot → Type 0) (at : ℕ) : Type 0 where
+pub record SideAt (bodies : List (Draft Dot)) (sides : List Side) (IsSo : Written Dot → Type 0)
+    (at : ℕ) : Type 0 where
   pub side : Side
   pub one : IsSide side sides
   pub meant : Written Dot
@@ -67,17 +79,24 @@ pub record SideAt (bodies : List (Draft Dot)) (sides : List Side) (IsSo : Writte
   pub so : IsSo meant
   pub byte : at ≡ side.byte
 
--- A side weighs more than 127 (Y9), has no match of a tick or more (Y5), a consequent has an empty match (Y6), were every boolean true (16.12.22).
+-- A side weighs more than 127 (Y9), has no match of a tick or more (Y5), a consequent has an empty
+-- match (Y6), were every boolean true (16.12.22).
 abbrev pub WideAt : Scope → List ItemForm → ℕ → Type 0
-WideAt s items = SideAt (outlines_of s items) (sides_of s (assertions_of items)) (λ w. 127 < weight w)
+WideAt s items =
+    SideAt (outlines_of s items) (sides_of s (assertions_of items)) (λ w. 127 < weight w)
 
 abbrev pub DegenerateAt : Scope → List ItemForm → ℕ → Type 0
-DegenerateAt s items = SideAt (outlines_of s items) (sides_of s (assertions_of items)) (λ w. IsDegenerate (kernel dot w))
+DegenerateAt s items =
+    SideAt (outlines_of s items) (sides_of s (assertions_of items))
+    (λ w. IsDegenerate (kernel dot w))
 
 abbrev pub EmptyAt : Scope → List ItemForm → ℕ → Type 0
-EmptyAt s items = SideAt (outlines_of s items) (consequents_of s (assertions_of items)) (λ w. AdmitsEmpty (kernel dot w))
+EmptyAt s items =
+    SideAt (outlines_of s items) (consequents_of s (assertions_of items))
+    (λ w. AdmitsEmpty (kernel dot w))
 
--- The fault stands in the text; of several the first by kind, in the order Y1, Y2, Y3, Y4, Y7, Y8, Y9, Y5, Y6, then the lowest byte.
+-- The fault stands in the text; of several the first by kind, in the order Y1, Y2, Y3, Y4, Y7, Y8,
+-- Y9, Y5, Y6, then the lowest byte.
 abbrev pub FaultStands : Scope → List ItemForm → TypeFault → Type 0
 FaultStands s items (UnknownName at) = IsIn at (file_faults s Unknown items)
 FaultStands s items (Duplicate at) = IsIn at (duplicates items)
@@ -125,7 +144,8 @@ IsFaultless s items = (fault : TypeFault) → FaultStands s items fault → ⊥
 -- The fault stands, and none of an earlier kind, nor of its own at a lower byte.
 pub record IsFirst (s : Scope) (items : List ItemForm) (fault : TypeFault) : Type 0 where
   pub stands : FaultStands s items fault
-  pub first : (other : TypeFault) → FaultStands s items other → (rank fault < rank other) ⊎ ((rank fault ≡ rank other) × (byte_of fault ≤ byte_of other))
+  pub first : (other : TypeFault) → FaultStands s items other
+      → (rank fault < rank other) ⊎ ((rank fault ≡ rank other) × (byte_of fault ≤ byte_of other))
 
 -- The text is refused for its first fault; want of memory says nothing of it.
 abbrev pub IsTypeFault : Scope → List ItemForm → TypeFault → Type 0

@@ -1,5 +1,6 @@
 -- What is known of the sides of assertions.
-use Rattle.std.specs.Prelude.{◌≡◌, ℕ, ◌≤◌, min, List, [], ◌∷◌, ◌++◌, Option, Some, None, Bool, nat_lt, not, if◌then◌else◌}
+use Rattle.std.specs.Prelude.{◌≡◌, ℕ, ◌≤◌, min, List, [], ◌∷◌, ◌++◌, Option, Some, None, Bool}
+use Rattle.std.specs.Prelude.{nat_lt, not, if◌then◌else◌}
 use Rattle.assertions.specs.Written.{Written, weight, IsOrdered}
 use Rattle.assertions.specs.Emptiness.{admits_empty, takes_ticks}
 use Rattle.types_sequences.specs.declared.facts.Facts.{Facts}
@@ -9,7 +10,8 @@ use Rattle.types_suites.specs.declared.resolved.Resolved.{Resolved}
 use Rattle.types_suites.specs.Readings.{Dot}
 use Rattle.types.specs.Faults as faults
 
--- What a side's outline says with the names written out, of which these are the weight, up to 128, and what its form tells.
+-- What a side's outline says with the names written out, of which these are the weight, up to 128,
+-- and what its form tells.
 pub record IsWeighed (bodies : List (Draft Dot)) (side : faults.Side) (seen : Side) : Type 0 where
   pub meant : Written Dot
   pub spells : Spells bodies side.outline meant
@@ -34,7 +36,8 @@ AreLight (y ∷ ys) = (y.facts.weight ≤ 127) × AreLight ys
 -- the bytes of those that pass a test
 abbrev pub places_where : (Facts → Bool) → List Side → List ℕ
 places_where test [] = []
-places_where test (y ∷ ys) = if test y.facts then y.at ∷ places_where test ys else places_where test ys
+places_where test (y ∷ ys) =
+    if test y.facts then y.at ∷ places_where test ys else places_where test ys
 
 -- it weighs over 127, it takes no tick, it matches an empty segment
 abbrev pub is_wide : Facts → Bool
@@ -56,7 +59,8 @@ consequent_side m = record { facts = m.consequent.facts; at = m.consequent_at }
 
 abbrev pub sides_in : List Resolved → List Side
 sides_in [] = []
-sides_in (m ∷ ms) = (side_at m.antecedent.facts m.antecedent_at ++ consequent_side m ∷ []) ++ sides_in ms
+sides_in (m ∷ ms) =
+    (side_at m.antecedent.facts m.antecedent_at ++ consequent_side m ∷ []) ++ sides_in ms
 
 abbrev pub consequents_in : List Resolved → List Side
 consequents_in [] = []

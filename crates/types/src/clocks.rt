@@ -14,7 +14,8 @@ use types_expressions::path_string;
 
 /// The path of the first assertion's clock, and no text where there is no assertion.
 pub(crate) fn first_clock(alloc: Global, items: &[ItemTree]) -> Result<String, AllocError>
-    ensures { IfOk result (λ clock. string_bytes clock ≡ clock_of (assertions_of (map item_of items.now))) }
+    ensures { IfOk result
+        (λ clock. string_bytes clock ≡ clock_of (assertions_of (map item_of items.now))) }
 {
     for item in items {
         match item {
@@ -39,7 +40,8 @@ pub(crate) fn first_other_clock(
     clock: &str,
     items: &[ItemTree],
 ) -> Result<Option<usize>, AllocError>
-    ensures { IfOk result (λ r. r ≡ least (clocks_unlike clock.now (assertions_of (map item_of items.now)))) }
+    ensures { IfOk result
+        (λ r. r ≡ least (clocks_unlike clock.now (assertions_of (map item_of items.now)))) }
 {
     let mut fault = None;
     for item in items {

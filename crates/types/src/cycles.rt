@@ -1,6 +1,7 @@
 //! Named sequences that reach themselves.
 
-ghost use Rattle.std.specs.Prelude.{◌≡◌, ◌<◌, ◌≤◌, ℕ, true, false, map, length, slice_index_or, IfOk, IfNone, IfSome, IsTrue, ◌↔◌};
+ghost use Rattle.std.specs.Prelude.{◌≡◌, ◌<◌, ◌≤◌, ℕ, true, false, map, length, slice_index_or};
+ghost use Rattle.std.specs.Prelude.{IfOk, IfNone, IfSome, IsTrue, ◌↔◌};
 ghost use Rattle.types_sequences.specs.Drafts.{IsCyclic};
 ghost use Rattle.types_sequences.specs.Entries.{has_entry};
 ghost use Rattle.types_sequences.specs.Views.{draft_of};

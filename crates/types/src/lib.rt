@@ -1,4 +1,32 @@
 //! Names, widths and types of a text: the suite that it says, or the first fault in it.
+//!
+//! `check` takes the tree of a text's items and the paths of a dump with their widths. A text in
+//! which no fault stands has a suite: the path of its clock, the signals that it reads, its
+//! counters, its typed expressions and its assertions, with named sequences written out. Any other
+//! is refused with its first fault, by kind, in the order Y1, Y2, Y3, Y4, Y7, Y8, Y9, Y5, Y6, then
+//! by the byte where it stands.
+//!
+//! ```text
+//! let mut names = Names::new(alloc);
+//! names.push(alloc, "top.clk", 1)?;
+//! let tokens = lex(alloc, text)?;
+//! let file = parse(alloc, tokens.as_slice())?;
+//! let suite = check(alloc, &file, &names)?;      // or TypeFault::UnknownName(31), ..
+//! ```
+//!
+//! `TypeFault` says what each kind is, and which byte is told. Want of memory is a fault, too, and
+//! says nothing of the text. Named sequences and counters that nothing uses are looked at, but for
+//! Y9, Y5 and Y6, which are of antecedents and consequents.
+//!
+//! The definitions: which faults stand in a text, and which is the first, in `specs/Faults.antt`
+//! (`IsFaultless`, `IsTypeFault`); behind it are `specs/Cycles.antt`, of sequences that reach
+//! themselves, and `specs/Sides.antt`, of what is known of antecedents and consequents. The suite
+//! that a text says is that of `types_suites`, in its `specs/Suites.antt` (`IsSuite`); scopes and
+//! the faults of expressions are those of `types_expressions`, and named sequences those of
+//! `types_sequences`. `types_laws` has the law that suites of one text mean the same.
+//!
+//! Not promised: that the clock's path is among the dump's, how the expressions of a suite are laid
+//! out, or that memory suffices.
 #![tactic(auto)]
 
 mod clocks;

@@ -1,6 +1,7 @@
 //! Names that are declared again.
 
-ghost use Rattle.std.specs.Prelude.{◌≡◌, ◌<◌, ◌++◌, ◌+◌, map, IfOk, OnOk, string_bytes, option_map, codes};
+ghost use Rattle.std.specs.Prelude.{◌≡◌, ◌<◌, ◌++◌, ◌+◌, map, IfOk, OnOk, string_bytes, option_map};
+ghost use Rattle.std.specs.Prelude.{codes};
 ghost use Rattle.parser.specs.Views.{assertion_of, item_of};
 ghost use Rattle.types_expressions.specs.Faults.{least};
 ghost use Rattle.types_suites.specs.Texts.{label_byte, name_made, assertions_after, duplicates};
@@ -21,7 +22,8 @@ pub(crate) struct Made {
 /// The name that an item makes.
 fn name_of(alloc: Global, before: usize, item: &ItemTree) -> Result<Made, AllocError>
     requires { before < 18446744073709551615 }
-    ensures text { IfOk result (λ m. string_bytes m.text ≡ (name_made before (item_of item.now)).0) }
+    ensures text { IfOk result
+        (λ m. string_bytes m.text ≡ (name_made before (item_of item.now)).0) }
     ensures at { IfOk result (λ m. m.at ≡ (name_made before (item_of item.now)).1) }
 {
     match item {

@@ -5,7 +5,8 @@ ghost use Rattle.parser.specs.Views.{item_of};
 ghost use Rattle.types_expressions.specs.Views.{scope_of};
 ghost use Rattle.types_suites.specs.Texts.{assertions_of, clock_of};
 ghost use Rattle.types_suites.specs.Readings.{Where, outlines_of};
-ghost use Rattle.types.specs.Faults.{Text, sides_of, consequents_of, ClearTo, IsFaultless, IsTypeFault};
+ghost use Rattle.types.specs.Faults.{Text, sides_of, consequents_of, ClearTo, IsFaultless};
+ghost use Rattle.types.specs.Faults.{IsTypeFault};
 ghost use Rattle.types.specs.Cycles.{AreOutlined};
 ghost use Rattle.types.specs.Sides.{AreWeighed, AreLight};
 ghost use Rattle.types_sequences.specs.Cycles.{ReachesCycle};
@@ -23,7 +24,7 @@ use types_expressions::{Scope, Sought, first_fault};
 use types_sequences::{Draft, Entry};
 
 /// Looks for unknown names (Y1).
-#[tactic(auto, using(crate::proofs::StageLaws::clear_1, crate::proofs::StageLaws::first_1, crate::proofs::StageLaws::clear_start))]
+#[tactic(auto, using(crate::proofs::StageLaws::for_stages))]
 fn check_paths(alloc: Global, scope: &Scope, items: &[ItemTree]) -> Result<(), TypeFault>
     ensures ok { IfOk result (λ _. ClearTo (scope_of scope.now) (map item_of items.now) 1) }
     ensures err { IfErr result (IsTypeFault (scope_of scope.now) (map item_of items.now)) }
@@ -115,7 +116,8 @@ pub(crate) fn check_expressions(
     check_clocks(alloc, scope, items, clock)
 }
 
-/// Looks for sequences that reach themselves (Y8), where these are the entries of the named sequences.
+/// Looks for sequences that reach themselves (Y8), where these are the entries of the named
+/// sequences.
 pub(crate) fn check_cycles(
     alloc: Global,
     bodies: &[Draft],
@@ -125,10 +127,16 @@ pub(crate) fn check_cycles(
     requires bytes { length bytes.now ≡ length bodies.now }
     requires long { length table.now ≡ length bodies.now }
     requires entries { IsTable (map draft_of bodies.now) table.now }
-    requires cyclic { (p : ℕ) → p < length bodies.now → has_entry table.now p ≡ false → ReachesCycle (map draft_of bodies.now) p }
-    ensures entries { IfOk result (λ _. (p : ℕ) → p < length bodies.now → has_entry table.now p ≡ true) }
-    ensures ok { (s : Where) (items : Text) → AreOutlined s items (map draft_of bodies.now) bytes.now → ClearTo s items 5 → IfOk result (λ _. ClearTo s items 6) }
-    ensures err { (s : Where) (items : Text) → AreOutlined s items (map draft_of bodies.now) bytes.now → ClearTo s items 5 → IfErr result (IsTypeFault s items) }
+    requires cyclic { (p : ℕ) → p < length bodies.now → has_entry table.now p ≡ false
+        → ReachesCycle (map draft_of bodies.now) p }
+    ensures entries { IfOk result (λ _.
+        (p : ℕ) → p < length bodies.now → has_entry table.now p ≡ true) }
+    ensures ok { (s : Where) (items : Text)
+        → AreOutlined s items (map draft_of bodies.now) bytes.now → ClearTo s items 5
+        → IfOk result (λ _. ClearTo s items 6) }
+    ensures err { (s : Where) (items : Text)
+        → AreOutlined s items (map draft_of bodies.now) bytes.now → ClearTo s items 5
+        → IfErr result (IsTypeFault s items) }
 {
     if has_all(table) {
         return Ok(());
@@ -143,10 +151,14 @@ pub(crate) fn check_cycles(
 /// Looks for faults of antecedents and consequents, Y9, Y5 and Y6, in this order.
 pub(crate) fn check_sides(sides: &[Side], consequents: &[Side]) -> Result<(), TypeFault>
     ensures light { IfOk result (λ _. AreLight sides.now) }
-    ensures ok { (s : Where) (items : Text) → ClearTo s items 6 → AreWeighed (outlines_of s items) (sides_of s (assertions_of items)) sides.now
-        → AreWeighed (outlines_of s items) (consequents_of s (assertions_of items)) consequents.now → IfOk result (λ _. IsFaultless s items) }
-    ensures err { (s : Where) (items : Text) → ClearTo s items 6 → AreWeighed (outlines_of s items) (sides_of s (assertions_of items)) sides.now
-        → AreWeighed (outlines_of s items) (consequents_of s (assertions_of items)) consequents.now → IfErr result (IsTypeFault s items) }
+    ensures ok { (s : Where) (items : Text) → ClearTo s items 6
+        → AreWeighed (outlines_of s items) (sides_of s (assertions_of items)) sides.now
+        → AreWeighed (outlines_of s items) (consequents_of s (assertions_of items)) consequents.now
+        → IfOk result (λ _. IsFaultless s items) }
+    ensures err { (s : Where) (items : Text) → ClearTo s items 6
+        → AreWeighed (outlines_of s items) (sides_of s (assertions_of items)) sides.now
+        → AreWeighed (outlines_of s items) (consequents_of s (assertions_of items)) consequents.now
+        → IfErr result (IsTypeFault s items) }
 {
     if let Some(at) = first_wide(sides) {
         return Err(TypeFault::TooWide(at));

@@ -1,6 +1,7 @@
 //! From a text to its suite.
 
-ghost use Rattle.std.specs.Prelude.{◌≡◌, ◌<◌, ℕ, [], true, map, length, Some, string_bytes, IfOk, IfErr, OnOk, IsTrue};
+ghost use Rattle.std.specs.Prelude.{◌≡◌, ◌<◌, ℕ, [], true, map, length, Some, string_bytes, IfOk};
+ghost use Rattle.std.specs.Prelude.{IfErr, OnOk, IsTrue};
 ghost use Rattle.grammar.specs.Trees.{Tree};
 ghost use Rattle.parser.specs.Views.{item_of, items_of};
 ghost use Rattle.types_sequences.specs.Entries.{has_entry};
@@ -12,7 +13,8 @@ ghost use Rattle.types_expressions.specs.Views.{scope_of, columns_in, names_in};
 ghost use Rattle.types_sequences.specs.Placed.{Extends};
 ghost use Rattle.types_suites.specs.Texts.{declarations_of, assertions_of, clock_of};
 ghost use Rattle.types_suites.specs.Readings.{Where, outlines_of};
-ghost use Rattle.types.specs.Faults.{Text, sides_of, consequents_of, ClearTo, IsFaultless, IsTypeFault};
+ghost use Rattle.types.specs.Faults.{Text, sides_of, consequents_of, ClearTo, IsFaultless};
+ghost use Rattle.types.specs.Faults.{IsTypeFault};
 ghost use Rattle.types.specs.Sides.{AreWeighed, AreLight};
 ghost use Rattle.types_suites.specs.Suites.{IsSuite};
 ghost use Rattle.types.specs.Sides.{sides_in, consequents_in};
@@ -31,7 +33,8 @@ use types_suites::{
     Resolved, all_resolved, assertions_of, bodies_of, counters_of, name_bytes, signals_of,
 };
 
-/// The entries of the named sequences, by the places of their declarations, if none reaches itself (Y8).
+/// The entries of the named sequences, by the places of their declarations, if none reaches itself
+/// (Y8).
 fn entries_of(
     alloc: Global,
     scope: &Scope,
@@ -39,14 +42,20 @@ fn entries_of(
     items: &[ItemTree],
     booleans: &mut Vec<expressions::Expr>,
 ) -> Result<Vec<Option<Entry>>, TypeFault>
-    requires sound { (k : Sought) → file_faults (scope_of scope.now) k (map item_of items.now) ≡ [] }
-    requires listed { IsTrue (all_listed (columns_in columns.now) (file_signals (scope_of scope.now) (map item_of items.now))) }
-    requires declared { (t : Tree) (p : ℕ) → sequence_named (scope_of scope.now) t ≡ Some p → p < length (declarations_of (map item_of items.now)) }
+    requires sound { (k : Sought)
+        → file_faults (scope_of scope.now) k (map item_of items.now) ≡ [] }
+    requires listed { IsTrue (all_listed (columns_in columns.now)
+        (file_signals (scope_of scope.now) (map item_of items.now))) }
+    requires declared { (t : Tree) (p : ℕ) → sequence_named (scope_of scope.now) t ≡ Some p
+        → p < length (declarations_of (map item_of items.now)) }
     requires clear { ClearTo (scope_of scope.now) (map item_of items.now) 5 }
     ensures grows { OnOk result (Extends booleans.old.items booleans.new.items) }
-    ensures long { IfOk result (λ table. length table.items ≡ length (declarations_of (map item_of items.now))) }
-    ensures entries { IfOk result (λ table. (p : ℕ) → p < length table.items → has_entry table.items p ≡ true) }
-    ensures bodies { IfOk result (λ table. HasBodies (scope_of scope.now) (columns_in columns.now) booleans.new.items (map item_of items.now) table.items) }
+    ensures long { IfOk result
+        (λ table. length table.items ≡ length (declarations_of (map item_of items.now))) }
+    ensures entries { IfOk result (λ table.
+        (p : ℕ) → p < length table.items → has_entry table.items p ≡ true) }
+    ensures bodies { IfOk result (λ table. HasBodies (scope_of scope.now)
+        (columns_in columns.now) booleans.new.items (map item_of items.now) table.items) }
     ensures clear { IfOk result (λ _. ClearTo (scope_of scope.now) (map item_of items.now) 6) }
     ensures refused { IfErr result (IsTypeFault (scope_of scope.now) (map item_of items.now)) }
 {
@@ -60,10 +69,18 @@ fn entries_of(
 /// Looks for faults of the sides of these assertions, Y9, Y5 and Y6, in this order.
 fn check_resolved(alloc: Global, resolved: &[Resolved]) -> Result<(), TypeFault>
     ensures light { IfOk result (λ _. AreLight (sides_in resolved.now)) }
-    ensures ok { (s : Where) (items : Text) → ClearTo s items 6 → AreWeighed (outlines_of s items) (sides_of s (assertions_of items)) (sides_in resolved.now)
-        → AreWeighed (outlines_of s items) (consequents_of s (assertions_of items)) (consequents_in resolved.now) → IfOk result (λ _. IsFaultless s items) }
-    ensures err { (s : Where) (items : Text) → ClearTo s items 6 → AreWeighed (outlines_of s items) (sides_of s (assertions_of items)) (sides_in resolved.now)
-        → AreWeighed (outlines_of s items) (consequents_of s (assertions_of items)) (consequents_in resolved.now) → IfErr result (IsTypeFault s items) }
+    ensures ok { (s : Where) (items : Text) → ClearTo s items 6
+        → AreWeighed (outlines_of s items) (sides_of s (assertions_of items))
+        (sides_in resolved.now)
+        → AreWeighed (outlines_of s items) (consequents_of s (assertions_of items))
+        (consequents_in resolved.now)
+        → IfOk result (λ _. IsFaultless s items) }
+    ensures err { (s : Where) (items : Text) → ClearTo s items 6
+        → AreWeighed (outlines_of s items) (sides_of s (assertions_of items))
+        (sides_in resolved.now)
+        → AreWeighed (outlines_of s items) (consequents_of s (assertions_of items))
+        (consequents_in resolved.now)
+        → IfErr result (IsTypeFault s items) }
 {
     let sides = all_sides(alloc, resolved)?;
     let consequents = all_consequents(alloc, resolved)?;
@@ -78,9 +95,11 @@ fn suite_of(
     clock: String,
 ) -> Result<Suite, TypeFault>
     requires clock { string_bytes clock ≡ clock_of (assertions_of (map item_of items.now)) }
-    requires declared { (t : Tree) (p : ℕ) → sequence_named (scope_of scope.now) t ≡ Some p → p < length (declarations_of (map item_of items.now)) }
+    requires declared { (t : Tree) (p : ℕ) → sequence_named (scope_of scope.now) t ≡ Some p
+        → p < length (declarations_of (map item_of items.now)) }
     requires clear { ClearTo (scope_of scope.now) (map item_of items.now) 5 }
-    ensures faultless { IfOk result (λ _. IsFaultless (scope_of scope.now) (map item_of items.now)) }
+    ensures faultless { IfOk result
+        (λ _. IsFaultless (scope_of scope.now) (map item_of items.now)) }
     ensures suite { IfOk result (IsSuite (scope_of scope.now) (map item_of items.now)) }
     ensures refused { IfErr result (IsTypeFault (scope_of scope.now) (map item_of items.now)) }
 {
@@ -105,23 +124,27 @@ fn suite_of(
     })
 }
 
-/// The suite that a text spells over the paths of a dump: its clock, the signals that it reads, its counters, its typed expressions and
-/// its assertions, with named sequences written out.
+/// The suite that a text spells over the paths of a dump: its clock, the signals that it reads, its
+/// counters, its typed expressions and its assertions, with named sequences written out.
 ///
-/// The clock's path is not looked up among the dump's. A text's own names come before the dump's paths. The cost is about linear in the
-/// text, but for names of sequences that are declared in an adversarial order.
+/// The clock's path is not looked up among the dump's. A text's own names come before the dump's
+/// paths. The cost is about linear in the text, but for names of sequences that are declared in an
+/// adversarial order.
 ///
 /// # Errors
 ///
-/// The first of the faults Y1, Y2, Y3, Y4, Y7, Y8, Y9, Y5, Y6 that stands in the text, and of these the one at the lowest byte; and
-/// want of memory. Named sequences and counters that nothing uses are looked at too, but for Y9, Y5 and Y6, which are of
-/// antecedents and consequents.
+/// The first of the faults Y1, Y2, Y3, Y4, Y7, Y8, Y9, Y5, Y6 that stands in the text, and of these
+/// the one at the lowest byte; and want of memory. Named sequences and counters that nothing uses
+/// are looked at too, but for Y9, Y5 and Y6, which are of antecedents and consequents.
 ///
 /// IEEE 1800-2017, clauses 11.6 to 11.8, 16.6 to 16.9, 16.12.7, 16.12.22.
 pub fn check(alloc: Global, file: &File, names: &Names) -> Result<Suite, TypeFault>
-    ensures faultless { IfOk result (λ _. IsFaultless (scope_for (items_of file.now) (names_in names.now)) (items_of file.now)) }
-    ensures suite { IfOk result (IsSuite (scope_for (items_of file.now) (names_in names.now)) (items_of file.now)) }
-    ensures refused { IfErr result (IsTypeFault (scope_for (items_of file.now) (names_in names.now)) (items_of file.now)) }
+    ensures faultless { IfOk result (λ _.
+        IsFaultless (scope_for (items_of file.now) (names_in names.now)) (items_of file.now)) }
+    ensures suite { IfOk result
+        (IsSuite (scope_for (items_of file.now) (names_in names.now)) (items_of file.now)) }
+    ensures refused { IfErr result
+        (IsTypeFault (scope_for (items_of file.now) (names_in names.now)) (items_of file.now)) }
 {
     let items = file.items.as_slice();
     let scope = Scope::of(alloc, names, items)?;

@@ -8,4 +8,6 @@ use Rattle.types_laws.specs.Same.{SaySame}
 
 -- A text says one suite over a scope: any two that it may be said to say, say the same.
 abbrev pub SuitesAreOne : Type 0
-SuitesAreOne = (s : Scope) (items : List ItemForm) (one other : Suite) → IsSuite s items one → IsSuite s items other → SaySame one other
+SuitesAreOne =
+    (s : Scope) (items : List ItemForm) (one other : Suite) → IsSuite s items one
+    → IsSuite s items other → SaySame one other

@@ -9,9 +9,9 @@
 //! types_laws::suites_law();
 //! ```
 //!
-//! The definitions: what a text says in `types/specs/Suites.antt`, what it is to say the same in
-//! `specs/Same.antt`, the theorem in `specs/Laws.antt`. `proofs/Moved*.antt` carry what tokens
-//! spell from where they lie in memory to any other place.
+//! The definitions: what a text says in `types_suites/specs/Suites.antt`, what it is to say the
+//! same in `specs/Same.antt`, the theorem in `specs/Laws.antt`. `proofs/Moved*.antt` carry what
+//! tokens spell from where they lie in memory to any other place.
 //!
 //! Not promised: that equal suites are equal trees.
 #![tactic(auto)]
