@@ -69,6 +69,7 @@ bench: svamon oracle_bytecode oracle_verifier oracle_machine
 	bench/judge
 	bench/check
 	bench/turns
+	bench/rules
 	bench/machine
 	bench/core
 
