@@ -34,7 +34,8 @@ demo:
 try:
 	@test -n '$(VCD)' -a -n '$(SVA)' || { echo 'make try VCD=dump.vcd SVA=assertions.sva'; exit 2; }
 	@echo '$(UNPROVED)'
-	@cd crates/svamon && rt try --data "dump.vcd=$$(realpath '$(VCD)')" --data "text.sva=$$(realpath '$(SVA)')" -- check --vcd dump.vcd --sva text.sva
+	@dump=$$(realpath '$(VCD)') && text=$$(realpath '$(SVA)') && cd crates/svamon && \
+		rt try --data "dump.vcd=$$dump" --data "text.sva=$$text" -- check --vcd dump.vcd --sva text.sva
 
 test:
 	@scripts/gate
