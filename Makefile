@@ -5,7 +5,7 @@ CASES ?= 1000
 MUTANTS ?= 100000
 PROGRAMS ?= 10000
 SEED ?= 1
-EXAMPLES := $(wildcard crates/demo/data/*/dump.vcd crates/demo/data/*/assertion.sva crates/demo/data/*/ports.txt)
+EXAMPLES := $(wildcard crates/demo/data/*/*)
 UNPROVED := Builds svamon without proof, with run-time checks: what you see is unproved and slow. make install proves and installs it.
 
 BYTECODE := crates/oracle_bytecode/out/oracle_bytecode

@@ -5,7 +5,7 @@ import re
 import subprocess
 
 ROOT = os.path.dirname(os.path.dirname(os.path.realpath(__file__)))
-TEXT = """Each edit of this folder was tried, and the prover refused it: `make edits NAME={name}` wrote this.
+TEXT = """Each edit of this folder was tried, and the prover refused it{where}: {who} wrote this.
 docs/PROOFS.md says what the two lines say, and what they don't.
 
 tree: {tree}
@@ -53,8 +53,8 @@ def is_tried(crate, kit_line):
     return said == {"tree": tree_of(crate), "rt": kit_line}
 
 
-def write_stamp(crate, tree, kit_line):
-    """Writes that the edits of this text of the crate were refused by this toolchain."""
-    name = os.path.basename(crate)
+def write_stamp(crate, tree, kit_line, where="", who=None):
+    """Writes that the edits of this text of the crate were refused by this toolchain, where, and who says it."""
+    who = who or f"`make edits NAME={os.path.basename(crate)}`"
     with open(f"{crate}/must-fail/TRIED.md", "w") as it:
-        it.write(TEXT.format(name=name, tree=tree, kit=kit_line))
+        it.write(TEXT.format(where=where, who=who, tree=tree, kit=kit_line))
