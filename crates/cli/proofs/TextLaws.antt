@@ -183,10 +183,10 @@ named_all vs items [] (x ∷ xs) h = elim h [ ]
 named_all vs items (p ∷ ps) [] h = elim h [ ]
 named_all vs items (p ∷ ps) (x ∷ xs) h =
     let at : width_named vs (string_bytes x.path) ≡ Some x.width =
-    ap (width_named vs) h.0 ∙ h.1 in (
+    ap (width_named vs) h.0.0 ∙ h.0.1 in (
       text_named (is_utf8 (string_bytes x.path))
           (option_map (size_of vs) (variable_named vs (string_bytes x.path))) x.width at,
-      named_all vs items ps xs h.2,
+      named_all vs items ps xs h.1,
     )
 
 pub are_named : (c : Contents) (vs : List Declared) (items : List ItemForm) (suite : Suite)

@@ -65,7 +65,7 @@ signal_paths s [] [] h g = tt
 signal_paths s [] (x ∷ xs) h g = elim g [ ]
 signal_paths s (c ∷ cs) [] h g = elim g [ ]
 signal_paths s (c ∷ cs) (x ∷ xs) h g =
-    (subst IsPathText (sym g.0) h.0, signal_paths s cs xs h.1 g.2)
+    (subst IsPathText (sym g.0.0) h.0, signal_paths s cs xs h.1 g.1)
 
 clock_path : (items : List ItemForm) → HasAssertion items →
     AllByRecursion IsSpoken (assertions_of items) → IsPathText (clock_of (assertions_of items))

@@ -48,9 +48,9 @@ signal_at : (s : Scope) (cs : List (List ℕ)) (xs : List Signal) (place : ℕ) 
     AreSignals s cs xs → ColumnSignal s (get_or cs place []) xs place
 signal_at s [] xs place lt h = absurd (omega (arith, lt))
 signal_at s (c ∷ cs) [] place lt h = elim h [ ]
-signal_at s (c ∷ cs) (x ∷ xs) zero lt h = record { signal = x; found = refl; wide = h.1 }
+signal_at s (c ∷ cs) (x ∷ xs) zero lt h = record { signal = x; found = refl; wide = h.0.1 }
 signal_at s (c ∷ cs) (x ∷ xs) (suc i) lt h =
-    let r = signal_at s cs xs i (omega (arith, lt)) h.2 in
+    let r = signal_at s cs xs i (omega (arith, lt)) h.1 in
     record { signal = r.signal; found = r.found; wide = r.wide }
 
 column_signal : (s : Scope) (cs : List (List ℕ)) (xs : List Signal) (p : List ℕ) (place : ℕ) →

@@ -21,7 +21,7 @@ use Rattle.types_suites.specs.Texts.{declarations_of}
 use Rattle.types_suites.specs.Readings.{outlines_of}
 use Rattle.types.specs.Faults.{CycleAt, ClearTo, FaultStands, IsFirst, rank, byte_of}
 use Rattle.types.specs.Cycles.{IsLowest, AreOutlined}
-use Rattle.types.proofs.StageLaws.{clear_next, first_at, of_6}
+use Rattle.types.proofs.StageLaws.{clear_next, first_at, of_rank}
 
 entry_there : (o : Option (Option Entry)) → is_entry o ≡ true → (e : Entry) × (o ≡ Some (Some e))
 entry_there None h = absurd (false≢true h)
@@ -59,7 +59,7 @@ module _ (s : Scope) (items : List ItemForm) (bodies : List (Draft Boolean)) (by
   pub clear_6 : ((p : ℕ) → p < length bodies → IsCyclic bodies p → ⊥) → ClearTo s items 5 → ClearTo s items 6
   clear_6 none clear =
       clear_next s items 5 clear (λ fault r h.
-      let c = of_6 s items fault r h in
+      let c : CycleAt s items (byte_of fault) = of_rank s items 6 fault r h in
       let d = outlined c.place c.cyclic in
       none c.place (declared_by_reach bodies d.0 c.place c.place d.1) d)
 
@@ -76,7 +76,7 @@ module _ (s : Scope) (items : List ItemForm) (bodies : List (Draft Boolean)) (by
 
   above_lowest : (at : ℕ) → IsLowest bodies bytes (length bodies) at → (other : TypeFault) → rank other ≡ 6 → FaultStands s items other → at ≤ byte_of other
   above_lowest at low other r h =
-      let c = of_6 s items other r h in
+      let c : CycleAt s items (byte_of other) = of_rank s items 6 other r h in
       let d = outlined c.place c.cyclic in
       let under = low.lowest c.place (declared_by_reach bodies d.0 c.place c.place d.1) d in
       omega (arith, under, byte_at c.place c.declared c.found, c.byte)

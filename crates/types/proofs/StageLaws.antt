@@ -1,5 +1,5 @@
 -- Faults are looked for by their kinds, in order.
-use Rattle.std.proofs.Common.{◌≡◌, inl, inr, ℕ, ◌+◌, ◌≤◌, min, List, [], ◌∷◌, Option, Some, None, Result, Ok, Err, IfErr, refl, sym, subst, ◌∙◌, arith}
+use Rattle.std.proofs.Common.{◌≡◌, inl, inr, ℕ, ◌+◌, ◌≤◌, min, List, [], ◌∷◌, get_or, Option, Some, None, Result, Ok, Err, IfErr, refl, sym, subst, ◌∙◌, arith}
 use Rattle.std.specs.Result.{IsErrAnd}
 use Rattle.std.proofs.lemmas.Option.{none-some}
 use Rattle.std.proofs.lemmas.Bool.{cases_eq, cases_lt}
@@ -71,113 +71,33 @@ clear_start s items (CyclicSequence at) h = omega arith
 clear_start s items (TooWide at) h = omega arith
 clear_start s items Memory h = elim h [ ]
 
-pub of_1 : (s : Scope) (items : List ItemForm) (fault : TypeFault) → rank fault ≡ 1 → FaultStands s items fault → IsIn (byte_of fault) (file_faults s Unknown items)
-of_1 s items (UnknownName at) r h = h
-of_1 s items (Duplicate at) r h = absurd (omega (arith, r))
-of_1 s items (WiderThan128 at) r h = absurd (omega (arith, r))
-of_1 s items (SliceRange at) r h = absurd (omega (arith, r))
-of_1 s items (Degenerate at) r h = absurd (omega (arith, r))
-of_1 s items (Empty at) r h = absurd (omega (arith, r))
-of_1 s items (OtherClock at) r h = absurd (omega (arith, r))
-of_1 s items (CyclicSequence at) r h = absurd (omega (arith, r))
-of_1 s items (TooWide at) r h = absurd (omega (arith, r))
-of_1 s items Memory r h = elim h [ ]
+-- the faults at a byte, each at the place of its rank
+abbrev pub faults_at : ℕ → List TypeFault
+faults_at at =
+    Memory ∷ UnknownName at ∷ Duplicate at ∷ WiderThan128 at ∷ SliceRange at ∷ OtherClock at
+    ∷ CyclicSequence at ∷ TooWide at ∷ Degenerate at ∷ Empty at ∷ []
 
-pub of_2 : (s : Scope) (items : List ItemForm) (fault : TypeFault) → rank fault ≡ 2 → FaultStands s items fault → IsIn (byte_of fault) (duplicates items)
-of_2 s items (UnknownName at) r h = absurd (omega (arith, r))
-of_2 s items (Duplicate at) r h = h
-of_2 s items (WiderThan128 at) r h = absurd (omega (arith, r))
-of_2 s items (SliceRange at) r h = absurd (omega (arith, r))
-of_2 s items (Degenerate at) r h = absurd (omega (arith, r))
-of_2 s items (Empty at) r h = absurd (omega (arith, r))
-of_2 s items (OtherClock at) r h = absurd (omega (arith, r))
-of_2 s items (CyclicSequence at) r h = absurd (omega (arith, r))
-of_2 s items (TooWide at) r h = absurd (omega (arith, r))
-of_2 s items Memory r h = elim h [ ]
+abbrev pub ranked : ℕ → ℕ → TypeFault
+ranked n at = get_or (faults_at at) n Memory
 
-pub of_3 : (s : Scope) (items : List ItemForm) (fault : TypeFault) → rank fault ≡ 3 → FaultStands s items fault → IsIn (byte_of fault) (file_faults s Wide items)
-of_3 s items (UnknownName at) r h = absurd (omega (arith, r))
-of_3 s items (Duplicate at) r h = absurd (omega (arith, r))
-of_3 s items (WiderThan128 at) r h = h
-of_3 s items (SliceRange at) r h = absurd (omega (arith, r))
-of_3 s items (Degenerate at) r h = absurd (omega (arith, r))
-of_3 s items (Empty at) r h = absurd (omega (arith, r))
-of_3 s items (OtherClock at) r h = absurd (omega (arith, r))
-of_3 s items (CyclicSequence at) r h = absurd (omega (arith, r))
-of_3 s items (TooWide at) r h = absurd (omega (arith, r))
-of_3 s items Memory r h = elim h [ ]
+is_ranked : (fault : TypeFault) → ranked (rank fault) (byte_of fault) ≡ fault
+is_ranked (UnknownName at) = refl
+is_ranked (Duplicate at) = refl
+is_ranked (WiderThan128 at) = refl
+is_ranked (SliceRange at) = refl
+is_ranked (OtherClock at) = refl
+is_ranked (CyclicSequence at) = refl
+is_ranked (TooWide at) = refl
+is_ranked (Degenerate at) = refl
+is_ranked (Empty at) = refl
+is_ranked Memory = refl
 
-pub of_4 : (s : Scope) (items : List ItemForm) (fault : TypeFault) → rank fault ≡ 4 → FaultStands s items fault → IsIn (byte_of fault) (file_faults s OutOfRange items)
-of_4 s items (UnknownName at) r h = absurd (omega (arith, r))
-of_4 s items (Duplicate at) r h = absurd (omega (arith, r))
-of_4 s items (WiderThan128 at) r h = absurd (omega (arith, r))
-of_4 s items (SliceRange at) r h = h
-of_4 s items (Degenerate at) r h = absurd (omega (arith, r))
-of_4 s items (Empty at) r h = absurd (omega (arith, r))
-of_4 s items (OtherClock at) r h = absurd (omega (arith, r))
-of_4 s items (CyclicSequence at) r h = absurd (omega (arith, r))
-of_4 s items (TooWide at) r h = absurd (omega (arith, r))
-of_4 s items Memory r h = elim h [ ]
-
-pub of_8 : (s : Scope) (items : List ItemForm) (fault : TypeFault) → rank fault ≡ 8 → FaultStands s items fault → DegenerateAt s items (byte_of fault)
-of_8 s items (UnknownName at) r h = absurd (omega (arith, r))
-of_8 s items (Duplicate at) r h = absurd (omega (arith, r))
-of_8 s items (WiderThan128 at) r h = absurd (omega (arith, r))
-of_8 s items (SliceRange at) r h = absurd (omega (arith, r))
-of_8 s items (Degenerate at) r h = h
-of_8 s items (Empty at) r h = absurd (omega (arith, r))
-of_8 s items (OtherClock at) r h = absurd (omega (arith, r))
-of_8 s items (CyclicSequence at) r h = absurd (omega (arith, r))
-of_8 s items (TooWide at) r h = absurd (omega (arith, r))
-of_8 s items Memory r h = elim h [ ]
-
-pub of_9 : (s : Scope) (items : List ItemForm) (fault : TypeFault) → rank fault ≡ 9 → FaultStands s items fault → EmptyAt s items (byte_of fault)
-of_9 s items (UnknownName at) r h = absurd (omega (arith, r))
-of_9 s items (Duplicate at) r h = absurd (omega (arith, r))
-of_9 s items (WiderThan128 at) r h = absurd (omega (arith, r))
-of_9 s items (SliceRange at) r h = absurd (omega (arith, r))
-of_9 s items (Degenerate at) r h = absurd (omega (arith, r))
-of_9 s items (Empty at) r h = h
-of_9 s items (OtherClock at) r h = absurd (omega (arith, r))
-of_9 s items (CyclicSequence at) r h = absurd (omega (arith, r))
-of_9 s items (TooWide at) r h = absurd (omega (arith, r))
-of_9 s items Memory r h = elim h [ ]
-
-pub of_5 : (s : Scope) (items : List ItemForm) (fault : TypeFault) → rank fault ≡ 5 → FaultStands s items fault → IsIn (byte_of fault) (other_clocks (assertions_of items))
-of_5 s items (UnknownName at) r h = absurd (omega (arith, r))
-of_5 s items (Duplicate at) r h = absurd (omega (arith, r))
-of_5 s items (WiderThan128 at) r h = absurd (omega (arith, r))
-of_5 s items (SliceRange at) r h = absurd (omega (arith, r))
-of_5 s items (Degenerate at) r h = absurd (omega (arith, r))
-of_5 s items (Empty at) r h = absurd (omega (arith, r))
-of_5 s items (OtherClock at) r h = h
-of_5 s items (CyclicSequence at) r h = absurd (omega (arith, r))
-of_5 s items (TooWide at) r h = absurd (omega (arith, r))
-of_5 s items Memory r h = elim h [ ]
-
-pub of_6 : (s : Scope) (items : List ItemForm) (fault : TypeFault) → rank fault ≡ 6 → FaultStands s items fault → CycleAt s items (byte_of fault)
-of_6 s items (UnknownName at) r h = absurd (omega (arith, r))
-of_6 s items (Duplicate at) r h = absurd (omega (arith, r))
-of_6 s items (WiderThan128 at) r h = absurd (omega (arith, r))
-of_6 s items (SliceRange at) r h = absurd (omega (arith, r))
-of_6 s items (Degenerate at) r h = absurd (omega (arith, r))
-of_6 s items (Empty at) r h = absurd (omega (arith, r))
-of_6 s items (OtherClock at) r h = absurd (omega (arith, r))
-of_6 s items (CyclicSequence at) r h = h
-of_6 s items (TooWide at) r h = absurd (omega (arith, r))
-of_6 s items Memory r h = elim h [ ]
-
-pub of_7 : (s : Scope) (items : List ItemForm) (fault : TypeFault) → rank fault ≡ 7 → FaultStands s items fault → WideAt s items (byte_of fault)
-of_7 s items (UnknownName at) r h = absurd (omega (arith, r))
-of_7 s items (Duplicate at) r h = absurd (omega (arith, r))
-of_7 s items (WiderThan128 at) r h = absurd (omega (arith, r))
-of_7 s items (SliceRange at) r h = absurd (omega (arith, r))
-of_7 s items (Degenerate at) r h = absurd (omega (arith, r))
-of_7 s items (Empty at) r h = absurd (omega (arith, r))
-of_7 s items (OtherClock at) r h = absurd (omega (arith, r))
-of_7 s items (CyclicSequence at) r h = absurd (omega (arith, r))
-of_7 s items (TooWide at) r h = h
-of_7 s items Memory r h = elim h [ ]
+-- a fault that stands is the one of its rank
+pub of_rank : (s : Scope) (items : List ItemForm) (n : ℕ) (fault : TypeFault) → rank fault ≡ n
+    → FaultStands s items fault → FaultStands s items (ranked n (byte_of fault))
+of_rank s items n fault r h =
+    subst (λ (m : ℕ). FaultStands s items (ranked m (byte_of fault))) r
+    (subst (λ (f : TypeFault). FaultStands s items f) (sym (is_ranked fault)) h)
 
 pub clear_next : (s : Scope) (items : List ItemForm) (n : ℕ) → ClearTo s items n → ((fault : TypeFault) → rank fault ≡ n + 1 → FaultStands s items fault → ⊥) → ClearTo s items (n + 1)
 clear_next s items n clear none fault h =
@@ -198,45 +118,77 @@ first_at s items n fault clear r h low =
           ];
     }
 
-pub clear_1 : (s : Scope) (items : List ItemForm) → ClearTo s items 0 → least (file_faults s Unknown items) ≡ None → ClearTo s items 1
-clear_1 s items clear e = clear_next s items 0 clear (λ fault r h. nowhere (file_faults s Unknown items) e (byte_of fault) (of_1 s items fault r h))
+-- Faults of one rank that stand at the places of a list: where it has no least place there is none,
+-- and where it has one the fault there is the first.
+abbrev pub IsListed : Scope → List ItemForm → ℕ → List ℕ → Type 0
+IsListed s items n places =
+    (fault : TypeFault) → rank fault ≡ n → FaultStands s items fault → IsIn (byte_of fault) places
 
-pub first_1 : (s : Scope) (items : List ItemForm) (at : ℕ) → ClearTo s items 0 → least (file_faults s Unknown items) ≡ Some at → IsFirst s items (UnknownName at)
-first_1 s items at clear e =
-    let l = least_stands (file_faults s Unknown items) at e in
-    first_at s items 0 (UnknownName at) clear (omega arith) l.stands (λ other r h. l.lowest (byte_of other) (of_1 s items other r h))
+clear_by : (s : Scope) (items : List ItemForm) (n : ℕ) (places : List ℕ)
+    → IsListed s items (n + 1) places → ClearTo s items n → least places ≡ None
+    → ClearTo s items (n + 1)
+clear_by s items n places listed clear e =
+    clear_next s items n clear
+    (λ fault r h. nowhere places e (byte_of fault) (listed fault r h))
 
-pub clear_2 : (s : Scope) (items : List ItemForm) → ClearTo s items 1 → least (duplicates items) ≡ None → ClearTo s items 2
-clear_2 s items clear e = clear_next s items 1 clear (λ fault r h. nowhere (duplicates items) e (byte_of fault) (of_2 s items fault r h))
+first_by : (s : Scope) (items : List ItemForm) (n : ℕ) (places : List ℕ) (fault : TypeFault)
+    → IsListed s items (n + 1) places → rank fault ≡ n + 1
+    → (IsIn (byte_of fault) places → FaultStands s items fault) → ClearTo s items n
+    → least places ≡ Some (byte_of fault) → IsFirst s items fault
+first_by s items n places fault listed r stands clear e =
+    let l = least_stands places (byte_of fault) e in
+    first_at s items n fault clear r (stands l.stands)
+    (λ other k h. l.lowest (byte_of other) (listed other k h))
 
-pub first_2 : (s : Scope) (items : List ItemForm) (at : ℕ) → ClearTo s items 1 → least (duplicates items) ≡ Some at → IsFirst s items (Duplicate at)
-first_2 s items at clear e =
-    let l = least_stands (duplicates items) at e in
-    first_at s items 1 (Duplicate at) clear (omega arith) l.stands (λ other r h. l.lowest (byte_of other) (of_2 s items other r h))
+pub clear_1 : (s : Scope) (items : List ItemForm) → ClearTo s items 0
+    → least (file_faults s Unknown items) ≡ None → ClearTo s items 1
+clear_1 s items = clear_by s items 0 (file_faults s Unknown items) (of_rank s items 1)
 
-pub clear_3 : (s : Scope) (items : List ItemForm) → ClearTo s items 2 → least (file_faults s Wide items) ≡ None → ClearTo s items 3
-clear_3 s items clear e = clear_next s items 2 clear (λ fault r h. nowhere (file_faults s Wide items) e (byte_of fault) (of_3 s items fault r h))
+pub first_1 : (s : Scope) (items : List ItemForm) (at : ℕ) → ClearTo s items 0
+    → least (file_faults s Unknown items) ≡ Some at → IsFirst s items (UnknownName at)
+first_1 s items at =
+    first_by s items 0 (file_faults s Unknown items) (UnknownName at) (of_rank s items 1) (omega arith)
+    (λ h. h)
 
-pub first_3 : (s : Scope) (items : List ItemForm) (at : ℕ) → ClearTo s items 2 → least (file_faults s Wide items) ≡ Some at → IsFirst s items (WiderThan128 at)
-first_3 s items at clear e =
-    let l = least_stands (file_faults s Wide items) at e in
-    first_at s items 2 (WiderThan128 at) clear (omega arith) l.stands (λ other r h. l.lowest (byte_of other) (of_3 s items other r h))
+pub clear_2 : (s : Scope) (items : List ItemForm) → ClearTo s items 1
+    → least (duplicates items) ≡ None → ClearTo s items 2
+clear_2 s items = clear_by s items 1 (duplicates items) (of_rank s items 2)
 
-pub clear_4 : (s : Scope) (items : List ItemForm) → ClearTo s items 3 → least (file_faults s OutOfRange items) ≡ None → ClearTo s items 4
-clear_4 s items clear e = clear_next s items 3 clear (λ fault r h. nowhere (file_faults s OutOfRange items) e (byte_of fault) (of_4 s items fault r h))
+pub first_2 : (s : Scope) (items : List ItemForm) (at : ℕ) → ClearTo s items 1
+    → least (duplicates items) ≡ Some at → IsFirst s items (Duplicate at)
+first_2 s items at =
+    first_by s items 1 (duplicates items) (Duplicate at) (of_rank s items 2) (omega arith)
+    (λ h. h)
 
-pub first_4 : (s : Scope) (items : List ItemForm) (at : ℕ) → ClearTo s items 3 → least (file_faults s OutOfRange items) ≡ Some at → IsFirst s items (SliceRange at)
-first_4 s items at clear e =
-    let l = least_stands (file_faults s OutOfRange items) at e in
-    first_at s items 3 (SliceRange at) clear (omega arith) l.stands (λ other r h. l.lowest (byte_of other) (of_4 s items other r h))
+pub clear_3 : (s : Scope) (items : List ItemForm) → ClearTo s items 2
+    → least (file_faults s Wide items) ≡ None → ClearTo s items 3
+clear_3 s items = clear_by s items 2 (file_faults s Wide items) (of_rank s items 3)
 
-pub clear_5 : (s : Scope) (items : List ItemForm) → ClearTo s items 4 → least (other_clocks (assertions_of items)) ≡ None → ClearTo s items 5
-clear_5 s items clear e = clear_next s items 4 clear (λ fault r h. nowhere (other_clocks (assertions_of items)) e (byte_of fault) (of_5 s items fault r h))
+pub first_3 : (s : Scope) (items : List ItemForm) (at : ℕ) → ClearTo s items 2
+    → least (file_faults s Wide items) ≡ Some at → IsFirst s items (WiderThan128 at)
+first_3 s items at =
+    first_by s items 2 (file_faults s Wide items) (WiderThan128 at) (of_rank s items 3) (omega arith)
+    (λ h. h)
 
-pub first_5 : (s : Scope) (items : List ItemForm) (at : ℕ) → ClearTo s items 4 → least (other_clocks (assertions_of items)) ≡ Some at → IsFirst s items (OtherClock at)
-first_5 s items at clear e =
-    let l = least_stands (other_clocks (assertions_of items)) at e in
-    first_at s items 4 (OtherClock at) clear (omega arith) l.stands (λ other r h. l.lowest (byte_of other) (of_5 s items other r h))
+pub clear_4 : (s : Scope) (items : List ItemForm) → ClearTo s items 3
+    → least (file_faults s OutOfRange items) ≡ None → ClearTo s items 4
+clear_4 s items = clear_by s items 3 (file_faults s OutOfRange items) (of_rank s items 4)
+
+pub first_4 : (s : Scope) (items : List ItemForm) (at : ℕ) → ClearTo s items 3
+    → least (file_faults s OutOfRange items) ≡ Some at → IsFirst s items (SliceRange at)
+first_4 s items at =
+    first_by s items 3 (file_faults s OutOfRange items) (SliceRange at) (of_rank s items 4) (omega arith)
+    (λ h. h)
+
+pub clear_5 : (s : Scope) (items : List ItemForm) → ClearTo s items 4
+    → least (other_clocks (assertions_of items)) ≡ None → ClearTo s items 5
+clear_5 s items = clear_by s items 4 (other_clocks (assertions_of items)) (of_rank s items 5)
+
+pub first_5 : (s : Scope) (items : List ItemForm) (at : ℕ) → ClearTo s items 4
+    → least (other_clocks (assertions_of items)) ≡ Some at → IsFirst s items (OtherClock at)
+first_5 s items at =
+    first_by s items 4 (other_clocks (assertions_of items)) (OtherClock at) (of_rank s items 5) (omega arith)
+    (λ h. h)
 
 pub ruleset for_stages = (clear_start, clear_1, clear_2, clear_3, clear_4, clear_5, first_1, first_2, first_3, first_4, first_5)
 

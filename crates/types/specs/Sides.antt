@@ -1,6 +1,7 @@
 -- What is known of the sides of assertions.
 use Rattle.std.specs.Prelude.{◌≡◌, ℕ, ◌≤◌, min, List, [], ◌∷◌, ◌++◌, Option, Some, None, Bool}
 use Rattle.std.specs.Prelude.{nat_lt, not, if◌then◌else◌}
+use Rattle.std.specs.List.{AllZip, AllByRecursion}
 use Rattle.assertions.specs.Written.{Written, weight, IsOrdered}
 use Rattle.assertions.specs.Emptiness.{admits_empty, takes_ticks}
 use Rattle.types_sequences.specs.declared.facts.Facts.{Facts}
@@ -23,15 +24,11 @@ pub record IsWeighed (bodies : List (Draft Dot)) (side : faults.Side) (seen : Si
 
 -- the same of several, in their order
 abbrev pub AreWeighed : List (Draft Dot) → List faults.Side → List Side → Type 0
-AreWeighed bodies [] [] = Unit {0}
-AreWeighed bodies [] (y ∷ ys) = ⊥
-AreWeighed bodies (x ∷ xs) [] = ⊥
-AreWeighed bodies (x ∷ xs) (y ∷ ys) = IsWeighed bodies x y × AreWeighed bodies xs ys
+AreWeighed bodies = AllZip (IsWeighed bodies)
 
 -- none weighs more than 127
 abbrev pub AreLight : List Side → Type 0
-AreLight [] = Unit {0}
-AreLight (y ∷ ys) = (y.facts.weight ≤ 127) × AreLight ys
+AreLight = AllByRecursion (λ y. y.facts.weight ≤ 127)
 
 -- the bytes of those that pass a test
 abbrev pub places_where : (Facts → Bool) → List Side → List ℕ

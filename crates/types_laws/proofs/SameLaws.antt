@@ -36,7 +36,7 @@ same_paths : (s : Scope) (ps : List (List ℕ)) (xs : List Signal) → AreSignal
 same_paths s [] [] h = refl
 same_paths s [] (x ∷ xs) h = elim h [ ]
 same_paths s (p ∷ ps) [] h = elim h [ ]
-same_paths s (p ∷ ps) (x ∷ xs) h = ap (λ (q : List ℕ). q ∷ map (λ (y : Signal). string_bytes y.path) xs) h.0 ∙ ap (λ (qs : List (List ℕ)). p ∷ qs) (same_paths s ps xs h.2)
+same_paths s (p ∷ ps) (x ∷ xs) h = ap (λ (q : List ℕ). q ∷ map (λ (y : Signal). string_bytes y.path) xs) h.0.0 ∙ ap (λ (qs : List (List ℕ)). p ∷ qs) (same_paths s ps xs h.1)
 
 same_widths : (s : Scope) (ps : List (List ℕ)) (xs ys : List Signal) → AreSignals s ps xs → AreSignals s ps ys → map (λ (x : Signal). x.width) xs ≡ map (λ (x : Signal). x.width) ys
 same_widths s [] [] [] h k = refl
@@ -45,7 +45,7 @@ same_widths s [] (x ∷ xs) ys h k = elim h [ ]
 same_widths s (p ∷ ps) [] ys h k = elim h [ ]
 same_widths s (p ∷ ps) (x ∷ xs) [] h k = elim k [ ]
 same_widths s (p ∷ ps) (x ∷ xs) (y ∷ ys) h k =
-    ap (λ (w : ℕ). w ∷ map (λ (z : Signal). z.width) xs) (same_some x.width y.width (s.dump p) h.1 k.1) ∙ ap (λ (ws : List ℕ). y.width ∷ ws) (same_widths s ps xs ys h.2 k.2)
+    ap (λ (w : ℕ). w ∷ map (λ (z : Signal). z.width) xs) (same_some x.width y.width (s.dump p) h.0.1 k.0.1) ∙ ap (λ (ws : List ℕ). y.width ∷ ws) (same_widths s ps xs ys h.1 k.1)
 
 module _ (s : Scope) (cs : List (List ℕ)) (ones others : List Expr) where
   -- sides

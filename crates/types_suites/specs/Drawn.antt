@@ -7,6 +7,7 @@ use Rattle.assertions.specs.declared.sequence.Boolean.TheVariants.{Listed}
 use Rattle.types_sequences.specs.Views.{draft_of}
 use Rattle.types_expressions.specs.Scopes.{Scope}
 use Rattle.types_suites.specs.declared.drawn.Drawn.{Drawn}
+use Rattle.types_suites.specs.Options.{OptionZip}
 use Rattle.types_suites.specs.Readings.{IsAtom}
 use Rattle.types_suites.specs.Texts.{label_text, sequence_byte}
 use Rattle.types_suites.specs.Suites.{ReadsAntecedent, ReadsConsequent}
@@ -22,10 +23,7 @@ consequent_byte (implication a t c) = sequence_byte c
 
 -- the place of the disabling expression, if there is one
 abbrev pub IsDisabledBy : Scope → List (List ℕ) → List Expr → Option Tree → Option ℕ → Type 0
-IsDisabledBy s columns booleans None None = Unit {0}
-IsDisabledBy s columns booleans None (Some p) = ⊥
-IsDisabledBy s columns booleans (Some t) None = ⊥
-IsDisabledBy s columns booleans (Some t) (Some p) = IsAtom s columns booleans t (Listed p)
+IsDisabledBy s columns booleans = OptionZip (λ t p. IsAtom s columns booleans t (Listed p))
 
 -- The sides of an assertion, before which so many stand, as drafts.
 pub record IsDrawn (s : Scope) (columns : List (List ℕ)) (booleans : List Expr) (before : ℕ)

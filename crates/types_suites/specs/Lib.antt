@@ -1,3 +1,4 @@
+pub mod Options
 pub mod Readings
 pub mod Texts
 pub mod Suites

@@ -1,5 +1,6 @@
 -- Assertions that are made of what is resolved.
 use Rattle.std.specs.Prelude.{◌≡◌, ◌⊎◌, ℕ, ◌≤◌, List, [], ◌∷◌, length, Option, Some, None}
+use Rattle.std.specs.List.{AllByRecursion}
 use Rattle.grammar.specs.Trees as trees
 use Rattle.expressions.specs.declared.expr.Expr.{Expr}
 use Rattle.assertions.specs.declared.sequence.Boolean.{Boolean}
@@ -11,6 +12,7 @@ use Rattle.types_sequences.specs.Drafts.{Draft, IsIn}
 use Rattle.types_sequences.specs.Entries.{IsEntry}
 use Rattle.types_sequences.specs.Placed.{IsPlaced, IsPlacedBoolean, AllListed}
 use Rattle.types_suites.specs.declared.resolved.Resolved.{Resolved}
+use Rattle.types_suites.specs.Options.{OptionZip}
 
 -- the expressions of a suite, what a side says, with names and without, assertions of a text
 abbrev pub Expressions : Type 0
@@ -34,14 +36,13 @@ pub record IsFitting (e : Entry) : Type 0 where
   pub entry : IsEntry meant e
   pub light : e.facts.weight ≤ 127
 
--- Both sides fit, of each of these.
+-- Both sides fit.
 pub record SidesFit (m : Resolved) : Type 0 where
   pub antecedent : IsFitting m.antecedent
   pub consequent : IsFitting m.consequent
 
 abbrev pub AreFitting : List Resolved → Type 0
-AreFitting [] = Unit {0}
-AreFitting (m ∷ ms) = SidesFit m × AreFitting ms
+AreFitting = AllByRecursion SidesFit
 
 -- A side matches by an assertion's list of places what is meant by the places among the suite's.
 pub record IsSide (booleans : List Expr) (places : List ℕ) (meant made : Written Boolean) :
@@ -55,8 +56,6 @@ AreAt place before after = (p : ℕ) → IsIn p after → IsIn p before ⊎ (pla
 
 -- a boolean in an assertion's list, for one at a place of the suite's, if there is one
 abbrev pub IsPlacedAt : List Expr → List ℕ → Option ℕ → Option Boolean → Type 0
-IsPlacedAt booleans places None None = Unit {0}
-IsPlacedAt booleans places None (Some b) = ⊥
-IsPlacedAt booleans places (Some p) None = ⊥
-IsPlacedAt booleans places (Some p) (Some b) =
-    IsPlacedBoolean booleans places (Listed p) b × IsListedOption (length places) (Some b)
+IsPlacedAt booleans places =
+    OptionZip (λ p b. IsPlacedBoolean booleans places (Listed p) b
+    × IsListedOption (length places) (Some b))

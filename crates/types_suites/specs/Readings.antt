@@ -1,6 +1,7 @@
 -- What the sequences of a text say: by their outlines, and with their expressions' meanings (IEEE
 -- 1800-2017, 16.7 to 16.9).
 use Rattle.std.specs.Prelude.{◌≡◌, ℕ, ◌-◌, List, [], ◌∷◌, map, Option, Some, None, slice_get}
+use Rattle.std.specs.List.{AllZip}
 use Rattle.grammar.specs.declared.bound.Bound.{Bound}
 use Rattle.grammar.specs.declared.bound.Range.{Range}
 use Rattle.grammar.specs.Trees.{Tree, SequenceForm, boolean, repeated, late, delayed, throughout}
@@ -92,11 +93,7 @@ unfoldable mutual
 -- the same of several sequences, in their order
 abbrev pub AllRead : Scope → List (List ℕ) → List Expr → List SequenceForm → List (Draft Boolean)
     → Type 0
-AllRead s columns booleans [] [] = Unit {0}
-AllRead s columns booleans [] (d ∷ ds) = ⊥
-AllRead s columns booleans (q ∷ qs) [] = ⊥
-AllRead s columns booleans (q ∷ qs) (d ∷ ds) =
-    Reads s columns booleans q d × AllRead s columns booleans qs ds
+AllRead s columns booleans = AllZip (Reads s columns booleans)
 
 -- a dot where an expression stands
 pub data Dot : Type 0 where

@@ -1,6 +1,7 @@
 -- The suite of a text.
 use Rattle.std.specs.Prelude.{◌≡◌, ◌⊎◌, ℕ, ◌+◌, List, [], ◌∷◌, map, length, Option, Some, None}
 use Rattle.std.specs.Prelude.{string_bytes}
+use Rattle.std.specs.List.{AllZip}
 use Rattle.grammar.specs.Trees as trees
 use Rattle.grammar.specs.Trees.{Tree, SequenceForm, PropertyForm, plain, implication, ItemForm}
 use Rattle.expressions.specs.declared.expr.Expr.{Expr}
@@ -23,31 +24,25 @@ use Rattle.types_sequences.specs.Placed.{IsPlaced, IsPlacedBoolean, AllListed}
 use Rattle.types_expressions.specs.Scopes.{Scope, width_in}
 use Rattle.types_expressions.specs.Columns.{columns_of}
 use Rattle.types_expressions.specs.Meanings.{Means}
+use Rattle.types_suites.specs.Options.{OptionZip}
 use Rattle.types_suites.specs.Readings.{IsAtom, Reads, AllRead}
 use Rattle.types_suites.specs.Texts.{declarations_of, counters_of, assertions_of, clock_of}
 use Rattle.types_suites.specs.Texts.{label_text, implication_by}
 
--- Each signal that the text reads, with its width.
+-- A signal that the text reads at the path, with its width.
+abbrev pub IsSignal : Scope → List ℕ → Signal → Type 0
+IsSignal s path x = (string_bytes x.path ≡ path) × (s.dump path ≡ Some x.width)
+
 abbrev pub AreSignals : Scope → List (List ℕ) → List Signal → Type 0
-AreSignals s [] [] = Unit {0}
-AreSignals s [] (x ∷ xs) = ⊥
-AreSignals s (p ∷ ps) [] = ⊥
-AreSignals s (p ∷ ps) (x ∷ xs) =
-    (string_bytes x.path ≡ p) × (s.dump p ≡ Some x.width) × AreSignals s ps xs
+AreSignals s = AllZip (IsSignal s)
 
 -- A condition that may be left out, and a condition with a value.
 abbrev pub IsCondition : Scope → List (List ℕ) → Option Tree → Option Expr → Type 0
-IsCondition s columns None None = Unit {0}
-IsCondition s columns None (Some e) = ⊥
-IsCondition s columns (Some t) None = ⊥
-IsCondition s columns (Some t) (Some e) = Means s columns t (term_of e)
+IsCondition s columns = OptionZip (λ t e. Means s columns t (term_of e))
 
 abbrev pub IsRule : Scope → List (List ℕ) → Option (Tree × Tree) → Option Rule → Type 0
-IsRule s columns None None = Unit {0}
-IsRule s columns None (Some r) = ⊥
-IsRule s columns (Some p) None = ⊥
-IsRule s columns (Some p) (Some r) =
-    Means s columns p.0 (term_of r.when) × Means s columns p.1 (term_of r.by)
+IsRule s columns =
+    OptionZip (λ p r. Means s columns p.0 (term_of r.when) × Means s columns p.1 (term_of r.by))
 
 -- A counter of the text.
 pub record IsCounter (s : Scope) (columns : List (List ℕ)) (c : trees.CounterForm)
@@ -59,10 +54,7 @@ pub record IsCounter (s : Scope) (columns : List (List ℕ)) (c : trees.CounterF
   pub sub : IsRule s columns c.sub made.sub
 
 abbrev pub AreCounters : Scope → List (List ℕ) → List trees.CounterForm → List Counter → Type 0
-AreCounters s columns [] [] = Unit {0}
-AreCounters s columns [] (m ∷ ms) = ⊥
-AreCounters s columns (c ∷ cs) [] = ⊥
-AreCounters s columns (c ∷ cs) (m ∷ ms) = IsCounter s columns c m × AreCounters s columns cs ms
+AreCounters s columns = AllZip (IsCounter s columns)
 
 -- What a property says: its antecedent, that of a plain sequence being 1, and that of |=> the one
 -- of |-> (16.12.7), and its consequent.
@@ -89,14 +81,15 @@ pub record IsMeant (bodies : List (Draft Boolean)) (booleans : List Expr) (place
   pub placed : IsPlaced booleans places meant made
   pub listed : AllListed places made
 
-abbrev pub IsDisabling : Scope → List (List ℕ) → List Expr → List ℕ → Option Tree → Option Boolean
-    → Type 0
-IsDisabling s columns booleans places None None = Unit {0}
-IsDisabling s columns booleans places None (Some b) = ⊥
-IsDisabling s columns booleans places (Some t) None = ⊥
-IsDisabling s columns booleans places (Some t) (Some b) =
+-- The boolean of an assertion's list that an expression is.
+abbrev pub IsListedAtom : Scope → List (List ℕ) → List Expr → List ℕ → Tree → Boolean → Type 0
+IsListedAtom s columns booleans places t b =
     (a : Boolean) × IsAtom s columns booleans t a × IsPlacedBoolean booleans places a b
     × IsListedOption (length places) (Some b)
+
+abbrev pub IsDisabling : Scope → List (List ℕ) → List Expr → List ℕ → Option Tree → Option Boolean
+    → Type 0
+IsDisabling s columns booleans places = OptionZip (IsListedAtom s columns booleans places)
 
 -- The disabling expression stands at the place among the suite's.
 abbrev pub IsDisablingPlace : Scope → List (List ℕ) → List Expr → Option Tree → ℕ → Type 0

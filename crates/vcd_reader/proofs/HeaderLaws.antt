@@ -1,5 +1,6 @@
 -- Reading the header section by section.
-use Rattle.std.proofs.Common.{◌≡◌, ℕ, ◌^◌, true, false, cond, List, [], ◌∷◌, ◌++◌, Result, Ok, Err, refl, sym, ◌∙◌, subst}
+use Rattle.std.proofs.Common.{◌≡◌, ℕ, ◌^◌, Bool, true, false, cond, List, [], ◌∷◌, ◌++◌, Option, Result, Ok, Err}
+use Rattle.std.proofs.Common.{refl, sym, ◌∙◌, subst}
 use Rattle.std.specs.List.{list_all}
 use Rattle.vcd_reader.specs.declared.fault.Fault.{Fault}
 use Rattle.vcd_reader.specs.declared.fault.Fault.TheVariants.{BadToken, UnclosedSection, Truncated}
@@ -12,7 +13,38 @@ use Rattle.vcd_reader.specs.Numbers.{decimal_below}
 use Rattle.vcd_reader.specs.Variables.{Declared, is_code_byte}
 use Rattle.vcd_reader.specs.Header.{Header, Head, is_end, field, close, with_size, by_word, word_of, header_end, outer_scopes, variable, header, closing_token, skipped_section, scope_type, scope_name, var_type, var_size, var_code, var_reference, var_more}
 
+-- the word of a section, by its text
+abbrev pub opened : List ℕ → ℕ → DumpToken
+opened text at = record { text = text; at = at }
+
 module _ (scopes : List (List ℕ)) (vars : List Declared) (word : DumpToken) where
+  -- what follows each field
+  abbrev pub then_name : DumpToken → List DumpToken → Result Header Fault
+  then_name t us = scope_name scopes vars word us
+
+  abbrev pub then_close : DumpToken → List DumpToken → Result Header Fault
+  then_close t us = closing_token (scopes ++ t.text ∷ []) vars word us
+
+  abbrev pub then_size : DumpToken → List DumpToken → Result Header Fault
+  then_size t us = var_size scopes vars word t.text us
+
+  abbrev pub sized : List ℕ → DumpToken → List DumpToken → Option ℕ → Result Header Fault
+  sized type t us size = with_size size t (λ n. var_code scopes vars word type n us)
+
+  abbrev pub then_code : List ℕ → DumpToken → List DumpToken → Result Header Fault
+  then_code type t us = sized type t us (decimal_below (2 ^ 32) t.text)
+
+  abbrev pub coded : List ℕ → ℕ → DumpToken → List DumpToken → Bool → Result Header Fault
+  coded type size t us fits =
+      cond fits (var_reference scopes vars word (record { type = type; size = size; code = t.text }) us)
+      (Err (BadToken t.at))
+
+  abbrev pub then_reference : List ℕ → ℕ → DumpToken → List DumpToken → Result Header Fault
+  then_reference type size t us = coded type size t us (list_all is_code_byte t.text)
+
+  abbrev pub then_more : Head → DumpToken → List DumpToken → Result Header Fault
+  then_more h t us = var_more scopes vars word h t.text us
+
   pub scope_type-field : (ts : List DumpToken) → scope_type scopes vars word ts ≡ field word ts (λ t us. scope_name scopes vars word us)
   unfolding header scope_type
   scope_type-field [] = refl

@@ -13,3 +13,4 @@ pub mod FoundLaws
 pub mod PackedLaws
 pub mod ScopeLaws
 pub mod HeldLaws
+pub mod ResumedLaws

@@ -147,18 +147,16 @@ fn next_item(bytes: &[u8], at: usize, codes: &Codes) -> Result<Option<(Item, usi
     };
     match classify(&bytes[from..end]) {
         Seen::Time(time) => Ok(Some((Item::Timed(time, from), end))),
-        Seen::Scalar(value) => match scalar_change(bytes, from, end, codes, value) {
-            Err(fault) => Err(fault),
-            Ok(item) => Ok(Some((item, end))),
-        },
+        Seen::Scalar(value) => {
+            let item = scalar_change(bytes, from, end, codes, value)?;
+            Ok(Some((item, end)))
+        }
         Seen::Vector(value) => {
             let Some((from, end)) = next_token(bytes, end) else {
                 return Err(Fault::Truncated);
             };
-            match change_of(codes, &bytes[from..end], value, from) {
-                Err(fault) => Err(fault),
-                Ok(item) => Ok(Some((item, end))),
-            }
+            let item = change_of(codes, &bytes[from..end], value, from)?;
+            Ok(Some((item, end)))
         }
         Seen::Text => {
             let Some((_, end)) = next_token(bytes, end) else {
@@ -167,10 +165,10 @@ fn next_item(bytes: &[u8], at: usize, codes: &Codes) -> Result<Option<(Item, usi
             Ok(Some((Item::Skipped, end)))
         }
         Seen::Lone => Ok(Some((Item::Skipped, end))),
-        Seen::Section => match section_end(bytes, end, from) {
-            Err(fault) => Err(fault),
-            Ok(end) => Ok(Some((Item::Skipped, end))),
-        },
+        Seen::Section => {
+            let end = section_end(bytes, end, from)?;
+            Ok(Some((Item::Skipped, end)))
+        }
         Seen::Bad => Err(Fault::BadToken(from)),
     }
 }
@@ -223,43 +221,38 @@ pub(crate) fn read_body(
     let mut now = 0;
     let mut at = start;
     'items: loop {
-        match next_item(bytes, at, codes) {
-            Err(fault) => return Err(ReadError::Fault(fault)),
-            Ok(None) => {
-                let changes = Vec::from_slice(alloc, &changes)?;
-                steps.push(Step { time: now, changes })?;
-                return Ok((steps, high));
-            }
-            Ok(Some((item, end))) => {
-                at = end;
-                match item {
-                    Item::Skipped => continue,
-                    Item::Changed(code, value) => {
-                        if !has_room(count) {
-                            return Err(ReadError::Fault(Fault::TooLarge));
-                        }
-                        let change = new_change(&mut high, code, value)?;
-                        changes.push(change)?;
-                        count += 1;
-                        continue;
-                    }
-                    Item::Timed(time, from) => {
-                        if time < now {
-                            return Err(ReadError::Fault(Fault::TimeBack(from)));
-                        }
-                        if time == now {
-                            continue;
-                        }
-                        let done = Vec::from_slice(alloc, &changes)?;
-                        steps.push(Step {
-                            time: now,
-                            changes: done,
-                        })?;
-                        changes.clear();
-                        now = time;
-                        continue;
-                    }
+        let Some((item, end)) = next_item(bytes, at, codes)? else {
+            let changes = Vec::from_slice(alloc, &changes)?;
+            steps.push(Step { time: now, changes })?;
+            return Ok((steps, high));
+        };
+        at = end;
+        match item {
+            Item::Skipped => continue,
+            Item::Changed(code, value) => {
+                if !has_room(count) {
+                    return Err(ReadError::Fault(Fault::TooLarge));
                 }
+                let change = new_change(&mut high, code, value)?;
+                changes.push(change)?;
+                count += 1;
+                continue;
+            }
+            Item::Timed(time, from) => {
+                if time < now {
+                    return Err(ReadError::Fault(Fault::TimeBack(from)));
+                }
+                if time == now {
+                    continue;
+                }
+                let done = Vec::from_slice(alloc, &changes)?;
+                steps.push(Step {
+                    time: now,
+                    changes: done,
+                })?;
+                changes.clear();
+                now = time;
+                continue;
             }
         }
     }

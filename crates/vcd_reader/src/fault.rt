@@ -2,6 +2,7 @@
 
 ghost use Rattle.std.specs.Prelude.{◌≡◌};
 ghost use Rattle.vcd_reader.specs.declared.fault.ReadError.TheVariants.{Memory};
+ghost use Rattle.vcd_reader.specs.declared.fault.ReadError.TheVariants as errors;
 
 use std::alloc::{AllocError, AllocFailed};
 use thiserror::Error;
@@ -23,6 +24,14 @@ pub enum Fault {
 pub enum ReadError {
     Memory,
     Fault(Fault),
+}
+
+impl From<Fault> for ReadError {
+    ghost from_gives = { λ fault e. e ≡ errors.Fault fault };
+
+    fn from(fault: Fault) -> ReadError {
+        ReadError::Fault(fault)
+    }
 }
 
 impl From<AllocError> for ReadError {

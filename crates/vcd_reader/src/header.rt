@@ -158,16 +158,10 @@ fn read_scope(bytes: &[u8], at: usize, word: usize) -> Result<(Span, usize), Fau
         ≡ read_on result (λ r. header (scopes ++ text_at bytes.now r.0 ∷ []) vars
         (tokens_at bytes.now r.1)) }
 {
-    match next_field(bytes, at, word) {
-        Err(fault) => Err(fault),
-        Ok(kind) => match next_field(bytes, kind.end, word) {
-            Err(fault) => Err(fault),
-            Ok(name) => match section_end(bytes, name.end, word) {
-                Err(fault) => Err(fault),
-                Ok(end) => Ok((name, end)),
-            },
-        },
-    }
+    let kind = next_field(bytes, at, word)?;
+    let name = next_field(bytes, kind.end, word)?;
+    let end = section_end(bytes, name.end, word)?;
+    Ok((name, end))
 }
 
 /// The type of a `$var`, its size and its code.
@@ -180,30 +174,21 @@ fn read_var_head(bytes: &[u8], at: usize, word: usize) -> Result<VarHead, Fault>
         ≡ read_on result (λ h. var_reference scopes vars (record { text = opener; at = word })
         (head_at bytes.now h) (tokens_at bytes.now h.end)) }
 {
-    match next_field(bytes, at, word) {
-        Err(fault) => Err(fault),
-        Ok(kind) => match next_field(bytes, kind.end, word) {
-            Err(fault) => Err(fault),
-            Ok(digits) => match decimal(&bytes[digits.from..digits.end], 0xffff_ffff) {
-                None => Err(Fault::BadSize(digits.from)),
-                Some(size) => match next_field(bytes, digits.end, word) {
-                    Err(fault) => Err(fault),
-                    Ok(code) => {
-                        if is_code(&bytes[code.from..code.end]) {
-                            Ok(VarHead {
-                                kind,
-                                size: size as u32,
-                                code,
-                                end: code.end,
-                            })
-                        } else {
-                            Err(Fault::BadToken(code.from))
-                        }
-                    }
-                },
-            },
-        },
+    let kind = next_field(bytes, at, word)?;
+    let digits = next_field(bytes, kind.end, word)?;
+    let Some(size) = decimal(&bytes[digits.from..digits.end], 0xffff_ffff) else {
+        return Err(Fault::BadSize(digits.from));
+    };
+    let code = next_field(bytes, digits.end, word)?;
+    if !is_code(&bytes[code.from..code.end]) {
+        return Err(Fault::BadToken(code.from));
     }
+    Ok(VarHead {
+        kind,
+        size: size as u32,
+        code,
+        end: code.end,
+    })
 }
 
 /// The text that the tokens of a reference make, and the section's end.
@@ -223,10 +208,7 @@ fn read_reference(
         (λ e. Fails e (var_reference scopes vars (record { text = opener; at = word }) h
         (tokens_at bytes.now start))) }
 {
-    let first = match next_field(bytes, start, word) {
-        Err(fault) => return Err(ReadError::Fault(fault)),
-        Ok(first) => first,
-    };
+    let first = next_field(bytes, start, word)?;
     let mut text = Vec::from_slice(alloc, &bytes[first.from..first.end])?;
     let mut at = first.end;
     'words: loop {
@@ -259,25 +241,19 @@ fn read_variable(
         (λ e. Fails e (var_type scopes vars (record { text = opener; at = word })
         (tokens_at bytes.now at))) }
 {
-    match read_var_head(bytes, at, word) {
-        Err(fault) => Err(ReadError::Fault(fault)),
-        Ok(head) => match read_reference(alloc, bytes, head.end, word) {
-            Err(e) => Err(e),
-            Ok((text, end)) => {
-                let name = Vec::from_slice(alloc, reference_name(&text))?;
-                let code = Vec::from_slice(alloc, &bytes[head.code.from..head.code.end])?;
-                let bindable = has_digits(&bytes[head.kind.from..head.kind.end], head.size);
-                let variable = Variable {
-                    scope,
-                    name,
-                    code,
-                    size: head.size,
-                    bindable,
-                };
-                Ok((variable, end))
-            }
-        },
-    }
+    let head = read_var_head(bytes, at, word)?;
+    let (text, end) = read_reference(alloc, bytes, head.end, word)?;
+    let name = Vec::from_slice(alloc, reference_name(&text))?;
+    let code = Vec::from_slice(alloc, &bytes[head.code.from..head.code.end])?;
+    let bindable = has_digits(&bytes[head.kind.from..head.kind.end], head.size);
+    let variable = Variable {
+        scope,
+        name,
+        code,
+        size: head.size,
+        bindable,
+    };
+    Ok((variable, end))
 }
 
 /// The section whose word stands from `from` to `end`.
@@ -303,26 +279,26 @@ fn read_section(
 {
     match section_word(&bytes[from..end]) {
         Word::NoWord => Err(ReadError::Fault(Fault::BadToken(from))),
-        Word::Ends => match section_end(bytes, end, from) {
-            Err(fault) => Err(ReadError::Fault(fault)),
-            Ok(stop) => Ok(Section::Ended(stop)),
-        },
-        Word::Scope => match read_scope(bytes, end, from) {
-            Err(fault) => Err(ReadError::Fault(fault)),
-            Ok((name, stop)) => Ok(Section::Opened(name, stop)),
-        },
-        Word::Upscope => match section_end(bytes, end, from) {
-            Err(fault) => Err(ReadError::Fault(fault)),
-            Ok(stop) => Ok(Section::Closed(stop)),
-        },
-        Word::Var => match read_variable(alloc, bytes, end, from, scope) {
-            Err(e) => Err(e),
-            Ok((variable, stop)) => Ok(Section::Declared(variable, stop)),
-        },
-        Word::Other => match skipped_end(bytes, end, from) {
-            Err(fault) => Err(ReadError::Fault(fault)),
-            Ok(stop) => Ok(Section::Skipped(stop)),
-        },
+        Word::Ends => {
+            let stop = section_end(bytes, end, from)?;
+            Ok(Section::Ended(stop))
+        }
+        Word::Scope => {
+            let (name, stop) = read_scope(bytes, end, from)?;
+            Ok(Section::Opened(name, stop))
+        }
+        Word::Upscope => {
+            let stop = section_end(bytes, end, from)?;
+            Ok(Section::Closed(stop))
+        }
+        Word::Var => {
+            let (variable, stop) = read_variable(alloc, bytes, end, from, scope)?;
+            Ok(Section::Declared(variable, stop))
+        }
+        Word::Other => {
+            let stop = skipped_end(bytes, end, from)?;
+            Ok(Section::Skipped(stop))
+        }
     }
 }
 
@@ -351,32 +327,31 @@ pub(crate) fn read_header(alloc: Global, bytes: &[u8]) -> Result<Declarations, R
         let Some((from, end)) = next_token(bytes, at) else {
             return Err(ReadError::Fault(Fault::Truncated));
         };
-        match read_section(alloc, bytes, from, end, scope) {
-            Err(e) => return Err(e),
-            Ok(Section::Ended(stop)) => {
+        match read_section(alloc, bytes, from, end, scope)? {
+            Section::Ended(stop) => {
                 return Ok(Declarations {
                     scopes,
                     variables,
                     end: stop,
                 });
             }
-            Ok(Section::Opened(name, stop)) => {
+            Section::Opened(name, stop) => {
                 let name = &bytes[name.from..name.end];
                 scope = open_scope(alloc, &mut scopes, &mut hints, scope, name)?;
                 at = stop;
                 continue;
             }
-            Ok(Section::Closed(stop)) => {
+            Section::Closed(stop) => {
                 scope = outer_place(&scopes, scope);
                 at = stop;
                 continue;
             }
-            Ok(Section::Declared(variable, stop)) => {
+            Section::Declared(variable, stop) => {
                 variables.push(variable)?;
                 at = stop;
                 continue;
             }
-            Ok(Section::Skipped(stop)) => {
+            Section::Skipped(stop) => {
                 at = stop;
                 continue;
             }

@@ -92,12 +92,12 @@ pub(crate) fn is_same_path<'a>(
     ensures { result ≡ bytes_eq (path_of (open_scopes scopes.now left_place) left_name.now)
         (path_of (open_scopes scopes.now right_place) right_name.now) }
 {
-    let mut left_at = left_place;
+    let mut left_place = left_place;
     let mut left = left_name;
-    let mut right_at = right_place;
+    let mut right_place = right_place;
     let mut right = right_name;
     'pieces: loop {
-        if first_of(scopes, left_at) == first_of(scopes, right_at) {
+        if first_of(scopes, left_place) == first_of(scopes, right_place) {
             return left == right;
         }
         let Some(size) = common_end(left, right) else {
@@ -106,17 +106,17 @@ pub(crate) fn is_same_path<'a>(
         left = &left[..left.len() - size];
         right = &right[..right.len() - size];
         if left.is_empty() {
-            let Some(scope) = scope_at(scopes, left_at) else {
+            let Some(scope) = scope_at(scopes, left_place) else {
                 return false;
             };
-            left_at = scope.parent;
+            left_place = scope.parent;
             left = front_in(scope);
             continue;
         }
-        let Some(scope) = scope_at(scopes, right_at) else {
+        let Some(scope) = scope_at(scopes, right_place) else {
             return false;
         };
-        right_at = scope.parent;
+        right_place = scope.parent;
         right = front_in(scope);
     }
 }
@@ -230,13 +230,13 @@ pub(crate) fn path_text(
 {
     let mut path = Vec::new(alloc);
     push_reversed(&mut path, name)?;
-    let mut at = place;
+    let mut place = place;
     'scopes: loop {
-        let Some(scope) = scope_at(scopes, at) else {
+        let Some(scope) = scope_at(scopes, place) else {
             path.reverse();
             return Ok(path);
         };
         push_reversed(&mut path, front_in(scope))?;
-        at = scope.parent;
+        place = scope.parent;
     }
 }

@@ -1,19 +1,25 @@
 use Rattle.std.proofs.Common.{◌∙◌, ℕ, List, arith, sym, ap}
-use Rattle.vcd_reader.specs.Tokens.{DumpToken}
 use Rattle.vcd_reader.specs.Header.{var_more}
 use Rattle.vcd_reader.specs.Sections.{tokens_at}
-use Rattle.vcd_reader.proofs.HeaderLaws.{var_reference-field, more-none, more-end, more-more}
+use Rattle.vcd_reader.proofs.HeaderLaws.{opened, then_more, var_reference-field, more-none, more-end, more-more}
+use Rattle.vcd_reader.proofs.ResumedLaws.{resumed-err}
 use Rattle.vcd_reader.proofs.header.read_reference.Goals as goal
 
-pub returns-in-Err-clause-reference : goal.returns-in-Err-clause-reference
-returns-in-Err-clause-reference c = λ opener scopes vars h. var_reference-field scopes vars _ h _ ∙ c.in-Err.ensures.field opener (λ (t : DumpToken) (us : List DumpToken). var_more scopes vars (record { text = opener; at = c.args.word }) h t.text us)
+pub returns-in_err-first-clause-reference : goal.returns-in_err-first-clause-reference
+returns-in_err-first-clause-reference c = λ opener scopes vars h.
+    rw (resumed-err _ _ c.from_residual.ensures.1)
+    (var_reference-field scopes vars _ h _
+    ∙ c.in_err-first.ensures.field opener (then_more scopes vars (opened opener c.args.word) h))
 
 pub words-init : goal.words-init
 words-init c = record {
-  low = c.in-Ok.ensures.high.0;
-  high = c.in-Ok.ensures.high.1;
-  same = λ opener scopes vars h. var_reference-field scopes vars _ h _ ∙ c.in-Ok.ensures.field opener (λ (t : DumpToken) (us : List DumpToken). var_more scopes vars (record { text = opener; at = c.args.word }) h t.text us)
-      ∙ ap (λ (ts : List ℕ). var_more scopes vars (record { text = opener; at = c.args.word }) h ts (tokens_at c.args.bytes.now c.in-Ok.first.end)) (sym c.in_ok-text.ensures.items);
+  low = c.in_ok-first.ensures.high.0;
+  high = c.in_ok-first.ensures.high.1;
+  same = λ opener scopes vars h.
+      var_reference-field scopes vars _ h _
+      ∙ c.in_ok-first.ensures.field opener (then_more scopes vars (opened opener c.args.word) h)
+      ∙ ap (λ (ts : List ℕ). var_more scopes vars (opened opener c.args.word) h ts
+      (tokens_at c.args.bytes.now c.in_ok-first.first.end)) (sym c.in_ok-text.ensures.items);
 }
 
 pub returns-in_default-clause-reference : goal.returns-in_default-clause-reference

@@ -1,26 +1,40 @@
-use Rattle.std.proofs.Common.{◌∙◌, List, [], ◌∷◌, ◌++◌}
-use Rattle.vcd_reader.specs.Tokens.{DumpToken}
-use Rattle.vcd_reader.specs.Header.{header, closing_token, scope_name}
+use Rattle.std.proofs.Common.{◌∙◌, [], ◌∷◌, ◌++◌}
+use Rattle.vcd_reader.specs.Header.{header}
 use Rattle.vcd_reader.specs.Sections.{text_at}
-use Rattle.vcd_reader.proofs.HeaderLaws.{scope_type-field, scope_name-field, closed-close}
+use Rattle.vcd_reader.proofs.HeaderLaws.{opened, then_name, then_close, scope_type-field, scope_name-field}
+use Rattle.vcd_reader.proofs.HeaderLaws.{closed-close}
+use Rattle.vcd_reader.proofs.ResumedLaws.{resumed-err}
 use Rattle.vcd_reader.proofs.header.read_scope.Goals as goal
 
-pub returns-in-Err-clause-scope : goal.returns-in-Err-clause-scope
-returns-in-Err-clause-scope c = λ opener scopes vars. scope_type-field scopes vars _ _ ∙ c.in-Err.ensures.field opener (λ (t : DumpToken) (us : List DumpToken). scope_name scopes vars (record { text = opener; at = c.args.word }) us)
+pub returns-in_err-kind-clause-scope : goal.returns-in_err-kind-clause-scope
+returns-in_err-kind-clause-scope c = λ opener scopes vars.
+    rw (resumed-err _ _ c.from_residual.ensures.1)
+    (scope_type-field scopes vars _ _
+    ∙ c.in_err-kind.ensures.field opener (then_name scopes vars (opened opener c.args.word)))
 
-pub returns-in-Err-next_field-clause-scope : goal.returns-in-Err-next_field-clause-scope
-returns-in-Err-next_field-clause-scope c = λ opener scopes vars.
-    scope_type-field scopes vars _ _ ∙ c.in-Ok.ensures.field opener (λ (t : DumpToken) (us : List DumpToken). scope_name scopes vars (record { text = opener; at = c.args.word }) us)
-    ∙ scope_name-field scopes vars _ _ ∙ c.in-Err-next_field.ensures.field opener (λ (t : DumpToken) (us : List DumpToken). closing_token (scopes ++ t.text ∷ []) vars (record { text = opener; at = c.args.word }) us)
+pub returns-in_err-name-clause-scope : goal.returns-in_err-name-clause-scope
+returns-in_err-name-clause-scope c = λ opener scopes vars.
+    rw (resumed-err _ _ c.from_residual-in_err-name.ensures.1)
+    (scope_type-field scopes vars _ _
+    ∙ c.in_ok-kind.ensures.field opener (then_name scopes vars (opened opener c.args.word))
+    ∙ scope_name-field scopes vars _ _
+    ∙ c.in_err-name.ensures.field opener (then_close scopes vars (opened opener c.args.word)))
 
-pub returns-in-Err-section_end-clause-scope : goal.returns-in-Err-section_end-clause-scope
-returns-in-Err-section_end-clause-scope c = λ opener scopes vars.
-    scope_type-field scopes vars _ _ ∙ c.in-Ok.ensures.field opener (λ (t : DumpToken) (us : List DumpToken). scope_name scopes vars (record { text = opener; at = c.args.word }) us)
-    ∙ scope_name-field scopes vars _ _ ∙ c.in-Ok-next_field.ensures.field opener (λ (t : DumpToken) (us : List DumpToken). closing_token (scopes ++ t.text ∷ []) vars (record { text = opener; at = c.args.word }) us)
-    ∙ closed-close (scopes ++ text_at c.args.bytes.now c.in-Ok-next_field.name ∷ []) vars _ _ ∙ c.in-Err-section_end.ensures.close opener (λ (us : List DumpToken). header (scopes ++ text_at c.args.bytes.now c.in-Ok-next_field.name ∷ []) vars us)
+pub returns-in_err-end-clause-scope : goal.returns-in_err-end-clause-scope
+returns-in_err-end-clause-scope c = λ opener scopes vars.
+    rw (resumed-err _ _ c.from_residual-in_err-end.ensures.1)
+    (scope_type-field scopes vars _ _
+    ∙ c.in_ok-kind.ensures.field opener (then_name scopes vars (opened opener c.args.word))
+    ∙ scope_name-field scopes vars _ _
+    ∙ c.in_ok-name.ensures.field opener (then_close scopes vars (opened opener c.args.word))
+    ∙ closed-close (scopes ++ text_at c.args.bytes.now c.in_ok-name.name ∷ []) vars _ _
+    ∙ c.in_err-end.ensures.close opener (header (scopes ++ text_at c.args.bytes.now c.in_ok-name.name ∷ []) vars))
 
-pub returns-in-Ok-section_end-clause-scope : goal.returns-in-Ok-section_end-clause-scope
-returns-in-Ok-section_end-clause-scope c = λ opener scopes vars.
-    scope_type-field scopes vars _ _ ∙ c.in-Ok.ensures.field opener (λ (t : DumpToken) (us : List DumpToken). scope_name scopes vars (record { text = opener; at = c.args.word }) us)
-    ∙ scope_name-field scopes vars _ _ ∙ c.in-Ok-next_field.ensures.field opener (λ (t : DumpToken) (us : List DumpToken). closing_token (scopes ++ t.text ∷ []) vars (record { text = opener; at = c.args.word }) us)
-    ∙ closed-close (scopes ++ text_at c.args.bytes.now c.in-Ok-next_field.name ∷ []) vars _ _ ∙ c.in-Ok-section_end.ensures.close opener (λ (us : List DumpToken). header (scopes ++ text_at c.args.bytes.now c.in-Ok-next_field.name ∷ []) vars us)
+pub returns-clause-scope : goal.returns-clause-scope
+returns-clause-scope c = λ opener scopes vars.
+    scope_type-field scopes vars _ _
+    ∙ c.in_ok-kind.ensures.field opener (then_name scopes vars (opened opener c.args.word))
+    ∙ scope_name-field scopes vars _ _
+    ∙ c.in_ok-name.ensures.field opener (then_close scopes vars (opened opener c.args.word))
+    ∙ closed-close (scopes ++ text_at c.args.bytes.now c.in_ok-name.name ∷ []) vars _ _
+    ∙ c.in_ok-end.ensures.close opener (header (scopes ++ text_at c.args.bytes.now c.in_ok-name.name ∷ []) vars)

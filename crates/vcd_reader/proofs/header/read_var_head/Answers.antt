@@ -1,48 +1,84 @@
-use Rattle.std.proofs.Common.{◌∙◌, ℕ, ◌^◌, Bool, cond, List, Option, Err, sym, ap}
-use Rattle.std.specs.List.{list_all}
-use Rattle.vcd_reader.specs.declared.fault.Fault.TheVariants.{BadToken}
-use Rattle.vcd_reader.specs.Tokens.{DumpToken}
-use Rattle.vcd_reader.specs.Numbers.{decimal_below}
-use Rattle.vcd_reader.specs.Variables.{is_code_byte}
-use Rattle.vcd_reader.specs.Header.{with_size, var_size, var_code, var_reference}
+use Rattle.std.proofs.Common.{◌∙◌, sym, ap}
 use Rattle.vcd_reader.specs.Sections.{text_at, tokens_at}
+use Rattle.vcd_reader.proofs.HeaderLaws.{opened, then_size, sized, then_code, coded, then_reference}
 use Rattle.vcd_reader.proofs.HeaderLaws.{var_type-field, var_size-field, var_code-field}
+use Rattle.vcd_reader.proofs.ResumedLaws.{resumed-err}
 use Rattle.vcd_reader.proofs.header.read_var_head.Goals as goal
 
-pub returns-in-Err-clause-head : goal.returns-in-Err-clause-head
-returns-in-Err-clause-head c = λ opener scopes vars.
-    var_type-field scopes vars _ _ ∙ c.in-Err.ensures.field opener (λ (t : DumpToken) (us : List DumpToken). var_size scopes vars (record { text = opener; at = c.args.word }) t.text us)
+pub returns-in_err-kind-clause-head : goal.returns-in_err-kind-clause-head
+returns-in_err-kind-clause-head c = λ opener scopes vars.
+    rw (resumed-err _ _ c.from_residual.ensures.1)
+    (var_type-field scopes vars _ _
+    ∙ c.in_err-kind.ensures.field opener (then_size scopes vars (opened opener c.args.word)))
 
-pub returns-in-Err-next_field-clause-head : goal.returns-in-Err-next_field-clause-head
-returns-in-Err-next_field-clause-head c = λ opener scopes vars.
-    var_type-field scopes vars _ _ ∙ c.in-Ok.ensures.field opener (λ (t : DumpToken) (us : List DumpToken). var_size scopes vars (record { text = opener; at = c.args.word }) t.text us)
-    ∙ var_size-field scopes vars _ (text_at c.args.bytes.now c.in-Ok.kind) _ ∙ c.in-Err-next_field.ensures.field opener (λ (t : DumpToken) (us : List DumpToken). with_size (decimal_below (2 ^ 32) t.text) t (λ size. var_code scopes vars (record { text = opener; at = c.args.word }) (text_at c.args.bytes.now c.in-Ok.kind) size us))
+pub returns-in_err-digits-clause-head : goal.returns-in_err-digits-clause-head
+returns-in_err-digits-clause-head c = λ opener scopes vars.
+    rw (resumed-err _ _ c.from_residual-in_err-digits.ensures.1)
+    (var_type-field scopes vars _ _
+    ∙ c.in_ok-kind.ensures.field opener (then_size scopes vars (opened opener c.args.word))
+    ∙ var_size-field scopes vars _ (text_at c.args.bytes.now c.in_ok-kind.kind) _
+    ∙ c.in_err-digits.ensures.field opener
+    (then_code scopes vars (opened opener c.args.word) (text_at c.args.bytes.now c.in_ok-kind.kind)))
 
-pub returns-in-None-clause-head : goal.returns-in-None-clause-head
-returns-in-None-clause-head c = λ opener scopes vars.
-    var_type-field scopes vars _ _ ∙ c.in-Ok.ensures.field opener (λ (t : DumpToken) (us : List DumpToken). var_size scopes vars (record { text = opener; at = c.args.word }) t.text us)
-    ∙ var_size-field scopes vars _ (text_at c.args.bytes.now c.in-Ok.kind) _ ∙ c.in-Ok-next_field.ensures.field opener (λ (t : DumpToken) (us : List DumpToken). with_size (decimal_below (2 ^ 32) t.text) t (λ size. var_code scopes vars (record { text = opener; at = c.args.word }) (text_at c.args.bytes.now c.in-Ok.kind) size us))
-    ∙ ap (λ (o : Option ℕ). with_size o (record { text = text_at c.args.bytes.now c.in-Ok-next_field.digits; at = c.in-Ok-next_field.digits.from }) (λ size. var_code scopes vars (record { text = opener; at = c.args.word }) (text_at c.args.bytes.now c.in-Ok.kind) size (tokens_at c.args.bytes.now c.in-Ok-next_field.digits.end))) (sym c.in-None.ensures)
+pub returns-in_default-clause-head : goal.returns-in_default-clause-head
+returns-in_default-clause-head c = λ opener scopes vars.
+    var_type-field scopes vars _ _
+    ∙ c.in_ok-kind.ensures.field opener (then_size scopes vars (opened opener c.args.word))
+    ∙ var_size-field scopes vars _ (text_at c.args.bytes.now c.in_ok-kind.kind) _
+    ∙ c.in_ok-digits.ensures.field opener
+    (then_code scopes vars (opened opener c.args.word) (text_at c.args.bytes.now c.in_ok-kind.kind))
+    ∙ ap (sized scopes vars (opened opener c.args.word) (text_at c.args.bytes.now c.in_ok-kind.kind)
+    (opened (text_at c.args.bytes.now c.in_ok-digits.digits) c.in_ok-digits.digits.from)
+    (tokens_at c.args.bytes.now c.in_ok-digits.digits.end)) (sym c.in_default.ensures)
 
-pub returns-in-Err-next_field-2-clause-head : goal.returns-in-Err-next_field-2-clause-head
-returns-in-Err-next_field-2-clause-head c = λ opener scopes vars.
-    var_type-field scopes vars _ _ ∙ c.in-Ok.ensures.field opener (λ (t : DumpToken) (us : List DumpToken). var_size scopes vars (record { text = opener; at = c.args.word }) t.text us)
-    ∙ var_size-field scopes vars _ (text_at c.args.bytes.now c.in-Ok.kind) _ ∙ c.in-Ok-next_field.ensures.field opener (λ (t : DumpToken) (us : List DumpToken). with_size (decimal_below (2 ^ 32) t.text) t (λ size. var_code scopes vars (record { text = opener; at = c.args.word }) (text_at c.args.bytes.now c.in-Ok.kind) size us))
-    ∙ ap (λ (o : Option ℕ). with_size o (record { text = text_at c.args.bytes.now c.in-Ok-next_field.digits; at = c.in-Ok-next_field.digits.from }) (λ size. var_code scopes vars (record { text = opener; at = c.args.word }) (text_at c.args.bytes.now c.in-Ok.kind) size (tokens_at c.args.bytes.now c.in-Ok-next_field.digits.end))) (sym c.in-Some.ensures)
-    ∙ var_code-field scopes vars _ (text_at c.args.bytes.now c.in-Ok.kind) c.in-Some.size _ ∙ c.in-Err-next_field-2.ensures.field opener (λ (t : DumpToken) (us : List DumpToken). cond (list_all is_code_byte t.text) (var_reference scopes vars (record { text = opener; at = c.args.word }) (record { type = text_at c.args.bytes.now c.in-Ok.kind; size = c.in-Some.size; code = t.text }) us) (Err (BadToken t.at)))
+pub returns-in_err-code-clause-head : goal.returns-in_err-code-clause-head
+returns-in_err-code-clause-head c = λ opener scopes vars.
+    rw (resumed-err _ _ c.from_residual-in_err-code.ensures.1)
+    (var_type-field scopes vars _ _
+    ∙ c.in_ok-kind.ensures.field opener (then_size scopes vars (opened opener c.args.word))
+    ∙ var_size-field scopes vars _ (text_at c.args.bytes.now c.in_ok-kind.kind) _
+    ∙ c.in_ok-digits.ensures.field opener
+    (then_code scopes vars (opened opener c.args.word) (text_at c.args.bytes.now c.in_ok-kind.kind))
+    ∙ ap (sized scopes vars (opened opener c.args.word) (text_at c.args.bytes.now c.in_ok-kind.kind)
+    (opened (text_at c.args.bytes.now c.in_ok-digits.digits) c.in_ok-digits.digits.from)
+    (tokens_at c.args.bytes.now c.in_ok-digits.digits.end)) (sym c.in-Some.ensures)
+    ∙ var_code-field scopes vars _ (text_at c.args.bytes.now c.in_ok-kind.kind) c.in-Some.size _
+    ∙ c.in_err-code.ensures.field opener
+    (then_reference scopes vars (opened opener c.args.word)
+    (text_at c.args.bytes.now c.in_ok-kind.kind) c.in-Some.size))
 
-pub returns-then-is_code-clause-head : goal.returns-then-is_code-clause-head
-returns-then-is_code-clause-head c = λ opener scopes vars.
-    var_type-field scopes vars _ _ ∙ c.in-Ok.ensures.field opener (λ (t : DumpToken) (us : List DumpToken). var_size scopes vars (record { text = opener; at = c.args.word }) t.text us)
-    ∙ var_size-field scopes vars _ (text_at c.args.bytes.now c.in-Ok.kind) _ ∙ c.in-Ok-next_field.ensures.field opener (λ (t : DumpToken) (us : List DumpToken). with_size (decimal_below (2 ^ 32) t.text) t (λ size. var_code scopes vars (record { text = opener; at = c.args.word }) (text_at c.args.bytes.now c.in-Ok.kind) size us))
-    ∙ ap (λ (o : Option ℕ). with_size o (record { text = text_at c.args.bytes.now c.in-Ok-next_field.digits; at = c.in-Ok-next_field.digits.from }) (λ size. var_code scopes vars (record { text = opener; at = c.args.word }) (text_at c.args.bytes.now c.in-Ok.kind) size (tokens_at c.args.bytes.now c.in-Ok-next_field.digits.end))) (sym c.in-Some.ensures)
-    ∙ var_code-field scopes vars _ (text_at c.args.bytes.now c.in-Ok.kind) c.in-Some.size _ ∙ c.in-Ok-next_field-2.ensures.field opener (λ (t : DumpToken) (us : List DumpToken). cond (list_all is_code_byte t.text) (var_reference scopes vars (record { text = opener; at = c.args.word }) (record { type = text_at c.args.bytes.now c.in-Ok.kind; size = c.in-Some.size; code = t.text }) us) (Err (BadToken t.at)))
-    ∙ ap (λ (b : Bool). cond b (var_reference scopes vars (record { text = opener; at = c.args.word }) (record { type = text_at c.args.bytes.now c.in-Ok.kind; size = c.in-Some.size; code = text_at c.args.bytes.now c.in-Ok-next_field-2.code }) (tokens_at c.args.bytes.now c.in-Ok-next_field-2.code.end)) (Err (BadToken c.in-Ok-next_field-2.code.from))) (sym c.if-is_code.ensures)
+pub returns-then-not-is_code-clause-head : goal.returns-then-not-is_code-clause-head
+returns-then-not-is_code-clause-head c = λ opener scopes vars.
+    var_type-field scopes vars _ _
+    ∙ c.in_ok-kind.ensures.field opener (then_size scopes vars (opened opener c.args.word))
+    ∙ var_size-field scopes vars _ (text_at c.args.bytes.now c.in_ok-kind.kind) _
+    ∙ c.in_ok-digits.ensures.field opener
+    (then_code scopes vars (opened opener c.args.word) (text_at c.args.bytes.now c.in_ok-kind.kind))
+    ∙ ap (sized scopes vars (opened opener c.args.word) (text_at c.args.bytes.now c.in_ok-kind.kind)
+    (opened (text_at c.args.bytes.now c.in_ok-digits.digits) c.in_ok-digits.digits.from)
+    (tokens_at c.args.bytes.now c.in_ok-digits.digits.end)) (sym c.in-Some.ensures)
+    ∙ var_code-field scopes vars _ (text_at c.args.bytes.now c.in_ok-kind.kind) c.in-Some.size _
+    ∙ c.in_ok-code.ensures.field opener
+    (then_reference scopes vars (opened opener c.args.word)
+    (text_at c.args.bytes.now c.in_ok-kind.kind) c.in-Some.size)
+    ∙ ap (coded scopes vars (opened opener c.args.word) (text_at c.args.bytes.now c.in_ok-kind.kind) c.in-Some.size
+    (opened (text_at c.args.bytes.now c.in_ok-code.code) c.in_ok-code.code.from)
+    (tokens_at c.args.bytes.now c.in_ok-code.code.end)) (sym c.if-not-is_code.ensures)
 
-pub returns-else-is_code-clause-head : goal.returns-else-is_code-clause-head
-returns-else-is_code-clause-head c = λ opener scopes vars.
-    var_type-field scopes vars _ _ ∙ c.in-Ok.ensures.field opener (λ (t : DumpToken) (us : List DumpToken). var_size scopes vars (record { text = opener; at = c.args.word }) t.text us)
-    ∙ var_size-field scopes vars _ (text_at c.args.bytes.now c.in-Ok.kind) _ ∙ c.in-Ok-next_field.ensures.field opener (λ (t : DumpToken) (us : List DumpToken). with_size (decimal_below (2 ^ 32) t.text) t (λ size. var_code scopes vars (record { text = opener; at = c.args.word }) (text_at c.args.bytes.now c.in-Ok.kind) size us))
-    ∙ ap (λ (o : Option ℕ). with_size o (record { text = text_at c.args.bytes.now c.in-Ok-next_field.digits; at = c.in-Ok-next_field.digits.from }) (λ size. var_code scopes vars (record { text = opener; at = c.args.word }) (text_at c.args.bytes.now c.in-Ok.kind) size (tokens_at c.args.bytes.now c.in-Ok-next_field.digits.end))) (sym c.in-Some.ensures)
-    ∙ var_code-field scopes vars _ (text_at c.args.bytes.now c.in-Ok.kind) c.in-Some.size _ ∙ c.in-Ok-next_field-2.ensures.field opener (λ (t : DumpToken) (us : List DumpToken). cond (list_all is_code_byte t.text) (var_reference scopes vars (record { text = opener; at = c.args.word }) (record { type = text_at c.args.bytes.now c.in-Ok.kind; size = c.in-Some.size; code = t.text }) us) (Err (BadToken t.at)))
-    ∙ ap (λ (b : Bool). cond b (var_reference scopes vars (record { text = opener; at = c.args.word }) (record { type = text_at c.args.bytes.now c.in-Ok.kind; size = c.in-Some.size; code = text_at c.args.bytes.now c.in-Ok-next_field-2.code }) (tokens_at c.args.bytes.now c.in-Ok-next_field-2.code.end)) (Err (BadToken c.in-Ok-next_field-2.code.from))) (sym c.if-is_code.ensures)
+pub returns-clause-head : goal.returns-clause-head
+returns-clause-head c = λ opener scopes vars.
+    var_type-field scopes vars _ _
+    ∙ c.in_ok-kind.ensures.field opener (then_size scopes vars (opened opener c.args.word))
+    ∙ var_size-field scopes vars _ (text_at c.args.bytes.now c.in_ok-kind.kind) _
+    ∙ c.in_ok-digits.ensures.field opener
+    (then_code scopes vars (opened opener c.args.word) (text_at c.args.bytes.now c.in_ok-kind.kind))
+    ∙ ap (sized scopes vars (opened opener c.args.word) (text_at c.args.bytes.now c.in_ok-kind.kind)
+    (opened (text_at c.args.bytes.now c.in_ok-digits.digits) c.in_ok-digits.digits.from)
+    (tokens_at c.args.bytes.now c.in_ok-digits.digits.end)) (sym c.in-Some.ensures)
+    ∙ var_code-field scopes vars _ (text_at c.args.bytes.now c.in_ok-kind.kind) c.in-Some.size _
+    ∙ c.in_ok-code.ensures.field opener
+    (then_reference scopes vars (opened opener c.args.word)
+    (text_at c.args.bytes.now c.in_ok-kind.kind) c.in-Some.size)
+    ∙ ap (coded scopes vars (opened opener c.args.word) (text_at c.args.bytes.now c.in_ok-kind.kind) c.in-Some.size
+    (opened (text_at c.args.bytes.now c.in_ok-code.code) c.in_ok-code.code.from)
+    (tokens_at c.args.bytes.now c.in_ok-code.code.end)) (sym c.if-not-is_code.ensures)
