@@ -18,6 +18,11 @@ def kit():
     return subprocess.run(["rt", "version"], capture_output=True, text=True, check=True).stdout.strip()
 
 
+def logic_of(kit_line):
+    """What a line of `rt version` says of the logic in which proofs are checked, and not of the kit that it came with."""
+    return kit_line.partition(" logic ")[2] or kit_line
+
+
 def files_of(crate):
     """The files of a crate that its edits stand on, in order."""
     for part in ("src", "specs", "proofs", "must-fail"):
@@ -43,14 +48,19 @@ def edits_of(crate):
     return [f"{folder}/{it}" for it in names if it.endswith(".edit")]
 
 
-def is_tried(crate, kit_line):
-    """Whether the crate has a stamp that says of it as it stands, and of this toolchain, that its edits were tried."""
+def stamp_of(crate):
+    """What a crate's stamp says: `tree`, of which text, `rt`, by which kit, and `on the tree`, if tried on another text."""
     try:
         with open(f"{crate}/must-fail/TRIED.md") as it:
-            said = dict(re.findall(r"(?m)^(tree|rt): (.*)$", it.read()))
+            return dict(re.findall(r"(?m)^(tree|rt|on the tree):? (\w.*?),?$", it.read()))
     except OSError:
-        return False
-    return said == {"tree": tree_of(crate), "rt": kit_line}
+        return {}
+
+
+def is_tried(crate, kit_line):
+    """Whether the crate has a stamp that says of it as it stands, and of this toolchain's logic, that its edits were tried."""
+    said = stamp_of(crate)
+    return said.get("tree") == tree_of(crate) and logic_of(said.get("rt", "")) == logic_of(kit_line)
 
 
 def write_stamp(crate, tree, kit_line, where="", who=None):

@@ -39,8 +39,6 @@ mod laws;
 mod sequence;
 mod signal;
 mod suite;
-#[cfg(test)]
-mod tests;
 mod weight;
 
 pub use assertion::Assertion;

@@ -36,8 +36,6 @@ mod laws;
 mod mark;
 mod precedence;
 mod terminal;
-#[cfg(test)]
-mod tests;
 
 pub use bound::{Bound, Index, Range, Select, bound_of, index_of};
 pub use laws::grammar_law;

@@ -32,8 +32,6 @@ mod longest;
 mod number;
 mod piece;
 mod scan;
-#[cfg(test)]
-mod tests;
 mod token;
 
 pub use fault::LexFault;

@@ -43,8 +43,6 @@ mod implication;
 mod make;
 mod places;
 mod table;
-#[cfg(test)]
-mod tests;
 
 pub use cyclic::is_cyclic;
 pub use declared::are_declared;

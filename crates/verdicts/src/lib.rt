@@ -37,8 +37,6 @@
 mod failures;
 mod line;
 mod report;
-#[cfg(test)]
-mod tests;
 mod text;
 mod write;
 

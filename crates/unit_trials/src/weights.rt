@@ -1,6 +1,6 @@
 //! The happy path of each public function, and the bound on what is weighed.
 
-use crate::{
+use assertions::{
     Assertion, Boolean, Sequence, Signal, Suite, degenerate_law, empty_law, match_law, verdict_law,
     weight_law, weight_of,
 };

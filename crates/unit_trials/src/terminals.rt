@@ -1,10 +1,9 @@
 //! Each function at the tokens of a text, against the grammar.
 
-use crate::bound::{Bound, Index, bound_of, index_of};
-use crate::laws::grammar_law;
-use crate::mark::{Function, Mark, mark_of};
-use crate::precedence::precedence_of;
-use crate::terminal::{Terminal, is, is_name, is_word, terminal_of};
+use grammar::{
+    Bound, Function, Index, Mark, Terminal, bound_of, grammar_law, index_of, is, is_name, is_word,
+    mark_of, precedence_of, terminal_of,
+};
 use lexer::{Kind, Token, lex};
 use std::test::Fail;
 

@@ -1,11 +1,11 @@
 //! The happy path of each public function, and what is told of nested names.
 
-use crate::{
-    Draft, Entry, are_declared, entry_of, is_cyclic, place_boolean, place_sequence, resolve,
-};
 use assertions::{Boolean, Sequence, weight_of};
 use std::alloc::{AllocError, Global};
 use std::test::Fail;
+use types_sequences::{
+    Draft, Entry, are_declared, entry_of, is_cyclic, place_boolean, place_sequence, resolve,
+};
 
 /// The name of the declaration at a place, twice, with `##1` between.
 fn twice(alloc: Global, place: usize) -> Result<Draft, AllocError> {

@@ -1,9 +1,6 @@
 //! Texts and their tokens.
 
-use crate::fault::LexFault;
-use crate::laws::cut_law;
-use crate::scan::lex;
-use crate::token::{Kind, Symbol, Token};
+use lexer::{Kind, LexFault, Symbol, Token, cut_law, lex};
 use std::alloc::Global;
 use std::test::Fail;
 
