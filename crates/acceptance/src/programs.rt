@@ -1,8 +1,7 @@
 //! Programs from bytes: their limits, and each refusal with its line.
 
 use cli::{Fault, Request, fault_line, read_words, status, verify_code};
-use cli_runs::run_code;
-use signals::{Counted, CutWriter, Sink, Source};
+use signals::{Counted, CutWriter};
 use std::alloc::{AllocError, Global};
 use std::test::Fail;
 use verifier::{Field, Pool, Refusal};
@@ -21,14 +20,6 @@ const PROGRAM: [u8; 114] = [
     0, 0, 0, 0, 0, 0, 0, 0, 0, 0, 0, 0, 0, 0, 0, 1, // 89: the same of the consequent
     1, 0, 3, 0x40, 1, 0, 2, 0x42, 0x43, // 105: which reads atom 1
 ];
-
-/// A dump with one tick, at which x is 1 and y is 0.
-const DUMP: &str =
-    "$timescale 1ns $end\n$scope module top $end\n$var wire 1 ! clk $end\n$var wire 1 \" x $end\n\
-    $var wire 1 # y $end\n$upscope $end\n$enddefinitions $end\n#0\n0!\n1\"\n0#\n#5\n1!\n#10\n0!\n";
-
-const REPORT: &[u8] = b"svamon 1\nclocks 1\nmonitor r holds 0 vacuous 0 fails 1 disabled 0 open 0\n\
-    fail r start 0 clock 0\ntotal holds 0 vacuous 0 fails 1 disabled 0 open 0\n";
 
 /// The program with other bytes from a place on.
 fn changed(alloc: Global, place: usize, bytes: &[u8]) -> Result<Vec<u8>, AllocError> {
@@ -53,16 +44,6 @@ fn told(alloc: Global, code: &[u8]) -> Result<String, Fail> {
             Err(_) => Err(Fail::from("the line is no text")),
         },
     }
-}
-
-#[test]
-fn report_of_a_program(rt: HostRuntime) -> Result<(), Fail> {
-    let mut source = Counted::new(DUMP.as_bytes());
-    let mut out = Counted::new(CutWriter::new(rt.alloc(), 1000)?);
-    let answer = run_code(rt.alloc(), &mut source, PROGRAM.as_slice(), 1024, &mut out);
-    assert_eq!(rt; answer.ok(), Some([0, 0, 1, 0, 0]));
-    assert_eq!(rt; out.inner.as_slice(), REPORT);
-    Ok(())
 }
 
 #[test]

@@ -16,5 +16,7 @@
 #![tactic(auto)]
 
 mod run;
+#[cfg(test)]
+mod tests;
 
 pub use run::run_code;

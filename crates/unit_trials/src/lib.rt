@@ -1,5 +1,6 @@
 //! Tests of the lowest crates, `signals`, `lexer`, `grammar`, `assertions`, `types_sequences` and
-//! `verdicts`: each public function once on its happy path, tables of tokens, and devices that fail.
+//! `verdicts`: each public function once on its happy path, tables of tokens, and devices that
+//! fail.
 //!
 //! They stand above those crates, so that the gate proves each of them once, and not once more
 //! beside its tests.
