@@ -43,6 +43,7 @@ pub(crate) fn job_of(
     ensures clocks { IfOk result (λ j. j.clocks ≡ clocks) }
     ensures fault { IfErr result (WhyNoJob programs.items) }
 {
+    // An arm knows that the fault is no misfit, as `job_fault` asks; a `From` can't ask it.
     match Job::over(alloc, programs, dump, clocks) {
         Ok(job) => Ok(job),
         Err(fault) => Err(job_fault(fault)),

@@ -56,6 +56,7 @@ pub fn lines_of(
 {
     let programs = programs_of(alloc, suite)?;
     let job = job_of(alloc, programs, dump, clocks)?;
+    // An arm knows that it is want of memory, as `want_of_memory` asks; a `From` can't ask it.
     match job_lines(alloc, &job, size) {
         Ok(lines) => Ok(lines),
         Err(fault) => Err(want_of_memory(fault)),

@@ -13,7 +13,7 @@
 //! let terminal = terminal_of(token);       // Terminal::Sequence, Terminal::Name, ..
 //! let dot = is(Terminal::Dot, token);      // is_name and is_word ask for words
 //! let mark = mark_of(token);               // how it may begin a primary: Mark::Prefix, ..
-//! let looseness = precedence_of(token);    // 1 for + and -, up to 9 for ||, 10 for ?, ..
+//! let precedence = precedence_of(token);   // 1 for + and -, up to 9 for ||, 10 for ?, ..
 //! let ticks = bound_of(token, 1, 64);      // a plain decimal within bounds, or none
 //! let bit = index_of(token);               // any number
 //! ```
