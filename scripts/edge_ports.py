@@ -6,7 +6,7 @@ cases, with and without watched IDs) it writes a dump that has the port's signal
 `svamon check` and `svamon judge` with --axi on an empty text, and `svamon check` on what `svamon rules` prints: all must write one report,
 with a monitor for each rule of the table.
 
-With --write it writes what the gate runs instead: the cases of crates/edge_ports, in which those ports that have their signals in common
+With --write it writes what the gate runs instead: the ports of crates/oracle_reports, in which those ports that have their signals in common
 stand in one port file, and what must be printed of each, by axi4_judge.py.
 """
 import itertools
@@ -20,7 +20,7 @@ import tempfile
 import axi4_judge
 import axi4_rules
 
-CRATE = f"{os.path.dirname(os.path.abspath(__file__))}/../crates/edge_ports"
+CRATE = f"{os.path.dirname(os.path.abspath(__file__))}/../crates/oracle_reports"
 WIDTHS = {"len": 8, "size": 3, "burst": 2, "cache": 4, "prot": 3, "resp": 2}
 
 
@@ -108,8 +108,10 @@ def write():
         found.append(f"{ports}\x02{vcd}")
         report = summed(axi4_judge.report(vcd, ports).encode())
         lines.append(f"check {report} judge {report}\n")
-    written(f"{CRATE}/data/cases.txt", "\x01".join(found))
-    written(f"{CRATE}/stdout", "".join(lines))
+    written(f"{CRATE}/data/ports.txt", "\x01".join(found))
+    with open(f"{CRATE}/stdout") as it:
+        reports = it.read().partition("== ")
+    written(f"{CRATE}/stdout", "".join([*lines, *reports[1:]]))
 
 
 if __name__ == "__main__":

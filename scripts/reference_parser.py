@@ -361,8 +361,11 @@ def main(arguments):
     texts = BASES + texts_of_rules() + mutated(16, 400) + foreign_words()
     with open(f'{arguments[1]}/data/texts.txt', 'w') as out:
         out.writelines(text + '\n' for text in texts)
+    # what stands at the roots of trees was worked out by hand
+    roots = [line for line in open(f'{arguments[1]}/stdout') if line.startswith('root ')]
     with open(f'{arguments[1]}/stdout', 'w') as out:
         out.writelines(f'{number} {verdict(text)}\n' for number, text in enumerate(texts, 1))
+        out.writelines(roots)
 
 
 if __name__ == '__main__':

@@ -82,6 +82,78 @@ def row_cases():
     yield changed(SMALL, antecedent=stops), "F15 LimitTooLarge antecedent positions"
 
 
+def spelled(sample="00050200013200020002320134", limits="00000001000100010000000e", start=f"{1:032x}",
+            first="010003400000024243", second="010003400100024243", bare=False):
+    """The small program with parts of it spelled otherwise, in hexadecimal digits; or that without positions."""
+    names = "ff020001720007746f702e636c6b0002010005746f702e78010005746f702e790000"
+    sections = "00" * 34 if bare else start + first + f"{1:032x}" + second
+    return decode(bytes.fromhex("5356414d01" + limits + names + sample + sections))
+
+
+def sample_cases():
+    """Sample code with the fault that was worked out by hand from the tables of instructions and of faults."""
+    pushed, byte = "020001", "0108" + 16 * "00"
+    yield from ((f"0003{byte}{it}34", "F1 Operand 1") for it in ("2707", "280800", "310002", "3200"))
+    yield f"0004020001{byte}1034", "F1 Operand 2"
+    yield "0002320034", "F2 Underflow 0"
+    yield from ((f"0003020001{it}34", "F2 Underflow 1") for it in ("10", "29", "26"))
+    yield f"0402{1025 * pushed}34", "F3 Overflow 1024"
+    yield f"0401{1024 * pushed}34", "F11 StackTooShort 1024"
+    yield from ((f"0401{1024 * pushed}{it}", "F3 Overflow 1024") for it in ("020001", "0203e7"))
+    yield "000230000234", "F4 JumpRange 0"
+    yield "000230000034", "F5 BackwardJump 0"
+    yield "000402000131000302000134", "F6 JoinMismatch 3"
+    yield f"0006020001310004020001300005{byte}34", "F6 JoinMismatch 5"
+    yield "000402000130000302000134", "F7 Unreached 2"
+    yield "00023434", "F7 Unreached 1"
+    yield from ((it, "F8 NoHalt") for it in ("0001020001", "0000"))
+    yield "0003020003320034", "F9 SlotRange 0"
+    yield from ((it, "F9 SlotRange 1") for it in ("0003020001320234", "0003020001330034"))
+    yield "000503000100013200020002320134", "F10 HistoryTooShort 1"
+
+
+def block_cases():
+    """Blocks of the antecedent with the fault that was worked out by hand."""
+    yield "020003400000034101430003400100054243", "F4 JumpRange 0"
+    yield "020003400000024101430003400100024243", "F5 BackwardJump 3"
+    yield "010003434243", "F7 Unreached 1"
+    yield from ((it, "F8 NoHalt") for it in ("01000142", "010000"))
+    yield "01000342410143", "F9 SlotRange 1"
+    yield "020003400000024100430003400100054243", "F12 Cycle 0"
+    yield from ((it, "F12 Cycle 1") for it in ("020001430002410143", "020001430002410043"))
+    yield "7f" + 127 * "000143", "F14 BudgetTooSmall 138"
+    yield "80" + 128 * "000143", "F15 LimitTooLarge antecedent positions"
+
+
+def limit_rows():
+    """Declared limits with what was worked out by hand: each at its most, and one more."""
+    yield "00000001000000010000000e", "F13 PoolTooSmall attempts 1"
+    yield "00000001000100000000000e", "F13 PoolTooSmall obligations 1"
+    yield "00000001000000000000000e", "F13 PoolTooSmall attempts 1"
+    yield "100004000400040001000000", "accepted history 0 stack 1 attempts 1 obligations 1 budget 14 lives 1 1"
+    yield "100104000400040001000000", "F15 LimitTooLarge history"
+    yield "100004010400040001000000", "F15 LimitTooLarge stack"
+    yield "100004000401040001000000", "F15 LimitTooLarge attempts"
+    yield "100004000400040101000000", "F15 LimitTooLarge obligations"
+    yield "100004000400040001000001", "F15 LimitTooLarge budget"
+
+
+def spelled_cases():
+    """Programs spelled by hand, with their answers. Of several faults the lowest part decides, then the lowest instruction."""
+    yield from ((spelled(sample=it, bare=True), answer) for it, answer in sample_cases())
+    yield from ((spelled(first=it), answer) for it, answer in block_cases())
+    yield from ((spelled(limits=it), answer) for it, answer in limit_rows())
+    two = "020003400000024101430003400100054243"
+    yield spelled(first=two, limits="000000010001000100000019"), "F13 PoolTooSmall attempts 2"
+    yield spelled(first=two, limits="000000010002000100000018"), "F14 BudgetTooSmall 25"
+    yield spelled(start=f"{3:032x}"), "F9 SlotRange 0"
+    zeros, endless, wrong = 24 * "0", "01000142", "01000140020009"
+    yield spelled("0002320034", zeros, first=endless, second=wrong), "F2 Underflow 0"
+    yield spelled(limits=zeros, first=endless, second=wrong), "F8 NoHalt"
+    yield spelled(limits=zeros, second=wrong), "F4 JumpRange 0"
+    yield spelled(limits=zeros), "F11 StackTooShort 1"
+
+
 def roomy(**fields):
     """A program with room for whatever it may need, and with little else."""
     room = {"history": 4096, "stack": 1024, "attempts": 1024, "obligations": 1024}
@@ -523,6 +595,10 @@ def write(folder):
         answers.append(answer_to(program, found))
         seen.update(pairs_of(found))
     check_spread(seen, answers)
+    for program, answer in spelled_cases():
+        assert answer_to(program, faults_of(program)) == answer, answer
+        lines.append(encode(program).hex())
+        answers.append(answer)
     for name, written in (("data/cases.txt", lines), ("stdout", answers)):
         with open(f"{folder}/{name}", "w") as file:
             file.writelines(f"{it}\n" for it in written)

@@ -1,11 +1,10 @@
-//! Compiled assertions: refusals at their borders, programs that are built and run, and the words
-//! for them.
+//! Compiled assertions: refusals at their borders, and programs that are built and run.
 
 use bytecode::decode;
-use cli::{Fault, Request, build_one, check_one, fault_line, read_words, status};
+use cli::{build_one, check_one, fault_line};
 use cli_runs::run_code;
 use signals::{Counted, CutWriter};
-use std::alloc::AllocError;
+use std::alloc::{AllocError, Global};
 use std::test::Fail;
 
 /// A dump with one tick, at which x is 1 and y is 0, and v of 8 bits is 3.
@@ -55,17 +54,39 @@ fn joined(
     Ok(text)
 }
 
-#[test]
-fn booleans_at_the_border(rt: HostRuntime) -> Result<(), Fail> {
-    for (last, line) in [(127, ""), (128, "svamon: K1 TooManyAtoms")] {
-        let antecedent = joined(&rt, 0..64, " ##1 ", "v == 8'd")?;
-        let consequent = joined(&rt, 64..last, " ##1 ", "v == 8'd")?;
-        let property = format!(in rt.alloc(); "{antecedent} |-> {consequent}")?;
-        let text = assertion(&rt, "r", property.as_str())?;
-        let told = check_line(&rt, DUMP, text.as_str())?;
-        assert_eq!(rt; told.as_str(), line, "{last} booleans");
-    }
-    Ok(())
+/// Whether this is the line of the fault of a check, or none.
+fn is_told(rt: &impl AllocGlobal, dump: &str, text: &str, line: &str) -> Result<bool, Fail> {
+    Ok(check_line(rt, dump, text)?.as_str() == line)
+}
+
+/// An assertion with so many booleans, 64 of them in its antecedent.
+fn of_booleans(rt: &impl AllocGlobal, count: usize) -> Result<String, AllocError> {
+    let antecedent = joined(rt, 0..64, " ##1 ", "v == 8'd")?;
+    let consequent = joined(rt, 64..count, " ##1 ", "v == 8'd")?;
+    let property = format!(in rt.alloc(); "{antecedent} |-> {consequent}")?;
+    assertion(rt, "r", property.as_str())
+}
+
+/// An assertion of so many signals of one bit.
+fn of_signals(rt: &impl AllocGlobal, count: usize) -> Result<String, AllocError> {
+    let property = joined(rt, 0..count, " ^ ", "s_")?;
+    assertion(rt, "r", property.as_str())
+}
+
+/// An assertion with a name of so many bytes.
+fn of_name(rt: &impl AllocGlobal, length: usize) -> Result<String, AllocError> {
+    let name = joined(rt, 0..length, "", "n")?;
+    assertion(rt, name.as_str(), "x |-> y")
+}
+
+/// So many assertions.
+fn of_assertions(rt: &impl AllocGlobal, count: usize) -> Result<String, AllocError> {
+    joined(
+        rt,
+        0..count,
+        "",
+        "assert property (@(posedge clk) x |-> y);\n",
+    )
 }
 
 /// A dump of `clk` and of signals of one bit, named by their places.
@@ -80,38 +101,29 @@ fn wide_dump(rt: &impl AllocGlobal, signals: usize) -> Result<String, AllocError
 }
 
 #[test]
-fn slots_at_the_border(rt: HostRuntime) -> Result<(), Fail> {
+fn borders(rt: HostRuntime) -> Result<(), Fail> {
+    let most = of_booleans(&rt, 127)?;
+    assert!(rt; is_told(&rt, DUMP, most.as_str(), "")?);
+    let more = of_booleans(&rt, 128)?;
+    assert!(rt; is_told(&rt, DUMP, more.as_str(), "svamon: K1 TooManyAtoms")?);
     let dump = wide_dump(&rt, 256)?;
-    for (last, line) in [(255, ""), (256, "svamon: K3 TooManySlots")] {
-        let property = joined(&rt, 0..last, " ^ ", "s_")?;
-        let text = assertion(&rt, "r", property.as_str())?;
-        let told = check_line(&rt, dump.as_str(), text.as_str())?;
-        assert_eq!(rt; told.as_str(), line, "{last} signals");
-    }
+    let most = of_signals(&rt, 255)?;
+    assert!(rt; is_told(&rt, dump.as_str(), most.as_str(), "")?);
+    let more = of_signals(&rt, 256)?;
+    assert!(rt; is_told(&rt, dump.as_str(), more.as_str(), "svamon: K3 TooManySlots")?);
     Ok(())
 }
 
 #[test]
-fn names_at_the_border(rt: HostRuntime) -> Result<(), Fail> {
-    for (length, line) in [(65_535, ""), (65_536, "svamon: K4 TextTooLong")] {
-        let name = joined(&rt, 0..length, "", "n")?;
-        let text = assertion(&rt, name.as_str(), "x |-> y")?;
-        let told = check_line(&rt, DUMP, text.as_str())?;
-        assert_eq!(rt; told.as_str(), line, "a name of {length} bytes");
-    }
-    Ok(())
-}
-
-#[test]
-fn assertions_at_the_border(rt: HostRuntime) -> Result<(), Fail> {
-    let piece = "assert property (@(posedge clk) x |-> y);\n";
-    for (count, line) in [(4096, ""), (4097, "svamon: U3 BadJob")] {
-        let text = joined(&rt, 0..count, "", piece)?;
-        let told = check_line(&rt, DUMP, text.as_str())?;
-        assert_eq!(rt; told.as_str(), line, "{count} assertions");
-    }
-    let fault = Err(Fault::BadJob);
-    assert_eq!(rt; status(&fault), 2);
+fn borders_of_texts(rt: HostRuntime) -> Result<(), Fail> {
+    let most = of_name(&rt, 65_535)?;
+    assert!(rt; is_told(&rt, DUMP, most.as_str(), "")?);
+    let more = of_name(&rt, 65_536)?;
+    assert!(rt; is_told(&rt, DUMP, more.as_str(), "svamon: K4 TextTooLong")?);
+    let most = of_assertions(&rt, 4096)?;
+    assert!(rt; is_told(&rt, DUMP, most.as_str(), "")?);
+    let more = of_assertions(&rt, 4097)?;
+    assert!(rt; is_told(&rt, DUMP, more.as_str(), "svamon: U3 BadJob")?);
     Ok(())
 }
 
@@ -180,63 +192,64 @@ fn eight_monitors_any_window(rt: HostRuntime) -> Result<(), Fail> {
     }
     for window in [2, 1000, 65_536] {
         let other = eight_report(&rt, dump.as_str(), window)?;
-        assert_eq!(rt; other.as_str(), first.as_str(), "windows of {window}");
+        assert!(rt; other.as_str() == first.as_str(), "windows of {window}");
     }
     Ok(())
 }
 
-/// The bytes of the program of the assertion `r`, or the line of the fault.
-fn built(rt: &impl AllocGlobal, text: &str, name: &str) -> Result<Result<Vec<u8>, String>, Fail> {
+/// The bytes of the program of an assertion, and no line; or no byte, and the line of the fault.
+fn built(rt: &impl AllocGlobal, text: &str, name: &str) -> Result<(Vec<u8>, String), AllocError> {
     let mut source = Counted::new(DUMP.as_bytes());
     match build_one(rt.alloc(), &mut source, text, name) {
-        Ok(bytes) => Ok(Ok(bytes)),
-        Err(fault) => Ok(Err(fault_line(rt.alloc(), &fault)?)),
+        Ok(bytes) => Ok((bytes, String::new(rt.alloc()))),
+        Err(fault) => Ok((Vec::new(rt.alloc()), fault_line(rt.alloc(), &fault)?)),
     }
 }
 
-/// How many instructions the sample code of the assertion `r` has; none where it has no program.
-fn sample_length(rt: &impl AllocGlobal, property: &str) -> Result<Option<usize>, Fail> {
-    let text = assertion(rt, "r", property)?;
-    match built(rt, text.as_str(), "r")? {
-        Ok(bytes) => {
-            let Ok(program) = decode(rt.alloc(), bytes.as_slice()) else {
-                return Err(Fail::from("the bytes are no program"));
-            };
-            Ok(Some(program.sample.len()))
-        }
-        Err(line) if line.as_str() == "svamon: K2 CodeTooLong" => Ok(None),
-        Err(_) => Err(Fail::from("it is refused for something else")),
+/// How many instructions the sample code of a program has; none where the bytes are no program.
+fn sample_length(alloc: Global, bytes: &[u8]) -> Option<usize> {
+    match decode(alloc, bytes) {
+        Ok(program) => Some(program.sample.len()),
+        Err(_) => None,
     }
+}
+
+/// How many instructions the sample code of an assertion has, or the line of its fault.
+fn length_of(rt: &impl AllocGlobal, property: &str) -> Result<(Option<usize>, String), AllocError> {
+    let text = assertion(rt, "r", property)?;
+    let (bytes, line) = built(rt, text.as_str(), "r")?;
+    Ok((sample_length(rt.alloc(), bytes.as_slice()), line))
 }
 
 #[test]
 fn code_at_the_border(rt: HostRuntime) -> Result<(), Fail> {
-    for (operands, before, length) in [
-        (2046, "~", Some(4096)),
-        (2047, "", None),
-        (2046, "", Some(4095)),
+    for (operands, before, wanted, told) in [
+        (2046, "~", Some(4096), ""),
+        (2047, "", None, "svamon: K2 CodeTooLong"),
+        (2046, "", Some(4095), ""),
     ] {
-        let operands = joined(&rt, 0..operands, " ^ ", "x")?;
-        let property = format!(in rt.alloc(); "{before}({operands}) |-> y")?;
-        let found = sample_length(&rt, property.as_str())?;
-        assert!(rt; found == length, "{before} before {operands}");
+        let joined = joined(&rt, 0..operands, " ^ ", "x")?;
+        let property = format!(in rt.alloc(); "{before}({joined}) |-> y")?;
+        let (length, line) = length_of(&rt, property.as_str())?;
+        assert!(rt;
+            length == wanted && line.as_str() == told,
+            "{before} before {operands}"
+        );
     }
     Ok(())
 }
 
 #[test]
 fn first_fault_of_a_program(rt: HostRuntime) -> Result<(), Fail> {
+    let text = of_booleans(&rt, 128)?;
+    let no_clock = "$var wire 8 v v $end\n$enddefinitions $end\n";
+    assert!(rt; is_told(&rt, no_clock, text.as_str(), "svamon: C1 NoClock")?);
     let antecedent = joined(&rt, 0..64, " ##1 ", "v == 8'd")?;
     let consequent = joined(&rt, 64..128, " ##1 ", "v == 8'd")?;
+    let property = format!(in rt.alloc(); "{antecedent} |-> {consequent}")?;
     let name = joined(&rt, 0..65_536, "", "n")?;
-    let many = format!(in rt.alloc(); "{antecedent} |-> {consequent}")?;
-    let both = assertion(&rt, name.as_str(), many.as_str())?;
-    let told = check_line(&rt, DUMP, both.as_str())?;
-    assert_eq!(rt; told.as_str(), "svamon: K1 TooManyAtoms");
-    let text = assertion(&rt, "r", many.as_str())?;
-    let no_clock = "$var wire 8 v v $end\n$enddefinitions $end\n";
-    let told = check_line(&rt, no_clock, text.as_str())?;
-    assert_eq!(rt; told.as_str(), "svamon: C1 NoClock");
+    let text = assertion(&rt, name.as_str(), property.as_str())?;
+    assert!(rt; is_told(&rt, DUMP, text.as_str(), "svamon: K1 TooManyAtoms")?);
     Ok(())
 }
 
@@ -254,49 +267,10 @@ fn report_run(rt: &impl AllocGlobal, code: &[u8]) -> Result<String, Fail> {
 fn build_then_run(rt: HostRuntime) -> Result<(), Fail> {
     let text = "q: assert property (@(posedge clk) y |-> x);\n\
                 r: assert property (@(posedge clk) x |-> y);\n";
-    let Ok(code) = built(&rt, text, "r")? else {
-        return Err(Fail::from("it has no program"));
-    };
-    let report = report_run(&rt, code.as_slice())?;
-    assert_eq!(rt; report.as_str(), REPORT);
-    let Err(line) = built(&rt, text, "s\nt")? else {
-        return Err(Fail::from("there is no such assertion"));
-    };
-    assert_eq!(rt; line.as_str(), "svamon: N1 NoAssertion s\\nt");
-    let fault = Err(Fault::NoAssertion(String::from_str(rt.alloc(), "s")?));
-    assert_eq!(rt; status(&fault), 2);
-    Ok(())
-}
-
-#[test]
-fn words_of_builds(rt: HostRuntime) -> Result<(), Fail> {
-    let alloc = rt.alloc();
-    let words = [
-        "svamon", "build", "--vcd", "a.vcd", "--sva", "a.sva", "--axi", "p", "--name", "r",
-        "--out", "r.svm",
-    ];
-    let Ok(
-        Request::Build {
-            vcd,
-            sva,
-            axi,
-            name,
-            out,
-        },
-    ) = read_words(alloc, words.as_slice())
-    else {
-        return Err(Fail::from("the words are refused"));
-    };
-    let axi = axi.unwrap_or(String::new(alloc));
-    assert_eq!(rt;
-        (vcd.as_str(), sva.as_str(), axi.as_str()),
-        ("a.vcd", "a.sva", "p")
-    );
-    assert_eq!(rt; (name.as_str(), out.as_str()), ("r", "r.svm"));
-    let words = ["svamon", "rules", "--axi", "p"];
-    let Ok(Request::Rules { axi }) = read_words(alloc, words.as_slice()) else {
-        return Err(Fail::from("the words are refused"));
-    };
-    assert_eq!(rt; axi.as_str(), "p");
+    let (code, line) = built(&rt, text, "r")?;
+    assert!(rt; line.as_str().is_empty());
+    assert!(rt; report_run(&rt, code.as_slice())?.as_str() == REPORT);
+    let (code, line) = built(&rt, text, "s\nt")?;
+    assert!(rt; code.is_empty() && line.as_str() == "svamon: N1 NoAssertion s\\nt");
     Ok(())
 }

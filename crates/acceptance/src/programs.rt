@@ -1,6 +1,8 @@
 //! Programs from bytes: their limits, and each refusal with its line.
 
-use cli::{Fault, Request, fault_line, read_words, status, verify_code};
+use crate::reports::has_line;
+use cli::{Fault, fault_line, verify_code};
+use cli_runs::run_code;
 use signals::{Counted, CutWriter};
 use std::alloc::{AllocError, Global};
 use std::test::Fail;
@@ -46,51 +48,74 @@ fn told(alloc: Global, code: &[u8]) -> Result<String, Fail> {
     }
 }
 
+/// A dump with one tick, at which x is 1 and y is 0.
+const DUMP: &str =
+    "$scope module top $end $var wire 1 ! clk $end $var wire 1 x x $end $var wire 1 y y $end\n\
+    $upscope $end $enddefinitions $end\n#0 0! 1x 0y\n#5 1!\n";
+
+/// The report of the program over the dump.
+const REPORT: &[u8] = b"svamon 1\nclocks 1\nmonitor r holds 0 vacuous 0 fails 1 disabled 0 open 0\n\
+    fail r start 0 clock 0\ntotal holds 0 vacuous 0 fails 1 disabled 0 open 0\n";
+
 #[test]
-fn verify_prints_limits(rt: HostRuntime) -> Result<(), Fail> {
-    let line = told(rt.alloc(), PROGRAM.as_slice())?;
-    assert_eq!(rt;
-        line.as_str(),
-        "history 0 stack 1 attempts 1 obligations 1 budget 14\n"
-    );
+fn report_of_a_program(rt: HostRuntime) -> Result<(), Fail> {
+    let mut source = Counted::new(DUMP.as_bytes());
+    let mut out = Counted::new(CutWriter::new(rt.alloc(), 1000)?);
+    let answer = run_code(rt.alloc(), &mut source, PROGRAM.as_slice(), 1024, &mut out);
+    assert!(rt; answer.ok() == Some([0, 0, 1, 0, 0]));
+    assert!(rt; out.inner.as_slice() == REPORT);
     Ok(())
 }
 
-/// Each field at the most that it may be, and one more.
+/// Whether this is told of the program with other bytes from a place on.
+fn is_told(alloc: Global, place: usize, bytes: &[u8], line: &str) -> Result<bool, Fail> {
+    let code = changed(alloc, place, bytes)?;
+    Ok(told(alloc, code.as_slice())?.as_str() == line)
+}
+
+/// The program as it stands, and with the most that each of its limits may be.
 #[test]
-fn declared_limits(rt: HostRuntime) -> Result<(), Fail> {
-    let alloc = rt.alloc();
-    for (place, most, more, field) in [
-        (5, [0x10, 0x00], [0x10, 0x01], "history"),
-        (7, [0x04, 0x00], [0x04, 0x01], "stack"),
-        (9, [0x04, 0x00], [0x04, 0x01], "attempts"),
-        (11, [0x04, 0x00], [0x04, 0x01], "obligations"),
+fn accepted_programs(rt: HostRuntime) -> Result<(), Fail> {
+    for (place, bytes, line) in [
+        (
+            114,
+            [].as_slice(),
+            "history 0 stack 1 attempts 1 obligations 1 budget 14\n",
+        ),
+        (
+            5,
+            [0x10, 0].as_slice(),
+            "history 4096 stack 1 attempts 1 obligations 1 budget 14\n",
+        ),
+        (
+            7,
+            [0x04, 0].as_slice(),
+            "history 0 stack 1024 attempts 1 obligations 1 budget 14\n",
+        ),
+        (
+            9,
+            [0x04, 0].as_slice(),
+            "history 0 stack 1 attempts 1024 obligations 1 budget 14\n",
+        ),
+        (
+            11,
+            [0x04, 0].as_slice(),
+            "history 0 stack 1 attempts 1 obligations 1024 budget 14\n",
+        ),
+        (
+            13,
+            [1, 0, 0, 0].as_slice(),
+            "history 0 stack 1 attempts 1 obligations 1 budget 16777216\n",
+        ),
     ] {
-        let accepted = changed(alloc, place, most.as_slice())?;
-        assert!(rt;
-            told(alloc, accepted.as_slice())?
-                .as_str()
-                .starts_with("history ")
-        );
-        let refused = changed(alloc, place, more.as_slice())?;
-        let line = format!(in alloc; "svamon: F15 LimitTooLarge {field}")?;
-        assert_eq!(rt; told(alloc, refused.as_slice())?, line);
+        assert!(rt; is_told(rt.alloc(), place, bytes, line)?, "{place}");
     }
-    let most = changed(alloc, 13, [1, 0, 0, 0].as_slice())?;
-    let line = "history 0 stack 1 attempts 1 obligations 1 budget 16777216\n";
-    assert_eq!(rt; told(alloc, most.as_slice())?.as_str(), line);
-    let more = changed(alloc, 13, [1, 0, 0, 1].as_slice())?;
-    assert_eq!(rt;
-        told(alloc, more.as_slice())?.as_str(),
-        "svamon: F15 LimitTooLarge budget"
-    );
     Ok(())
 }
 
 /// One change each, and what is told of it.
 #[test]
 fn refused_programs(rt: HostRuntime) -> Result<(), Fail> {
-    let alloc = rt.alloc();
     for (place, bytes, line) in [
         (0, [0x00].as_slice(), "svamon: B1 Magic"),
         (4, [3].as_slice(), "svamon: B2 Version"),
@@ -113,90 +138,82 @@ fn refused_programs(rt: HostRuntime) -> Result<(), Fail> {
             "svamon: F13 PoolTooSmall obligations 1",
         ),
         (16, [13].as_slice(), "svamon: F14 BudgetTooSmall 14"),
+        (5, [0x10, 1].as_slice(), "svamon: F15 LimitTooLarge history"),
+        (7, [0x04, 1].as_slice(), "svamon: F15 LimitTooLarge stack"),
+        (
+            9,
+            [0x04, 1].as_slice(),
+            "svamon: F15 LimitTooLarge attempts",
+        ),
+        (
+            11,
+            [0x04, 1].as_slice(),
+            "svamon: F15 LimitTooLarge obligations",
+        ),
+        (
+            13,
+            [1, 0, 0, 1].as_slice(),
+            "svamon: F15 LimitTooLarge budget",
+        ),
     ] {
-        let code = changed(alloc, place, bytes)?;
-        assert_eq!(rt; told(alloc, code.as_slice())?.as_str(), line, "at {place}");
+        assert!(rt; is_told(rt.alloc(), place, bytes, line)?, "{place}: {line}");
     }
     Ok(())
+}
+
+/// Whether a program that ends early, at a byte, is refused so.
+fn is_cut(alloc: Global, end: usize) -> Result<bool, Fail> {
+    let line = format!(in alloc; "svamon: B3 Truncated {end}")?;
+    let code = PROGRAM.as_slice().get(..end).unwrap_or(PROGRAM.as_slice());
+    Ok(told(alloc, code)?.as_str() == line.as_str())
 }
 
 #[test]
 fn cut_and_longer_programs(rt: HostRuntime) -> Result<(), Fail> {
     let alloc = rt.alloc();
     for end in 0..114 {
-        let line = format!(in alloc; "svamon: B3 Truncated {end}")?;
-        let cut = PROGRAM.as_slice().get(..end).unwrap_or(PROGRAM.as_slice());
-        assert_eq!(rt; told(alloc, cut)?, line);
+        assert!(rt; is_cut(alloc, end)?, "cut at {end}");
     }
     let mut longer = changed(alloc, 114, [].as_slice())?;
     longer.push(0)?;
-    assert_eq!(rt;
-        told(alloc, longer.as_slice())?.as_str(),
-        "svamon: B6 TrailingBytes 114"
-    );
+    let line = told(alloc, longer.as_slice())?;
+    assert!(rt; line.as_str() == "svamon: B6 TrailingBytes 114");
     Ok(())
+}
+
+/// Whether a refusal has this line, and the status 2.
+fn is_line(alloc: Global, refusal: Refusal, line: &str) -> Result<bool, AllocError> {
+    has_line(alloc, Fault::Refused(refusal), line, 2)
 }
 
 /// The lines of the refusals that no change of one field brings.
 #[test]
 fn lines_of_refusals(rt: HostRuntime) -> Result<(), Fail> {
     let alloc = rt.alloc();
-    for (refusal, line) in [
-        (Refusal::Operand(2), "svamon: F1 Operand 2"),
-        (Refusal::Overflow(1024), "svamon: F3 Overflow 1024"),
-        (Refusal::JoinMismatch(3), "svamon: F6 JoinMismatch 3"),
-        (Refusal::HistoryTooShort(1), "svamon: F10 HistoryTooShort 1"),
-        (Refusal::Cycle(0), "svamon: F12 Cycle 0"),
-        (
-            Refusal::PoolTooSmall(Pool::Attempts, 4),
-            "svamon: F13 PoolTooSmall attempts 4",
-        ),
-        (
-            Refusal::LimitTooLarge(Field::AntecedentPositions),
-            "svamon: F15 LimitTooLarge antecedent positions",
-        ),
-        (
-            Refusal::LimitTooLarge(Field::ConsequentCode),
-            "svamon: F15 LimitTooLarge consequent code",
-        ),
-    ] {
-        let fault = Fault::Refused(refusal);
-        assert_eq!(rt; fault_line(alloc, &fault)?.as_str(), line);
-        assert_eq!(rt; status(&Err(fault)), 2, "for {line}");
-    }
-    let memory = Fault::Refused(Refusal::Memory);
-    assert_eq!(rt; fault_line(alloc, &memory)?.as_str(), "svamon: OutOfMemory");
-    assert_eq!(rt; status(&Err(memory)), 3);
-    Ok(())
-}
-
-#[test]
-fn words_of_programs(rt: HostRuntime) -> Result<(), Fail> {
-    let alloc = rt.alloc();
-    let words = ["svamon", "verify", "a.svm"];
-    let Ok(Request::Verify { code }) = read_words(alloc, words.as_slice()) else {
-        return Err(Fail::from("the words are refused"));
-    };
-    assert_eq!(rt; code.as_str(), "a.svm");
-    let words = [
-        "svamon", "run", "--vcd", "a.vcd", "--code", "a.svm", "--window", "7",
-    ];
-    let Ok(Request::Run { vcd, code, window }) = read_words(alloc, words.as_slice()) else {
-        return Err(Fail::from("the words are refused"));
-    };
-    assert_eq!(rt;
-        (vcd.as_str(), code.as_str(), window),
-        ("a.vcd", "a.svm", 7)
+    assert!(rt; is_line(alloc, Refusal::Operand(2), "svamon: F1 Operand 2")?);
+    assert!(rt; is_line(alloc, Refusal::Overflow(1024), "svamon: F3 Overflow 1024")?);
+    assert!(rt; is_line(alloc, Refusal::JoinMismatch(3), "svamon: F6 JoinMismatch 3")?);
+    assert!(rt;
+        is_line(
+            alloc,
+            Refusal::HistoryTooShort(1),
+            "svamon: F10 HistoryTooShort 1"
+        )?
     );
-    let words = ["svamon", "run", "--code", "a.svm", "--vcd", "a.vcd"];
-    let read = read_words(alloc, words.as_slice());
-    assert!(rt; matches!(read, Ok(Request::Run { window: 1024, .. })));
-    for words in [
-        ["svamon", "verify"].as_slice(),
-        ["svamon", "run", "--vcd", "a.vcd"].as_slice(),
-        ["svamon", "verify", "a.svm", "b.svm"].as_slice(),
-    ] {
-        assert!(rt; read_words(alloc, words).is_err());
-    }
+    assert!(rt; is_line(alloc, Refusal::Cycle(0), "svamon: F12 Cycle 0")?);
+    let pool = Refusal::PoolTooSmall(Pool::Attempts, 4);
+    assert!(rt; is_line(alloc, pool, "svamon: F13 PoolTooSmall attempts 4")?);
+    let positions = Refusal::LimitTooLarge(Field::AntecedentPositions);
+    assert!(rt;
+        is_line(
+            alloc,
+            positions,
+            "svamon: F15 LimitTooLarge antecedent positions"
+        )?
+    );
+    let code = Refusal::LimitTooLarge(Field::ConsequentCode);
+    assert!(rt; is_line(alloc, code, "svamon: F15 LimitTooLarge consequent code")?);
+    let memory = Fault::Refused(Refusal::Memory);
+    assert!(rt; has_line(alloc, memory, "svamon: OutOfMemory", 3)?);
     Ok(())
 }

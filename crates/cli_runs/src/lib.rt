@@ -16,7 +16,5 @@
 #![tactic(auto)]
 
 mod run;
-#[cfg(test)]
-mod tests;
 
 pub use run::run_code;

@@ -5,9 +5,6 @@
 
 ghost use Rattle.cycle_window.specs.Held.{AreClocksOf};
 
-#[cfg(test)]
-mod tests;
-
 use anyhow::{Result, bail};
 use cycle_window::{Clocks, Columns, WatchedSignal, Window};
 use signals::Counted;

@@ -22,9 +22,9 @@ fn assertions(alloc: Global, more: &str) -> Result<usize, Fail> {
 #[test]
 fn port_assertion_counts(rt: HostRuntime) -> Result<(), Fail> {
     let alloc = rt.alloc();
-    assert_eq!(rt; assertions(alloc, "")?, 61);
-    assert_eq!(rt; assertions(alloc, " mode=single")?, 65);
-    assert_eq!(rt; assertions(alloc, " wait=0 mode=single watch=3,5")?, 64);
+    assert!(rt; assertions(alloc, "")? == 61);
+    assert!(rt; assertions(alloc, " mode=single")? == 65);
+    assert!(rt; assertions(alloc, " wait=0 mode=single watch=3,5")? == 64);
     Ok(())
 }
 
@@ -40,13 +40,13 @@ fn fault_of(alloc: Global, text: &str) -> Option<PortFault> {
 fn bad_port_lines(rt: HostRuntime) -> Result<(), Fail> {
     let alloc = rt.alloc();
     let width = "port p clock=c reset=r prefix= addr=32 data=24 id=4";
-    assert_eq!(rt; fault_of(alloc, width), Some(PortFault::BadWidth));
+    assert!(rt; fault_of(alloc, width) == Some(PortFault::BadWidth));
     let id = "port p clock=c reset=r prefix= addr=32 data=32 id=2 watch=4";
-    assert_eq!(rt; fault_of(alloc, id), Some(PortFault::BadId));
+    assert!(rt; fault_of(alloc, id) == Some(PortFault::BadId));
     let name = "port p clock=assert reset=r prefix= addr=32 data=32 id=2";
-    assert_eq!(rt; fault_of(alloc, name), Some(PortFault::BadName));
+    assert!(rt; fault_of(alloc, name) == Some(PortFault::BadName));
     let line = "# ports\n\npart q\n";
-    assert_eq!(rt; fault_of(alloc, line), Some(PortFault::BadLine(3)));
+    assert!(rt; fault_of(alloc, line) == Some(PortFault::BadLine(3)));
     Ok(())
 }
 
@@ -54,14 +54,14 @@ fn bad_port_lines(rt: HostRuntime) -> Result<(), Fail> {
 fn fields_of_a_port(rt: HostRuntime) -> Result<(), Fail> {
     let line = "port p id=3 watch=5,0 case=upper reset=r clock=t.c prefix=u. addr=12 data=8";
     let ports = read_ports(rt.alloc(), line)?;
-    assert_eq!(rt; ports.len(), 1);
+    assert!(rt; ports.len() == 1);
     for (port, _mode) in &ports {
-        assert_eq!(rt; port.name.as_str(), "p");
-        assert_eq!(rt; port.clock.as_str(), "t.c");
-        assert_eq!(rt; port.prefix.as_str(), "u.");
-        assert_eq!(rt; port.watch.as_slice(), [5, 0].as_slice());
-        assert_eq!(rt; port.case, Case::Upper);
-        assert_eq!(rt; port.wait, 16);
+        assert!(rt; port.name.as_str() == "p");
+        assert!(rt; port.clock.as_str() == "t.c");
+        assert!(rt; port.prefix.as_str() == "u.");
+        assert!(rt; port.watch.as_slice() == [5, 0].as_slice());
+        assert!(rt; port.case == Case::Upper);
+        assert!(rt; port.wait == 16);
     }
     Ok(())
 }

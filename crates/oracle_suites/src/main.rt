@@ -1,13 +1,10 @@
 //! Checks the texts of `suites.txt`, one a line, over a few signals, and prints of each how many
-//! assertions its suite has, or else its first fault. With two files' names as its words it checks
-//! the second file as one text over the paths of the first, a path and a width a line, and prints
-//! how long that took.
+//! assertions its suite has, or else its first fault. Then it prints the verdicts on the assertions
+//! of `verdicts.txt`. With two files' names as its words it checks the second file as one text over
+//! the paths of the first, a path and a width a line, and prints how long that took.
 #![tactic(auto)]
 
-#[cfg(test)]
-mod names;
-#[cfg(test)]
-mod suites;
+mod verdicts;
 
 use anyhow::{Context, Result, bail};
 use lexer::lex;
@@ -22,10 +19,9 @@ fn names_of(alloc: Global, lines: &str) -> Result<Names> {
     let mut names = Names::new(alloc);
     for line in lines.lines() {
         let (path, width) = line.split_once(' ').context("a path without a width")?;
-        let width = width.parse::<u8>()?;
-        if width == 0 || width > 128 {
+        let Ok(width @ 1..=128) = width.parse::<u8>() else {
             bail!("no such width");
-        }
+        };
         names.push(alloc, path, width)?;
     }
     Ok(names)
@@ -87,5 +83,6 @@ fn main(rt: HostRuntime) -> Result<()> {
         let verdict = verdict(rt.alloc(), &names, text)?;
         println!(rt; "{verdict}")?;
     }
-    Ok(())
+    let lines = fs::read_to_string(&rt, "verdicts.txt")?;
+    verdicts::show(&rt, lines.as_str())
 }

@@ -1,14 +1,17 @@
 //! Reads the texts of `texts.txt`, one a line, and prints of each whether it is a file, or else its
-//! fault. With a file's name as its word it reads that file as one text, and prints how long
-//! cutting it into tokens and reading them took.
+//! fault. Then it reads what is asserted on each line of `roots.txt`, and prints the sign or word
+//! at the root of the tree and how many parts it has, worked out by hand from the standard's table
+//! of precedence (IEEE 1800-2017, table 11-2, and 16.9 for sequences). With a file's name as its
+//! word it reads that file as one text, and prints how long cutting it into tokens and reading them
+//! took.
 #![tactic(auto)]
 
-#[cfg(test)]
-mod tests;
+mod roots;
 
 use anyhow::Result;
 use lexer::{LexFault, lex};
 use parser::{ParseFault, parse};
+use roots::root_of_file;
 use std::alloc::Global;
 use std::time::Instant;
 use std::{env, fs};
@@ -37,6 +40,22 @@ fn verdict(alloc: Global, text: &str) -> Result<String> {
     };
     match parse(alloc, tokens.as_slice()) {
         Ok(_) => Ok(String::from_str(alloc, "read")?),
+        Err(fault) => parse_line(alloc, fault),
+    }
+}
+
+/// What stands at the root of an assertion of the text, or its fault.
+fn root_line(alloc: Global, asserted: &str) -> Result<String> {
+    let text = format!(in alloc; "assert property (@(posedge c) {asserted});")?;
+    let tokens = match lex(alloc, text.as_str()) {
+        Ok(tokens) => tokens,
+        Err(fault) => return lex_line(alloc, fault),
+    };
+    match parse(alloc, tokens.as_slice()) {
+        Ok(file) => {
+            let (word, parts) = root_of_file(&file);
+            Ok(format!(in alloc; "{word} {parts}")?)
+        }
         Err(fault) => parse_line(alloc, fault),
     }
 }
@@ -77,6 +96,11 @@ fn main(rt: HostRuntime) -> Result<()> {
         number = number.saturating_add(1);
         let verdict = verdict(rt.alloc(), text)?;
         println!(rt; "{number} {verdict}")?;
+    }
+    let texts = fs::read_to_string(&rt, "roots.txt")?;
+    for text in texts.lines() {
+        let root = root_line(rt.alloc(), text)?;
+        println!(rt; "root {root}")?;
     }
     Ok(())
 }

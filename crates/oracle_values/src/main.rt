@@ -14,7 +14,7 @@ use std::io::Print;
 fn row_of(alloc: Global, line: &str) -> Result<Vec<u128>> {
     let mut row = Vec::new(alloc);
     for word in line.split(' ') {
-        row.push(word.parse::<u128>()?)?;
+        row.push(words::number(word)?)?;
     }
     Ok(row)
 }
@@ -26,31 +26,42 @@ fn rule_of(stack: &mut Vec<Expr>) -> Result<Option<Rule>> {
     Ok(Some(Rule { when, by }))
 }
 
+/// Gives a counter a clause of what stands on the stack, or applies an operator there.
+fn add_clause(
+    alloc: Global,
+    counter: &mut Counter,
+    stack: &mut Vec<Expr>,
+    word: &str,
+) -> Result<()> {
+    match word {
+        "clear" => counter.clear = Some(words::pop(stack)?),
+        "load" => counter.load = rule_of(stack)?,
+        "add" => counter.add = rule_of(stack)?,
+        "sub" => counter.sub = rule_of(stack)?,
+        _ => words::apply(alloc, stack, word)?,
+    }
+    Ok(())
+}
+
 /// A counter: its width, and its clauses.
 fn counter_of(alloc: Global, line: &str) -> Result<Counter> {
     let (width, clauses) = line.split_once(' ').unwrap_or((line, ""));
-    let width = width.parse::<u8>()?;
+    let width = words::small(width)?;
     if width == 0 || width > 128 {
         bail!("no such width");
     }
-    let mut stack = Vec::new(alloc);
-    let (mut clear, mut load, mut add, mut sub) = (None, None, None, None);
-    for word in clauses.split_whitespace() {
-        match word {
-            "clear" => clear = Some(words::pop(&mut stack)?),
-            "load" => load = rule_of(&mut stack)?,
-            "add" => add = rule_of(&mut stack)?,
-            "sub" => sub = rule_of(&mut stack)?,
-            _ => words::apply(alloc, &mut stack, word)?,
-        }
-    }
-    Ok(Counter {
+    let mut counter = Counter {
         width,
-        clear,
-        load,
-        add,
-        sub,
-    })
+        clear: None,
+        load: None,
+        add: None,
+        sub: None,
+    };
+    let mut stack = Vec::new(alloc);
+    for word in clauses.split_whitespace() {
+        add_clause(alloc, &mut counter, &mut stack, word)?;
+    }
+    Ok(counter)
 }
 
 /// The expression that the words make.
@@ -68,7 +79,7 @@ fn show<R: Print + AllocGlobal>(rt: &R, line: &str, rows: &Rows) -> Result<()> {
     let (context, words) = line.split_once(' ').context("no expression")?;
     let expr = expression_of(rt.alloc(), words)?;
     let own = expr.width();
-    let context = match context.parse::<u8>()? {
+    let context = match words::small(context)? {
         0 => own,
         context => context,
     };

@@ -71,9 +71,32 @@ fn change_of(word: &str) -> Option<Change> {
     }
 }
 
+/// A number of decimal digits.
+pub fn number(word: &str) -> Result<u128> {
+    match word.parse::<u128>() {
+        Ok(number) => Ok(number),
+        Err(_) => bail!("no number"),
+    }
+}
+
+/// A number of decimal digits, up to 255.
+pub fn small(word: &str) -> Result<u8> {
+    match word.parse::<u8>() {
+        Ok(number) => Ok(number),
+        Err(_) => bail!("no small number"),
+    }
+}
+
 /// The operand on top.
 pub fn pop(stack: &mut Vec<Expr>) -> Result<Expr> {
     stack.pop().context("an operand is missing")
+}
+
+/// The two operands on top, the lower one first.
+fn pop_two(stack: &mut Vec<Expr>) -> Result<(Expr, Expr)> {
+    let right = pop(stack)?;
+    let left = pop(stack)?;
+    Ok((left, right))
 }
 
 /// An operator of one operand, if the word is one.
@@ -92,7 +115,7 @@ fn apply_one(alloc: Global, stack: &mut Vec<Expr>, word: &str) -> Result<bool> {
         stack.push(operand.group(alloc)?)?;
     } else if let Some(ticks) = word.strip_prefix("past:") {
         let operand = pop(stack)?;
-        stack.push(operand.past(alloc, ticks.parse::<u8>()?)?)?;
+        stack.push(operand.past(alloc, small(ticks)?)?)?;
     } else {
         return Ok(false);
     }
@@ -107,55 +130,84 @@ fn join(alloc: Global, left: Expr, right: Expr) -> Result<Expr> {
     Ok(left.concat(alloc, right)?)
 }
 
+/// What an operator of two operands makes, if the word is one.
+fn made_of_two(alloc: Global, stack: &mut Vec<Expr>, word: &str) -> Result<Option<Expr>> {
+    let made = if let Some(op) = arithmetic_of(word) {
+        let (left, right) = pop_two(stack)?;
+        left.combine(alloc, op, right)?
+    } else if let Some(op) = shift_of(word) {
+        let (left, right) = pop_two(stack)?;
+        left.shift(alloc, op, right)?
+    } else if let Some(op) = comparison_of(word) {
+        let (left, right) = pop_two(stack)?;
+        left.compare(alloc, op, right)?
+    } else if let Some(op) = connective_of(word) {
+        let (left, right) = pop_two(stack)?;
+        left.connect(alloc, op, right)?
+    } else if word == "," {
+        let (left, right) = pop_two(stack)?;
+        join(alloc, left, right)?
+    } else {
+        return Ok(None);
+    };
+    Ok(Some(made))
+}
+
+/// The choice of the three operands on top.
+fn choose(alloc: Global, stack: &mut Vec<Expr>) -> Result<Expr> {
+    let second = pop(stack)?;
+    let (condition, first) = pop_two(stack)?;
+    Ok(condition.choose(alloc, first, second)?)
+}
+
 /// An operator of two or three operands, if the word is one.
 fn apply_more(alloc: Global, stack: &mut Vec<Expr>, word: &str) -> Result<bool> {
-    let made = if let Some(op) = arithmetic_of(word) {
-        let right = pop(stack)?;
-        pop(stack)?.combine(alloc, op, right)?
-    } else if let Some(op) = shift_of(word) {
-        let right = pop(stack)?;
-        pop(stack)?.shift(alloc, op, right)?
-    } else if let Some(op) = comparison_of(word) {
-        let right = pop(stack)?;
-        pop(stack)?.compare(alloc, op, right)?
-    } else if let Some(op) = connective_of(word) {
-        let right = pop(stack)?;
-        pop(stack)?.connect(alloc, op, right)?
-    } else if word == "," {
-        let right = pop(stack)?;
-        join(alloc, pop(stack)?, right)?
-    } else if word == "?" {
-        let second = pop(stack)?;
-        let first = pop(stack)?;
-        pop(stack)?.choose(alloc, first, second)?
-    } else {
-        return Ok(false);
+    if word == "?" {
+        let made = choose(alloc, stack)?;
+        stack.push(made)?;
+        return Ok(true);
+    }
+    match made_of_two(alloc, stack, word)? {
+        Some(made) => {
+            stack.push(made)?;
+            Ok(true)
+        }
+        None => Ok(false),
+    }
+}
+
+/// `WIDTH'VALUE`
+fn constant(width: &str, value: &str) -> Result<Expr> {
+    let bits = Bits::new(small(width)?, number(value)?);
+    Ok(Expr::constant(bits.context("a number over its width")?))
+}
+
+/// A name of so many bits.
+fn name_of(origin: &str, place: &str, width: &str) -> Result<Name> {
+    let origin = match origin {
+        "signal" => Origin::Signal,
+        "counter" => Origin::Counter,
+        _ => bail!("unknown word {origin}"),
     };
-    stack.push(made)?;
-    Ok(true)
+    let place = usize::from(small(place)?);
+    Name::new(origin, place, small(width)?).context("no such width")
 }
 
 /// `WIDTH'VALUE`, or `signal:PLACE:WIDTH` or `counter:PLACE:WIDTH`, and `:HIGH:LOW` behind these
 /// for some bits.
 fn leaf(word: &str) -> Result<Expr> {
     if let Some((width, value)) = word.split_once('\'') {
-        let bits = Bits::new(width.parse::<u8>()?, value.parse::<u128>()?);
-        return Ok(Expr::constant(bits.context("a number over its width")?));
+        return constant(width, value);
     }
     let mut fields = word.split(':');
-    let origin = match fields.next() {
-        Some("signal") => Origin::Signal,
-        Some("counter") => Origin::Counter,
-        _ => bail!("unknown word {word}"),
-    };
-    let place = fields.next().context("no place")?.parse::<usize>()?;
-    let width = fields.next().context("no width")?.parse::<u8>()?;
-    let name = Name::new(origin, place, width).context("no such width")?;
+    let origin = fields.next().context("no origin")?;
+    let place = fields.next().context("no place")?;
+    let name = name_of(origin, place, fields.next().context("no width")?)?;
     match fields.next() {
         None => Ok(Expr::name(name)),
         Some(high) => {
-            let low = fields.next().context("no low bit")?.parse::<u8>()?;
-            let part = Slice::new(name, high.parse::<u8>()?, low);
+            let low = fields.next().context("no low bit")?;
+            let part = Slice::new(name, small(high)?, small(low)?);
             Ok(Expr::slice(part.context("no such bits")?))
         }
     }

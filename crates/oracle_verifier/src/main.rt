@@ -1,11 +1,8 @@
 //! Reads the files of `cases.txt`, one a line in hexadecimal digits, and prints of each the least
 //! limits and the lives of a program that is accepted, or else the fault. An accepted program and
-//! its copy are to say the same as the file. With a file's name as its word it prints how long
-//! verifying that file took at best.
+//! its copy are to say the same as the file, and `least_limits` the same of it before it is
+//! verified. With a file's name as its word it prints how long verifying that file took at best.
 #![tactic(auto)]
-
-#[cfg(test)]
-mod tests;
 
 ghost use Rattle.std.specs.Prelude.{◌<◌};
 
@@ -14,7 +11,7 @@ use bytecode::{CodeFault, Limits, Program, decode, encode};
 use std::alloc::Global;
 use std::time::Instant;
 use std::{env, fs};
-use verifier::{Refusal, Verified, verify};
+use verifier::{LeastLimits, Refusal, Verified, least_limits, verify};
 
 /// The value of a hexadecimal digit, 0 for other bytes.
 fn digit(byte: u8) -> u8
@@ -64,19 +61,32 @@ fn accepted(alloc: Global, verified: &Verified) -> Result<String> {
     Ok(format!(in alloc; "accepted {limits} lives {antecedent} {consequent}")?)
 }
 
+/// What is told of a program of these bytes that was accepted.
+fn told(
+    alloc: Global,
+    verified: &Verified,
+    least: Option<LeastLimits>,
+    declared: Limits,
+    bytes: &[u8],
+) -> Result<String> {
+    if least != Some(verified.least_limits()) {
+        return Ok(String::from_str(alloc, "other limits")?);
+    }
+    if !is_same(alloc, verified, declared, bytes)? {
+        return Ok(String::from_str(alloc, "another program")?);
+    }
+    if !is_copied(alloc, verified, declared, bytes)? {
+        return Ok(String::from_str(alloc, "another copy")?);
+    }
+    accepted(alloc, verified)
+}
+
 /// What `verify` answers for a program of these bytes.
 fn verdict(alloc: Global, program: Program, bytes: &[u8]) -> Result<String> {
     let declared = program.limits;
+    let least = least_limits(alloc, &program).ok();
     match verify(alloc, program) {
-        Ok(verified) => {
-            if !is_same(alloc, &verified, declared, bytes)? {
-                return Ok(String::from_str(alloc, "another program")?);
-            }
-            if !is_copied(alloc, &verified, declared, bytes)? {
-                return Ok(String::from_str(alloc, "another copy")?);
-            }
-            accepted(alloc, &verified)
-        }
+        Ok(verified) => told(alloc, &verified, least, declared, bytes),
         Err(Refusal::Memory) => bail!("out of memory"),
         Err(refusal) => Ok(format!(in alloc; "{refusal}")?),
     }

@@ -171,16 +171,16 @@ fn walk_that_retires_some(rt: HostRuntime) -> Result<(), Fail> {
     count_down(&mut pool);
     assert!(rt; holds(&pool, &[]));
     count_down(&mut pool);
-    assert_eq!(rt; pool.len(), 0);
+    assert!(rt; pool.len() == 0);
     Ok(())
 }
 
 #[test]
 fn filled(rt: HostRuntime) -> Result<(), Fail> {
     let mut pool = pair_of(rt.alloc(), 3, &[5])?.pool;
-    assert_eq!(rt; pool.cap(), 3);
+    assert!(rt; pool.cap() == 3);
     fill(&mut pool, 9);
-    assert_eq!(rt; pool.len(), 3);
+    assert!(rt; pool.len() == 3);
     assert!(rt; holds(&pool, &[5, 9, 9]));
     Ok(())
 }
@@ -250,11 +250,11 @@ fn capacity_1024(rt: HostRuntime) -> Result<(), Fail> {
     assert!(rt; fills(rt.alloc(), 1024)?);
     let mut pool = pair_of(rt.alloc(), 1024, &[])?.pool;
     fill(&mut pool, 1);
-    assert_eq!(rt; pool.len(), 1024);
+    assert!(rt; pool.len() == 1024);
     count_down(&mut pool);
-    assert_eq!(rt; pool.len(), 1024);
+    assert!(rt; pool.len() == 1024);
     count_down(&mut pool);
-    assert_eq!(rt; pool.len(), 0);
+    assert!(rt; pool.len() == 0);
     Ok(())
 }
 
@@ -280,7 +280,7 @@ fn random_calls(rt: HostRuntime) -> Result<(), Fail> {
 fn records_of_two_sizes(rt: HostRuntime) -> Result<(), Fail> {
     let mut pool = Pool::<(u8, u128)>::new(rt.alloc(), 2)?;
     let slot = pool.open((7, 1 << 100));
-    assert_eq!(rt; pool.len(), 1);
+    assert!(rt; pool.len() == 1);
     assert!(rt; nth(&pool, 0) == Some(slot));
     if let Some(first) = nth(&pool, 0) {
         assert!(rt; pool.get(first) == (7, 1 << 100));

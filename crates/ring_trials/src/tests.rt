@@ -152,6 +152,6 @@ fn at_most_one_refused(rt: HostRuntime) -> Result<(), Fail> {
 #[test]
 fn moves(rt: HostRuntime) -> Result<(), Fail> {
     let ring = moved(Ring::new(rt.alloc(), 1, 1)?);
-    assert_eq!(rt; ring.get(1, 0), 0);
+    assert!(rt; ring.get(1, 0) == 0);
     Ok(())
 }

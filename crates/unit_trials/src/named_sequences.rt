@@ -57,10 +57,9 @@ fn nested_twice(rt: HostRuntime) -> Result<(), Fail> {
     }
     let table = entries(alloc, bodies.as_slice())?;
     for (place, weight) in [(0, 1), (1, 3), (2, 7), (6, 127), (7, 128), (40, 128)] {
-        assert_eq!(rt; weight_at(table.as_slice(), place), weight, "{place}");
-        assert_eq!(rt;
-            has_sequence(table.as_slice(), place),
-            weight < 128,
+        assert!(rt; weight_at(table.as_slice(), place) == weight, "{place}");
+        assert!(rt;
+            has_sequence(table.as_slice(), place) == (weight < 128),
             "{place}"
         );
     }
@@ -79,11 +78,11 @@ fn nested_weightless(rt: HostRuntime) -> Result<(), Fail> {
     }
     let table = entries(alloc, bodies.as_slice())?;
     if let Some(Some(entry)) = table.get(64) {
-        assert_eq!(rt; entry.facts.weight, 0);
-        assert_eq!(rt; entry.facts.empty, true);
-        assert_eq!(rt; entry.facts.ticks, false);
+        assert!(rt; entry.facts.weight == 0);
+        assert!(rt; entry.facts.empty);
+        assert!(rt; !entry.facts.ticks);
     }
-    assert_eq!(rt; has_sequence(table.as_slice(), 64), true);
+    assert!(rt; has_sequence(table.as_slice(), 64));
     Ok(())
 }
 
@@ -98,16 +97,15 @@ fn cycles(rt: HostRuntime) -> Result<(), Fail> {
     let table = entries(alloc, bodies.as_slice())?;
     for (place, cyclic) in [(0, true), (1, false), (2, false)] {
         if place < bodies.len() {
-            assert_eq!(rt;
-                is_cyclic(alloc, bodies.as_slice(), place)?,
-                cyclic,
+            assert!(rt;
+                is_cyclic(alloc, bodies.as_slice(), place)? == cyclic,
                 "{place}"
             );
         }
     }
-    assert_eq!(rt; has_sequence(table.as_slice(), 0), false);
-    assert_eq!(rt; has_sequence(table.as_slice(), 1), false);
-    assert_eq!(rt; has_sequence(table.as_slice(), 2), true);
+    assert!(rt; !has_sequence(table.as_slice(), 0));
+    assert!(rt; !has_sequence(table.as_slice(), 1));
+    assert!(rt; has_sequence(table.as_slice(), 2));
     Ok(())
 }
 
@@ -121,10 +119,10 @@ fn used_before_declared(rt: HostRuntime) -> Result<(), Fail> {
     bodies.push(Draft::Boolean(0))?;
     let table = entries(alloc, bodies.as_slice())?;
     for (place, weight) in [(0, 7), (1, 3), (2, 1)] {
-        assert_eq!(rt; weight_at(table.as_slice(), place), weight, "{place}");
+        assert!(rt; weight_at(table.as_slice(), place) == weight, "{place}");
     }
     bodies.push(Draft::Name(9))?;
-    assert_eq!(rt; are_declared(bodies.as_slice()), false);
+    assert!(rt; !are_declared(bodies.as_slice()));
     Ok(())
 }
 
@@ -136,16 +134,13 @@ fn places(rt: HostRuntime) -> Result<(), Fail> {
     let second = Box::new(alloc, Draft::Boolean(5))?;
     let draft = Draft::Delay(first, 2, 1, second);
     let mut places = Vec::new(alloc);
-    assert_eq!(rt;
-        place_boolean(Boolean::Listed(7), &mut places)?,
-        Boolean::Listed(0)
-    );
+    assert!(rt; place_boolean(Boolean::Listed(7), &mut places)? == Boolean::Listed(0));
     if let Some(entry) = entry_of(alloc, &draft, &[])? {
         if let Some(sequence) = &entry.sequence {
             let made: Box<Sequence> = place_sequence(alloc, sequence, &mut places)?;
-            assert_eq!(rt; weight_of(&made), Some(5));
+            assert!(rt; weight_of(&made) == Some(5));
         }
     }
-    assert_eq!(rt; places.as_slice(), [7usize, 5, 5].as_slice());
+    assert!(rt; places.as_slice() == [7usize, 5, 5].as_slice());
     Ok(())
 }

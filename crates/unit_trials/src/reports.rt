@@ -43,8 +43,8 @@ fn report_bytes(rt: HostRuntime) -> Result<(), Fail> {
     let report = report(rt.alloc())?;
     let mut out = Counted::new(CutWriter::new(rt.alloc(), 1000)?);
     assert!(rt; write_report(rt.alloc(), &report, &mut out).is_ok());
-    assert_eq!(rt; out.inner.as_slice(), TEXT);
-    assert_eq!(rt; out.failed_calls(), 0);
+    assert!(rt; out.inner.as_slice() == TEXT);
+    assert!(rt; out.failed_calls() == 0);
     Ok(())
 }
 
@@ -55,8 +55,8 @@ fn cut_reports(rt: HostRuntime) -> Result<(), Fail> {
         let mut out = Counted::new(CutWriter::new(rt.alloc(), cut)?);
         let written = write_report(rt.alloc(), &report, &mut out);
         assert!(rt; matches!(written, Err(ReportFault::Write)), "cut at {cut}");
-        assert_eq!(rt; out.inner.as_slice(), &TEXT[..cut], "cut at {cut}");
-        assert_eq!(rt; out.failed_calls(), 1, "cut at {cut}");
+        assert!(rt; out.inner.as_slice() == &TEXT[..cut], "cut at {cut}");
+        assert!(rt; out.failed_calls() == 1, "cut at {cut}");
     }
     Ok(())
 }
@@ -90,8 +90,8 @@ fn report_is_flushed(rt: HostRuntime) -> Result<(), Fail> {
         written: Vec::new(rt.alloc()),
     });
     assert!(rt; write_report(rt.alloc(), &report, &mut out).is_ok());
-    assert_eq!(rt; out.inner.written.as_slice(), TEXT);
-    assert_eq!(rt; out.failed_calls(), 0);
+    assert!(rt; out.inner.written.as_slice() == TEXT);
+    assert!(rt; out.failed_calls() == 0);
     Ok(())
 }
 
@@ -105,8 +105,8 @@ fn failures_in_order(rt: HostRuntime) -> Result<(), Fail> {
         Failure { start: 0, clock: 9 },
         Failure { start: 2, clock: 9 },
     ];
-    assert_eq!(rt; line.fails.as_slice(), want.as_slice());
-    assert_eq!(rt; line.counts.fails, 3);
+    assert!(rt; line.fails.as_slice() == want.as_slice());
+    assert!(rt; line.counts.fails == 3);
     Ok(())
 }
 
@@ -121,12 +121,12 @@ fn totals_are_held(rt: HostRuntime) {
         vacuous: 1,
         ..Counts::none()
     };
-    assert_eq!(rt;
-        most.plus(one),
-        Counts {
-            holds: u64::MAX,
-            vacuous: 1,
-            ..Counts::none()
-        }
+    assert!(rt;
+        most.plus(one)
+            == Counts {
+                holds: u64::MAX,
+                vacuous: 1,
+                ..Counts::none()
+            }
     );
 }

@@ -10,31 +10,22 @@ use std::test::Fail;
 #[test]
 fn numbers(rt: HostRuntime) -> Result<(), Fail> {
     let tokens = lex(rt.alloc(), "127 128 0 8'd5 'd5 width")?;
-    assert_eq!(rt; tokens.len(), 7);
-    assert_eq!(rt;
-        bound_of(tokens[0], 0, 127),
-        Some(Bound { value: 127, at: 0 })
-    );
-    assert_eq!(rt; bound_of(tokens[1], 0, 127), None);
-    assert_eq!(rt;
-        bound_of(tokens[1], 1, 128),
-        Some(Bound { value: 128, at: 4 })
-    );
-    assert_eq!(rt;
-        bound_of(tokens[2], 0, 127),
-        Some(Bound { value: 0, at: 8 })
-    );
-    assert_eq!(rt; bound_of(tokens[2], 1, 128), None);
-    assert_eq!(rt; bound_of(tokens[3], 0, 127), None);
-    assert_eq!(rt; bound_of(tokens[4], 0, 127), None);
-    assert_eq!(rt; bound_of(tokens[5], 0, 127), None);
-    assert_eq!(rt; bound_of(tokens[6], 0, 127), None);
+    assert!(rt; tokens.len() == 7);
+    assert!(rt; bound_of(tokens[0], 0, 127) == Some(Bound { value: 127, at: 0 }));
+    assert!(rt; bound_of(tokens[1], 0, 127).is_none());
+    assert!(rt; bound_of(tokens[1], 1, 128) == Some(Bound { value: 128, at: 4 }));
+    assert!(rt; bound_of(tokens[2], 0, 127) == Some(Bound { value: 0, at: 8 }));
+    assert!(rt; bound_of(tokens[2], 1, 128).is_none());
+    assert!(rt; bound_of(tokens[3], 0, 127).is_none());
+    assert!(rt; bound_of(tokens[4], 0, 127).is_none());
+    assert!(rt; bound_of(tokens[5], 0, 127).is_none());
+    assert!(rt; bound_of(tokens[6], 0, 127).is_none());
     let tokens = lex(rt.alloc(), "31 8'h1F bit")?;
-    assert_eq!(rt; tokens.len(), 4);
-    assert_eq!(rt; index_of(tokens[0]), Some(Index { value: 31, at: 0 }));
-    assert_eq!(rt; index_of(tokens[1]), Some(Index { value: 31, at: 3 }));
-    assert_eq!(rt; index_of(tokens[2]), None);
-    assert_eq!(rt; index_of(tokens[3]), None);
+    assert!(rt; tokens.len() == 4);
+    assert!(rt; index_of(tokens[0]) == Some(Index { value: 31, at: 0 }));
+    assert!(rt; index_of(tokens[1]) == Some(Index { value: 31, at: 3 }));
+    assert!(rt; index_of(tokens[2]).is_none());
+    assert!(rt; index_of(tokens[3]).is_none());
     Ok(())
 }
 
@@ -69,7 +60,7 @@ fn precedence(rt: HostRuntime) -> Result<(), Fail> {
     ] {
         let tokens = lex(rt.alloc(), text)?;
         assert!(rt; tokens.len() > 0, "{text}");
-        assert_eq!(rt; precedence_of(tokens[0]), expected, "{text}");
+        assert!(rt; precedence_of(tokens[0]) == expected, "{text}");
     }
     Ok(())
 }
@@ -101,7 +92,7 @@ fn marks(rt: HostRuntime) -> Result<(), Fail> {
     ] {
         let tokens = lex(rt.alloc(), text)?;
         assert!(rt; tokens.len() > 0, "{text}");
-        assert_eq!(rt; mark_of(tokens[0]), expected, "{text}");
+        assert!(rt; mark_of(tokens[0]) == expected, "{text}");
     }
     Ok(())
 }
@@ -142,7 +133,7 @@ fn terminals(rt: HostRuntime) -> Result<(), Fail> {
     ] {
         let tokens = lex(rt.alloc(), text)?;
         assert!(rt; tokens.len() > 0, "{text}");
-        assert_eq!(rt; terminal_of(tokens[0]), expected, "{text}");
+        assert!(rt; terminal_of(tokens[0]) == expected, "{text}");
         assert!(rt; is(expected, tokens[0]), "{text}");
         assert!(rt; !is(Terminal::Comma, tokens[0]), "{text}");
     }
@@ -164,16 +155,16 @@ fn are_words(tokens: &[Token], names: bool) -> bool {
 #[test]
 fn words(rt: HostRuntime) -> Result<(), Fail> {
     let names = lex(rt.alloc(), "counter clear load add sub ready Or")?;
-    assert_eq!(rt; names.len(), 8);
+    assert!(rt; names.len() == 8);
     assert!(rt; are_words(&names, true));
     let kept = lex(
         rt.alloc(),
         "sequence endsequence assert assume property posedge disable iff or and throughout",
     )?;
-    assert_eq!(rt; kept.len(), 12);
+    assert!(rt; kept.len() == 12);
     assert!(rt; are_words(&kept, false));
     let none = lex(rt.alloc(), "$past 7 .")?;
-    assert_eq!(rt; none.len(), 4);
+    assert!(rt; none.len() == 4);
     for token in &none {
         assert!(rt; !is_name(*token) && !is_word(*token));
     }
@@ -189,11 +180,11 @@ fn foreign_words(rt: HostRuntime) -> Result<(), Fail> {
          until s_always s_nexttime s_eventually s_until s_until_with until_with implies \
          accept_on reject_on cover restrict default clocking negedge edge local",
     )?;
-    assert_eq!(rt; tokens.len(), 30);
+    assert!(rt; tokens.len() == 30);
     assert!(rt; are_words(&tokens, false));
     for token in &tokens {
         let foreign = terminal_of(*token) == Terminal::ForeignWord;
-        assert_eq!(rt; foreign, token.kind == Kind::Word);
+        assert!(rt; foreign == (token.kind == Kind::Word));
     }
     grammar_law();
     Ok(())

@@ -7,15 +7,15 @@ use std::test::Fail;
 #[test]
 fn cuts_a_text(rt: HostRuntime) -> Result<(), Fail> {
     let tokens = lex(rt.alloc(), "req |->/* no */ ##12 ack_1 // end")?;
-    assert_eq!(rt; tokens.len(), 6);
-    assert_eq!(rt; tokens[1].text, "|->");
-    assert_eq!(rt; tokens[1].kind, Kind::Symbol(Symbol::Overlapped));
-    assert_eq!(rt; tokens[4].at, 21);
-    assert_eq!(rt; tokens[5].at, 33);
-    assert_eq!(rt; tokens[5].kind, Kind::End);
+    assert!(rt; tokens.len() == 6);
+    assert!(rt; tokens[1].text == "|->");
+    assert!(rt; tokens[1].kind == Kind::Symbol(Symbol::Overlapped));
+    assert!(rt; tokens[4].at == 21);
+    assert!(rt; tokens[5].at == 33);
+    assert!(rt; tokens[5].kind == Kind::End);
     let gaps = lex(rt.alloc(), "// nothing\n/* more *///")?;
-    assert_eq!(rt; gaps.len(), 1);
-    assert_eq!(rt; gaps[0].at, 23);
+    assert!(rt; gaps.len() == 1);
+    assert!(rt; gaps[0].at == 23);
     cut_law();
     Ok(())
 }
@@ -36,11 +36,11 @@ fn sized_literals(rt: HostRuntime) -> Result<(), Fail> {
         ("4294967295", None, 4_294_967_295),
     ] {
         let tokens = lex(rt.alloc(), text)?;
-        assert_eq!(rt; tokens.len(), 2);
+        assert!(rt; tokens.len() == 2);
         match tokens[0].kind {
             Kind::Number(number) => {
-                assert_eq!(rt; number.value, value, "{text}");
-                assert_eq!(rt; number.size, size, "{text}");
+                assert!(rt; number.value == value, "{text}");
+                assert!(rt; number.size == size, "{text}");
             }
             _ => assert!(rt; false, "{text}"),
         }

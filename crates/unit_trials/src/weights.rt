@@ -32,14 +32,14 @@ fn delay(
 #[test]
 fn repetitions_weigh(rt: HostRuntime) -> Result<(), Fail> {
     let alloc = rt.alloc();
-    assert_eq!(rt; weight_of(&boolean(0)), Some(1));
-    assert_eq!(rt; weight_of(&repetition(alloc, 0)?), Some(0));
-    assert_eq!(rt; weight_of(&repetition(alloc, 127)?), Some(127));
-    assert_eq!(rt; weight_of(&repetition(alloc, 128)?), None);
+    assert!(rt; weight_of(&boolean(0)) == Some(1));
+    assert!(rt; weight_of(&repetition(alloc, 0)?) == Some(0));
+    assert!(rt; weight_of(&repetition(alloc, 127)?) == Some(127));
+    assert!(rt; weight_of(&repetition(alloc, 128)?).is_none());
     let light = delay(alloc, repetition(alloc, 63)?, 1, repetition(alloc, 63)?)?;
-    assert_eq!(rt; weight_of(&light), Some(127));
+    assert!(rt; weight_of(&light) == Some(127));
     let heavy = delay(alloc, repetition(alloc, 64)?, 1, repetition(alloc, 64)?)?;
-    assert_eq!(rt; weight_of(&heavy), None);
+    assert!(rt; weight_of(&heavy).is_none());
     Ok(())
 }
 
@@ -51,12 +51,12 @@ fn sides_of_and_multiply(rt: HostRuntime) -> Result<(), Fail> {
     let long = Sequence::Throughout(Boolean::Listed(0), Box::new(alloc, body)?);
     let short = delay(alloc, boolean(3), 1, boolean(4))?;
     let both = Sequence::And(Box::new(alloc, long)?, Box::new(alloc, short)?);
-    assert_eq!(rt; weight_of(&both), Some(20));
+    assert!(rt; weight_of(&both) == Some(20));
     // ##[1:3] ((a and b) or c) weighs 3 + (2 * 2 + 1)
     let both = Sequence::And(Box::new(alloc, boolean(0))?, Box::new(alloc, boolean(1))?);
     let either = Sequence::Or(Box::new(alloc, both)?, Box::new(alloc, boolean(2))?);
     let later = Sequence::Lead(1, 3, Box::new(alloc, either)?);
-    assert_eq!(rt; weight_of(&later), Some(8));
+    assert!(rt; weight_of(&later) == Some(8));
     Ok(())
 }
 
@@ -64,9 +64,9 @@ fn sides_of_and_multiply(rt: HostRuntime) -> Result<(), Fail> {
 fn ranges_are_in_order(rt: HostRuntime) -> Result<(), Fail> {
     let alloc = rt.alloc();
     let backwards = Sequence::Lead(3, 1, Box::new(alloc, boolean(0))?);
-    assert_eq!(rt; weight_of(&backwards), None);
+    assert!(rt; weight_of(&backwards).is_none());
     let hidden = Sequence::Repeat(Box::new(alloc, backwards)?, 0, 0);
-    assert_eq!(rt; weight_of(&hidden), None);
+    assert!(rt; weight_of(&hidden).is_none());
     Ok(())
 }
 
@@ -79,11 +79,11 @@ fn assertions_are_bounded(rt: HostRuntime) -> Result<(), Fail> {
         let consequent = repetition(alloc, consequent)?;
         let list = vec![in alloc; 7, 8]?;
         let made = Assertion::new(name, antecedent, consequent, None, list);
-        assert_eq!(rt; made.is_some(), fits);
+        assert!(rt; made.is_some() == fits);
         if let Some(assertion) = made {
-            assert_eq!(rt; weight_of(&assertion.antecedent), Some(127));
-            assert_eq!(rt; weight_of(&assertion.consequent), Some(127));
-            assert_eq!(rt; assertion.booleans.as_slice(), [7, 8].as_slice());
+            assert!(rt; weight_of(&assertion.antecedent) == Some(127));
+            assert!(rt; weight_of(&assertion.consequent) == Some(127));
+            assert!(rt; assertion.booleans.as_slice() == [7, 8].as_slice());
         }
     }
     Ok(())
@@ -104,7 +104,7 @@ fn a_suite_is_made(rt: HostRuntime) -> Result<(), Fail> {
         booleans: Vec::new(alloc),
         assertions: Vec::new(alloc),
     };
-    assert_eq!(rt; suite.clock(), "top.clk");
+    assert!(rt; suite.clock() == "top.clk");
     assert!(rt; suite.assertions().is_empty());
     match_law();
     verdict_law();

@@ -1,0 +1,95 @@
+//! The words of commands, read and refused.
+
+use cli::{Fault, Request, WordsFault, read_words, status};
+use std::alloc::{AllocError, Global};
+use std::test::Fail;
+
+fn file_or_none(file: &Option<String>) -> &str {
+    match file {
+        Some(file) => file.as_str(),
+        None => "none",
+    }
+}
+
+/// What is asked for, in a line.
+fn line_of(alloc: Global, request: &Request) -> Result<String, AllocError> {
+    match request {
+        Request::Check {
+            vcd,
+            sva,
+            axi,
+            window,
+        } => format!(in alloc; "check {vcd} {sva} {} {window}", file_or_none(axi)),
+        Request::Judge { vcd, sva, axi } => {
+            format!(in alloc; "judge {vcd} {sva} {}", file_or_none(axi))
+        }
+        Request::Rules { axi } => format!(in alloc; "rules {axi}"),
+        Request::Verify { code } => format!(in alloc; "verify {code}"),
+        Request::Build {
+            vcd,
+            sva,
+            axi,
+            name,
+            out,
+        } => format!(in alloc; "build {vcd} {sva} {} {name} {out}", file_or_none(axi)),
+        Request::Run { vcd, code, window } => format!(in alloc; "run {vcd} {code} {window}"),
+    }
+}
+
+/// What is told of words, one space between: what they ask for, or the status of their refusal.
+fn told(alloc: Global, line: &str) -> Result<String, AllocError> {
+    let mut words = Vec::new(alloc);
+    for word in line.split(' ') {
+        words.push(word)?;
+    }
+    match read_words(alloc, words.as_slice()) {
+        Ok(request) => line_of(alloc, &request),
+        Err(fault) => {
+            let is_text = matches!(fault, WordsFault::Words(_));
+            let number = status(&Err(Fault::Words(fault)));
+            format!(in alloc; "refused {number} {is_text}")
+        }
+    }
+}
+
+#[test]
+fn words_are_read(rt: HostRuntime) -> Result<(), Fail> {
+    for (words, wanted) in [
+        (
+            "svamon check --vcd a.vcd --sva a.sva --window 7",
+            "check a.vcd a.sva none 7",
+        ),
+        (
+            "svamon check --sva a.sva --vcd a.vcd",
+            "check a.vcd a.sva none 1024",
+        ),
+        (
+            "svamon judge --vcd a.vcd --sva a.sva --axi p",
+            "judge a.vcd a.sva p",
+        ),
+        ("svamon rules --axi p", "rules p"),
+        ("svamon verify a.svm", "verify a.svm"),
+        (
+            "svamon build --vcd a.vcd --sva a.sva --axi p --name r --out r.svm",
+            "build a.vcd a.sva p r r.svm",
+        ),
+        (
+            "svamon run --vcd a.vcd --code a.svm --window 7",
+            "run a.vcd a.svm 7",
+        ),
+        (
+            "svamon run --code a.svm --vcd a.vcd",
+            "run a.vcd a.svm 1024",
+        ),
+        ("svamon check --vcd a --sva b --window 0", "refused 2 true"),
+        ("svamon check --vcd a", "refused 2 true"),
+        ("svamon chek", "refused 2 true"),
+        ("svamon --help", "refused 2 true"),
+        ("svamon verify", "refused 2 true"),
+        ("svamon run --vcd a.vcd", "refused 2 true"),
+        ("svamon verify a.svm b.svm", "refused 2 true"),
+    ] {
+        assert!(rt; told(rt.alloc(), words)?.as_str() == wanted, "{words}");
+    }
+    Ok(())
+}
