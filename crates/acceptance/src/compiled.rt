@@ -198,12 +198,21 @@ fn eight_monitors_any_window(rt: HostRuntime) -> Result<(), Fail> {
 }
 
 /// The bytes of the program of an assertion, and no line; or no byte, and the line of the fault.
-fn built(rt: &impl AllocGlobal, text: &str, name: &str) -> Result<(Vec<u8>, String), AllocError> {
+#[derive(Drop)]
+struct Built {
+    bytes: Vec<u8>,
+    line: String,
+}
+
+fn built(rt: &impl AllocGlobal, text: &str, name: &str) -> Result<Built, AllocError> {
     let mut source = Counted::new(DUMP.as_bytes());
+    let mut bytes = Vec::new(rt.alloc());
+    let mut line = String::new(rt.alloc());
     match build_one(rt.alloc(), &mut source, text, name) {
-        Ok(bytes) => Ok((bytes, String::new(rt.alloc()))),
-        Err(fault) => Ok((Vec::new(rt.alloc()), fault_line(rt.alloc(), &fault)?)),
+        Ok(made) => bytes = made,
+        Err(fault) => line = fault_line(rt.alloc(), &fault)?,
     }
+    Ok(Built { bytes, line })
 }
 
 /// How many instructions the sample code of a program has; none where the bytes are no program.
@@ -214,28 +223,33 @@ fn sample_length(alloc: Global, bytes: &[u8]) -> Option<usize> {
     }
 }
 
-/// How many instructions the sample code of an assertion has, or the line of its fault.
-fn length_of(rt: &impl AllocGlobal, property: &str) -> Result<(Option<usize>, String), AllocError> {
+/// Whether the sample code of an assertion has so many instructions, or none, and this is told.
+fn has_length(
+    rt: &impl AllocGlobal,
+    property: &str,
+    length: Option<usize>,
+    told: &str,
+) -> Result<bool, AllocError> {
     let text = assertion(rt, "r", property)?;
-    let (bytes, line) = built(rt, text.as_str(), "r")?;
-    Ok((sample_length(rt.alloc(), bytes.as_slice()), line))
+    let built = built(rt, text.as_str(), "r")?;
+    let found = sample_length(rt.alloc(), built.bytes.as_slice());
+    Ok(found == length && built.line.as_str() == told)
+}
+
+/// `x ^ x ^ .. |-> y` with so many operands, and a sign before them.
+fn of_operands(rt: &impl AllocGlobal, before: &str, count: usize) -> Result<String, AllocError> {
+    let joined = joined(rt, 0..count, " ^ ", "x")?;
+    format!(in rt.alloc(); "{before}({joined}) |-> y")
 }
 
 #[test]
 fn code_at_the_border(rt: HostRuntime) -> Result<(), Fail> {
-    for (operands, before, wanted, told) in [
-        (2046, "~", Some(4096), ""),
-        (2047, "", None, "svamon: K2 CodeTooLong"),
-        (2046, "", Some(4095), ""),
-    ] {
-        let joined = joined(&rt, 0..operands, " ^ ", "x")?;
-        let property = format!(in rt.alloc(); "{before}({joined}) |-> y")?;
-        let (length, line) = length_of(&rt, property.as_str())?;
-        assert!(rt;
-            length == wanted && line.as_str() == told,
-            "{before} before {operands}"
-        );
-    }
+    let most = of_operands(&rt, "~", 2046)?;
+    assert!(rt; has_length(&rt, most.as_str(), Some(4096), "")?);
+    let less = of_operands(&rt, "", 2046)?;
+    assert!(rt; has_length(&rt, less.as_str(), Some(4095), "")?);
+    let more = of_operands(&rt, "", 2047)?;
+    assert!(rt; has_length(&rt, more.as_str(), None, "svamon: K2 CodeTooLong")?);
     Ok(())
 }
 
@@ -267,10 +281,10 @@ fn report_run(rt: &impl AllocGlobal, code: &[u8]) -> Result<String, Fail> {
 fn build_then_run(rt: HostRuntime) -> Result<(), Fail> {
     let text = "q: assert property (@(posedge clk) y |-> x);\n\
                 r: assert property (@(posedge clk) x |-> y);\n";
-    let (code, line) = built(&rt, text, "r")?;
-    assert!(rt; line.as_str().is_empty());
-    assert!(rt; report_run(&rt, code.as_slice())?.as_str() == REPORT);
-    let (code, line) = built(&rt, text, "s\nt")?;
-    assert!(rt; code.is_empty() && line.as_str() == "svamon: N1 NoAssertion s\\nt");
+    let made = built(&rt, text, "r")?;
+    assert!(rt; made.line.as_str().is_empty());
+    assert!(rt; report_run(&rt, made.bytes.as_slice())?.as_str() == REPORT);
+    let none = built(&rt, text, "s\nt")?;
+    assert!(rt; none.bytes.is_empty() && none.line.as_str() == "svamon: N1 NoAssertion s\\nt");
     Ok(())
 }

@@ -31,6 +31,8 @@ struct Outcome {
     line: String,
     status: u8,
     written: Vec<u8>,
+    /// How many calls of the device failed.
+    failed: u64,
 }
 
 impl Outcome {
@@ -39,6 +41,7 @@ impl Outcome {
         alloc: Global,
         answer: Result<[u64; 5], Fault>,
         written: &[u8],
+        failed: u64,
     ) -> Result<Self, AllocError> {
         let line = match &answer {
             Ok(_) => String::new(alloc),
@@ -51,6 +54,7 @@ impl Outcome {
             line,
             status,
             written,
+            failed,
         })
     }
 
@@ -74,7 +78,7 @@ fn run(alloc: Global, dump: &[u8], window: u64) -> Result<Outcome, AllocError> {
     let mut source = Counted::new(dump);
     let mut out = Counted::new(CutWriter::new(alloc, 10_000)?);
     let answer = check_one(alloc, &mut source, TEXT, window, &mut out);
-    Outcome::of(alloc, answer, out.inner.as_slice())
+    Outcome::of(alloc, answer, out.inner.as_slice(), source.failed_calls())
 }
 
 #[test]
@@ -83,7 +87,7 @@ fn whole_reports(rt: HostRuntime) -> Result<(), Fail> {
     let mut source = Counted::new(DUMP.as_bytes());
     let mut out = Counted::new(CutWriter::new(rt.alloc(), 10_000)?);
     let answer = judge_one(rt.alloc(), &mut source, TEXT, &mut out);
-    assert!(rt; Outcome::of(rt.alloc(), answer, out.inner.as_slice())?.is_report());
+    assert!(rt; Outcome::of(rt.alloc(), answer, out.inner.as_slice(), 0)?.is_report());
     assert!(rt; status(&Ok([3, 2, 0, 1, 1])) == 0);
     assert!(rt; status(&Ok([3, 2, 1, 1, 1])) == 1);
     Ok(())
@@ -102,40 +106,38 @@ fn sizes_of_windows(rt: HostRuntime) -> Result<(), Fail> {
     Ok(())
 }
 
-/// A run into a device that takes so many bytes, and how many of its writes failed.
-fn run_into(alloc: Global, room: usize) -> Result<(Outcome, u64), AllocError> {
+/// A run into a device that takes so many bytes.
+fn run_into(alloc: Global, room: usize) -> Result<Outcome, AllocError> {
     let mut source = Counted::new(DUMP.as_bytes());
     let mut out = Counted::new(CutWriter::new(alloc, room)?);
     let answer = check_one(alloc, &mut source, TEXT, 7, &mut out);
-    let outcome = Outcome::of(alloc, answer, out.inner.as_slice())?;
-    Ok((outcome, out.failed_calls()))
+    Outcome::of(alloc, answer, out.inner.as_slice(), out.failed_calls())
 }
 
 #[test]
 fn cut_reports(rt: HostRuntime) -> Result<(), Fail> {
     for room in 0..REPORT.len() {
-        let (outcome, failed) = run_into(rt.alloc(), room)?;
+        let outcome = run_into(rt.alloc(), room)?;
         let is_refused = outcome.is_refused("svamon: G1 Write", 4, room);
-        assert!(rt; is_refused && failed == 1, "cut at {room}");
+        assert!(rt; is_refused && outcome.failed == 1, "cut at {room}");
     }
     Ok(())
 }
 
-/// A run from a device that gives so many bytes, and how many of its reads failed.
-fn run_from(alloc: Global, cut: usize) -> Result<(Outcome, u64), AllocError> {
+/// A run from a device that gives so many bytes.
+fn run_from(alloc: Global, cut: usize) -> Result<Outcome, AllocError> {
     let mut source = Counted::new(CutReader::new(DUMP.as_bytes(), cut));
     let mut out = Counted::new(CutWriter::new(alloc, 10_000)?);
     let answer = check_one(alloc, &mut source, TEXT, 1024, &mut out);
-    let outcome = Outcome::of(alloc, answer, out.inner.as_slice())?;
-    Ok((outcome, source.failed_calls()))
+    Outcome::of(alloc, answer, out.inner.as_slice(), source.failed_calls())
 }
 
 #[test]
 fn cut_dumps(rt: HostRuntime) -> Result<(), Fail> {
     for cut in 0..DUMP.len() {
-        let (outcome, failed) = run_from(rt.alloc(), cut)?;
+        let outcome = run_from(rt.alloc(), cut)?;
         let is_refused = outcome.is_refused("svamon: V8 Read", 4, 0);
-        assert!(rt; is_refused && failed == 1, "cut at {cut}");
+        assert!(rt; is_refused && outcome.failed == 1, "cut at {cut}");
     }
     Ok(())
 }
@@ -147,10 +149,8 @@ fn short_dumps(rt: HostRuntime) -> Result<(), Fail> {
     for end in 0..DUMP.len() {
         let bytes = DUMP.as_bytes().get(..end).unwrap_or(DUMP.as_bytes());
         let outcome = run(rt.alloc(), bytes, 1024)?;
-        assert!(rt;
-            outcome.totals.is_none() == outcome.written.is_empty(),
-            "ends at {end}"
-        );
+        let is_whole = outcome.totals.is_none() == outcome.written.is_empty();
+        assert!(rt; is_whole && outcome.failed == 0, "ends at {end}");
     }
     Ok(())
 }
