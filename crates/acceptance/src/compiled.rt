@@ -204,7 +204,7 @@ struct Built {
     line: String,
 }
 
-fn built(rt: &impl AllocGlobal, text: &str, name: &str) -> Result<Built, AllocError> {
+fn build(rt: &impl AllocGlobal, text: &str, name: &str) -> Result<Built, AllocError> {
     let mut source = Counted::new(DUMP.as_bytes());
     let mut bytes = Vec::new(rt.alloc());
     let mut line = String::new(rt.alloc());
@@ -231,7 +231,7 @@ fn has_length(
     told: &str,
 ) -> Result<bool, AllocError> {
     let text = assertion(rt, "r", property)?;
-    let built = built(rt, text.as_str(), "r")?;
+    let built = build(rt, text.as_str(), "r")?;
     let found = sample_length(rt.alloc(), built.bytes.as_slice());
     Ok(found == length && built.line.as_str() == told)
 }
@@ -281,10 +281,10 @@ fn report_run(rt: &impl AllocGlobal, code: &[u8]) -> Result<String, Fail> {
 fn build_then_run(rt: HostRuntime) -> Result<(), Fail> {
     let text = "q: assert property (@(posedge clk) y |-> x);\n\
                 r: assert property (@(posedge clk) x |-> y);\n";
-    let made = built(&rt, text, "r")?;
+    let made = build(&rt, text, "r")?;
     assert!(rt; made.line.as_str().is_empty());
     assert!(rt; report_run(&rt, made.bytes.as_slice())?.as_str() == REPORT);
-    let none = built(&rt, text, "s\nt")?;
+    let none = build(&rt, text, "s\nt")?;
     assert!(rt; none.bytes.is_empty() && none.line.as_str() == "svamon: N1 NoAssertion s\\nt");
     Ok(())
 }

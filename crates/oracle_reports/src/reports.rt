@@ -1,5 +1,5 @@
-//! Texts over dumps. The table has parts, each of which begins with `== ` and a title: a dump, or a
-//! text, which is run over the dump that stands before it.
+//! Texts over dumps. The table has dumps, each behind a line that begins with `== dump`, and behind
+//! a dump texts, each behind a line `== ` with its title: they are run over that dump.
 
 use crate::runs::{Answer, checked, judged};
 use anyhow::{Result, bail};
@@ -21,17 +21,24 @@ fn told(alloc: Global, dump: &str, text: &str) -> Result<Answer> {
     Ok(judge)
 }
 
-/// Prints the title of each text, and what is told of it.
+/// Prints, of a dump with the texts behind it, the title of each text and what is told of it.
+fn show_texts<R: Print + AllocGlobal>(rt: &R, part: &str) -> Result<()> {
+    let Some((head, texts)) = part.split_once("\n== ") else {
+        return Ok(());
+    };
+    let (_, dump) = head.split_once('\n').unwrap_or((head, ""));
+    for text in texts.split("\n== ") {
+        let (title, body) = text.split_once('\n').unwrap_or((text, ""));
+        let told = told(rt.alloc(), dump, body)?;
+        print!(rt; "== {title}\n{}status {}\n", told.text, told.status)?;
+    }
+    Ok(())
+}
+
+/// Prints what is told of each text of the table.
 pub fn show<R: Print + AllocGlobal>(rt: &R, table: &str) -> Result<()> {
-    let mut dump = "";
-    for part in table.split("\n== ") {
-        let (title, body) = part.split_once('\n').unwrap_or((part, ""));
-        if title.starts_with("dump") {
-            dump = body;
-        } else if !title.starts_with("//") {
-            let told = told(rt.alloc(), dump, body)?;
-            print!(rt; "== {title}\n{}status {}\n", told.text, told.status)?;
-        }
+    for part in table.split("\n== dump") {
+        show_texts(rt, part)?;
     }
     Ok(())
 }

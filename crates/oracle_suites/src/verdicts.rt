@@ -5,7 +5,7 @@
 
 use anyhow::{Context, Result, bail};
 use assertions::Suite;
-use expressions::{Rows, Table, count};
+use expressions::{Table, count};
 use judging::judge;
 use lexer::lex;
 use parser::parse;
@@ -35,11 +35,14 @@ fn suite_of(alloc: Global, property: &str) -> Result<Suite> {
 fn bit_of(tick: &str, path: &str) -> u128 {
     let letter = path.as_bytes().first().copied().unwrap_or(b'a');
     let place = usize::from(letter.saturating_sub(b'a'));
-    u128::from(tick.as_bytes().get(place) == Some(&b'1'))
+    match tick.as_bytes().get(place).copied() {
+        Some(b'1') => 1,
+        _ => 0,
+    }
 }
 
-/// The rows of a suite's signals at the ticks.
-fn rows_of(alloc: Global, suite: &Suite, ticks: &str) -> Result<Rows> {
+/// The values of a suite's signals at the ticks.
+fn signals_of(alloc: Global, suite: &Suite, ticks: &str) -> Result<Table> {
     let mut signals = Table::new(alloc);
     for tick in ticks.split(' ') {
         let mut row = Vec::new(alloc);
@@ -48,7 +51,7 @@ fn rows_of(alloc: Global, suite: &Suite, ticks: &str) -> Result<Rows> {
         }
         signals.push(row)?;
     }
-    Ok(count(alloc, signals, suite.counters.as_slice())?)
+    Ok(signals)
 }
 
 /// A verdict with its clock.
@@ -67,7 +70,8 @@ fn told(alloc: Global, verdict: Verdict) -> Result<String> {
 fn answer(alloc: Global, line: &str) -> Result<String> {
     let (ticks, property) = line.split_once("; ").context("a line without ticks")?;
     let suite = suite_of(alloc, property)?;
-    let rows = rows_of(alloc, &suite, ticks)?;
+    let signals = signals_of(alloc, &suite, ticks)?;
+    let rows = count(alloc, signals, suite.counters.as_slice())?;
     let assertion = suite.assertions.as_slice().first().context("no assertion")?;
     let mut answer = String::new(alloc);
     for tick in 0..rows.signals.len() {

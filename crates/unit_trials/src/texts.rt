@@ -2,36 +2,42 @@
 //! what stands at the roots of trees, are the tables of `oracle_texts`.
 
 use lexer::{Token, lex};
-use parser::{AssertionTree, CounterTree, ItemTree, ParseFault, parse};
+use parser::{ItemTree, ParseFault, parse};
 use std::alloc::Global;
 use std::test::Fail;
 
 /// Whether it is the counter `n [128] clear(r) sub(s, 2)`.
-fn is_counter(counter: &CounterTree) -> bool {
-    counter.name.text == "n"
-        && counter.width.value == 128
-        && counter.clear.is_some()
-        && counter.load.is_none()
-        && counter.add.is_none()
-        && counter.sub.is_some()
+fn is_counter(item: &ItemTree) -> bool {
+    match item {
+        ItemTree::Counter(counter) => {
+            counter.name.text == "n"
+                && counter.width.value == 128
+                && counter.clear.is_some()
+                && counter.load.is_none()
+                && counter.add.is_none()
+                && counter.sub.is_some()
+        }
+        _ => false,
+    }
+}
+
+/// Whether it declares a sequence `s`.
+fn is_declaration(item: &ItemTree) -> bool {
+    match item {
+        ItemTree::Declaration(declaration) => declaration.name.text == "s",
+        _ => false,
+    }
 }
 
 /// Whether it is the assumption `counter` at the clock `t.c`, with what disables it.
-fn is_assumption(assertion: &AssertionTree) -> bool {
-    matches!(assertion.label, Some(label) if label.text == "counter")
-        && assertion.verb.text == "assume"
-        && assertion.clock.more.len() == 1
-        && assertion.disable.is_some()
-}
-
-/// Whether these are that counter, a sequence `s` and that assumption.
-fn are_items(items: &[ItemTree]) -> bool {
-    match items {
-        [
-            ItemTree::Counter(counter),
-            ItemTree::Declaration(declaration),
-            ItemTree::Assertion(assertion),
-        ] => { is_counter(counter) && declaration.name.text == "s" && is_assumption(assertion) }
+fn is_assumption(item: &ItemTree) -> bool {
+    match item {
+        ItemTree::Assertion(assertion) => {
+            matches!(assertion.label, Some(label) if label.text == "counter")
+                && assertion.verb.text == "assume"
+                && assertion.clock.more.len() == 1
+                && assertion.disable.is_some()
+        }
         _ => false,
     }
 }
@@ -44,7 +50,10 @@ fn items_of_a_file(rt: HostRuntime) -> Result<(), Fail> {
     let Ok(file) = parse(rt.alloc(), tokens.as_slice()) else {
         return Err(Fail::from("it is refused"));
     };
-    assert!(rt; are_items(file.items.as_slice()));
+    assert!(rt; file.items.len() == 3);
+    assert!(rt; is_counter(&file.items[0]));
+    assert!(rt; is_declaration(&file.items[1]));
+    assert!(rt; is_assumption(&file.items[2]));
     Ok(())
 }
 
