@@ -1,5 +1,6 @@
 //! Why words ask for nothing.
 
+use clap::error::ErrorKind;
 use std::alloc::AllocError;
 use thiserror::Error;
 
@@ -21,5 +22,15 @@ impl From<AllocError> for WordsFault {
 
     fn from(_error: AllocError) -> WordsFault {
         WordsFault::OutOfMemory
+    }
+}
+
+/// Words that `clap` refuses.
+impl From<clap::Error> for WordsFault {
+    fn from(error: clap::Error) -> WordsFault {
+        if error.kind() == ErrorKind::OutOfMemory {
+            return WordsFault::OutOfMemory;
+        }
+        WordsFault::Words(error)
     }
 }

@@ -7,8 +7,7 @@ ghost use Rattle.command_line.specs.Words.{Gives, IsWindow, IsRequest, IsAsked};
 use crate::command::svamon_command;
 use crate::fault::WordsFault;
 use crate::request::Request;
-use clap::error::ErrorKind;
-use clap::{ArgMatches, Error};
+use clap::ArgMatches;
 use std::alloc::Global;
 
 /// The text of an option that may be left out.
@@ -44,14 +43,6 @@ fn window_of(options: &ArgMatches) -> Result<u64, WordsFault>
         }
         None => Err(WordsFault::OutOfMemory),
     }
-}
-
-/// The fault of words that `clap` refuses.
-fn words_fault(error: Error) -> WordsFault {
-    if error.kind() == ErrorKind::OutOfMemory {
-        return WordsFault::OutOfMemory;
-    }
-    WordsFault::Words(error)
 }
 
 fn check_request(alloc: Global, options: &ArgMatches) -> Result<Request, WordsFault>
@@ -118,10 +109,7 @@ pub fn read_words(alloc: Global, words: &[&str]) -> Result<Request, WordsFault>
     ensures { IfOk result (IsAsked (map (λ w. w.now) words.now)) }
 {
     let command = svamon_command(alloc)?;
-    let matches = match command.try_get_matches_from(words) {
-        Ok(matches) => matches,
-        Err(error) => return Err(words_fault(error)),
-    };
+    let matches = command.try_get_matches_from(words)?;
     match matches.subcommand() {
         Some(("check", options)) => check_request(alloc, options),
         Some(("build", options)) => build_request(alloc, options),

@@ -82,15 +82,7 @@ pub fn job_lines(alloc: Global, job: &Job, size: usize) -> Result<Vec<Line>, Run
     // The first cause that stands.
     ensures fault { IfErr result (WhyNoCore 1 size) }
 {
-    let mut core = match Core::new(alloc, job, 1, size) {
-        Err(fault) => return Err(fault),
-        Ok(core) => core,
-    };
-    if drive(alloc, &mut core, job.programs().len()).is_err() {
-        return Err(RunFault::Memory);
-    }
-    match lines_of(alloc, &core, job.programs()) {
-        Err(_) => Err(RunFault::Memory),
-        Ok(lines) => Ok(lines),
-    }
+    let mut core = Core::new(alloc, job, 1, size)?;
+    drive(alloc, &mut core, job.programs().len())?;
+    Ok(lines_of(alloc, &core, job.programs())?)
 }

@@ -60,6 +60,7 @@ fn job_of(alloc: Global, dump: Dump, verified: Verified, clocks: Clocks) -> Resu
 {
     let mut programs = Vec::new(alloc);
     programs.push(verified)?;
+    // An arm knows that it is a fault of signals, as `signal_fault` asks; a `From` can't ask it.
     match Job::over(alloc, programs, dump, clocks) {
         Ok(job) => Ok(job),
         Err(fault) => Err(signal_fault(fault)),
@@ -98,15 +99,10 @@ pub fn report_run(
     ensures refused { (c : Contents) → HoldsContents dump c
         → IfErr result (WhyNoRun c.variables verified size) }
 {
-    let clocks = match clocks_of(alloc, &dump, &verified) {
-        Err(fault) => return Err(fault),
-        Ok(clocks) => clocks,
-    };
+    let clocks = clocks_of(alloc, &dump, &verified)?;
     let count = clocks.len();
-    let job = match job_of(alloc, dump, verified, clocks) {
-        Err(fault) => return Err(fault),
-        Ok(job) => job,
-    };
+    let job = job_of(alloc, dump, verified, clocks)?;
+    // An arm knows that it is none of the workers, as `size_fault` asks; a `From` can't ask it.
     match job_lines(alloc, &job, size) {
         Err(fault) => Err(size_fault(fault)),
         Ok(lines) => Ok(Report::new(count, lines)),

@@ -58,10 +58,7 @@ impl<'d> Columns<'d> {
         ensures fault { IfErr result
             (IsSignalFault (variables_of dump.now) (map wanted_of signals.now)) }
     {
-        let variables = match signal_variables(alloc, dump, signals) {
-            Err(fault) => return Err(fault),
-            Ok(variables) => variables,
-        };
+        let variables = signal_variables(alloc, dump, signals)?;
         let shared = shared_among(alloc, dump, variables.as_slice())?;
         Ok(Columns {
             dump,

@@ -63,10 +63,8 @@ pub(crate) fn signal_variables(
 {
     let mut variables = Vec::new(alloc);
     for signal in signals {
-        match signal_variable(alloc, dump, signal) {
-            Err(fault) => return Err(fault),
-            Ok(variable) => variables.push(variable)?,
-        }
+        let variable = signal_variable(alloc, dump, signal)?;
+        variables.push(variable)?;
     }
     Ok(variables)
 }

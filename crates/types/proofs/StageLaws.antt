@@ -12,7 +12,7 @@ use Rattle.types_expressions.specs.Faults.{file_faults, earlier, least}
 use Rattle.types.specs.declared.fault.TypeFault.{TypeFault}
 use Rattle.types.specs.declared.fault.TypeFault.TheVariants.{UnknownName, Duplicate, WiderThan128, SliceRange, Degenerate, AdmitsEmpty as Empty, OtherClock, CyclicSequence, TooWide, Memory}
 use Rattle.types_suites.specs.Texts.{assertions_of, duplicates, other_clocks}
-use Rattle.types.specs.Faults.{FaultStands, CycleAt, WideAt, DegenerateAt, EmptyAt, rank, byte_of, IsFirst, IsTypeFault, ClearTo}
+use Rattle.types.specs.Faults.{FaultStands, rank, byte_of, IsFirst, IsTypeFault, ClearTo}
 
 -- where a list has no least place it has no place, and each place is at least the least
 least_of_more : (x : ℕ) (o : Option ℕ) → earlier (Some x) o ≡ None → ⊥

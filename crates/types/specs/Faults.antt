@@ -1,5 +1,5 @@
 -- Where faults of types stand in a text.
-use Rattle.std.specs.Prelude.{◌≡◌, ◌⊎◌, ℕ, ◌<◌, ◌≤◌, List, [], ◌∷◌, ◌++◌, map, Some, slice_get}
+use Rattle.std.specs.Prelude.{◌≡◌, ◌⊎◌, ℕ, ◌<◌, ◌≤◌, List, [], ◌∷◌, ◌++◌, Some, slice_get}
 use Rattle.grammar.specs.Trees.{PropertyForm, plain, implication, DeclarationForm, AssertionForm}
 use Rattle.grammar.specs.Trees.{ItemForm}
 use Rattle.assertions.specs.Segments.{IsDegenerate, AdmitsEmpty}

@@ -7,10 +7,9 @@ ghost use Rattle.types_expressions.specs.Faults.{least};
 ghost use Rattle.types_expressions.specs.Scopes.{first_byte};
 ghost use Rattle.types_suites.specs.Texts.{assertions_of, clocks_unlike, clock_of};
 
-use crate::least::earlier;
 use parser::{ItemTree, Path};
 use std::alloc::{AllocError, Global};
-use types_expressions::path_string;
+use types_expressions::{earlier, path_string};
 
 /// The path of the first assertion's clock, and no text where there is no assertion.
 pub(crate) fn first_clock(alloc: Global, items: &[ItemTree]) -> Result<String, AllocError>

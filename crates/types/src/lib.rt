@@ -32,7 +32,6 @@
 mod clocks;
 mod cycles;
 mod fault;
-mod least;
 mod names;
 mod side;
 mod sides;

@@ -6,10 +6,9 @@ ghost use Rattle.parser.specs.Views.{assertion_of, item_of};
 ghost use Rattle.types_expressions.specs.Faults.{least};
 ghost use Rattle.types_suites.specs.Texts.{label_byte, name_made, assertions_after, duplicates};
 
-use crate::least::earlier;
 use parser::{AssertionTree, ItemTree};
 use std::alloc::{AllocError, Global};
-use types_expressions::Names;
+use types_expressions::{Names, earlier};
 use types_suites::label_string;
 
 /// A name with the byte where it stands.

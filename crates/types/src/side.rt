@@ -4,7 +4,7 @@ ghost use Rattle.std.specs.Prelude.{◌≡◌};
 ghost use Rattle.types_expressions.specs.Faults.{least};
 ghost use Rattle.types.specs.Sides.{places_where, is_wide, is_degenerate, is_empty};
 
-use crate::least::earlier;
+use types_expressions::earlier;
 use types_sequences::Facts;
 
 /// What is known of an antecedent or a consequent, with the byte of its first token but brackets.

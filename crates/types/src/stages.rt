@@ -19,7 +19,7 @@ use crate::fault::TypeFault;
 use crate::names::first_duplicate;
 use crate::side::{Side, first_degenerate, first_empty, first_wide};
 use parser::ItemTree;
-use std::alloc::{AllocError, Global};
+use std::alloc::Global;
 use types_expressions::{Scope, Sought, first_fault};
 use types_sequences::{Draft, Entry};
 
@@ -29,10 +29,9 @@ fn check_paths(alloc: Global, scope: &Scope, items: &[ItemTree]) -> Result<(), T
     ensures ok { IfOk result (λ _. ClearTo (scope_of scope.now) (map item_of items.now) 1) }
     ensures err { IfErr result (IsTypeFault (scope_of scope.now) (map item_of items.now)) }
 {
-    match first_fault(alloc, scope, Sought::Unknown, items) {
-        Ok(None) => Ok(()),
-        Ok(Some(at)) => Err(TypeFault::UnknownName(at)),
-        Err(AllocError) => Err(TypeFault::Memory),
+    match first_fault(alloc, scope, Sought::Unknown, items)? {
+        None => Ok(()),
+        Some(at) => Err(TypeFault::UnknownName(at)),
     }
 }
 
@@ -43,10 +42,9 @@ fn check_names(alloc: Global, scope: &Scope, items: &[ItemTree]) -> Result<(), T
     ensures ok { IfOk result (λ _. ClearTo (scope_of scope.now) (map item_of items.now) 2) }
     ensures err { IfErr result (IsTypeFault (scope_of scope.now) (map item_of items.now)) }
 {
-    match first_duplicate(alloc, items) {
-        Ok(None) => Ok(()),
-        Ok(Some(at)) => Err(TypeFault::Duplicate(at)),
-        Err(AllocError) => Err(TypeFault::Memory),
+    match first_duplicate(alloc, items)? {
+        None => Ok(()),
+        Some(at) => Err(TypeFault::Duplicate(at)),
     }
 }
 
@@ -57,10 +55,9 @@ fn check_concatenations(alloc: Global, scope: &Scope, items: &[ItemTree]) -> Res
     ensures ok { IfOk result (λ _. ClearTo (scope_of scope.now) (map item_of items.now) 3) }
     ensures err { IfErr result (IsTypeFault (scope_of scope.now) (map item_of items.now)) }
 {
-    match first_fault(alloc, scope, Sought::Wide, items) {
-        Ok(None) => Ok(()),
-        Ok(Some(at)) => Err(TypeFault::WiderThan128(at)),
-        Err(AllocError) => Err(TypeFault::Memory),
+    match first_fault(alloc, scope, Sought::Wide, items)? {
+        None => Ok(()),
+        Some(at) => Err(TypeFault::WiderThan128(at)),
     }
 }
 
@@ -71,10 +68,9 @@ fn check_selects(alloc: Global, scope: &Scope, items: &[ItemTree]) -> Result<(),
     ensures ok { IfOk result (λ _. ClearTo (scope_of scope.now) (map item_of items.now) 4) }
     ensures err { IfErr result (IsTypeFault (scope_of scope.now) (map item_of items.now)) }
 {
-    match first_fault(alloc, scope, Sought::OutOfRange, items) {
-        Ok(None) => Ok(()),
-        Ok(Some(at)) => Err(TypeFault::SliceRange(at)),
-        Err(AllocError) => Err(TypeFault::Memory),
+    match first_fault(alloc, scope, Sought::OutOfRange, items)? {
+        None => Ok(()),
+        Some(at) => Err(TypeFault::SliceRange(at)),
     }
 }
 
@@ -91,10 +87,9 @@ fn check_clocks(
     ensures ok { IfOk result (λ _. ClearTo (scope_of scope.now) (map item_of items.now) 5) }
     ensures err { IfErr result (IsTypeFault (scope_of scope.now) (map item_of items.now)) }
 {
-    match first_other_clock(alloc, clock, items) {
-        Ok(None) => Ok(()),
-        Ok(Some(at)) => Err(TypeFault::OtherClock(at)),
-        Err(AllocError) => Err(TypeFault::Memory),
+    match first_other_clock(alloc, clock, items)? {
+        None => Ok(()),
+        Some(at) => Err(TypeFault::OtherClock(at)),
     }
 }
 
@@ -141,10 +136,9 @@ pub(crate) fn check_cycles(
     if has_all(table) {
         return Ok(());
     }
-    match first_cycle(alloc, bodies, bytes) {
-        Ok(Some(at)) => Err(TypeFault::CyclicSequence(at)),
-        Ok(None) => Ok(()),
-        Err(AllocError) => Err(TypeFault::Memory),
+    match first_cycle(alloc, bodies, bytes)? {
+        None => Ok(()),
+        Some(at) => Err(TypeFault::CyclicSequence(at)),
     }
 }
 

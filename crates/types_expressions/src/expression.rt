@@ -11,6 +11,7 @@ ghost use Rattle.types_expressions.specs.Faults.{has_bits, path_faults, wide_fau
 ghost use Rattle.types_expressions.specs.Faults.{link_faults, part_faults, earlier, least};
 ghost use Rattle.types_expressions.specs.Views.{scope_of};
 
+use crate::least::earlier;
 use crate::number::number_bits;
 use crate::operator::{Binary, Unary, binary_of, unary_of};
 use crate::own::Sought;
@@ -26,17 +27,6 @@ use std::alloc::{AllocError, Global};
 pub(crate) struct Seen {
     pub(crate) width: usize,
     pub(crate) fault: Option<usize>,
-}
-
-/// The smaller of two places, or the only one that is there.
-pub(crate) fn earlier(first: Option<usize>, second: Option<usize>) -> Option<usize>
-    ensures { result ≡ earlier first second }
-{
-    match (first, second) {
-        (Some(a), Some(b)) => Some(a.min(b)),
-        (Some(a), None) => Some(a),
-        (None, b) => b,
-    }
 }
 
 /// The low bit of a select.

@@ -8,7 +8,8 @@ ghost use Rattle.types_expressions.specs.Faults.{assertion_faults, item_faults, 
 ghost use Rattle.types_expressions.specs.Faults.{earlier, least};
 ghost use Rattle.types_expressions.specs.Views.{scope_of};
 
-use crate::expression::{earlier, see};
+use crate::expression::see;
+use crate::least::earlier;
 use crate::own::Sought;
 use crate::scope::Scope;
 use crate::sequence::{property_fault, sequence_fault};

@@ -7,9 +7,10 @@
 //! `first_fault` gives the least byte at which a fault of one kind stands in the items, clocks'
 //! paths left out: a path that stands for nothing that an expression can read (Y1), a concatenation
 //! of more than 128 bits (Y3), or a select of bits that its name doesn't have (Y4). The name of a
-//! named sequence is no fault where it stands as a boolean of a sequence. `columns_of` lists the
-//! signals that the items read, each once, in the order of the text; a path's place there is its
-//! column. `typed_expression` makes the expression that one of the text means.
+//! named sequence is no fault where it stands as a boolean of a sequence. `earlier` gives the lower
+//! of two such bytes. `columns_of` lists the signals that the items read, each once, in the order
+//! of the text; a path's place there is its column. `typed_expression` makes the expression that
+//! one of the text means.
 //!
 //! ```text
 //! let names = Names::of(alloc, &[("top.req", 1), ("top.data", 8)])?;
@@ -37,6 +38,7 @@ mod declared;
 mod expression;
 mod fault;
 mod laws;
+mod least;
 mod listing;
 mod names;
 mod number;
@@ -52,6 +54,7 @@ pub use columns::{SignalPaths, columns_of};
 pub use declared::OwnName;
 pub use fault::first_fault;
 pub use laws::meaning_law;
+pub use least::earlier;
 pub use names::Names;
 pub use operator::{Binary, Call, Unary};
 pub use own::{Meaning, Own, Sought};

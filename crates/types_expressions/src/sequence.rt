@@ -9,7 +9,8 @@ ghost use Rattle.types_expressions.specs.Faults.{boolean_faults, sequence_faults
 ghost use Rattle.types_expressions.specs.Faults.{other_faults, property_faults, earlier, least};
 ghost use Rattle.types_expressions.specs.Views.{scope_of};
 
-use crate::expression::{earlier, see};
+use crate::expression::see;
+use crate::least::earlier;
 use crate::own::Sought;
 use crate::scope::Scope;
 use grammar::Range;

@@ -29,10 +29,13 @@ use Rattle.std.proofs.lemmas.List.{take_more, append-nil}
 use Rattle.std.proofs.lemmas.Grind.{flat_map-append}
 use Rattle.bytecode.specs.Values.{ProgramData}
 use Rattle.vcd_reader.specs.Variables.{Declared, size_of}
-use Rattle.cycle_window.specs.Bound.{Wanted, OtherWidth, IsClock, misfit, first_refused}
+use Rattle.cycle_window.specs.declared.fault.WindowFault.{WindowFault}
+use Rattle.cycle_window.specs.declared.fault.WindowFault.TheVariants as windows
+use Rattle.cycle_window.specs.Bound.{Wanted, OtherWidth, IsClock, IsClockFault, misfit, first_refused}
 use Rattle.program_runs.specs.Reported.{wanted_slot}
 use Rattle.workers.specs.declared.job_fault.JobFault.{JobFault}
 use Rattle.workers.specs.declared.job_fault.JobFault.TheVariants as faults
+use Rattle.workers.specs.Faults.{window_fault}
 use Rattle.workers.specs.Wanted.{wanted_in, HasClock, IsGoodCount, SaysRefused, WhyNoJob, WhyUnfit}
 
 abbrev signals_wanted : ProgramData → List Wanted
@@ -53,6 +56,16 @@ pub has-clock : (vs : List Declared) (path : List ℕ) (code : ℕ) → IsClock 
 has-clock vs path code (v, named, bit, is) =
     ap (λ (o : Option ℕ). misfit vs o 1) named
     ∙ ap (λ (b : Bool). cond b None (Some OtherWidth)) (eq-eqb (size_of vs v) 1 bit)
+
+-- why there is no job, at the clock
+pub clock-why : (vs : List Declared) (path : List ℕ) (ps : List ProgramData) (e : WindowFault)
+    → IsClockFault vs path e → WhyNoJob vs path ps (window_fault e)
+clock-why vs path ps windows.NoClock h = h
+clock-why vs path ps windows.ClockWidth h = h
+clock-why vs path ps (windows.NoSignal p) h = absurd h
+clock-why vs path ps (windows.SignalWidth p) h = absurd h
+clock-why vs path ps windows.BadSize h = absurd h
+clock-why vs path ps windows.Memory h = tt
 
 -- why programs can't run, behind their number
 pub refused-why : (vs : List Declared) (ps : List ProgramData) (e : JobFault) → IsGoodCount ps

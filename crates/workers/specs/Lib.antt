@@ -3,6 +3,7 @@ pub mod Standing
 pub mod Opening
 pub mod Floors
 pub mod Wanted
+pub mod Faults
 pub mod Jobs
 pub mod Cores
 pub mod Values

@@ -65,10 +65,8 @@ impl<'j> Core<'j> {
         if workers == 0 || workers > MOST_WORKERS {
             return Err(RunFault::BadWorkers);
         }
-        match Floor::new(alloc, job, workers, size) {
-            Err(_) => Err(RunFault::Memory),
-            Ok(floor) => Ok(Core { job, floor }),
-        }
+        let floor = Floor::new(alloc, job, workers, size)?;
+        Ok(Core { job, floor })
     }
 
     /// One step. What isn't allowed is refused, and nothing changes then, nor for want of memory.

@@ -5,7 +5,7 @@ ghost use Rattle.vcd_reader.specs.Held.{variables_of};
 ghost use Rattle.cycle_window.specs.Bound.{first_refused};
 ghost use Rattle.cycle_window.specs.Held.{code_in, AreClocksOf};
 
-use crate::against::{check_job, clock_fault};
+use crate::against::check_job;
 use crate::job_fault::JobFault;
 use cycle_window::Clocks;
 use std::alloc::Global;
@@ -41,10 +41,7 @@ impl Job {
         // The first cause that stands.
         ensures fault { IfErr result (WhyNoJob (variables_of dump) clock.now programs.items) }
     {
-        let clocks = match Clocks::of(alloc, &dump, clock) {
-            Err(fault) => return Err(clock_fault(fault)),
-            Ok(clocks) => clocks,
-        };
+        let clocks = Clocks::of(alloc, &dump, clock)?;
         Job::over(alloc, programs, dump, clocks)
     }
 
@@ -65,14 +62,12 @@ impl Job {
         // The first cause that stands.
         ensures fault { IfErr result (WhyUnfit (variables_of dump) programs.items) }
     {
-        match check_job(alloc, &dump, programs.as_slice()) {
-            Err(fault) => Err(fault),
-            Ok(()) => Ok(Job {
-                programs,
-                dump,
-                clocks,
-            }),
-        }
+        check_job(alloc, &dump, programs.as_slice())?;
+        Ok(Job {
+            programs,
+            dump,
+            clocks,
+        })
     }
 
     /// The job's programs, in source order.

@@ -3,6 +3,7 @@
 ghost use Rattle.std.specs.Prelude.{◌≡◌};
 ghost use Rattle.workers.specs.declared.job_fault.JobFault.TheVariants.{Memory};
 
+use cycle_window::WindowFault;
 use std::alloc::{AllocError, AllocFailed};
 use thiserror::Error;
 
@@ -27,6 +28,24 @@ pub enum JobFault {
     /// There was no memory.
     #[error("out of memory")]
     Memory,
+}
+
+impl From<WindowFault> for JobFault {
+    ghost use Rattle.workers.specs.Faults.{window_fault};
+
+    ghost from_gives = { λ f e. e ≡ window_fault f };
+
+    fn from(fault: WindowFault) -> JobFault {
+        match fault {
+            WindowFault::NoClock => JobFault::NoClock,
+            WindowFault::ClockWidth => JobFault::ClockWidth,
+            WindowFault::NoSignal(path) => JobFault::NoSignal(path),
+            WindowFault::SignalWidth(path) => JobFault::SignalWidth(path),
+            // Of no clock or signal: a job has no window.
+            WindowFault::BadSize => JobFault::Memory,
+            WindowFault::Memory => JobFault::Memory,
+        }
+    }
 }
 
 impl From<AllocError> for JobFault {

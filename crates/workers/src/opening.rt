@@ -26,10 +26,8 @@ pub(crate) fn window_of<'j>(
     ensures { IfOk result (IsFirstWindow job.now size) }
 {
     let signals = signals_of(alloc, job.programs.as_slice())?;
-    match Columns::bind(alloc, &job.dump, &job.clocks, signals.as_slice()) {
-        Err(fault) => Err(fault),
-        Ok(columns) => Window::new(alloc, size, columns),
-    }
+    let columns = Columns::bind(alloc, &job.dump, &job.clocks, signals.as_slice())?;
+    Window::new(alloc, size, columns)
 }
 
 /// A monitor of each program, in order, each with its part of a row of all signals.

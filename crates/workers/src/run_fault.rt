@@ -1,5 +1,9 @@
 //! Why there is no core.
 
+ghost use Rattle.std.specs.Prelude.{◌≡◌};
+ghost use Rattle.workers.specs.declared.run_fault.RunFault.TheVariants.{Memory};
+
+use std::alloc::AllocError;
 use thiserror::Error;
 
 /// Why there is no core.
@@ -14,4 +18,12 @@ pub enum RunFault {
     /// U2: there was no memory.
     #[error("U2 Memory")]
     Memory,
+}
+
+impl From<AllocError> for RunFault {
+    ghost from_gives = { λ _ e. e ≡ Memory };
+
+    fn from(_e: AllocError) -> RunFault {
+        RunFault::Memory
+    }
 }

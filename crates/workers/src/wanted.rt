@@ -72,10 +72,7 @@ fn check_signals(alloc: Global, dump: &Dump, signals: &[WatchedSignal<'_>]) -> R
         (first_refused (variables_of dump.now) (map wanted_of signals.now))) }
 {
     for signal in signals {
-        match check_signal(alloc, dump, signal) {
-            Err(fault) => return Err(fault),
-            Ok(()) => {}
-        }
+        check_signal(alloc, dump, signal)?;
     }
     Ok(())
 }

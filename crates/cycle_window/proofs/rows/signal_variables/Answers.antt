@@ -8,11 +8,11 @@ loop-signal-preserved c =
     let lt : c.loop-signal.signal-index < length c.args.signals.now = omega arith in
     record {
       places = places-more (variables_of c.args.dump.now) c.args.signals.now
-          c.loop-signal.signal-index _ c.loop-signal.variables.items _ c.in-Ok.variable lt
-          c.loop-signal.invariant.places c.in_ok-push-in-Ok.ensures.items c.in-Ok.ensures.place;
-      bindable = bindable-more c.args.dump.now c.loop-signal.variables.items _ c.in-Ok.variable
-          c.loop-signal.invariant.bindable c.in_ok-push-in-Ok.ensures.items c.in-Ok.ensures.of;
+          c.loop-signal.signal-index _ c.loop-signal.variables.items _ c.in_ok-variable.variable lt
+          c.loop-signal.invariant.places c.in_ok-push.ensures.items c.in_ok-variable.ensures.place;
+      bindable = bindable-more c.args.dump.now c.loop-signal.variables.items _ c.in_ok-variable.variable
+          c.loop-signal.invariant.bindable c.in_ok-push.ensures.items c.in_ok-variable.ensures.of;
       fits = c.loop-signal.invariant.fits
           ∙ refused-more (variables_of c.args.dump.now) c.args.signals.now
-          c.loop-signal.signal-index _ lt c.in-Ok.ensures.fits;
+          c.loop-signal.signal-index _ lt c.in_ok-variable.ensures.fits;
     }

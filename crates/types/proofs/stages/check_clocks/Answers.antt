@@ -1,9 +1,15 @@
-use Rattle.std.proofs.Common.{map, sym}
+use Rattle.std.proofs.Common.{map, sym, ◌∙◌}
 use Rattle.parser.specs.Views.{item_of}
 use Rattle.types_expressions.specs.Views.{scope_of}
-use Rattle.types.proofs.StageLaws.{first_5}
+use Rattle.types.proofs.StageLaws.{first_5, refused_memory}
 use Rattle.types.proofs.stages.check_clocks.Goals as goal
 
-pub returns-in-Ok-Some-clause-err : goal.returns-in-Ok-Some-clause-err
-returns-in-Ok-Some-clause-err c =
-    first_5 (scope_of c.args.scope.now) (map item_of c.args.items.now) c.in-Ok-Some.at c.requires.clear (sym (rw (c.in-Ok-Some.field-0-is, c.requires.clock) at c.in-Ok-Some.ensures))
+pub returns-in_err-first_other_clock-clause-err : goal.returns-in_err-first_other_clock-clause-err
+returns-in_err-first_other_clock-clause-err c =
+    refused_memory (scope_of c.args.scope.now) (map item_of c.args.items.now)
+    c.from_residual.result c.from_residual.ensures.1
+
+pub returns-in-Some-clause-err : goal.returns-in-Some-clause-err
+returns-in-Some-clause-err c =
+    first_5 (scope_of c.args.scope.now) (map item_of c.args.items.now) c.in-Some.at
+    c.requires.clear (rw c.requires.clock at (sym c.in_ok-first_other_clock.ensures ∙ c.in-Some.is))

@@ -2,6 +2,7 @@ use Rattle.std.proofs.Common.{◌<◌, ℕ, map, length, sym, arith, subst}
 use Rattle.types_sequences.specs.Views.{draft_of}
 use Rattle.types_sequences.proofs.CyclicLaws.{some_cyclic}
 use Rattle.types.specs.Cycles.{IsLowest}
+use Rattle.types.proofs.StageLaws.{refused_memory}
 use Rattle.types.proofs.CycleStage.{entry_acyclic, clear_6, first_6}
 use Rattle.types.proofs.stages.check_cycles.Goals as goal
 use Rattle.std.proofs.lemmas.List.{length-map}
@@ -13,29 +14,33 @@ returns-then-has_all-clause-ok c = λ s items o clear.
     (c.has_all.ensures.all c.if-has_all.true p (omega (arith, h, c.requires.long, length-map c.args.bodies.now draft_of))))
     clear
 
-pub returns-in-Ok-Some-clause-err : goal.returns-in-Ok-Some-clause-err
-returns-in-Ok-Some-clause-err c = λ s items o clear.
+pub returns-in_err-first_cycle-clause-err : goal.returns-in_err-first_cycle-clause-err
+returns-in_err-first_cycle-clause-err c = λ s items o clear.
+    refused_memory s items c.from_residual.result c.from_residual.ensures.1
+
+pub returns-in-Some-clause-err : goal.returns-in-Some-clause-err
+returns-in-Some-clause-err c = λ s items o clear.
     let bodies = map draft_of c.args.bodies.now in
-    let low = rw c.in-Ok-Some.field-0-is at c.in-Ok-Some.ensures in
-    first_6 s items bodies c.args.bytes.now o c.in-Ok-Some.at (subst (λ (n : ℕ). IsLowest bodies c.args.bytes.now n c.in-Ok-Some.at) (sym (length-map c.args.bodies.now draft_of)) low) clear
+    let low = rw c.in-Some.is at c.in_ok-first_cycle.ensures in
+    first_6 s items bodies c.args.bytes.now o c.in-Some.at (subst (λ (n : ℕ). IsLowest bodies c.args.bytes.now n c.in-Some.at) (sym (length-map c.args.bodies.now draft_of)) low) clear
 
 -- one that lacks an entry would reach a cycle
-pub returns-in-Ok-None-clause-entries : goal.returns-in-Ok-None-clause-entries
-returns-in-Ok-None-clause-entries c = λ p h. absurd (no_cycle p h)
+pub returns-in-None-clause-entries : goal.returns-in-None-clause-entries
+returns-in-None-clause-entries c = λ p h. absurd (no_cycle p h)
   where
     no_cycle : (p : ℕ) → p < length c.args.bodies.now → ⊥
     no_cycle p h =
         let lack = c.has_all.ensures.some c.if-has_all.false in
         let some = some_cyclic (map draft_of c.args.bodies.now) lack.place (c.requires.cyclic lack.place (omega (arith, lack.inside, c.requires.long)) lack.lacking) in
-        let none = rw c.in-Ok-None.field-0-is at c.in-Ok-None.ensures in
+        let none = rw c.in-None.is at c.in_ok-first_cycle.ensures in
         none some.0 (omega (arith, some.1, length-map c.args.bodies.now draft_of)) some.2
 
-pub returns-in-Ok-None-clause-ok : goal.returns-in-Ok-None-clause-ok
-returns-in-Ok-None-clause-ok c = λ s items o clear. absurd no_cycle
+pub returns-in-None-clause-ok : goal.returns-in-None-clause-ok
+returns-in-None-clause-ok c = λ s items o clear. absurd no_cycle
   where
     no_cycle : ⊥
     no_cycle =
         let lack = c.has_all.ensures.some c.if-has_all.false in
         let some = some_cyclic (map draft_of c.args.bodies.now) lack.place (c.requires.cyclic lack.place (omega (arith, lack.inside, c.requires.long)) lack.lacking) in
-        let none = rw c.in-Ok-None.field-0-is at c.in-Ok-None.ensures in
+        let none = rw c.in-None.is at c.in_ok-first_cycle.ensures in
         none some.0 (omega (arith, some.1, length-map c.args.bodies.now draft_of)) some.2

@@ -1,9 +1,15 @@
-use Rattle.std.proofs.Common.{map, sym}
+use Rattle.std.proofs.Common.{map, sym, ◌∙◌}
 use Rattle.parser.specs.Views.{item_of}
 use Rattle.types_expressions.specs.Views.{scope_of}
-use Rattle.types.proofs.StageLaws.{clear_start, first_1}
+use Rattle.types.proofs.StageLaws.{clear_start, first_1, refused_memory}
 use Rattle.types.proofs.stages.check_paths.Goals as goal
 
-pub returns-in-Ok-Some-clause-err : goal.returns-in-Ok-Some-clause-err
-returns-in-Ok-Some-clause-err c =
-    first_1 (scope_of c.args.scope.now) (map item_of c.args.items.now) c.in-Ok-Some.at (clear_start (scope_of c.args.scope.now) (map item_of c.args.items.now)) (sym (rw c.in-Ok-Some.field-0-is at c.in-Ok-Some.ensures))
+pub returns-in_err-first_fault-clause-err : goal.returns-in_err-first_fault-clause-err
+returns-in_err-first_fault-clause-err c =
+    refused_memory (scope_of c.args.scope.now) (map item_of c.args.items.now)
+    c.from_residual.result c.from_residual.ensures.1
+
+pub returns-in-Some-clause-err : goal.returns-in-Some-clause-err
+returns-in-Some-clause-err c =
+    first_1 (scope_of c.args.scope.now) (map item_of c.args.items.now) c.in-Some.at
+    (clear_start (scope_of c.args.scope.now) (map item_of c.args.items.now)) (sym c.in_ok-first_fault.ensures ∙ c.in-Some.is)

@@ -6,10 +6,10 @@ use Rattle.workers.proofs.opening.window_of.Goals as goal
 
 pub returns : goal.returns
 returns c =
-    let bound = c.in-Ok.ensures in
+    let bound = c.in_ok-columns.ensures in
     let made = c.new.ensures in
     let asked = ap (map wanted_of) c.as_slice-2.ensures.value ∙ c.in_ok-signals.ensures
     ∙ ap wanted_in c.as_slice.ensures.value in
-    first-window c.args.job.now c.args.size c.in-Ok.columns (map wanted_of c.as_slice-2.result.now)
+    first-window c.args.job.now c.args.size c.in_ok-columns.columns (map wanted_of c.as_slice-2.result.now)
     c.new.result asked bound.places bound.fits bound.dump bound.clock bound.rows made.columns
     made.size made.first made.end made.of

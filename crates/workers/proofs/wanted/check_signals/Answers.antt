@@ -8,4 +8,4 @@ loop-signal-preserved c =
     let lt : c.loop-signal.signal-index < length c.args.signals.now = omega arith in
     c.loop-signal.invariant
     ∙ refused-more (variables_of c.args.dump.now) c.args.signals.now c.loop-signal.signal-index
-    _ lt c.in-Ok.ensures.fits
+    _ lt c.in_ok-check_signal.ensures.fits

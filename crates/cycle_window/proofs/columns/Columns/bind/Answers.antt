@@ -10,7 +10,7 @@ unfolding places_in
 returns-clause-places c =
     ap (map Some)
     (c.in_ok-shared.ensures.same ∙ ap places c.as_slice.ensures.value)
-    ∙ map-map _ _ c.in-Ok.variables.items ∙ c.in-Ok.ensures.places
+    ∙ map-map _ _ c.in_ok-variables.variables.items ∙ c.in_ok-variables.ensures.places
 
 pub returns-clause-rows : goal.returns-clause-rows
 unfolding ticks_in code_in clock_in dump_in

@@ -4,14 +4,12 @@ ghost use Rattle.std.specs.Prelude.{◌≡◌};
 ghost use Rattle.types_expressions.specs.Faults.{earlier};
 
 /// The smaller of two places, or the only one that is there.
-pub(crate) fn earlier(first: Option<usize>, second: Option<usize>) -> Option<usize>
+pub fn earlier(first: Option<usize>, second: Option<usize>) -> Option<usize>
     ensures { result ≡ earlier first second }
 {
-    match first {
-        None => second,
-        Some(one) => match second {
-            None => Some(one),
-            Some(other) => Some(one.min(other)),
-        },
+    match (first, second) {
+        (Some(one), Some(other)) => Some(one.min(other)),
+        (Some(one), None) => Some(one),
+        (None, other) => other,
     }
 }
