@@ -132,8 +132,8 @@ module _ (c : Contents) (text name : List ℕ) where
   without_program suite (File n) says h = absurd h
   without_program suite Memory says h = tt
 
-module _ (b : Build) (c : Contents) (gave : GaveDump b.given_old b.given_new c)
-    (reads : b.reads_new ≡ b.reads_old) where
+module _ (b : Build) (c : Contents) (gave : GaveDump b.source_before.remaining b.source_after.remaining c)
+    (reads : b.source_after.failures ≡ b.source_before.failures) where
   refused : (e : Fault) → WhyNotBuilt c b.text b.name e → IsRefusedBuild b e
   refused e h = record { contents = c; gave = gave; why = h; reads = reads }
 
@@ -158,7 +158,7 @@ module _ (b : Build) (c : Contents) (gave : GaveDump b.given_old b.given_new c)
 
 -- a dump that wasn't read refuses the build
 pub unread_build : (b : Build) (e : VcdFault)
-    → Stands b.given_old b.given_new b.reads_old b.reads_new e → WhyBuildRefused b (vcd_fault e)
+    → Stands b.source_before b.source_after e → WhyBuildRefused b (vcd_fault e)
 unread_build b (dumps.BadToken at) h = h
 unread_build b (dumps.UnknownCode at) h = h
 unread_build b (dumps.TimeBack at) h = h

@@ -39,8 +39,8 @@ use Rattle.cli.specs.Outcomes.{
   WhyCheckRefused,
 }
 
-module _ (r : Run) (c : Contents) (gave : GaveDump r.given_old r.given_new c)
-    (reads : r.reads_new ≡ r.reads_old) (unwritten : IsUnwritten r) where
+module _ (r : Run) (c : Contents) (gave : GaveDump r.source_before.remaining r.source_after.remaining c)
+    (reads : r.source_after.failures ≡ r.source_before.failures) (unwritten : IsUnwritten r) where
   refused : (e : Fault) → WhyNoReport c r.text e → IsRefusedReport r e
   refused e h = record { contents = c; gave = gave; why = h; reads = reads; unwritten = unwritten }
 
@@ -92,7 +92,7 @@ module _ (r : Run) (c : Contents) (gave : GaveDump r.given_old r.given_new c)
 
 -- a dump that wasn't read refuses the run
 pub unread : (r : Run) → IsUnwritten r → (e : VcdFault)
-    → Stands r.given_old r.given_new r.reads_old r.reads_new e → WhyRunRefused r (vcd_fault e)
+    → Stands r.source_before r.source_after e → WhyRunRefused r (vcd_fault e)
 unread r unwritten (dumps.BadToken at) h = record { stands = h; unwritten = unwritten }
 unread r unwritten (dumps.UnknownCode at) h = record { stands = h; unwritten = unwritten }
 unread r unwritten (dumps.TimeBack at) h = record { stands = h; unwritten = unwritten }
@@ -105,6 +105,6 @@ unread r unwritten dumps.Memory h = record { reads = h.0; unwritten = unwritten 
 
 -- and the check
 pub unread_check : (r : Run) → IsUnwritten r → (e : VcdFault)
-    → Stands r.given_old r.given_new r.reads_old r.reads_new e → WhyCheckRefused r (vcd_fault e)
+    → Stands r.source_before r.source_after e → WhyCheckRefused r (vcd_fault e)
 unread_check r unwritten dumps.Memory h = unread r unwritten dumps.Memory h
 unread_check r unwritten e h = unread r unwritten e h

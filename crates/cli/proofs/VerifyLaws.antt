@@ -66,8 +66,7 @@ module _ (bytes : List ℕ) (program : ProgramData) (spells : Spells bytes progr
 -- a line that was not written, or not all of it
 pub unwritten_line : (v : Verification) (program : ProgramData) (f : ReportFault)
     → SpellsAccepted v.bytes program
-    → WhyUnwritten v.held_old v.held_new v.writes_old v.writes_new
-    (limits_text program.header.limits) f
+    → WhyUnwritten v.sink_before v.sink_after (limits_text program.header.limits) f
     → WhyNotTold v (report_fault f)
 unwritten_line v program reports.Write accepted h = record {
   program = program;

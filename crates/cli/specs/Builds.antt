@@ -1,6 +1,7 @@
 -- What a build of an assertion's program comes to: no clock is looked up.
-use Rattle.std.specs.Prelude.{◌≡◌, ℕ, List, Option, Some, slice_get, string_bytes}
+use Rattle.std.specs.Prelude.{◌≡◌, ℕ, List, Some, slice_get, string_bytes}
 use Rattle.std.specs.List.{AllByRecursion}
+use Rattle.signals.specs.Source.{SourceState}
 use Rattle.assertions.specs.declared.assertion.Assertion.{Assertion}
 use Rattle.assertions.specs.declared.suite.Suite.{Suite}
 use Rattle.bytecode.specs.Values.{ProgramData}
@@ -81,43 +82,38 @@ WhyNotBuilt c text name (Compile e) = SaysNone c text name (Compile e)
 WhyNotBuilt c text name Memory = Unit {0}
 WhyNotBuilt c text name _ = ⊥
 
--- What a build was given and what it left: the text, the name, the bytes that the source had left
--- before and after, and how many of its calls had failed.
+-- What a build was given and what it left: the text, the name, and the source before and after.
 pub record Build : Type 0 where
   pub text : List ℕ
   pub name : List ℕ
-  pub given_old : Option (List ℕ)
-  pub given_new : Option (List ℕ)
-  pub reads_old : ℕ
-  pub reads_new : ℕ
+  pub source_before : SourceState
+  pub source_after : SourceState
 
-abbrev pub build_of : List ℕ → List ℕ → Option (List ℕ) → Option (List ℕ) → ℕ → ℕ → Build
-build_of text name given_old given_new reads_old reads_new = record {
+abbrev pub build_of : List ℕ → List ℕ → SourceState → SourceState → Build
+build_of text name source_before source_after = record {
   text = text;
   name = name;
-  given_old = given_old;
-  given_new = given_new;
-  reads_old = reads_old;
-  reads_new = reads_new;
+  source_before = source_before;
+  source_after = source_after;
 }
 
 -- The source gave a dump, and the bytes are the text's program for the name. No call failed.
 pub record IsBuiltFrom (b : Build) (bytes : List ℕ) : Type 0 where
   pub contents : Contents
-  pub gave : GaveDump b.given_old b.given_new contents
+  pub gave : GaveDump b.source_before.remaining b.source_after.remaining contents
   pub built : IsBuilt contents b.text b.name bytes
-  pub reads : b.reads_new ≡ b.reads_old
+  pub reads : b.source_after.failures ≡ b.source_before.failures
 
 -- The source gave a dump over which the text has no program for the name.
 pub record IsRefusedBuild (b : Build) (fault : Fault) : Type 0 where
   pub contents : Contents
-  pub gave : GaveDump b.given_old b.given_new contents
+  pub gave : GaveDump b.source_before.remaining b.source_after.remaining contents
   pub why : WhyNotBuilt contents b.text b.name fault
-  pub reads : b.reads_new ≡ b.reads_old
+  pub reads : b.source_after.failures ≡ b.source_before.failures
 
 -- why there is no program
 abbrev pub WhyBuildRefused : Build → Fault → Type 0
 WhyBuildRefused b (Vcd dumps.Memory) = ⊥
-WhyBuildRefused b (Vcd e) = Stands b.given_old b.given_new b.reads_old b.reads_new e
-WhyBuildRefused b Memory = b.reads_new ≡ b.reads_old
+WhyBuildRefused b (Vcd e) = Stands b.source_before b.source_after e
+WhyBuildRefused b Memory = b.source_after.failures ≡ b.source_before.failures
 WhyBuildRefused b fault = IsRefusedBuild b fault

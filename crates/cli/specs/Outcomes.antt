@@ -1,8 +1,8 @@
 -- What a run over a source, a text and a sink comes to.
-use Rattle.std.specs.Prelude.{◌≡◌, ℕ, List, [], ◌∷◌, Option, None, string_bytes}
+use Rattle.std.specs.Prelude.{◌≡◌, ℕ, List, [], ◌∷◌, None, string_bytes}
 use Rattle.std.specs.Io.KnownBytes.{Appends}
-use Rattle.signals.specs.Source.{after_failure}
-use Rattle.signals.specs.Sink.{AppendsFront}
+use Rattle.signals.specs.Source.{SourceState, after_failure}
+use Rattle.signals.specs.Sink.{SinkState, AppendsFront}
 use Rattle.lexer.specs.declared.token.Token.{Token}
 use Rattle.lexer.specs.Covering.{IsFaulty}
 use Rattle.grammar.specs.Trees.{ItemForm}
@@ -38,50 +38,39 @@ use Rattle.cli.specs.Reported.{AreTokens, HasItems, SaysSuite, IsReport}
 abbrev pub totals_of : Counts → List ℕ
 totals_of c = c.holds ∷ c.vacuous ∷ c.fails ∷ c.disabled ∷ c.still_open ∷ []
 
--- What a run was given and what it left: the text, the bytes that the source had left before and
--- after, those that the sink held, and how many calls of each had failed.
+-- What a run was given and what it left: the text, and the source and the sink before and after.
 pub record Run : Type 0 where
   pub text : List ℕ
-  pub given_old : Option (List ℕ)
-  pub given_new : Option (List ℕ)
-  pub reads_old : ℕ
-  pub reads_new : ℕ
-  pub held_old : Option (List ℕ)
-  pub held_new : Option (List ℕ)
-  pub writes_old : ℕ
-  pub writes_new : ℕ
+  pub source_before : SourceState
+  pub source_after : SourceState
+  pub sink_before : SinkState
+  pub sink_after : SinkState
 
-abbrev pub run_of : List ℕ → Option (List ℕ) → Option (List ℕ) → ℕ → ℕ → Option (List ℕ)
-    → Option (List ℕ) → ℕ → ℕ → Run
-run_of text given_old given_new reads_old reads_new held_old held_new writes_old writes_new =
-    record {
-      text = text;
-      given_old = given_old;
-      given_new = given_new;
-      reads_old = reads_old;
-      reads_new = reads_new;
-      held_old = held_old;
-      held_new = held_new;
-      writes_old = writes_old;
-      writes_new = writes_new;
-    }
+abbrev pub run_of : List ℕ → SourceState → SourceState → SinkState → SinkState → Run
+run_of text source_before source_after sink_before sink_after = record {
+  text = text;
+  source_before = source_before;
+  source_after = source_after;
+  sink_before = sink_before;
+  sink_after = sink_after;
+}
 
 -- The source gave all its bytes, and the text of the report on them and on the text was written;
 -- the totals are its last line's. No call failed.
 pub record IsAnswered (r : Run) (totals : List ℕ) : Type 0 where
   pub bytes : List ℕ
-  pub gave : Gave r.given_old r.given_new bytes
+  pub gave : Gave r.source_before.remaining r.source_after.remaining bytes
   pub report : ReportData
   pub is_report : IsReport bytes r.text report
-  pub written : Appends r.held_old r.held_new (report_text report)
+  pub written : Appends r.sink_before.contents r.sink_after.contents (report_text report)
   pub totals_are : totals ≡ totals_of report.total
-  pub reads : r.reads_new ≡ r.reads_old
-  pub writes : r.writes_new ≡ r.writes_old
+  pub reads : r.source_after.failures ≡ r.source_before.failures
+  pub writes : r.sink_after.failures ≡ r.sink_before.failures
 
 -- nothing was written
 pub record IsUnwritten (r : Run) : Type 0 where
-  pub held : r.held_new ≡ r.held_old
-  pub counted : r.writes_new ≡ r.writes_old
+  pub held : r.sink_after.contents ≡ r.sink_before.contents
+  pub counted : r.sink_after.failures ≡ r.sink_before.failures
 
 -- the text has tokens, no file spells them, and the fault stands at one of them
 pub record HasNoItems (text : List ℕ) (fault : ParseFault) : Type 0 where
@@ -152,29 +141,29 @@ WhyNoneByPrograms c text fault = WhyNoReport c text fault
 -- the source gave a dump over which the text has no report, and nothing was written
 pub record IsRefusedReport (r : Run) (fault : Fault) : Type 0 where
   pub contents : Contents
-  pub gave : GaveDump r.given_old r.given_new contents
+  pub gave : GaveDump r.source_before.remaining r.source_after.remaining contents
   pub why : WhyNoReport contents r.text fault
-  pub reads : r.reads_new ≡ r.reads_old
+  pub reads : r.source_after.failures ≡ r.source_before.failures
   pub unwritten : IsUnwritten r
 
 -- the sink failed, and holds a beginning of the report's text behind what it held before
 pub record IsCutShort (r : Run) : Type 0 where
   pub bytes : List ℕ
-  pub gave : Gave r.given_old r.given_new bytes
+  pub gave : Gave r.source_before.remaining r.source_after.remaining bytes
   pub report : ReportData
   pub is_report : IsReport bytes r.text report
-  pub reads : r.reads_new ≡ r.reads_old
-  pub failed : r.writes_new ≡ after_failure r.writes_old
-  pub front : AppendsFront r.held_old r.held_new (report_text report)
+  pub reads : r.source_after.failures ≡ r.source_before.failures
+  pub failed : r.sink_after.failures ≡ after_failure r.sink_before.failures
+  pub front : AppendsFront r.sink_before.contents r.sink_after.contents (report_text report)
 
 -- the dump's fault stands, and nothing was written
 pub record IsUnread (r : Run) (fault : VcdFault) : Type 0 where
-  pub stands : Stands r.given_old r.given_new r.reads_old r.reads_new fault
+  pub stands : Stands r.source_before r.source_after fault
   pub unwritten : IsUnwritten r
 
 -- memory ran out: no call failed, and nothing was written
 pub record IsOutOfMemory (r : Run) : Type 0 where
-  pub reads : r.reads_new ≡ r.reads_old
+  pub reads : r.source_after.failures ≡ r.source_before.failures
   pub unwritten : IsUnwritten r
 
 -- why there is no report, or not all of it
@@ -195,17 +184,17 @@ WhyRunRefused r _ = ⊥
 -- written
 pub record IsUncompiled (r : Run) (fault : CompileFault) : Type 0 where
   pub contents : Contents
-  pub gave : GaveDump r.given_old r.given_new contents
+  pub gave : GaveDump r.source_before.remaining r.source_after.remaining contents
   pub why : IsNotCompiled contents r.text fault
-  pub reads : r.reads_new ≡ r.reads_old
+  pub reads : r.source_after.failures ≡ r.source_before.failures
   pub unwritten : IsUnwritten r
 
 -- the source gave a dump over which the text has too many assertions, and nothing was written
 pub record IsWithoutJob (r : Run) : Type 0 where
   pub contents : Contents
-  pub gave : GaveDump r.given_old r.given_new contents
+  pub gave : GaveDump r.source_before.remaining r.source_after.remaining contents
   pub why : HasNoJob contents r.text
-  pub reads : r.reads_new ≡ r.reads_old
+  pub reads : r.source_after.failures ≡ r.source_before.failures
   pub unwritten : IsUnwritten r
 
 -- why there is no report by programs, or not all of it
@@ -218,8 +207,8 @@ WhyCheckRefused r fault = WhyRunRefused r fault
 -- the window's size is out of range, and nothing was read or written
 pub record IsOutOfRange (window : ℕ) (r : Run) : Type 0 where
   pub size : IsBadSize window
-  pub unread : r.given_new ≡ r.given_old
-  pub calls : r.reads_new ≡ r.reads_old
+  pub unread : r.source_after.remaining ≡ r.source_before.remaining
+  pub calls : r.source_after.failures ≡ r.source_before.failures
   pub unwritten : IsUnwritten r
 
 -- why nothing was checked, or not all of the report written

@@ -1,8 +1,8 @@
 -- What a verification of bytes comes to.
-use Rattle.std.specs.Prelude.{◌≡◌, ℕ, List, Option, IsTrue}
+use Rattle.std.specs.Prelude.{◌≡◌, ℕ, List, IsTrue}
 use Rattle.std.specs.Io.KnownBytes.{Appends}
 use Rattle.signals.specs.Source.{after_failure}
-use Rattle.signals.specs.Sink.{AppendsFront}
+use Rattle.signals.specs.Sink.{SinkState, AppendsFront}
 use Rattle.bytecode.specs.declared.fault.CodeFault.{CodeFault}
 use Rattle.bytecode.specs.declared.fault.CodeFault.TheVariants as codes
 use Rattle.bytecode.specs.Values.{ProgramData, fits_program}
@@ -48,44 +48,41 @@ WhyNotAccepted bytes (Refused e) = IsNotAccepted bytes e
 WhyNotAccepted bytes Memory = Unit {0}
 WhyNotAccepted bytes _ = ⊥
 
--- What a verification was given and what it left: the bytes, what the sink held before and after,
--- and how many of its calls had failed.
+-- What a verification was given and what it left: the bytes, and the sink before and after.
 pub record Verification : Type 0 where
   pub bytes : List ℕ
-  pub held_old : Option (List ℕ)
-  pub held_new : Option (List ℕ)
-  pub writes_old : ℕ
-  pub writes_new : ℕ
+  pub sink_before : SinkState
+  pub sink_after : SinkState
 
-abbrev pub verification_of : List ℕ → Option (List ℕ) → Option (List ℕ) → ℕ → ℕ → Verification
-verification_of bytes held_old held_new writes_old writes_new = record {
+abbrev pub verification_of : List ℕ → SinkState → SinkState → Verification
+verification_of bytes sink_before sink_after = record {
   bytes = bytes;
-  held_old = held_old;
-  held_new = held_new;
-  writes_old = writes_old;
-  writes_new = writes_new;
+  sink_before = sink_before;
+  sink_after = sink_after;
 }
 
 -- The bytes spell an accepted program, and the line of its limits was written. No call failed.
 pub record IsTold (v : Verification) : Type 0 where
   pub program : ProgramData
   pub accepted : SpellsAccepted v.bytes program
-  pub written : Appends v.held_old v.held_new (limits_text program.header.limits)
-  pub writes : v.writes_new ≡ v.writes_old
+  pub written : Appends v.sink_before.contents v.sink_after.contents
+      (limits_text program.header.limits)
+  pub writes : v.sink_after.failures ≡ v.sink_before.failures
 
 -- The bytes spell an accepted program, but the sink failed: it holds a beginning of the line of its
 -- limits behind what it held before.
 pub record IsCutLine (v : Verification) : Type 0 where
   pub program : ProgramData
   pub accepted : SpellsAccepted v.bytes program
-  pub front : AppendsFront v.held_old v.held_new (limits_text program.header.limits)
-  pub failed : v.writes_new ≡ after_failure v.writes_old
+  pub front : AppendsFront v.sink_before.contents v.sink_after.contents
+      (limits_text program.header.limits)
+  pub failed : v.sink_after.failures ≡ after_failure v.sink_before.failures
 
 -- They are refused, and nothing was written.
 pub record IsRefusedCode (v : Verification) (fault : Fault) : Type 0 where
   pub why : WhyNotAccepted v.bytes fault
-  pub held : v.held_new ≡ v.held_old
-  pub writes : v.writes_new ≡ v.writes_old
+  pub held : v.sink_after.contents ≡ v.sink_before.contents
+  pub writes : v.sink_after.failures ≡ v.sink_before.failures
 
 -- why no line was written, or not all of it
 abbrev pub WhyNotTold : Verification → Fault → Type 0

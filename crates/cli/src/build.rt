@@ -59,10 +59,7 @@ fn built_over<'a>(
         → IfErr result (WhyNotBuilt c text.entry.now name.now) }
 {
     suite_law();
-    let file = match file_of(alloc, text) {
-        Ok(file) => file,
-        Err(fault) => return Err(fault),
-    };
+    let file = file_of(alloc, text)?;
     let suite = suite_of(alloc, dump, &file)?;
     program_named(alloc, &suite, name)
 }
@@ -84,15 +81,10 @@ pub fn build_one<'a, S: Source>(
     name: &str,
 ) -> Result<Vec<u8>, Fault<'a>>
     ensures built { IfOk result (λ bytes. IsBuiltFrom (build_of text.entry.now name.now
-        (S.remaining source.old) (S.remaining source.new)
-        (S.failures source.old) (S.failures source.new)) bytes.items) }
+        (S.state source.old) (S.state source.new)) bytes.items) }
     ensures refused { IfErr result (WhyBuildRefused (build_of text.entry.now name.now
-        (S.remaining source.old) (S.remaining source.new)
-        (S.failures source.old) (S.failures source.new))) }
+        (S.state source.old) (S.state source.new))) }
 {
     let dump = read_dump(alloc, source)?;
-    match built_over(alloc, &dump, text, name) {
-        Ok(bytes) => Ok(bytes),
-        Err(fault) => Err(fault),
-    }
+    built_over(alloc, &dump, text, name)
 }

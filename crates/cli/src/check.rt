@@ -36,13 +36,9 @@ pub fn check_one<'a, S: Source, W: Sink>(
     out: &mut W,
 ) -> Result<[u64; 5], Fault<'a>>
     ensures answered { IfOk result (IsAnswered (run_of text.entry.now
-        (S.remaining source.old) (S.remaining source.new)
-        (S.failures source.old) (S.failures source.new)
-        (W.contents out.old) (W.contents out.new) (W.failures out.old) (W.failures out.new))) }
+        (S.state source.old) (S.state source.new) (W.state out.old) (W.state out.new))) }
     ensures refused { IfErr result (WhyNotChecked window (run_of text.entry.now
-        (S.remaining source.old) (S.remaining source.new)
-        (S.failures source.old) (S.failures source.new)
-        (W.contents out.old) (W.contents out.new) (W.failures out.old) (W.failures out.new))) }
+        (S.state source.old) (S.state source.new) (W.state out.old) (W.state out.new))) }
     ensures bad_size { IsBadSize window ↔ (result ≡ Err (Window BadSize)) }
 {
     if window < 1 || window > 65_536 {
@@ -63,13 +59,9 @@ pub fn judge_one<'a, S: Source, W: Sink>(
     out: &mut W,
 ) -> Result<[u64; 5], Fault<'a>>
     ensures answered { IfOk result (IsAnswered (run_of text.entry.now
-        (S.remaining source.old) (S.remaining source.new)
-        (S.failures source.old) (S.failures source.new)
-        (W.contents out.old) (W.contents out.new) (W.failures out.old) (W.failures out.new))) }
+        (S.state source.old) (S.state source.new) (W.state out.old) (W.state out.new))) }
     ensures refused { IfErr result (WhyRunRefused (run_of text.entry.now
-        (S.remaining source.old) (S.remaining source.new)
-        (S.failures source.old) (S.failures source.new)
-        (W.contents out.old) (W.contents out.new) (W.failures out.old) (W.failures out.new))) }
+        (S.state source.old) (S.state source.new) (W.state out.old) (W.state out.new))) }
 {
     run_through(alloc, source, text, 1024, out)
 }

@@ -34,10 +34,7 @@ fn report_checked<'a>(
         → IfErr result (WhyNoneByPrograms c text.entry.now) }
 {
     suite_law();
-    let file = match file_of(alloc, text) {
-        Ok(file) => file,
-        Err(fault) => return Err(fault),
-    };
+    let file = file_of(alloc, text)?;
     let suite = suite_of(alloc, &dump, &file)?;
     let clocks = Clocks::of(alloc, &dump, suite.clock())?;
     Ok(report_by_programs(alloc, dump, clocks, &suite, size)?)
@@ -55,19 +52,12 @@ pub(crate) fn check_through<'a, S: Source, W: Sink>(
     requires some { 1 ≤ size }
     requires most { size ≤ 65536 }
     ensures answered { IfOk result (IsAnswered (run_of text.entry.now
-        (S.remaining source.old) (S.remaining source.new)
-        (S.failures source.old) (S.failures source.new)
-        (W.contents out.old) (W.contents out.new) (W.failures out.old) (W.failures out.new))) }
+        (S.state source.old) (S.state source.new) (W.state out.old) (W.state out.new))) }
     ensures refused { IfErr result (WhyCheckRefused (run_of text.entry.now
-        (S.remaining source.old) (S.remaining source.new)
-        (S.failures source.old) (S.failures source.new)
-        (W.contents out.old) (W.contents out.new) (W.failures out.old) (W.failures out.new))) }
+        (S.state source.old) (S.state source.new) (W.state out.old) (W.state out.new))) }
 {
     let dump = read_dump(alloc, source)?;
-    let report = match report_checked(alloc, dump, text, size) {
-        Ok(report) => report,
-        Err(fault) => return Err(fault),
-    };
+    let report = report_checked(alloc, dump, text, size)?;
     match write_report(alloc, &report, out) {
         Ok(()) => Ok(totals(&report)),
         Err(ReportFault::Memory) => Err(Fault::Memory),

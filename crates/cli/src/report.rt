@@ -22,7 +22,7 @@ use vcd_reader::Dump;
 use verdicts::Report;
 
 /// The report on a suite over the rows of its signals.
-fn report_over(alloc: Global, suite: &Suite, signals: Table) -> Result<Report, AllocError>
+fn report_over(alloc: Global, suite: &Suite, signals: Table<u128>) -> Result<Report, AllocError>
     ensures { IfOk result (λ r. OverRows suite.now signals (data_of r)) }
 {
     let rows = count(alloc, signals, suite.counters.as_slice())?;
@@ -54,7 +54,7 @@ fn rows_of(
     clocks: &Clocks,
     suite: &Suite,
     size: usize,
-) -> Result<Table, AllocError>
+) -> Result<Table<u128>, AllocError>
     requires some { 1 ≤ size }
     requires most { size ≤ 65536 }
     requires clocks { AreClocksOf dump.now clocks.now }
@@ -65,6 +65,7 @@ fn rows_of(
         → IfOk result (λ rows. rows ≡ map (row_of c signals) (ticks_of c (code_in clocks.now))) }
 {
     let signals = signals_of(alloc, suite.names.as_slice())?;
+    // An arm knows that it is want of memory, as `want_of_memory` asks; a `From` can't ask it.
     match Columns::bind(alloc, dump, clocks, signals.as_slice()) {
         Ok(columns) => rows_through(alloc, dump, clocks, columns, size),
         Err(fault) => Err(want_of_memory(fault)),
@@ -86,10 +87,7 @@ pub(crate) fn report_on(
     ensures err { (c : Contents) → HoldsContents dump.now c
         → IfErr result (IsClockFault c.variables (string_bytes suite.now.clock)) }
 {
-    let clocks = match Clocks::of(alloc, dump, suite.clock.as_str()) {
-        Ok(clocks) => clocks,
-        Err(fault) => return Err(fault),
-    };
+    let clocks = Clocks::of(alloc, dump, suite.clock.as_str())?;
     let rows = rows_of(alloc, dump, &clocks, suite, size)?;
     Ok(report_over(alloc, suite, rows)?)
 }

@@ -30,10 +30,7 @@ fn report_judged<'a>(
     ensures err { (c : Contents) → HoldsContents dump.now c
         → IfErr result (WhyNoReport c text.entry.now) }
 {
-    let file = match file_of(alloc, text) {
-        Ok(file) => file,
-        Err(fault) => return Err(fault),
-    };
+    let file = file_of(alloc, text)?;
     let suite = suite_of(alloc, dump, &file)?;
     Ok(report_on(alloc, dump, &suite, size)?)
 }
@@ -64,19 +61,12 @@ pub(crate) fn run_through<'a, S: Source, W: Sink>(
     requires some { 1 ≤ size }
     requires most { size ≤ 65536 }
     ensures answered { IfOk result (IsAnswered (run_of text.entry.now
-        (S.remaining source.old) (S.remaining source.new)
-        (S.failures source.old) (S.failures source.new)
-        (W.contents out.old) (W.contents out.new) (W.failures out.old) (W.failures out.new))) }
+        (S.state source.old) (S.state source.new) (W.state out.old) (W.state out.new))) }
     ensures refused { IfErr result (WhyRunRefused (run_of text.entry.now
-        (S.remaining source.old) (S.remaining source.new)
-        (S.failures source.old) (S.failures source.new)
-        (W.contents out.old) (W.contents out.new) (W.failures out.old) (W.failures out.new))) }
+        (S.state source.old) (S.state source.new) (W.state out.old) (W.state out.new))) }
 {
     let dump = read_dump(alloc, source)?;
-    let report = match report_judged(alloc, &dump, text, size) {
-        Ok(report) => report,
-        Err(fault) => return Err(fault),
-    };
+    let report = report_judged(alloc, &dump, text, size)?;
     match write_report(alloc, &report, out) {
         Ok(()) => Ok(totals(&report)),
         Err(ReportFault::Memory) => Err(Fault::Memory),

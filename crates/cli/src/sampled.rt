@@ -25,7 +25,7 @@ pub(crate) fn want_of_memory(fault: WindowFault) -> AllocError
 }
 
 /// Adds the rows of a window behind those of the clocks before it.
-fn push_rows(alloc: Global, rows: &mut Table, window: &Window<'_>) -> Result<(), AllocError>
+fn push_rows(alloc: Global, rows: &mut Table<u128>, window: &Window<'_>) -> Result<(), AllocError>
     requires order { first_in window.now ≤ end_in window.now }
     requires behind { length rows.old ≡ first_in window.now }
     ensures long { OnOk result (length rows.new ≡ end_in window.now) }
@@ -51,7 +51,7 @@ pub(crate) fn rows_through(
     clocks: &Clocks,
     columns: Columns<'_>,
     size: usize,
-) -> Result<Table, AllocError>
+) -> Result<Table<u128>, AllocError>
     requires some { 1 ≤ size }
     requires most { size ≤ 65536 }
     requires clocks { AreClocksOf dump.now clocks.now }
@@ -61,6 +61,7 @@ pub(crate) fn rows_through(
     ensures { IfOk result (λ rows. (c : Contents) → HoldsContents dump.now c
         → rows ≡ map (row_of c (places_in columns.entry)) (ticks_of c (code_in clocks.now))) }
 {
+    // An arm knows that it is want of memory, as `want_of_memory` asks; a `From` can't ask it.
     let mut window = match Window::new(alloc, size, columns) {
         Ok(window) => window,
         Err(fault) => return Err(want_of_memory(fault)),

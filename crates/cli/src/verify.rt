@@ -30,9 +30,9 @@ pub fn verified_of(alloc: Global, bytes: &[u8]) -> Result<Verified, Fault<'stati
 /// held before; and want of memory.
 pub fn verify_code<W: Sink>(alloc: Global, bytes: &[u8], out: &mut W) -> Result<(), Fault<'static>>
     ensures told { OnOk result (IsTold (verification_of bytes.now
-        (W.contents out.old) (W.contents out.new) (W.failures out.old) (W.failures out.new))) }
+        (W.state out.old) (W.state out.new))) }
     ensures refused { IfErr result (WhyNotTold (verification_of bytes.now
-        (W.contents out.old) (W.contents out.new) (W.failures out.old) (W.failures out.new))) }
+        (W.state out.old) (W.state out.new))) }
 {
     let verified = verified_of(alloc, bytes)?;
     Ok(write_limits(alloc, &verified.limits(), out)?)

@@ -66,8 +66,8 @@ unbound c code size p accepted windows.BadSize h =
     record { program = p; accepted = accepted; why = h }
 unbound c code size p accepted windows.Memory h = tt
 
-module _ (size : ℕ) (r : Run) (c : Contents) (gave : GaveDump r.given_old r.given_new c)
-    (reads : r.reads_new ≡ r.reads_old) (unwritten : IsUnwritten r) where
+module _ (size : ℕ) (r : Run) (c : Contents) (gave : GaveDump r.source_before.remaining r.source_after.remaining c)
+    (reads : r.source_after.failures ≡ r.source_before.failures) (unwritten : IsUnwritten r) where
   refused : (e : Fault) → WhyNoRunReport c r.text size e → IsRefusedRun size r e
   refused e h = record { contents = c; gave = gave; why = h; reads = reads; unwritten = unwritten }
 
@@ -135,7 +135,7 @@ module _ (size : ℕ) (r : Run) (c : Contents) (gave : GaveDump r.given_old r.gi
 
 -- a dump that wasn't read refuses the run
 pub unread : (size : ℕ) (r : Run) → IsUnwritten r → (e : VcdFault)
-    → Stands r.given_old r.given_new r.reads_old r.reads_new e → WhyRunFails size r (vcd_fault e)
+    → Stands r.source_before r.source_after e → WhyRunFails size r (vcd_fault e)
 unread size r unwritten (dumps.BadToken at) h = record { stands = h; unwritten = unwritten }
 unread size r unwritten (dumps.UnknownCode at) h = record { stands = h; unwritten = unwritten }
 unread size r unwritten (dumps.TimeBack at) h = record { stands = h; unwritten = unwritten }

@@ -38,13 +38,13 @@ pub record IsRunReport (bytes code : List ℕ) (report : ReportData) : Type 0 wh
 -- the totals are its last line's. No call failed.
 pub record IsRunAnswered (r : Run) (totals : List ℕ) : Type 0 where
   pub bytes : List ℕ
-  pub gave : Gave r.given_old r.given_new bytes
+  pub gave : Gave r.source_before.remaining r.source_after.remaining bytes
   pub report : ReportData
   pub is_report : IsRunReport bytes r.text report
-  pub written : Appends r.held_old r.held_new (report_text report)
+  pub written : Appends r.sink_before.contents r.sink_after.contents (report_text report)
   pub totals_are : totals ≡ totals_of report.total
-  pub reads : r.reads_new ≡ r.reads_old
-  pub writes : r.writes_new ≡ r.writes_old
+  pub reads : r.source_after.failures ≡ r.source_before.failures
+  pub writes : r.sink_after.failures ≡ r.sink_before.failures
 
 -- an accepted program whose clock or signals the dump doesn't have as it names them
 pub record IsUnbound (c : Contents) (code : List ℕ) (size : ℕ) (fault : WindowFault) : Type 0 where
@@ -64,20 +64,20 @@ WhyNoRunReport c code size _ = ⊥
 -- the source gave a dump over which the bytes have no report, and nothing was written
 pub record IsRefusedRun (size : ℕ) (r : Run) (fault : Fault) : Type 0 where
   pub contents : Contents
-  pub gave : GaveDump r.given_old r.given_new contents
+  pub gave : GaveDump r.source_before.remaining r.source_after.remaining contents
   pub why : WhyNoRunReport contents r.text size fault
-  pub reads : r.reads_new ≡ r.reads_old
+  pub reads : r.source_after.failures ≡ r.source_before.failures
   pub unwritten : IsUnwritten r
 
 -- the sink failed, and holds a beginning of the report's text behind what it held before
 pub record IsCutRun (r : Run) : Type 0 where
   pub bytes : List ℕ
-  pub gave : Gave r.given_old r.given_new bytes
+  pub gave : Gave r.source_before.remaining r.source_after.remaining bytes
   pub report : ReportData
   pub is_report : IsRunReport bytes r.text report
-  pub reads : r.reads_new ≡ r.reads_old
-  pub failed : r.writes_new ≡ after_failure r.writes_old
-  pub front : AppendsFront r.held_old r.held_new (report_text report)
+  pub reads : r.source_after.failures ≡ r.source_before.failures
+  pub failed : r.sink_after.failures ≡ after_failure r.sink_before.failures
+  pub front : AppendsFront r.sink_before.contents r.sink_after.contents (report_text report)
 
 -- why there is no report, or not all of it
 abbrev pub WhyRunFails : ℕ → Run → Fault → Type 0

@@ -26,10 +26,7 @@ fn report_of(alloc: Global, dump: Dump, code: &[u8], size: usize) -> Result<Repo
     ensures err { (c : Contents) → HoldsContents dump c
         → IfErr result (WhyNoRunReport c code.now size) }
 {
-    let verified = match verified_of(alloc, code) {
-        Ok(verified) => verified,
-        Err(fault) => return Err(fault),
-    };
+    let verified = verified_of(alloc, code)?;
     Ok(report_run(alloc, dump, verified, size)?)
 }
 
@@ -58,19 +55,12 @@ fn run_through<S: Source, W: Sink>(
     requires some { 1 ≤ size }
     requires most { size ≤ 65536 }
     ensures answered { IfOk result (IsRunAnswered (run_of code.now
-        (S.remaining source.old) (S.remaining source.new)
-        (S.failures source.old) (S.failures source.new)
-        (W.contents out.old) (W.contents out.new) (W.failures out.old) (W.failures out.new))) }
+        (S.state source.old) (S.state source.new) (W.state out.old) (W.state out.new))) }
     ensures refused { IfErr result (WhyRunFails size (run_of code.now
-        (S.remaining source.old) (S.remaining source.new)
-        (S.failures source.old) (S.failures source.new)
-        (W.contents out.old) (W.contents out.new) (W.failures out.old) (W.failures out.new))) }
+        (S.state source.old) (S.state source.new) (W.state out.old) (W.state out.new))) }
 {
     let dump = read_dump(alloc, source)?;
-    let report = match report_of(alloc, dump, code, size) {
-        Ok(report) => report,
-        Err(fault) => return Err(fault),
-    };
+    let report = report_of(alloc, dump, code, size)?;
     match write_report(alloc, &report, out) {
         Ok(()) => Ok(totals(&report)),
         Err(ReportFault::Memory) => Err(Fault::Memory),
@@ -98,13 +88,9 @@ pub fn run_code<S: Source, W: Sink>(
     out: &mut W,
 ) -> Result<[u64; 5], Fault<'static>>
     ensures answered { IfOk result (IsRunAnswered (run_of code.now
-        (S.remaining source.old) (S.remaining source.new)
-        (S.failures source.old) (S.failures source.new)
-        (W.contents out.old) (W.contents out.new) (W.failures out.old) (W.failures out.new))) }
+        (S.state source.old) (S.state source.new) (W.state out.old) (W.state out.new))) }
     ensures refused { IfErr result (WhyNotRun window (run_of code.now
-        (S.remaining source.old) (S.remaining source.new)
-        (S.failures source.old) (S.failures source.new)
-        (W.contents out.old) (W.contents out.new) (W.failures out.old) (W.failures out.new))) }
+        (S.state source.old) (S.state source.new) (W.state out.old) (W.state out.new))) }
     ensures bad_size { IsBadSize window ↔ (result ≡ Err (Window BadSize)) }
 {
     if window < 1 || window > 65_536 {

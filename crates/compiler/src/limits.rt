@@ -71,6 +71,7 @@ fn least_of(alloc: Global, program: &Program) -> Result<LeastLimits, AllocError>
     requires room { HasRoom (data_of program.now) }
     ensures { IfOk result (λ least. least ≡ least_limits (data_of program.now)) }
 {
+    // An arm knows that it is want of memory, as `want_of_memory` asks; a `From` can't ask it.
     match least_limits(alloc, program) {
         Ok(least) => Ok(least),
         Err(refusal) => Err(want_of_memory(refusal)),
@@ -86,6 +87,7 @@ pub(crate) fn accepted(alloc: Global, program: Program) -> Result<Verified, Allo
         ≡ with_limits (data_of program) (declared_from (least_limits (data_of program)))) }
 {
     let least = least_of(alloc, &program)?;
+    // An arm knows that it is want of memory, as `want_of_memory` asks; a `From` can't ask it.
     match verify(alloc, declaring(program, least)) {
         Ok(verified) => Ok(verified),
         Err(refusal) => Err(want_of_memory(refusal)),

@@ -1,38 +1,11 @@
 //! Operators on values.
 
-ghost use Rattle.std.specs.Prelude.{◌≡◌, ◌≤◌, ◌%◌, ◌^◌};
-ghost use Rattle.signals.specs.Tests.{one_if};
+ghost use Rattle.std.specs.Prelude.{◌≡◌};
 ghost use Rattle.expressions.specs.Operators.{arithmetic, shift_value, comparison_value};
 ghost use Rattle.expressions.specs.Operators.{connective_value, reduction_value, change_of};
 
 use crate::operator::{Arithmetic, Change, Comparison, Connective, Reduction, Shift};
 use signals::Bits;
-
-/// One bit, 1 where the test passes.
-fn flag(test: bool) -> Bits
-    ensures width { result.width ≡ 1 }
-    ensures value { result.value ≡ one_if test }
-{
-    Bits {
-        width: 1,
-        value: u128::from(test),
-    }
-}
-
-/// The low bits of a number.
-pub(crate) fn cut(width: u8, value: u128) -> Bits
-    requires some_bits { 1 ≤ width }
-    requires at_most_128 { width ≤ 128 }
-    ensures width { result.width ≡ width }
-    ensures value { result.value ≡ value % 2 ^ width }
-{
-    let value = if width < 128 {
-        value % (1u128 << width)
-    } else {
-        value
-    };
-    Bits { width, value }
-}
 
 /// Two values of one width.
 pub(crate) fn combine(op: Arithmetic, a: Bits, b: Bits) -> Bits
@@ -67,12 +40,12 @@ pub(crate) fn compare(op: Comparison, a: Bits, b: Bits) -> Bits
     ensures value { result.value ≡ comparison_value op a.value b.value }
 {
     match op {
-        Comparison::Equal => flag(a.value == b.value),
-        Comparison::Differs => flag(a.value != b.value),
-        Comparison::Less => flag(a.value < b.value),
-        Comparison::AtMost => flag(a.value <= b.value),
-        Comparison::Greater => flag(a.value > b.value),
-        Comparison::AtLeast => flag(a.value >= b.value),
+        Comparison::Equal => Bits::flag(a.value == b.value),
+        Comparison::Differs => Bits::flag(a.value != b.value),
+        Comparison::Less => Bits::flag(a.value < b.value),
+        Comparison::AtMost => Bits::flag(a.value <= b.value),
+        Comparison::Greater => Bits::flag(a.value > b.value),
+        Comparison::AtLeast => Bits::flag(a.value >= b.value),
     }
 }
 
@@ -82,8 +55,8 @@ pub(crate) fn connect(op: Connective, a: Bits, b: Bits) -> Bits
     ensures value { result.value ≡ connective_value op a.value b.value }
 {
     match op {
-        Connective::Both => flag(a.value != 0 && b.value != 0),
-        Connective::Either => flag(a.value != 0 || b.value != 0),
+        Connective::Both => Bits::flag(a.value != 0 && b.value != 0),
+        Connective::Either => Bits::flag(a.value != 0 || b.value != 0),
     }
 }
 
@@ -93,7 +66,7 @@ pub(crate) fn reduce(op: Reduction, a: Bits) -> Bits
     ensures value { result.value ≡ reduction_value op a.width a.value }
 {
     match op {
-        Reduction::Zero => flag(a.value == 0),
+        Reduction::Zero => Bits::flag(a.value == 0),
         Reduction::NonZero => a.red_or(),
         Reduction::AllOnes => a.red_and(),
         Reduction::NotAllOnes => a.red_and().not(),
@@ -110,9 +83,9 @@ pub(crate) fn change(op: Change, now: Bits, before: Bits) -> Bits
     ensures value { result.value ≡ change_of op now.value before.value }
 {
     match op {
-        Change::Rose => flag(now.value % 2 == 1 && before.value % 2 == 0),
-        Change::Fell => flag(now.value % 2 == 0 && before.value % 2 == 1),
-        Change::Stable => flag(now.value == before.value),
-        Change::Changed => flag(now.value != before.value),
+        Change::Rose => Bits::flag(now.value % 2 == 1 && before.value % 2 == 0),
+        Change::Fell => Bits::flag(now.value % 2 == 0 && before.value % 2 == 1),
+        Change::Stable => Bits::flag(now.value == before.value),
+        Change::Changed => Bits::flag(now.value != before.value),
     }
 }

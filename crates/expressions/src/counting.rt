@@ -6,14 +6,13 @@ ghost use Rattle.expressions.specs.Tables.{cell};
 ghost use Rattle.expressions.specs.Rows.{samples_of, HasCounts};
 ghost use Rattle.expressions.specs.Counters.{holds, rule_value, next_count, next_of};
 
-use crate::apply::cut;
 use crate::counter::Counter;
 use crate::evaluate::{is_true, value};
 use crate::expr::Expr;
 use crate::rows::Rows;
 use crate::rule::Rule;
 use crate::table::Table;
-use signals::all_ones;
+use signals::{Bits, all_ones};
 use std::alloc::{AllocError, Global};
 
 /// Whether a condition is there and true.
@@ -38,7 +37,7 @@ fn amount_of(rule: &Option<Rule>, rows: &Rows, tick: usize, width: u8) -> Option
             if is_true(&rule.when, rows, tick) {
                 let larger = width.max(rule.by.width());
                 let by = value(&rule.by, rows, tick, larger);
-                Some(cut(width, by.value).value)
+                Some(Bits::low(width, by.value).value)
             } else {
                 None
             }
@@ -96,7 +95,7 @@ fn next_row(
 }
 
 /// The rows of these signals, with the counters at the first tick and after each row.
-pub fn count(alloc: Global, signals: Table, all: &[Counter]) -> Result<Rows, AllocError>
+pub fn count(alloc: Global, signals: Table<u128>, all: &[Counter]) -> Result<Rows, AllocError>
     ensures signals { IfOk result (λ t. t.signals ≡ signals) }
     ensures counters { IfOk result (HasCounts all.now) }
 {

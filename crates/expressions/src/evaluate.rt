@@ -9,7 +9,7 @@ ghost use Rattle.expressions.specs.Rows.{samples_of};
 ghost use Rattle.expressions.specs.Chains.{sums_from, shifts_from, compares_from, connects_from};
 ghost use Rattle.expressions.specs.Chains.{concats_from, total_of, tested_width, AllNarrow};
 
-use crate::apply::{change, combine, compare, connect, cut, reduce, shift};
+use crate::apply::{change, combine, compare, connect, reduce, shift};
 use crate::expr::Expr;
 use crate::name::{Name, Origin};
 use crate::node::Node;
@@ -27,7 +27,7 @@ fn name_at(name: &Name, rows: &Rows, tick: usize) -> Bits
         Origin::Signal => rows.signals.cell(tick, name.place),
         Origin::Counter => rows.counters.cell(tick, name.place),
     };
-    cut(name.width, held)
+    Bits::low(name.width, held)
 }
 
 /// The value of a tree at a tick in a context of so many bits.
@@ -107,7 +107,7 @@ fn value_before(node: &Node, rows: &Rows, tick: usize, ticks: u8) -> Bits
     if usize::from(ticks) <= tick {
         own_value(node, rows, tick - usize::from(ticks))
     } else {
-        cut(width_of(node), 0)
+        Bits::low(width_of(node), 0)
     }
 }
 

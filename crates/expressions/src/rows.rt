@@ -5,6 +5,6 @@ use crate::table::Table;
 /// The sampled signals and the counters, each with a row for each tick.
 #[derive(Drop)]
 pub struct Rows {
-    pub signals: Table,
-    pub counters: Table,
+    pub signals: Table<u128>,
+    pub counters: Table<u128>,
 }

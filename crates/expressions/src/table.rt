@@ -1,27 +1,30 @@
-//! Tables of numbers, with a row for each tick.
+//! Tables, with a row for each tick.
 
-ghost use Rattle.std.specs.Prelude.{◌≡◌, ◌==◌, ◌<◌, ◌^◌, ℕ, List, [], ◌∷◌, ◌++◌, length, map, OnOk};
-ghost use Rattle.std.specs.Prelude.{OnErr};
+ghost use Rattle.std.specs.Prelude.{◌≡◌, ◌==◌, ◌<◌, ◌^◌, List, [], ◌∷◌, ◌++◌, length, map};
+ghost use Rattle.std.specs.Prelude.{slice_index_or, OnOk, OnErr};
+ghost use Rattle.std.specs.Coded.{coded_list};
 ghost use Rattle.expressions.specs.Tables.{cell};
 
 use std::alloc::{AllocError, Global};
 use std::marker::Model;
 
-/// For each tick, in order, a row of numbers.
+/// For each tick, in order, a row of entries.
 #[derive(Drop)]
-pub struct Table {
-    rows: Vec<Vec<u128>>,
+pub struct Table<T: Copy> {
+    rows: Vec<Vec<T>>,
 }
 
-impl Model for Table {
-    ghost Value = { List (List ℕ) };
+impl<T: Copy> Model for Table<T> {
+    ghost Value = { List (List T) };
+
+    ghost coded = { coded_list (coded_list T.code) };
 
     ghost view = { λ r. map (λ row. row.items) r.rows.items };
 }
 
-impl Table {
+impl<T: Copy> Table<T> {
     /// No row.
-    pub fn new(alloc: Global) -> Table
+    pub fn new(alloc: Global) -> Table<T>
         ensures { result ≡ [] }
     {
         Table {
@@ -30,7 +33,7 @@ impl Table {
     }
 
     /// Adds the row of the next tick.
-    pub fn push(&mut self, row: Vec<u128>) -> Result<(), AllocError>
+    pub fn push(&mut self, row: Vec<T>) -> Result<(), AllocError>
         ensures ok { OnOk result (self.new ≡ self.old ++ row.items ∷ []) }
         ensures err { OnErr result (self.new ≡ self.old) }
     {
@@ -54,13 +57,22 @@ impl Table {
         self.rows.is_empty()
     }
 
+    /// The row of a tick, empty where there is none.
+    pub fn row(&self, tick: usize) -> &[T]
+        ensures { result.now ≡ slice_index_or self.now tick [] }
+    {
+        match self.rows.get(tick) {
+            None => &[],
+            Some(row) => row.as_slice(),
+        }
+    }
+}
+
+impl Table<u128> {
     /// The number in a column at a tick, and 0 where there is none.
     pub fn cell(&self, tick: usize, place: usize) -> u128
         ensures { result ≡ cell self.now tick place }
     {
-        match self.rows.get(tick) {
-            None => 0,
-            Some(row) => row.get(place).copied().unwrap_or(0),
-        }
+        self.row(tick).get(place).copied().unwrap_or(0)
     }
 }

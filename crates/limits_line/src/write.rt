@@ -15,11 +15,11 @@ use verdicts::ReportFault;
 ///
 /// Where the device fails, it holds a beginning of the line behind what it held before.
 pub fn write_limits<W: Sink>(alloc: Global, limits: &Limits, out: &mut W) -> Result<(), ReportFault>
-    ensures written { OnOk result (Appends (W.contents out.old) (W.contents out.new)
-        (limits_text limits.now)) }
-    ensures counted { OnOk result (W.failures out.new ≡ W.failures out.old) }
-    ensures refused { IfErr result (WhyUnwritten (W.contents out.old) (W.contents out.new)
-        (W.failures out.old) (W.failures out.new) (limits_text limits.now)) }
+    ensures written { OnOk result
+        (Appends (W.state out.old).contents (W.state out.new).contents (limits_text limits.now)) }
+    ensures counted { OnOk result ((W.state out.new).failures ≡ (W.state out.old).failures) }
+    ensures refused { IfErr result
+        (WhyUnwritten (W.state out.old) (W.state out.new) (limits_text limits.now)) }
 {
     let Ok(text) = text_of(alloc, limits) else {
         return Err(ReportFault::Memory);

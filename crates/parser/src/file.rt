@@ -91,10 +91,7 @@ pub fn parse<'a>(alloc: Global, tokens: &[Token<'a>]) -> Result<File<'a>, ParseF
     // The fault stands at one of the tokens, if there is one, and P2 tells that token's text.
     ensures placed { IfErr result (λ fault. 0 < length tokens.now → IsPlaced tokens.now fault) }
 {
-    let (items, asserted, rest) = match read_items(alloc, tokens) {
-        Ok(read) => read,
-        Err(fault) => return Err(fault),
-    };
+    let (items, asserted, rest) = read_items(alloc, tokens)?;
     let Some((last, behind)) = first(rest) else {
         return Err(ParseFault::Expected("the end", byte_at(tokens)));
     };

@@ -27,6 +27,15 @@ use parser_expressions::{
 use parser_sequences::read_sequence;
 use std::alloc::Global;
 
+/// How many brackets and unfinished operators may be open at once.
+const MOST_OPEN: usize = 64;
+
+/// How many more may open behind one bracket.
+const IN_ONE: usize = 63;
+
+/// How many more may open behind two brackets.
+const IN_TWO: usize = 62;
+
 /// `( operand )`, behind a word.
 #[tactic(auto, using(crate::proofs::ItemSteps::for_one))]
 fn read_operand<'t, 'a>(
@@ -50,9 +59,9 @@ fn read_operands<'t, 'a>(alloc: Global, tokens: &'t [Token<'a>]) -> Read<'t, 'a,
     ensures shorter { IfOk result (λ r. length r.1.now ≤ length tokens.now) }
 {
     let (_, rest) = read!(expect(tokens, Terminal::OpenRound));
-    let (condition, rest) = read!(read_expression(alloc, rest, 63));
+    let (condition, rest) = read!(read_expression(alloc, rest, IN_ONE));
     let (_, rest) = read!(expect(rest, Terminal::Comma));
-    let (value, rest) = read!(read_expression(alloc, rest, 63));
+    let (value, rest) = read!(read_expression(alloc, rest, IN_ONE));
     let (_, rest) = read!(expect(rest, Terminal::CloseRound));
     Ok(((condition, value), rest))
 }
@@ -70,7 +79,7 @@ fn read_clear<'t, 'a>(
     let Some((_, inside)) = accept(tokens, Terminal::Clear) else {
         return Ok((None, tokens));
     };
-    let (operand, rest) = read!(read_operand(alloc, inside, 63));
+    let (operand, rest) = read!(read_operand(alloc, inside, IN_ONE));
     Ok((Some(operand), rest))
 }
 
@@ -192,7 +201,7 @@ fn read_declaration<'t, 'a>(alloc: Global, tokens: &'t [Token<'a>]) -> Read<'t, 
 {
     let (name, rest) = read!(expect_name(tokens));
     let (_, rest) = read!(expect(rest, Terminal::Semicolon));
-    let (body, rest) = read!(read_sequence(alloc, rest, 64));
+    let (body, rest) = read!(read_sequence(alloc, rest, MOST_OPEN));
     let rest = read!(read_ending(rest, name));
     Ok((ItemTree::Declaration(DeclarationTree { name, body }), rest))
 }
@@ -229,7 +238,7 @@ fn read_disabling<'t, 'a>(alloc: Global, tokens: &'t [Token<'a>]) -> Read<'t, 'a
     ensures shorter { IfOk result (λ r. length r.1.now ≤ length tokens.now) }
 {
     let (_, rest) = read!(expect(tokens, Terminal::Iff));
-    read_operand(alloc, rest, 62)
+    read_operand(alloc, rest, IN_TWO)
 }
 
 /// `disable iff (operand)`, if it is there.
@@ -258,7 +267,7 @@ fn read_property_end<'t, 'a>(
     ensures read { Gives (λ r. (property_of r.0, r.1.now)) result (property_end tokens.now) }
     ensures shorter { IfOk result (λ r. length r.1.now ≤ length tokens.now) }
 {
-    let (property, rest) = read!(read_property(alloc, tokens, 63));
+    let (property, rest) = read!(read_property(alloc, tokens, IN_ONE));
     let (_, rest) = read!(expect(rest, Terminal::CloseRound));
     let (_, rest) = read!(expect(rest, Terminal::Semicolon));
     Ok((property, rest))

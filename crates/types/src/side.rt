@@ -4,6 +4,7 @@ ghost use Rattle.std.specs.Prelude.{◌≡◌};
 ghost use Rattle.types_expressions.specs.Faults.{least};
 ghost use Rattle.types.specs.Sides.{places_where, is_wide, is_degenerate, is_empty};
 
+use assertions::HEAVIEST;
 use types_expressions::earlier;
 use types_sequences::Facts;
 
@@ -20,7 +21,7 @@ pub(crate) fn first_wide(sides: &[Side]) -> Option<usize>
 {
     let mut fault = None;
     for side in sides {
-        if side.facts.weight > 127 {
+        if usize::from(side.facts.weight) > HEAVIEST {
             fault = earlier(fault, Some(side.at));
         }
     }

@@ -9,7 +9,7 @@ ghost use Rattle.assertions.specs.Written.{throughout, weight, IsOrdered};
 ghost use Rattle.assertions.specs.Emptiness.{admits_empty};
 ghost use Rattle.types_sequences.specs.Entries.{SaysSame, HasSame};
 
-use assertions::{Boolean, Sequence};
+use assertions::{Boolean, HEAVIEST, Sequence};
 use std::alloc::{AllocError, Global};
 
 /// The empty segment alone: `1[*0]`.
@@ -75,7 +75,7 @@ pub(crate) fn delay_of(
     ensures { IfOk result (λ o. (v w : Written Boolean) → most ≤ 127 → HasSame v first
         → HasSame w second → HasSame (delay v least most w) o) }
 {
-    if most > 127 {
+    if most > HEAVIEST {
         return Ok(None);
     }
     let Some(first) = first else {
@@ -98,7 +98,7 @@ pub(crate) fn lead_of(
     ensures { IfOk result (λ o. (w : Written Boolean) → most ≤ 127 → HasSame w body
         → HasSame (lead least most w) o) }
 {
-    if most > 127 {
+    if most > HEAVIEST {
         return Ok(None);
     }
     let Some(body) = body else {
@@ -118,7 +118,7 @@ pub(crate) fn repetition_of(
     ensures { IfOk result (λ o. (w : Written Boolean) → most ≤ 127 → HasSame w body
         → HasSame (repeat w least most) o) }
 {
-    if most > 127 {
+    if most > HEAVIEST {
         return Ok(None);
     }
     let Some(body) = body else {

@@ -2,7 +2,7 @@
 use Rattle.std.specs.Prelude.{◌≡◌, ℕ, ◌≤◌, ◌+◌, ◌^◌, ◌==◌, List, [], length, take, Option, Result}
 use Rattle.std.specs.Prelude.{Ok, Err, count_by}
 use Rattle.std.specs.Io.KnownBytes.{Consumes, IsAtEnd}
-use Rattle.signals.specs.Source.{after_failure, GaveOver}
+use Rattle.signals.specs.Source.{SourceState, after_failure, GaveOver}
 use Rattle.vcd_reader.specs.declared.fault.Fault.{Fault}
 use Rattle.vcd_reader.specs.declared.fault.Fault.TheVariants as byte
 use Rattle.vcd_reader.specs.declared.fault.VcdFault.{VcdFault}
@@ -77,6 +77,6 @@ WhyRefused old new line.TooLarge = GaveTooMuch old new
 WhyRefused old new e = GaveFault old new e
 
 -- why there is no dump: a call of the source failed, or none did
-abbrev pub Stands : Option (List ℕ) → Option (List ℕ) → ℕ → ℕ → VcdFault → Type 0
-Stands old new failures failures_now line.Read = failures_now ≡ after_failure failures
-Stands old new failures failures_now e = (failures_now ≡ failures) × WhyRefused old new e
+abbrev pub Stands : SourceState → SourceState → VcdFault → Type 0
+Stands old new line.Read = new.failures ≡ after_failure old.failures
+Stands old new e = (new.failures ≡ old.failures) × WhyRefused old.remaining new.remaining e

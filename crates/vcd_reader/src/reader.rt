@@ -93,11 +93,12 @@ fn with_line(bytes: &[u8], fault: Fault) -> VcdFault
 /// The dump that the source gives, read to its end.
 pub fn read_dump<S: Source>(alloc: Global, source: &mut S) -> Result<Dump, VcdFault>
     // What is accepted is what the grammar says of all the bytes that the source had.
-    ensures accepted { IfOk result (ReadsAs (S.remaining source.old) (S.remaining source.new)) }
-    ensures counted { OnOk result (S.failures source.new ≡ S.failures source.old) }
+    ensures accepted { IfOk result
+        (ReadsAs (S.state source.old).remaining (S.state source.new).remaining) }
+    ensures counted { OnOk result
+        ((S.state source.new).failures ≡ (S.state source.old).failures) }
     // What is refused has the fault, the first one, or the source failed, or it gave too much.
-    ensures refused { IfErr result (Stands (S.remaining source.old) (S.remaining source.new)
-        (S.failures source.old) (S.failures source.new)) }
+    ensures refused { IfErr result (Stands (S.state source.old) (S.state source.new)) }
 {
     let bytes = match read_all(alloc, source, MOST_BYTES) {
         Ok(bytes) => bytes,

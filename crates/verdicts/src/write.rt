@@ -27,11 +27,11 @@ pub enum ReportFault {
 ///
 /// Where the device fails, it holds a beginning of the text behind what it held before.
 pub fn write_report<W: Sink>(alloc: Global, report: &Report, out: &mut W) -> Result<(), ReportFault>
-    ensures written { OnOk result
-        (Appends (W.contents out.old) (W.contents out.new) (report_text (data_of report.now))) }
-    ensures counted { OnOk result (W.failures out.new ≡ W.failures out.old) }
-    ensures refused { IfErr result (WhyUnwritten (W.contents out.old) (W.contents out.new)
-        (W.failures out.old) (W.failures out.new) (report_text (data_of report.now))) }
+    ensures written { OnOk result (Appends (W.state out.old).contents
+        (W.state out.new).contents (report_text (data_of report.now))) }
+    ensures counted { OnOk result ((W.state out.new).failures ≡ (W.state out.old).failures) }
+    ensures refused { IfErr result (WhyUnwritten (W.state out.old) (W.state out.new)
+        (report_text (data_of report.now))) }
 {
     let Ok(text) = text_of(alloc, report) else {
         return Err(ReportFault::Memory);

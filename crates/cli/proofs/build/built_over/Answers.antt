@@ -9,8 +9,8 @@ pub program_named-requires : goal.program_named-requires
 program_named-requires c =
     let k = c.requires.held.0 in
     let holds = c.requires.held.1 in
-    all_fit c.suite_law.ensures k c.args.text.now (items_of c.in-Ok.file) c.in_ok-suite.suite
-    c.in-Ok.ensures.ok (c.in_ok-suite.ensures.ok k holds)
+    all_fit c.suite_law.ensures k c.args.text.now (items_of c.in_ok-file.file) c.in_ok-suite.suite
+    c.in_ok-file.ensures.ok (c.in_ok-suite.ensures.ok k holds)
 
 pub returns-clause-ok : goal.returns-clause-ok
 returns-clause-ok c = λ k holds.
@@ -19,8 +19,8 @@ returns-clause-ok c = λ k holds.
     let suite = c.in_ok-suite.suite in
     let says : SaysSuite k text suite =
     record {
-      items = items_of c.in-Ok.file;
-      spelled = c.in-Ok.ensures.ok;
+      items = items_of c.in_ok-file.file;
+      spelled = c.in_ok-file.ensures.ok;
       typed = c.in_ok-suite.ensures.ok k holds;
     } in
     ok_kept c.program_named.result (λ v. IsSpelledProgram suite name v.items)
@@ -34,8 +34,8 @@ returns-clause-err c = λ k holds.
     let suite = c.in_ok-suite.suite in
     let says : SaysSuite k text suite =
     record {
-      items = items_of c.in-Ok.file;
-      spelled = c.in-Ok.ensures.ok;
+      items = items_of c.in_ok-file.file;
+      spelled = c.in_ok-file.ensures.ok;
       typed = c.in_ok-suite.ensures.ok k holds;
     } in
     err_kept c.program_named.result (WhyNoProgram suite name) (WhyNotBuilt k text name)

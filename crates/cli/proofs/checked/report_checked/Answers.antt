@@ -19,8 +19,8 @@ returns-in_err-clocks-clause-err c = λ k holds.
     let suite = c.in_ok-suite.suite in
     let says : SaysSuite k text suite =
     record {
-      items = items_of c.in-Ok.file;
-      spelled = c.in-Ok.ensures.ok;
+      items = items_of c.in_ok-file.file;
+      spelled = c.in_ok-file.ensures.ok;
       typed = c.in_ok-suite.ensures.ok k holds;
     } in
     let fault = c.in_err-clocks.field-0.0 in
@@ -37,15 +37,15 @@ report_by_programs-requires-clause-watched c =
     let holds = c.requires.held.1 in
     let suite = c.in_ok-suite.suite in
     all_watched (variables_of c.args.dump) suite.names.items
-    (are_named k (variables_of c.args.dump) (items_of c.in-Ok.file) suite holds.variables
+    (are_named k (variables_of c.args.dump) (items_of c.in_ok-file.file) suite holds.variables
     (c.in_ok-suite.ensures.ok k holds))
 
 pub report_by_programs-requires-clause-fit : goal.report_by_programs-requires-clause-fit
 report_by_programs-requires-clause-fit c =
     let k = c.requires.held.0 in
     let holds = c.requires.held.1 in
-    all_fit c.suite_law.ensures k c.args.text.now (items_of c.in-Ok.file) c.in_ok-suite.suite
-    c.in-Ok.ensures.ok (c.in_ok-suite.ensures.ok k holds)
+    all_fit c.suite_law.ensures k c.args.text.now (items_of c.in_ok-file.file) c.in_ok-suite.suite
+    c.in_ok-file.ensures.ok (c.in_ok-suite.ensures.ok k holds)
 
 pub returns-in_err-report_by_programs-clause-err : goal.returns-in_err-report_by_programs-clause-err
 returns-in_err-report_by_programs-clause-err c = λ k holds.
@@ -54,8 +54,8 @@ returns-in_err-report_by_programs-clause-err c = λ k holds.
     let suite = c.in_ok-suite.suite in
     let says : SaysSuite k text suite =
     record {
-      items = items_of c.in-Ok.file;
-      spelled = c.in-Ok.ensures.ok;
+      items = items_of c.in_ok-file.file;
+      spelled = c.in_ok-file.ensures.ok;
       typed = c.in_ok-suite.ensures.ok k holds;
     } in
     let fault = c.in_err-report_by_programs.field-0.0 in
@@ -73,7 +73,7 @@ pub returns-clause-ok : goal.returns-clause-ok
 returns-clause-ok c = λ k holds.
     let d = c.args.dump in
     let suite = c.in_ok-suite.suite in
-    let items = items_of c.in-Ok.file in
+    let items = items_of c.in_ok-file.file in
     let typed = c.in_ok-suite.ensures.ok k holds in
     let code = code_in c.in_ok-clocks.clocks in
     let clock =
@@ -81,7 +81,7 @@ returns-clause-ok c = λ k holds.
     c.clock.ensures c.in_ok-clocks.ensures.clock in
     record {
       suite = suite;
-      says = record { items = items; spelled = c.in-Ok.ensures.ok; typed = typed };
+      says = record { items = items; spelled = c.in_ok-file.ensures.ok; typed = typed };
       reports = reports_by k suite code (data_of c.in_ok-report_by_programs.field-0) clock
           (are_named k k.variables items suite refl typed)
           (λ signals named. c.in_ok-report_by_programs.ensures.ok k signals holds named);

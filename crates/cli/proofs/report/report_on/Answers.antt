@@ -12,10 +12,10 @@ pub returns-clause-ok : goal.returns-clause-ok
 returns-clause-ok c = λ k holds.
     let suite = c.args.suite.now in
     let names = suite.names.items in
-    let code = code_in c.in-Ok.clocks in
+    let code = code_in c.in_ok-clocks.clocks in
     let clock =
     subst (λ (p : List ℕ). IsClock (variables_of c.args.dump.now) p code) c.as_str.ensures.value
-    c.in-Ok.ensures.clock in
+    c.in_ok-clocks.ensures.clock in
     reports k suite code c.in_ok-rows.rows (data_of c.in_ok-report_over.field-0)
     (subst (λ (vs : List Declared). IsClock vs (string_bytes suite.clock) code) holds.variables
     clock)

@@ -10,7 +10,7 @@ pub report_on-requires-clause-named : goal.report_on-requires-clause-named
 report_on-requires-clause-named c =
     let k = c.requires.held.0 in
     let holds = c.requires.held.1 in
-    are_named k (variables_of c.args.dump.now) (items_of c.in-Ok.file) c.in_ok-suite.suite
+    are_named k (variables_of c.args.dump.now) (items_of c.in_ok-file.file) c.in_ok-suite.suite
     holds.variables (c.in_ok-suite.ensures.ok k holds)
 
 pub returns-in_err-report_on-clause-err : goal.returns-in_err-report_on-clause-err
@@ -18,8 +18,8 @@ returns-in_err-report_on-clause-err c = λ k holds.
     let suite = c.in_ok-suite.suite in
     let says : SaysSuite k c.args.text.now suite =
     record {
-      items = items_of c.in-Ok.file;
-      spelled = c.in-Ok.ensures.ok;
+      items = items_of c.in_ok-file.file;
+      spelled = c.in_ok-file.ensures.ok;
       typed = c.in_ok-suite.ensures.ok k holds;
     } in
     let fault = c.in_err-report_on.field-0.0 in
@@ -32,8 +32,8 @@ returns-clause-ok c = λ k holds. record {
   suite = c.in_ok-suite.suite;
   says =
       record {
-        items = items_of c.in-Ok.file;
-        spelled = c.in-Ok.ensures.ok;
+        items = items_of c.in_ok-file.file;
+        spelled = c.in_ok-file.ensures.ok;
         typed = c.in_ok-suite.ensures.ok k holds;
       };
   reports = c.in_ok-report_on.ensures.ok k holds;

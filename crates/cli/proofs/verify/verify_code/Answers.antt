@@ -10,14 +10,12 @@ use Rattle.cli.proofs.verify.verify_code.Goals as goal
 
 pub returns-in_err-write_limits-clause-refused : goal.returns-in_err-write_limits-clause-refused
 returns-in_err-write_limits-clause-refused g c =
-    let old = g.W.Sink.contents c.args.out.now in
-    let new = g.W.Sink.contents c.write_limits.new.out in
-    let before = g.W.Sink.failures c.args.out.now in
-    let after = g.W.Sink.failures c.write_limits.new.out in
-    let v = verification_of c.args.bytes.now old new before after in
+    let before = g.W.Sink.state c.args.out.now in
+    let after = g.W.Sink.state c.write_limits.new.out in
+    let v = verification_of c.args.bytes.now before after in
     let fault = c.in_err-write_limits.field-0.0 in
     err_is c.from_residual-in_err-write_limits.result (report_fault fault) (WhyNotTold v)
     c.from_residual-in_err-write_limits.ensures.1
     (unwritten_line v c.in_ok-verified.verified fault c.in_ok-verified.ensures.ok
-    (subst (λ (l : Limits). WhyUnwritten old new before after (limits_text l) fault)
+    (subst (λ (l : Limits). WhyUnwritten before after (limits_text l) fault)
     c.limits.ensures c.in_err-write_limits.ensures.refused))

@@ -9,12 +9,12 @@ returns-in_err-report_run-clause-err c = λ k holds.
     let fault = c.in_err-report_run.field-0.0 in
     err_is c.from_residual.result (window_fault fault)
     (WhyNoRunReport k c.args.code.now c.args.size) c.from_residual.ensures.1
-    (unbound k c.args.code.now c.args.size c.in-Ok.verified c.in-Ok.ensures.ok fault
+    (unbound k c.args.code.now c.args.size c.in_ok-verified.verified c.in_ok-verified.ensures.ok fault
     (c.in_err-report_run.ensures.refused k holds))
 
 pub returns-clause-ok : goal.returns-clause-ok
 returns-clause-ok c = λ k holds. record {
-  program = c.in-Ok.verified;
-  accepted = c.in-Ok.ensures.ok;
+  program = c.in_ok-verified.verified;
+  accepted = c.in_ok-verified.ensures.ok;
   reports = c.in_ok-report_run.ensures.report k holds;
 }

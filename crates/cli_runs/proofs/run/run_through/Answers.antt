@@ -10,12 +10,12 @@ returns-in-Ok-write_report-clause-answered g c =
     record {
       bytes = read.1.0;
       gave = read.1.1;
-      report = data_of c.in-Ok.report;
+      report = data_of c.in_ok-report.report;
       is_report = record {
         few = read.1.1.few;
         contents = read.0;
         dump = read.1.2;
-        has = c.in-Ok.ensures.ok read.0 read.2;
+        has = c.in_ok-report.ensures.ok read.0 read.2;
       };
       written = c.in-Ok-write_report.ensures.written;
       totals_are = c.totals.ensures;
@@ -27,19 +27,18 @@ pub returns-clause-refused : goal.returns-clause-refused
 returns-clause-refused g c =
     let read = c.in_ok-dump.ensures.accepted in
     let why =
-    subst (λ e. WhyUnwritten (g.W.Sink.contents c.args.out.now)
-    (g.W.Sink.contents c.write_report.new.out) (g.W.Sink.failures c.args.out.now)
-    (g.W.Sink.failures c.write_report.new.out) (report_text (data_of c.in-Ok.report)) e)
+    subst (λ e. WhyUnwritten (g.W.Sink.state c.args.out.now) (g.W.Sink.state c.write_report.new.out)
+    (report_text (data_of c.in_ok-report.report)) e)
     c.in-Err-Write.field-0-is c.in-Err-Write.ensures.refused in
     record {
       bytes = read.1.0;
       gave = read.1.1;
-      report = data_of c.in-Ok.report;
+      report = data_of c.in_ok-report.report;
       is_report = record {
         few = read.1.1.few;
         contents = read.0;
         dump = read.1.2;
-        has = c.in-Ok.ensures.ok read.0 read.2;
+        has = c.in_ok-report.ensures.ok read.0 read.2;
       };
       reads = c.in_ok-dump.ensures.counted;
       failed = why.0;
