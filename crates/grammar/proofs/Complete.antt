@@ -1,22 +1,26 @@
 -- What a tree spells is read as that tree.
-use Rattle.std.proofs.Common.{◌≡◌, ℕ, zero, suc, ◌<◌, ◌≤◌, true, List, [], ◌∷◌, length, Option, Some, None, refl, sym, ap, ◌∙◌, arith}
-use Rattle.std.proofs.lemmas.Bool.{eq-eqb, ne_eqb}
+use Rattle.std.proofs.Common.{◌≡◌, ℕ, zero, suc, ◌<◌, ◌≤◌, true, false, List, [], ◌∷◌, length, Option, Some, None, refl, sym, ap, ◌∙◌, arith}
+use Rattle.std.proofs.lemmas.Bool.{eqb-true, eq-eqb, ne_eqb}
+use Rattle.lexer.specs.declared.token.Number.{Number}
 use Rattle.lexer.specs.declared.token.Token.{Token}
 use Rattle.lexer.specs.declared.token.Kind.{Kind}
 use Rattle.grammar.specs.declared.bound.Bound.{Bound}
 use Rattle.grammar.specs.declared.bound.Select.{Select}
 use Rattle.grammar.specs.declared.mark.Function.{Function}
 use Rattle.grammar.specs.declared.mark.Mark.TheVariants as marks
+use Rattle.grammar.specs.declared.operator.Infix.{Infix}
+use Rattle.grammar.specs.declared.operator.Prefix.{Prefix}
 use Rattle.grammar.specs.declared.terminal.Terminal.{Terminal}
 use Rattle.grammar.specs.declared.terminal.Terminal.TheVariants as words
 use Rattle.grammar.specs.declared.terminal.Terminal.TheVariants.{OpenRound, CloseRound, CloseBrace, OpenSquare, CloseSquare, Comma, Colon, Dot}
 use Rattle.grammar.specs.Terminals.{terminal, names, is, is_name}
 use Rattle.grammar.specs.Bounds.{index, bound_within}
-use Rattle.grammar.specs.Marks.{mark, mark_of_terminal, precedence, next_precedence, has_precedence}
+use Rattle.grammar.specs.Operators.{infix_of_terminal, infix_of, infix_level, is_of_level, is_infix}
+use Rattle.grammar.specs.Marks.{mark, mark_of_terminal, precedence, precedence_by, precedence_of_terminal, next_precedence, has_precedence}
 use Rattle.grammar.specs.Trees.{Tree, number, path, concatenation, past, call, unary, chain, choice, Links, end, link, Parts, no_part, part}
 use Rattle.grammar.specs.Expressions.{AreMembers, no_member, member, IsPath, name, IsSelected, whole, bit, bits, IsTicks, one_tick, some_ticks, Operand, is_number, is_path, is_concatenation, in_brackets, is_past, is_call, is_unary, is_tighter, is_chain, Follows, no_more, one_more, AreParts, no_parts, one_part, Spells, is_operand, is_choice}
 use Rattle.grammar.specs.Readers.{◌>>=◌, Reader, lead, expect, pick, optional, many, each}
-use Rattle.grammar.specs.ReadExpressions.{name_of, word_of, members, path_words, select, Inner, links_of, parts_of, name_reader, bracket_reader, concatenation_reader, past_reader, call_reader, prefix_reader, prefixed_with, links, chain_of, climb, level, choice_with, expr_with, readers}
+use Rattle.grammar.specs.ReadExpressions.{name_of, word_of, members, path_words, select, Inner, links_of, parts_of, name_reader, bracket_reader, concatenation_reader, past_reader, call_reader, prefix_reader, prefixed_with, link_reader, links, chain_of, climb, level, choice_with, expr_with, readers}
 use Rattle.grammar.proofs.TerminalLaws.{true-is}
 use Rattle.grammar.proofs.ReaderLaws.{bind-assoc, lead-true, lead-false, lead-nil, expect-is, expect-not, expect-precedence, pick-is, optional-none, optional-is, many-none, many-more, precedence-Dot, precedence-OpenSquare, precedence-Comma, precedence-Colon, precedence-CloseRound, precedence-CloseBrace}
 
@@ -39,7 +43,7 @@ pub level-suc : (b : Reader Tree) (l : ℕ) (ts : List Token) → level b (suc l
 unfolding level climb
 level-suc b l ts = sym (bind-assoc (b ts) (λ (p : Tree × List Token). climb b l p.0 p.1) (λ (p : Tree × List Token). links (level b l) l p.1 >>= λ q. Some (chain_of p.0 q.0, q.1)))
 
-level-on : (b : Reader Tree) (l : ℕ) (e : Tree) (more : List (Token × Tree)) (ts us rest : List Token) → level b l ts ≡ Some (e, us) → links (level b l) l us ≡ Some (more, rest) → level b (suc l) ts ≡ Some (chain_of e more, rest)
+level-on : (b : Reader Tree) (l : ℕ) (e : Tree) (more : List (Infix × Tree)) (ts us rest : List Token) → level b l ts ≡ Some (e, us) → links (level b l) l us ≡ Some (more, rest) → level b (suc l) ts ≡ Some (chain_of e more, rest)
 level-on b l e more ts us rest a k = level-suc b l ts ∙ rw (a, k) refl
 
 -- an expression is the loosest operand, and what makes a choice of it
@@ -53,6 +57,36 @@ unfolding has_precedence
 lead-precedence k [] h = lead-nil (has_precedence k)
 lead-precedence k (t ∷ ts) h = lead-false (has_precedence k) t ts (ne_eqb (precedence t) k h)
 
+-- left operators
+infix-loose : (w : Terminal) (k : Kind) (op : Infix) → infix_of_terminal w k ≡ Some op → precedence_of_terminal w k ≡ infix_level op
+infix-loose words.Operator k op h = ap (λ (o : Option Infix). precedence_by o k) h
+infix-loose _ k op h = absurd cc
+
+infix-precedence : (t : Token) (op : Infix) → infix_of t ≡ Some op → precedence t ≡ infix_level op
+unfolding infix_of precedence
+infix-precedence t op h = infix-loose (terminal t) t.kind op h
+
+infix-is : (l : ℕ) (t : Token) (op : Infix) → infix_of t ≡ Some op → infix_level op ≡ l → is_infix l t ≡ true
+unfolding is_infix
+infix-is l t op h k = ap (is_of_level l) h ∙ eq-eqb (infix_level op) l k
+
+pub infix-level : (l : ℕ) (t : Token) (op : Infix) → infix_of t ≡ Some op → is_infix l t ≡ true → infix_level op ≡ l
+unfolding is_infix
+infix-level l t op h k = eqb-true (infix_level op) l (sym (ap (is_of_level l) h) ∙ k)
+
+infix-not : (l : ℕ) (t : Token) (o : Option Infix) → infix_of t ≡ o → (precedence t ≡ l → ⊥) → is_of_level l o ≡ false
+infix-not l t None e h = refl
+infix-not l t (Some op) e h = ne_eqb (infix_level op) l (λ k. h (infix-precedence t op e ∙ k))
+
+lead-infix : (l : ℕ) (ts : List Token) → (next_precedence ts ≡ l → ⊥) → lead (is_infix l) ts ≡ None
+unfolding is_infix
+lead-infix l [] h = lead-nil (is_infix l)
+lead-infix l (t ∷ ts) h = lead-false (is_infix l) t ts (infix-not l t (infix_of t) refl h)
+
+link-read : (operand : Reader Tree) (t : Token) (op : Infix) (e : Tree) (ts us : List Token) → infix_of t ≡ Some op → operand ts ≡ Some (e, us) → link_reader operand t ts ≡ Some ((op, e), us)
+unfolding link_reader
+link-read operand t op e ts us h k = rw (h, k) refl
+
 choice-none : (inner : Reader Tree) (c : Tree) (ts : List Token) → 10 < next_precedence ts → choice_with inner c ts ≡ Some (c, ts)
 unfolding choice_with
 choice-none inner c ts h = rw (lead-precedence 10 ts (λ e. omega arith)) refl
@@ -62,18 +96,18 @@ unfolding choice_with has_precedence
 choice-some inner t u c a b us vs rest h k p q = rw (lead-true (has_precedence 10) t us (eq-eqb (precedence t) 10 h), p, expect-is Colon u vs k, q) refl
 
 -- ghost lists as lists
-pub list_of : Links → List (Token × Tree)
+pub list_of : Links → List (Infix × Tree)
 list_of end = []
-list_of (link t e more) = (t, e) ∷ list_of more
+list_of (link op e more) = (op, e) ∷ list_of more
 
 links_of-list : (more : Links) → links_of (list_of more) ≡ more
 unfolding list_of
 links_of-list end = refl
-links_of-list (link t e more) = ap (link t e) (links_of-list more)
+links_of-list (link op e more) = ap (link op e) (links_of-list more)
 
-joined-list : (first : Tree) (t : Token) (e : Tree) (more : Links) → chain_of first (list_of (link t e more)) ≡ chain first (link t e more)
+joined-list : (first : Tree) (op : Infix) (e : Tree) (more : Links) → chain_of first (list_of (link op e more)) ≡ chain first (link op e more)
 unfolding list_of
-joined-list first t e more = ap (λ (l : Links). chain first (link t e l)) (links_of-list more)
+joined-list first op e more = ap (λ (l : Links). chain first (link op e l)) (links_of-list more)
 
 joined-none : (first : Tree) → chain_of first (list_of end) ≡ first
 unfolding list_of
@@ -170,9 +204,9 @@ call-read : (d : ℕ) (g : Function) (f left right : Token) (e : Tree) (ts rest 
 unfolding prefixed_with call_reader
 call-read d g f left right e ts rest m o h c = rw (m, expect-is OpenRound left ts o, bracketed-read d e right ts rest h c) refl
 
-unary-read : (d : ℕ) (t : Token) (e : Tree) (ts rest : List Token) → mark t ≡ marks.Prefix → base d ts ≡ Some (e, rest) → base (suc d) (t ∷ ts) ≡ Some (unary t e, rest)
+unary-read : (d : ℕ) (op : Prefix) (t : Token) (e : Tree) (ts rest : List Token) → mark t ≡ marks.Prefix op → base d ts ≡ Some (e, rest) → base (suc d) (t ∷ ts) ≡ Some (unary op t e, rest)
 unfolding prefixed_with prefix_reader readers
-unary-read d t e ts rest m h = rw (m, h) refl
+unary-read d op t e ts rest m h = rw (m, h) refl
 
 -- lengths
 members-shorter : {more ts rest : List Token} → AreMembers more ts rest → length rest ≤ length ts
@@ -205,7 +239,7 @@ mutual
 
   pub follows-shorter : {d l : ℕ} {more : Links} {ts rest : List Token} → Follows d l more ts rest → length rest ≤ length ts
   follows-shorter no_more = omega arith
-  follows-shorter (one_more h o f) = omega (arith, operand-shorter o, follows-shorter f)
+  follows-shorter (one_more h k o f) = omega (arith, operand-shorter o, follows-shorter f)
 
   pub parts-shorter : {d : ℕ} {more : Parts} {ts rest : List Token} → AreParts d more ts rest → length rest ≤ length ts
   parts-shorter no_parts = omega arith
@@ -215,12 +249,12 @@ mutual
   spells-shorter (is_operand o) = operand-shorter o
   spells-shorter (is_choice h k o s v) = omega (arith, operand-shorter o, spells-shorter s, spells-shorter v)
 
-follows-precedence : {d l : ℕ} {t : Token} {e : Tree} {more : Links} {ts rest : List Token} → Follows d l (link t e more) ts rest → next_precedence ts ≡ suc l
-follows-precedence (one_more h o f) = h
+follows-precedence : {d l : ℕ} {op : Infix} {e : Tree} {more : Links} {ts rest : List Token} → Follows d l (link op e more) ts rest → next_precedence ts ≡ suc l
+follows-precedence (one_more {op = op} {t = t} h k o f) = infix-precedence t op h ∙ k
 
 follows-next : {d l : ℕ} {more : Links} {ts rest : List Token} → Follows d l more ts rest → suc l < next_precedence rest → l < next_precedence ts
 follows-next no_more le = omega arith
-follows-next (one_more h o f) le = omega arith
+follows-next (one_more {op = op} {t = t} h k o f) le = omega (arith, infix-precedence t op h)
 
 parts-next : {d : ℕ} {more : Parts} {ts rest : List Token} → AreParts d more ts rest → 10 < next_precedence rest → 10 < next_precedence ts
 parts-next no_parts le = le
@@ -228,17 +262,17 @@ parts-next (one_part {comma = comma} k s p) le = omega (arith, precedence-Comma 
 
 pub links-none : (operand : Reader Tree) (l : ℕ) (ts : List Token) → suc l < next_precedence ts → links operand l ts ≡ Some ([], ts)
 unfolding links each
-links-none operand l ts h = many-none (has_precedence (suc l)) (λ t us. operand us >>= λ p. Some ((t, p.0), p.1)) (length ts) ts (lead-precedence (suc l) ts (λ e. omega arith))
+links-none operand l ts h = many-none (is_infix (suc l)) (link_reader operand) (length ts) ts (lead-infix (suc l) ts (λ e. omega arith))
 
-number-read : (d : ℕ) (t : Token) (rest : List Token) → mark t ≡ marks.Number → base d (t ∷ rest) ≡ Some (number t, rest)
+number-read : (d : ℕ) (n : Number) (t : Token) (rest : List Token) → mark t ≡ marks.Number n → base d (t ∷ rest) ≡ Some (number n t, rest)
 unfolding prefixed_with
-number-read d t rest h = rw h refl
+number-read d n t rest h = rw h refl
 
 mutual
-  unfolding list_of list_of_parts links each expect readers has_precedence
+  unfolding list_of list_of_parts links each expect readers
 
   pub operand-read : {d l : ℕ} {e : Tree} {ts rest : List Token} → Operand d l e ts rest → l < next_precedence rest → level (base d) l ts ≡ Some (e, rest)
-  operand-read (is_number {d = d} {t = t} {rest = rest} h) le = level-zero (base d) (t ∷ rest) ∙ number-read d t rest h
+  operand-read (is_number {d = d} {n = n} {t = t} {rest = rest} h) le = level-zero (base d) (t ∷ rest) ∙ number-read d n t rest h
   operand-read (is_path {d = d} {us = us} {rest = rest} (name {t = t} {more = more} {ts = ts} n m) s) le = level-zero (base d) (t ∷ ts) ∙ named-read d t more _ ts us rest n m s le
   operand-read (is_concatenation {d = d} {left = left} {right = right} {e = e} {more = more} {ts = ts} {us = us} {rest = rest} m s p c) le =
       level-zero (base (suc d)) (left ∷ ts)
@@ -250,19 +284,19 @@ mutual
       level-zero (base (suc d)) (f ∷ left ∷ ts) ∙ past-read d f left right e ticks ts us rest m o (spells-read s (omega (arith, ticks-next t c))) (ticks-read t c) c
   operand-read (is_call {d = d} {g = g} {f = f} {left = left} {right = right} {e = e} {ts = ts} {rest = rest} m o s c) le =
       level-zero (base (suc d)) (f ∷ left ∷ ts) ∙ call-read d g f left right e ts rest m o (spells-read s (omega (arith, precedence-CloseRound right c))) c
-  operand-read (is_unary {d = d} {t = t} {e = e} {ts = ts} {rest = rest} h o) le =
-      level-zero (base (suc d)) (t ∷ ts) ∙ unary-read d t e ts rest h (sym (level-zero (base d) ts) ∙ operand-read o le)
+  operand-read (is_unary {d = d} {op = op} {t = t} {e = e} {ts = ts} {rest = rest} h o) le =
+      level-zero (base (suc d)) (t ∷ ts) ∙ unary-read d op t e ts rest h (sym (level-zero (base d) ts) ∙ operand-read o le)
   operand-read (is_tighter {d = d} {l = l} {e = e} {ts = ts} {rest = rest} o) le =
       level-on (base d) l e (list_of end) ts rest rest (operand-read o (omega arith)) (links-none (level (base d) l) l rest le) ∙ ap (λ (x : Tree). Some (x, rest)) (joined-none e)
-  operand-read (is_chain {d = d} {l = l} {t = t} {first = first} {e = e} {more = more} {ts = ts} {us = us} {rest = rest} o f) le =
-      level-on (base d) l first (list_of (link t e more)) ts us rest (operand-read o (omega (arith, follows-precedence f))) (follows-many f (length us) (omega arith) le) ∙ ap (λ (x : Tree). Some (x, rest)) (joined-list first t e more)
+  operand-read (is_chain {d = d} {l = l} {op = op} {first = first} {e = e} {more = more} {ts = ts} {us = us} {rest = rest} o f) le =
+      level-on (base d) l first (list_of (link op e more)) ts us rest (operand-read o (omega (arith, follows-precedence f))) (follows-many f (length us) (omega arith) le) ∙ ap (λ (x : Tree). Some (x, rest)) (joined-list first op e more)
 
   follows-many : {d l : ℕ} {more : Links} {ts rest : List Token} → Follows d l more ts rest → (n : ℕ) → length ts ≤ n → suc l < next_precedence rest
-      → many (has_precedence (suc l)) (λ t us. level (base d) l us >>= λ p. Some ((t, p.0), p.1)) n ts ≡ Some (list_of more, rest)
-  follows-many (no_more {d = d} {l = l} {ts = ts}) n len le = many-none (has_precedence (suc l)) (λ t us. level (base d) l us >>= λ p. Some ((t, p.0), p.1)) n ts (lead-precedence (suc l) ts (λ e. omega arith))
-  follows-many (one_more h o f) zero len le = absurd (omega arith)
-  follows-many (one_more {d = d} {l = l} {t = t} {e = e} {more = more} {ts = ts} {us = us} {rest = rest} h o f) (suc n) len le =
-      many-more (has_precedence (suc l)) (λ t us. level (base d) l us >>= λ p. Some ((t, p.0), p.1)) n t ts (t, e) us (list_of more) rest (eq-eqb (precedence t) (suc l) h) (rw (operand-read o (follows-next f le)) refl)
+      → many (is_infix (suc l)) (link_reader (level (base d) l)) n ts ≡ Some (list_of more, rest)
+  follows-many (no_more {d = d} {l = l} {ts = ts}) n len le = many-none (is_infix (suc l)) (link_reader (level (base d) l)) n ts (lead-infix (suc l) ts (λ e. omega arith))
+  follows-many (one_more h k o f) zero len le = absurd (omega arith)
+  follows-many (one_more {d = d} {l = l} {op = op} {t = t} {e = e} {more = more} {ts = ts} {us = us} {rest = rest} h k o f) (suc n) len le =
+      many-more (is_infix (suc l)) (link_reader (level (base d) l)) n t ts (op, e) us (list_of more) rest (infix-is (suc l) t op h k) (link-read (level (base d) l) t op e ts us h (operand-read o (follows-next f le)))
       (follows-many f n (omega (arith, operand-shorter o)) le)
 
   parts-many : {d : ℕ} {more : Parts} {ts rest : List Token} → AreParts d more ts rest → (n : ℕ) → length ts ≤ n → 10 < next_precedence rest → expect Comma rest ≡ None → many (is Comma) (λ comma. expr d) n ts ≡ Some (list_of_parts more, rest)

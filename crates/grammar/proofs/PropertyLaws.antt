@@ -5,7 +5,7 @@ use Rattle.lexer.specs.declared.token.Token.{Token}
 use Rattle.grammar.specs.declared.terminal.Terminal.TheVariants.{OpenRound, CloseRound, Delay}
 use Rattle.grammar.specs.Terminals.{terminal}
 use Rattle.grammar.specs.Marks.{precedence, next_precedence, has_precedence}
-use Rattle.grammar.specs.Trees.{Tree, SequenceForm, boolean, repeated, late, delayed, throughout, all, either, PropertyForm, plain, implication}
+use Rattle.grammar.specs.Trees.{Tree, SequenceForm, boolean, repeated, late, delayed, throughout, joined, PropertyForm, plain, implication}
 use Rattle.grammar.specs.Sequences.{IsBody, is_boolean, in_brackets, is_once, is_prompt, is_head, is_cat, is_during, IsSequence, is_conjunction, IsProperty, is_plain, is_implication, bracketed}
 use Rattle.grammar.specs.Expressions as expressions
 use Rattle.grammar.specs.Expressions.{Spells, is_operand, is_tighter}
@@ -144,8 +144,7 @@ group-sequence d left right (repeated s n) ts rest o c w = single (in_brackets o
 group-sequence d left right (late t n s) ts rest o c w = single (in_brackets o c tt w)
 group-sequence d left right (delayed s more) ts rest o c w = single (in_brackets o c tt w)
 group-sequence d left right (throughout e s) ts rest o c w = single (in_brackets o c tt w)
-group-sequence d left right (all s more) ts rest o c w = single (in_brackets o c tt w)
-group-sequence d left right (either s more) ts rest o c w = single (in_brackets o c tt w)
+group-sequence d left right (joined j s more) ts rest o c w = single (in_brackets o c tt w)
 
 property-is_plain : {d : ℕ} {s : SequenceForm} {ts rest : List Token} → IsProperty d (plain s) ts rest → IsSequence d s ts rest
 property-is_plain (is_plain w) = w

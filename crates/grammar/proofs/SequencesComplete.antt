@@ -4,20 +4,21 @@ use Rattle.std.proofs.lemmas.Bool.{ne_eqb}
 use Rattle.lexer.specs.declared.token.Token.{Token}
 use Rattle.grammar.specs.declared.bound.Bound.{Bound}
 use Rattle.grammar.specs.declared.bound.Range.{Range}
+use Rattle.grammar.specs.declared.operator.Junction.TheVariants as junctions
 use Rattle.lexer.specs.declared.token.Kind.{Kind}
 use Rattle.lexer.specs.declared.token.Kind.TheVariants as kinds
 use Rattle.grammar.specs.declared.terminal.Terminal.TheVariants.{Number, OpenRound, CloseRound, OpenSquare, OpenRepeat, CloseSquare, Colon, Delay, Throughout, And, Or}
 use Rattle.grammar.specs.Terminals.{terminal, kind_terminal, is}
 use Rattle.grammar.specs.Bounds.{bound_of_kind, bound_within}
 use Rattle.grammar.specs.Marks.{mark, precedence, next_precedence, has_precedence}
-use Rattle.grammar.specs.Trees.{Tree, SequenceForm, boolean, repeated, late, delayed, throughout, all, either, Steps, no_step, step, Others, no_other, other}
+use Rattle.grammar.specs.Trees.{Tree, SequenceForm, boolean, repeated, late, delayed, throughout, joined, Steps, no_step, step, Others, no_other, other}
 use Rattle.grammar.specs.Expressions.{Spells}
 use Rattle.grammar.specs.Sequences.{bound, IsTimes, times, times_to, IsDelay, after, between, IsBody, is_boolean, in_brackets, IsRepetition, is_once, is_repeated, IsHead, is_prompt, is_late, AreSteps, no_steps, one_step, IsDelayed, is_head, is_delayed, IsDuring, is_cat, is_throughout, AreConjuncts, no_conjunct, one_conjunct, IsConjunction, is_during, is_all, AreAlternatives, no_alternative, one_alternative, IsSequence, is_conjunction, is_either}
 use Rattle.grammar.specs.Readers.{◌>>=◌, Reader, lead, expect, pick, optional, many, each}
 use Rattle.grammar.specs.ReadExpressions as expressions
 use Rattle.grammar.specs.ReadExpressions.{Inner as Inside, prefixed_with, readers, links, chain_of, behind, climb, choice_by, choice_with, expression, finish, expr_with}
 use Rattle.grammar.specs.ReadSequences as reading
-use Rattle.grammar.specs.ReadSequences.{Inner, delay_by, delay, regroup, body_by, body_with, with_times, repeat_behind, repetition_with, late_part, steps_of, with_steps, delayed_behind, cat_behind, throughout_by, during_behind, during_by, during_with, others_of, with_conjuncts, conjunction_behind, conjunction_with, with_alternatives, alternatives_behind, sides_behind, whole_with, sequences, sequence_behind, whole, implication_from, implication_behind, regroup_property, property_by, property_with, properties, property}
+use Rattle.grammar.specs.ReadSequences.{Inner, delay_by, delay, regroup, body_by, body_with, with_times, repeat_behind, repetition_with, late_part, steps_of, with_steps, delayed_behind, cat_behind, throughout_by, during_behind, during_by, during_with, others_of, with_others, conjunction_behind, conjunction_with, alternatives_behind, sides_behind, whole_with, sequences, sequence_behind, whole, implication_from, implication_behind, regroup_property, property_by, property_with, properties, property}
 use Rattle.grammar.proofs.TerminalLaws.{true-is}
 use Rattle.grammar.proofs.ReaderLaws.{bind-some, bind-assoc, lead-false, lead-nil, expect-some, expect-is, expect-not, expect-precedence, pick-is, optional-none, optional-is, many-none, many-more, each-none, precedence-Throughout, precedence-OpenRepeat, precedence-Delay, precedence-And, precedence-Or, precedence-CloseRound}
 use Rattle.grammar.proofs.Complete.{spells-read, spells-shorter, links-none}
@@ -61,8 +62,7 @@ during-cat d inner (repeated s n) ts h = refl
 during-cat d inner (late t n s) ts h = refl
 during-cat d inner (delayed s more) ts h = refl
 during-cat d inner (throughout e s) ts h = refl
-during-cat d inner (all s more) ts h = refl
-during-cat d inner (either s more) ts h = refl
+during-cat d inner (joined j s more) ts h = refl
 
 during-none : (d : ℕ) (inner : Inner) (s : SequenceForm) (ts : List Token) → 13 < next_precedence ts → during_behind d inner s ts ≡ Some (s, ts)
 during-none d inner s ts h = during-cat d inner s ts (no_throughout ts (λ e. omega arith)) ∙ cat-none d inner s ts h
@@ -104,8 +104,7 @@ regroup-none d (repeated s n) ts h = refl
 regroup-none d (late t n s) ts h = refl
 regroup-none d (delayed s more) ts h = refl
 regroup-none d (throughout e s) ts h = refl
-regroup-none d (all s more) ts h = refl
-regroup-none d (either s more) ts h = refl
+regroup-none d (joined j s more) ts h = refl
 
 -- an expression in front is read as the same by both
 pub expression-opening : (d : ℕ) (t : Token) (ts : List Token) → terminal t ≡ OpenRound → expression d (t ∷ ts) ≡ (expressions.bracket_reader (readers d) ts >>= λ p. finish d p.0 p.1)
@@ -287,13 +286,13 @@ delayed-some : (d : ℕ) (s v : SequenceForm) (n : Range) (more : Steps) (us res
 unfolding delayed_behind list_of_steps
 delayed-some d s v n more us rest h = rw h (ap (λ (l : Steps). Some (delayed s (step n v l), rest)) (steps_of-list more))
 
-conjunction-some : (d : ℕ) (s v : SequenceForm) (more : Others) (us rest : List Token) → each (is And) (λ t. during d) us ≡ Some (list_of_others (other v more), rest) → conjunction_behind d (sequences d) s us ≡ Some (all s (other v more), rest)
+conjunction-some : (d : ℕ) (s v : SequenceForm) (more : Others) (us rest : List Token) → each (is And) (λ t. during d) us ≡ Some (list_of_others (other v more), rest) → conjunction_behind d (sequences d) s us ≡ Some (joined junctions.And s (other v more), rest)
 unfolding conjunction_behind list_of_others
-conjunction-some d s v more us rest h = rw h (ap (λ (l : Others). Some (all s (other v l), rest)) (others_of-list more))
+conjunction-some d s v more us rest h = rw h (ap (λ (l : Others). Some (joined junctions.And s (other v l), rest)) (others_of-list more))
 
-alternatives-some : (d : ℕ) (s v : SequenceForm) (more : Others) (us rest : List Token) → each (is Or) (λ t. conjunction d) us ≡ Some (list_of_others (other v more), rest) → alternatives_behind d (sequences d) s us ≡ Some (either s (other v more), rest)
+alternatives-some : (d : ℕ) (s v : SequenceForm) (more : Others) (us rest : List Token) → each (is Or) (λ t. conjunction d) us ≡ Some (list_of_others (other v more), rest) → alternatives_behind d (sequences d) s us ≡ Some (joined junctions.Or s (other v more), rest)
 unfolding alternatives_behind list_of_others
-alternatives-some d s v more us rest h = rw h (ap (λ (l : Others). Some (either s (other v l), rest)) (others_of-list more))
+alternatives-some d s v more us rest h = rw h (ap (λ (l : Others). Some (joined junctions.Or s (other v l), rest)) (others_of-list more))
 
 repeats-read : (d : ℕ) (s : SequenceForm) (n : Range) (us rest : List Token) → optional OpenRepeat (sequences (suc d)).times us ≡ Some (Some n, rest) → repeat_behind (sequences (suc d)) s us ≡ Some (repeated s n, rest)
 unfolding repeat_behind
@@ -447,7 +446,7 @@ mutual
   conjunction-read : {d : ℕ} {s : SequenceForm} {ts rest : List Token} → IsConjunction d s ts rest → 15 < next_precedence rest → conjunction d ts ≡ Some (s, rest)
   conjunction-read (is_during {d = d} {s = s} {ts = ts} {rest = rest} w) le = conjunction-on d s s ts rest rest (during-read w (omega arith)) (conjunction-none d (sequences d) s rest (λ e. omega arith))
   conjunction-read (is_all {d = d} {s = s} {v = v} {more = more} {ts = ts} {us = us} {rest = rest} w f) le =
-      conjunction-on d s (all s (other v more)) ts us rest (during-read w (omega (arith, conjuncts-loose f))) (conjunction-some d s v more us rest (conjuncts-many f (length us) (omega arith) le))
+      conjunction-on d s (joined junctions.And s (other v more)) ts us rest (during-read w (omega (arith, conjuncts-loose f))) (conjunction-some d s v more us rest (conjuncts-many f (length us) (omega arith) le))
 
   alternatives-many : {d : ℕ} {more : Others} {ts rest : List Token} → AreAlternatives d more ts rest → (i : ℕ) → length ts ≤ i → 16 < next_precedence rest → many (is Or) (λ t. conjunction d) i ts ≡ Some (list_of_others more, rest)
   alternatives-many (no_alternative {d = d} {ts = ts}) i len le = many-none (is Or) (λ t. conjunction d) i ts (expect-precedence Or 16 precedence-Or ts (λ e. omega arith))
@@ -458,4 +457,4 @@ mutual
   pub sequence-read : {d : ℕ} {s : SequenceForm} {ts rest : List Token} → IsSequence d s ts rest → 16 < next_precedence rest → seq d ts ≡ Some (s, rest)
   sequence-read (is_conjunction {d = d} {s = s} {ts = ts} {rest = rest} w) le = seq-on d s s ts rest rest (conjunction-read w (omega arith)) (alternatives-none d (sequences d) s rest (λ e. omega arith))
   sequence-read (is_either {d = d} {s = s} {v = v} {more = more} {ts = ts} {us = us} {rest = rest} w f) le =
-      seq-on d s (either s (other v more)) ts us rest (conjunction-read w (omega (arith, alternatives-loose f))) (alternatives-some d s v more us rest (alternatives-many f (length us) (omega arith) le))
+      seq-on d s (joined junctions.Or s (other v more)) ts us rest (conjunction-read w (omega (arith, alternatives-loose f))) (alternatives-some d s v more us rest (alternatives-many f (length us) (omega arith) le))

@@ -3,17 +3,18 @@ use Rattle.std.proofs.Common.{◌≡◌, ℕ, zero, suc, List, [], ◌∷◌, Op
 use Rattle.lexer.specs.declared.token.Token.{Token}
 use Rattle.grammar.specs.declared.bound.Bound.{Bound}
 use Rattle.grammar.specs.declared.bound.Range.{Range}
+use Rattle.grammar.specs.declared.operator.Junction.TheVariants as junctions
 use Rattle.grammar.specs.declared.terminal.Terminal.TheVariants.{OpenRound, CloseRound, OpenSquare, OpenRepeat, CloseSquare, Colon, Delay, Throughout, And, Or}
 use Rattle.grammar.specs.Terminals.{terminal, is}
 use Rattle.grammar.specs.Bounds.{bound_within}
-use Rattle.grammar.specs.Trees.{Tree, SequenceForm, boolean, repeated, late, delayed, throughout, all, either, no_step, no_other}
+use Rattle.grammar.specs.Trees.{Tree, SequenceForm, boolean, repeated, late, delayed, throughout, joined, no_step, no_other}
 use Rattle.grammar.specs.Expressions.{Spells}
 use Rattle.grammar.specs.Sequences.{bound, IsNoExpression, IsTimes, times, times_to, IsDelay, after, between, IsBody, is_boolean, in_brackets, IsRepetition, is_once, is_repeated, IsHead, is_prompt, is_late, AreSteps, no_steps, one_step, IsDelayed, is_head, is_delayed, IsDuring, is_cat, is_throughout, AreConjuncts, no_conjunct, one_conjunct, IsConjunction, is_during, is_all, AreAlternatives, no_alternative, one_alternative, IsSequence, is_conjunction, is_either}
 use Rattle.grammar.specs.Readers.{◌>>=◌, expect, pick, optional, each}
 use Rattle.grammar.specs.ReadExpressions as expressions
 use Rattle.grammar.specs.ReadExpressions.{readers, expression, finish, prefixed_with, expr_with}
 use Rattle.grammar.specs.ReadSequences as reading
-use Rattle.grammar.specs.ReadSequences.{Inner, delay_by, delay, regroup, body_by, body_with, with_times, repeat_behind, repetition_with, late_part, steps_of, with_steps, delayed_behind, cat_behind, throughout_by, during_behind, during_by, during_with, others_of, with_conjuncts, conjunction_behind, conjunction_with, with_alternatives, alternatives_behind, sides_behind, whole_with, sequences}
+use Rattle.grammar.specs.ReadSequences.{Inner, delay_by, delay, regroup, body_by, body_with, with_times, repeat_behind, repetition_with, late_part, steps_of, with_steps, delayed_behind, cat_behind, throughout_by, during_behind, during_by, during_with, others_of, with_others, conjunction_behind, conjunction_with, alternatives_behind, sides_behind, whole_with, sequences}
 use Rattle.grammar.proofs.TerminalLaws.{is-true}
 use Rattle.grammar.proofs.ReaderLaws.{Reads, bind-some, expect-is, expect-some, pick-some, IsOptional, absent, present, optional-sound, each-sound, precedence-CloseRound}
 use Rattle.grammar.proofs.Complete.{spells-read}
@@ -72,8 +73,7 @@ regroup-sound d t c (repeated s n) ts vs p o k w h = group-is d t c (repeated s 
 regroup-sound d t c (late q n s) ts vs p o k w h = group-is d t c (late q n s) ts vs p o k tt w h
 regroup-sound d t c (delayed s more) ts vs p o k w h = group-is d t c (delayed s more) ts vs p o k tt w h
 regroup-sound d t c (throughout e s) ts vs p o k w h = group-is d t c (throughout e s) ts vs p o k tt w h
-regroup-sound d t c (all s more) ts vs p o k w h = group-is d t c (all s more) ts vs p o k tt w h
-regroup-sound d t c (either s more) ts vs p o k w h = group-is d t c (either s more) ts vs p o k tt w h
+regroup-sound d t c (joined j s more) ts vs p o k w h = group-is d t c (joined j s more) ts vs p o k tt w h
 
 group-sound : (d : ℕ) → IsSoundBelow d → (t : Token) (ts : List Token) (p : SequenceForm × List Token) → terminal t ≡ OpenRound → ((sequences d).whole ts >>= λ p. expect CloseRound p.1 >>= λ r. regroup d p.0 r.1) ≡ Some p → IsBody d p.0 (t ∷ ts) p.1
 unfolding sequences
@@ -234,8 +234,7 @@ behind-sound d inner (repeated s n) ts us p b h = cat-sound d inner (repeated s 
 behind-sound d inner (late t n s) ts us p b h = cat-sound d inner (late t n s) ts us p b h
 behind-sound d inner (delayed s more) ts us p b h = cat-sound d inner (delayed s more) ts us p b h
 behind-sound d inner (throughout e s) ts us p b h = cat-sound d inner (throughout e s) ts us p b h
-behind-sound d inner (all s more) ts us p b h = cat-sound d inner (all s more) ts us p b h
-behind-sound d inner (either s more) ts us p b h = cat-sound d inner (either s more) ts us p b h
+behind-sound d inner (joined j s more) ts us p b h = cat-sound d inner (joined j s more) ts us p b h
 
 during_by-sound : (d : ℕ) → IsSoundBelow d → (ts : List Token) (p : SequenceForm × List Token) (o : Option (Token × List Token)) → expect Delay ts ≡ o → during_by d (sequences d) o ts ≡ Some p → IsDuring d p.0 ts p.1
 during_by-sound d inner ts p None l h =
@@ -260,15 +259,15 @@ conjuncts-sound d inner ts p h =
 conjuncts-end : {d : ℕ} {ts rest : List Token} → AreConjuncts d no_other ts rest → ts ≡ rest
 conjuncts-end no_conjunct = refl
 
-with_conjuncts-sound : (d : ℕ) (s : SequenceForm) (xs : List SequenceForm) (ts us rest : List Token) → IsDuring d s ts us → AreConjuncts d (others_of xs) us rest → IsConjunction d (with_conjuncts s xs) ts rest
+with_conjuncts-sound : (d : ℕ) (s : SequenceForm) (xs : List SequenceForm) (ts us rest : List Token) → IsDuring d s ts us → AreConjuncts d (others_of xs) us rest → IsConjunction d (with_others junctions.And s xs) ts rest
 with_conjuncts-sound d s [] ts us rest w f = subst (λ (vs : List Token). IsConjunction d s ts vs) (conjuncts-end f) (is_during w)
 with_conjuncts-sound d s (x ∷ xs) ts us rest w f = is_all w f
 
 conjunction_behind-sound : (d : ℕ) → IsSoundBelow d → (s : SequenceForm) (ts us : List Token) (p : SequenceForm × List Token) → IsDuring d s ts us → conjunction_behind d (sequences d) s us ≡ Some p → IsConjunction d p.0 ts p.1
 unfolding conjunction_behind
 conjunction_behind-sound d inner s ts us p w h =
-    let a = bind-some (each (is And) (λ t. during d) us) (λ (q : List SequenceForm × List Token). Some (with_conjuncts s q.0, q.1)) p h in
-    let same : (with_conjuncts s a.0.0, a.0.1) ≡ p = cc (a.2) in
+    let a = bind-some (each (is And) (λ t. during d) us) (λ (q : List SequenceForm × List Token). Some (with_others junctions.And s q.0, q.1)) p h in
+    let same : (with_others junctions.And s a.0.0, a.0.1) ≡ p = cc (a.2) in
     subst (λ (r : SequenceForm × List Token). IsConjunction d r.0 ts r.1) same (with_conjuncts-sound d s a.0.0 ts us a.0.1 w (conjuncts-sound d inner us a.0 a.1))
 
 conjunction-sound : (d : ℕ) → IsSoundBelow d → Reads (conjunction d) (λ s ts rest. IsConjunction d s ts rest)
@@ -285,15 +284,15 @@ alternatives-sound d inner ts p h =
 alternatives-end : {d : ℕ} {ts rest : List Token} → AreAlternatives d no_other ts rest → ts ≡ rest
 alternatives-end no_alternative = refl
 
-with_alternatives-sound : (d : ℕ) (s : SequenceForm) (xs : List SequenceForm) (ts us rest : List Token) → IsConjunction d s ts us → AreAlternatives d (others_of xs) us rest → IsSequence d (with_alternatives s xs) ts rest
+with_alternatives-sound : (d : ℕ) (s : SequenceForm) (xs : List SequenceForm) (ts us rest : List Token) → IsConjunction d s ts us → AreAlternatives d (others_of xs) us rest → IsSequence d (with_others junctions.Or s xs) ts rest
 with_alternatives-sound d s [] ts us rest w f = subst (λ (vs : List Token). IsSequence d s ts vs) (alternatives-end f) (is_conjunction w)
 with_alternatives-sound d s (x ∷ xs) ts us rest w f = is_either w f
 
 alternatives_behind-sound : (d : ℕ) → IsSoundBelow d → (s : SequenceForm) (ts us : List Token) (p : SequenceForm × List Token) → IsConjunction d s ts us → alternatives_behind d (sequences d) s us ≡ Some p → IsSequence d p.0 ts p.1
 unfolding alternatives_behind
 alternatives_behind-sound d inner s ts us p w h =
-    let a = bind-some (each (is Or) (λ t. conjunction d) us) (λ (q : List SequenceForm × List Token). Some (with_alternatives s q.0, q.1)) p h in
-    let same : (with_alternatives s a.0.0, a.0.1) ≡ p = cc (a.2) in
+    let a = bind-some (each (is Or) (λ t. conjunction d) us) (λ (q : List SequenceForm × List Token). Some (with_others junctions.Or s q.0, q.1)) p h in
+    let same : (with_others junctions.Or s a.0.0, a.0.1) ≡ p = cc (a.2) in
     subst (λ (r : SequenceForm × List Token). IsSequence d r.0 ts r.1) same (with_alternatives-sound d s a.0.0 ts us a.0.1 w (alternatives-sound d inner us a.0 a.1))
 
 pub sides-sound : (d : ℕ) → IsSoundBelow d → (s : SequenceForm) (ts us : List Token) (p : SequenceForm × List Token) → IsDuring d s ts us → sides_behind d (sequences d) s us ≡ Some p → IsSequence d p.0 ts p.1

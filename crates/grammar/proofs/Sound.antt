@@ -1,6 +1,7 @@
 -- What is read as a tree is spelled by it.
 use Rattle.std.proofs.Common.{◌≡◌, ◌⊎◌, ℕ, zero, suc, Bool, true, false, cond, List, [], ◌∷◌, Option, Some, None, refl, sym, ◌∙◌, subst, inl, inr}
 use Rattle.std.proofs.lemmas.Bool.{eqb-true}
+use Rattle.lexer.specs.declared.token.Number.{Number}
 use Rattle.lexer.specs.declared.token.Token.{Token}
 use Rattle.lexer.specs.declared.token.Symbol.TheVariants as symbol
 use Rattle.lexer.specs.declared.token.Kind.{Kind}
@@ -11,19 +12,23 @@ use Rattle.grammar.specs.declared.bound.Select.{Select}
 use Rattle.grammar.specs.declared.mark.Function.{Function}
 use Rattle.grammar.specs.declared.mark.Mark.{Mark}
 use Rattle.grammar.specs.declared.mark.Mark.TheVariants as marks
+use Rattle.grammar.specs.declared.operator.Infix.{Infix}
+use Rattle.grammar.specs.declared.operator.Prefix.{Prefix}
+use Rattle.grammar.specs.declared.operator.Prefix.TheVariants as prefix
 use Rattle.grammar.specs.declared.terminal.Terminal.{Terminal}
 use Rattle.grammar.specs.declared.terminal.Terminal.TheVariants as words
 use Rattle.grammar.specs.declared.terminal.Terminal.TheVariants.{OpenRound, CloseRound, CloseBrace, OpenSquare, CloseSquare, Comma, Colon, Dot}
 use Rattle.grammar.specs.Terminals.{terminal, names, is, is_name, is_word}
 use Rattle.grammar.specs.Bounds.{index, bound_within}
-use Rattle.grammar.specs.Marks.{mark, mark_of_terminal, mark_of_operator, precedence, has_precedence}
+use Rattle.grammar.specs.Operators.{infix_of, is_infix}
+use Rattle.grammar.specs.Marks.{mark, mark_of_terminal, mark_of_operator, mark_of_number, precedence, has_precedence}
 use Rattle.grammar.specs.Trees.{Tree, number, path, concatenation, past, call, unary, choice, end}
 use Rattle.grammar.specs.Expressions.{AreMembers, no_member, member, IsPath, name, IsSelected, whole, bit, bits, IsTicks, one_tick, some_ticks, Operand, is_number, is_path, is_concatenation, in_brackets, is_past, is_call, is_unary, is_tighter, is_chain, Follows, no_more, one_more, AreParts, no_parts, one_part, Spells, is_operand, is_choice}
 use Rattle.grammar.specs.Readers.{◌>>=◌, Reader, lead, expect, pick, optional, each}
-use Rattle.grammar.specs.ReadExpressions.{name_of, word_of, members, path_words, select, links_of, parts_of, name_reader, bracket_reader, concatenation_reader, past_reader, call_reader, prefix_reader, prefixed_by, prefixed_with, links, chain_of, level, choice_by, choice_with, expr_with, readers}
+use Rattle.grammar.specs.ReadExpressions.{name_of, word_of, members, path_words, select, links_of, parts_of, name_reader, bracket_reader, concatenation_reader, past_reader, call_reader, prefix_reader, prefixed_by, prefixed_with, link_reader, links, chain_of, level, choice_by, choice_with, expr_with, readers}
 use Rattle.grammar.proofs.TerminalLaws.{is-true}
 use Rattle.grammar.proofs.ReaderLaws.{Reads, bind-some, lead-some, expect-some, pick-some, IsOptional, absent, present, optional-sound, each-sound}
-use Rattle.grammar.proofs.Complete.{level-zero, level-suc, expr-is}
+use Rattle.grammar.proofs.Complete.{level-zero, level-suc, expr-is, infix-level}
 
 -- words
 pub word-some : (t a : Token) → word_of t ≡ Some a → (is_word t ≡ true) × (t ≡ a)
@@ -42,20 +47,28 @@ name-some t a h = by_test (is_name t) h
     by_test true k = (refl, cc)
     by_test false k = absurd cc
 
-operator-mark : (k : Kind) → (mark_of_operator k ≡ marks.Prefix) ⊎ (mark_of_operator k ≡ marks.Other)
-operator-mark (kind.Symbol symbol.Bang) = inl refl
-operator-mark (kind.Symbol symbol.Tilde) = inl refl
-operator-mark (kind.Symbol symbol.And) = inl refl
-operator-mark (kind.Symbol symbol.Nand) = inl refl
-operator-mark (kind.Symbol symbol.Or) = inl refl
-operator-mark (kind.Symbol symbol.Nor) = inl refl
-operator-mark (kind.Symbol symbol.Xor) = inl refl
-operator-mark (kind.Symbol symbol.Xnor) = inl refl
-operator-mark (kind.Symbol symbol.XnorCaret) = inl refl
+record IsPrefix (m : Mark) : Type 0 where
+  operator : Prefix
+  is : m ≡ marks.Prefix operator
+
+operator-mark : (k : Kind) → IsPrefix (mark_of_operator k) ⊎ (mark_of_operator k ≡ marks.Other)
+operator-mark (kind.Symbol symbol.Bang) = inl (record { operator = prefix.Not; is = refl })
+operator-mark (kind.Symbol symbol.Tilde) = inl (record { operator = prefix.Complement; is = refl })
+operator-mark (kind.Symbol symbol.And) = inl (record { operator = prefix.And; is = refl })
+operator-mark (kind.Symbol symbol.Nand) = inl (record { operator = prefix.Nand; is = refl })
+operator-mark (kind.Symbol symbol.Or) = inl (record { operator = prefix.Or; is = refl })
+operator-mark (kind.Symbol symbol.Nor) = inl (record { operator = prefix.Nor; is = refl })
+operator-mark (kind.Symbol symbol.Xor) = inl (record { operator = prefix.Xor; is = refl })
+operator-mark (kind.Symbol symbol.Xnor) = inl (record { operator = prefix.Xnor; is = refl })
+operator-mark (kind.Symbol symbol.XnorCaret) = inl (record { operator = prefix.Xnor; is = refl })
 operator-mark _ = inr refl
 
-no_operator : (k : Kind) (m : Mark) → mark_of_operator k ≡ m → (marks.Prefix ≡ m → ⊥) → (marks.Other ≡ m → ⊥) → ⊥
-no_operator k m h p o = elim (operator-mark k) [ inl e ↦ p (sym e ∙ h) | inr e ↦ o (sym e ∙ h) ]
+no_operator : (k : Kind) (m : Mark) → mark_of_operator k ≡ m → ((op : Prefix) → marks.Prefix op ≡ m → ⊥) → (marks.Other ≡ m → ⊥) → ⊥
+no_operator k m h p o = elim (operator-mark k) [ inl e ↦ p e.operator (sym e.is ∙ h) | inr e ↦ o (sym e ∙ h) ]
+
+no_number : (k : Kind) (m : Mark) → mark_of_number k ≡ m → ((n : Number) → marks.Number n ≡ m → ⊥) → (marks.Other ≡ m → ⊥) → ⊥
+no_number (kind.Number n) m h p o = p n h
+no_number _ m h p o = o h
 
 mark-name_terminal : (w : Terminal) (k : Kind) → mark_of_terminal w k ≡ marks.Name → names w ≡ true
 mark-name_terminal words.Counter k h = refl
@@ -64,7 +77,8 @@ mark-name_terminal words.Load k h = refl
 mark-name_terminal words.Add k h = refl
 mark-name_terminal words.Sub k h = refl
 mark-name_terminal words.Name k h = refl
-mark-name_terminal words.Operator k h = absurd (no_operator k marks.Name h (λ e. cc) (λ e. cc))
+mark-name_terminal words.Operator k h = absurd (no_operator k marks.Name h (λ op e. cc) (λ e. cc))
+mark-name_terminal words.Number k h = absurd (no_number k marks.Name h (λ n e. cc) (λ e. cc))
 mark-name_terminal _ k h = absurd cc
 
 pub mark-name : (t : Token) → mark t ≡ marks.Name → is_name t ≡ true
@@ -73,7 +87,8 @@ mark-name t h = mark-name_terminal (terminal t) t.kind h
 
 mark-opening_terminal : (w : Terminal) (k : Kind) → mark_of_terminal w k ≡ marks.Opening → w ≡ OpenRound
 mark-opening_terminal words.OpenRound k h = refl
-mark-opening_terminal words.Operator k h = absurd (no_operator k marks.Opening h (λ e. cc) (λ e. cc))
+mark-opening_terminal words.Operator k h = absurd (no_operator k marks.Opening h (λ op e. cc) (λ e. cc))
+mark-opening_terminal words.Number k h = absurd (no_number k marks.Opening h (λ n e. cc) (λ e. cc))
 mark-opening_terminal _ k h = absurd cc
 
 pub mark-opening : (t : Token) → mark t ≡ marks.Opening → terminal t ≡ OpenRound
@@ -225,18 +240,18 @@ called-sound d inner g t ts p m h =
     by_depth zero inner left us q y k = absurd (bracketed-zero us q k)
     by_depth (suc d) inner left us q y k = let b = bracketed-sound d inner us q k in is_call m y b.inside b.marked
 
-prefixing-sound : (d : ℕ) → IsSound d → (t : Token) (ts : List Token) (p : Tree × List Token) → mark t ≡ marks.Prefix → prefix_reader (readers d) t ts ≡ Some p → Operand d zero p.0 (t ∷ ts) p.1
+prefixing-sound : (d : ℕ) → IsSound d → (op : Prefix) (t : Token) (ts : List Token) (p : Tree × List Token) → mark t ≡ marks.Prefix op → prefix_reader (readers d) op t ts ≡ Some p → Operand d zero p.0 (t ∷ ts) p.1
 unfolding prefix_reader readers
-prefixing-sound zero inner t ts p m h = absurd cc
-prefixing-sound (suc d) inner t ts p m h =
-    let a = bind-some ((readers (suc d)).prefixed ts) (λ (p : Tree × List Token). Some (unary t p.0, p.1)) p h in
-    let same : (unary t a.0.0, a.0.1) ≡ p = cc (a.2) in
+prefixing-sound zero inner op t ts p m h = absurd cc
+prefixing-sound (suc d) inner op t ts p m h =
+    let a = bind-some ((readers (suc d)).prefixed ts) (λ (p : Tree × List Token). Some (unary op t p.0, p.1)) p h in
+    let same : (unary op t a.0.0, a.0.1) ≡ p = cc (a.2) in
     subst (λ (r : Tree × List Token). Operand (suc d) zero r.0 (t ∷ ts) r.1) same (is_unary m (inner.1 ts a.0 a.1))
 
 prefixed_by-sound : (d : ℕ) → IsSound d → (t : Token) (ts : List Token) (p : Tree × List Token) (m : Mark) → mark t ≡ m → prefixed_by (readers d) m t ts ≡ Some p → Operand d zero p.0 (t ∷ ts) p.1
-prefixed_by-sound d inner t ts p marks.Number m h = let same : (number t, ts) ≡ p = cc in subst (λ (r : Tree × List Token). Operand d zero r.0 (t ∷ ts) r.1) same (is_number m)
+prefixed_by-sound d inner t ts p (marks.Number n) m h = let same : (number n t, ts) ≡ p = cc in subst (λ (r : Tree × List Token). Operand d zero r.0 (t ∷ ts) r.1) same (is_number m)
 prefixed_by-sound d inner t ts p marks.Name m h = named-sound d t ts p m h
-prefixed_by-sound d inner t ts p marks.Prefix m h = prefixing-sound d inner t ts p m h
+prefixed_by-sound d inner t ts p (marks.Prefix op) m h = prefixing-sound d inner op t ts p m h
 prefixed_by-sound d inner t ts p marks.Opening m h = opened-sound d inner t ts p m h
 prefixed_by-sound d inner t ts p marks.Brace m h = concatenated-sound d inner t ts p m h
 prefixed_by-sound d inner t ts p marks.Past m h = passed-sound d inner t ts p m h
@@ -249,19 +264,20 @@ prefixed-sound d inner [] p h = absurd cc
 prefixed-sound d inner (t ∷ ts) p h = prefixed_by-sound d inner t ts p (mark t) refl h
 
 links-sound : (d l : ℕ) (operand : Reader Tree) → Reads operand (λ e ts rest. Operand d l e ts rest) → Reads (links operand l) (λ xs ts rest. Follows d l (links_of xs) ts rest)
-unfolding links has_precedence
+unfolding links link_reader
 links-sound d l operand ok ts p h =
-    each-sound (has_precedence (suc l)) (λ t us. operand us >>= λ p. Some ((t, p.0), p.1)) (λ xs us vs. Follows d l (links_of xs) us vs) (λ us. no_more)
-    (λ t a xs us vs rest loose read more.
-    let b = bind-some (operand us) (λ (p : Tree × List Token). Some ((t, p.0), p.1)) (a, vs) read in
-    let same : ((t, b.0.0), b.0.1) ≡ (a, vs) = cc (b.2) in
-    subst (λ (x : (Token × Tree) × List Token). Follows d l (links_of (x.0 ∷ xs)) (t ∷ us) rest) same (one_more (eqb-true (precedence t) (suc l) loose) (ok us b.0 b.1) (subst (λ (x : (Token × Tree) × List Token). Follows d l (links_of xs) x.1 rest) (sym same) more)))
+    each-sound (is_infix (suc l)) (link_reader operand) (λ xs us vs. Follows d l (links_of xs) us vs) (λ us. no_more)
+    (λ t a xs us vs rest is_left read more.
+    let o = bind-some (infix_of t) (λ (op : Infix). operand us >>= λ p. Some ((op, p.0), p.1)) (a, vs) read in
+    let b = bind-some (operand us) (λ (p : Tree × List Token). Some ((o.0, p.0), p.1)) (a, vs) o.2 in
+    let same : ((o.0, b.0.0), b.0.1) ≡ (a, vs) = cc (b.2) in
+    subst (λ (x : (Infix × Tree) × List Token). Follows d l (links_of (x.0 ∷ xs)) (t ∷ us) rest) same (one_more o.1 (infix-level (suc l) t o.0 o.1 is_left) (ok us b.0 b.1) (subst (λ (x : (Infix × Tree) × List Token). Follows d l (links_of xs) x.1 rest) (sym same) more)))
     ts p h
 
 follows-end : {d l : ℕ} {ts rest : List Token} → Follows d l end ts rest → ts ≡ rest
 follows-end no_more = refl
 
-joined-sound : (d l : ℕ) (first : Tree) (xs : List (Token × Tree)) (ts us rest : List Token) → Operand d l first ts us → Follows d l (links_of xs) us rest → Operand d (suc l) (chain_of first xs) ts rest
+joined-sound : (d l : ℕ) (first : Tree) (xs : List (Infix × Tree)) (ts us rest : List Token) → Operand d l first ts us → Follows d l (links_of xs) us rest → Operand d (suc l) (chain_of first xs) ts rest
 joined-sound d l first [] ts us rest o f = subst (λ (vs : List Token). Operand d (suc l) first ts vs) (follows-end f) (is_tighter o)
 joined-sound d l first (x ∷ xs) ts us rest o f = is_chain o f
 
@@ -269,7 +285,7 @@ level-sound : (d : ℕ) (b : Reader Tree) → Reads b (λ e ts rest. Operand d z
 level-sound d b ok zero ts p h = ok ts p (sym (level-zero b ts) ∙ h)
 level-sound d b ok (suc l) ts p h =
     let a = bind-some (level b l ts) (λ (p : Tree × List Token). links (level b l) l p.1 >>= λ q. Some (chain_of p.0 q.0, q.1)) p (sym (level-suc b l ts) ∙ h) in
-    let c = bind-some (links (level b l) l a.0.1) (λ (q : List (Token × Tree) × List Token). Some (chain_of a.0.0 q.0, q.1)) p a.2 in
+    let c = bind-some (links (level b l) l a.0.1) (λ (q : List (Infix × Tree) × List Token). Some (chain_of a.0.0 q.0, q.1)) p a.2 in
     let same : (chain_of a.0.0 c.0.0, c.0.1) ≡ p = cc (c.2) in
     subst (λ (r : Tree × List Token). Operand d (suc l) r.0 ts r.1) same
     (joined-sound d l a.0.0 c.0.0 ts a.0.1 c.0.1 (level-sound d b ok l ts a.0 a.1) (links-sound d l (level b l) (level-sound d b ok l) a.0.1 c.0 c.1))

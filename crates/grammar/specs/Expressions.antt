@@ -2,17 +2,21 @@
 -- annex A.8). In each relation the tree stands for the tokens ts up to rest. d is how many brackets
 -- and unfinished operators may be open in it at once: a rule that opens one goes from suc d to d.
 use Rattle.std.specs.Prelude.{◌≡◌, ℕ, zero, suc, List, [], ◌∷◌, true, Option, Some, None}
+use Rattle.lexer.specs.declared.token.Number.{Number}
 use Rattle.lexer.specs.declared.token.Token.{Token}
 use Rattle.grammar.specs.declared.bound.Bound.{Bound}
 use Rattle.grammar.specs.declared.bound.Index.{Index}
 use Rattle.grammar.specs.declared.bound.Select.{Select}
 use Rattle.grammar.specs.declared.mark.Function.{Function}
 use Rattle.grammar.specs.declared.mark.Mark.TheVariants as marks
+use Rattle.grammar.specs.declared.operator.Infix.{Infix}
+use Rattle.grammar.specs.declared.operator.Prefix.{Prefix}
 use Rattle.grammar.specs.declared.terminal.Terminal.TheVariants.{OpenRound, CloseRound, CloseBrace}
 use Rattle.grammar.specs.declared.terminal.Terminal.TheVariants.{OpenSquare, CloseSquare, Comma}
 use Rattle.grammar.specs.declared.terminal.Terminal.TheVariants.{Colon, Dot}
 use Rattle.grammar.specs.Terminals.{terminal, is_name, is_word}
 use Rattle.grammar.specs.Bounds.{index, bound_within}
+use Rattle.grammar.specs.Operators.{infix_of, infix_level}
 use Rattle.grammar.specs.Marks.{mark, precedence}
 use Rattle.grammar.specs.Trees.{Tree, number, path, concatenation, past, call, unary, chain, choice}
 use Rattle.grammar.specs.Trees.{Links, end, link, Parts, no_part, part}
@@ -53,8 +57,8 @@ mutual
   -- Level l + 1: an operand of level l, and then left operators of level l + 1, each with an
   -- operand of level l.
   pub data Operand : ℕ → ℕ → Tree → List Token → List Token → Type 0 where
-    is_number : {d : ℕ} {t : Token} {rest : List Token}
-        → mark t ≡ marks.Number → Operand d zero (number t) (t ∷ rest) rest
+    is_number : {d : ℕ} {n : Number} {t : Token} {rest : List Token}
+        → mark t ≡ marks.Number n → Operand d zero (number n t) (t ∷ rest) rest
     is_path : {d : ℕ} {words : List Token} {select : Option Select} {ts us rest : List Token}
         → IsPath words ts us → IsSelected d select us rest
         → Operand d zero (path words select) ts rest
@@ -75,20 +79,22 @@ mutual
         → mark f ≡ marks.Call g → terminal left ≡ OpenRound → Spells d e ts (right ∷ rest)
         → terminal right ≡ CloseRound
         → Operand (suc d) zero (call g f e) (f ∷ left ∷ ts) rest
-    is_unary : {d : ℕ} {t : Token} {e : Tree} {ts rest : List Token} → mark t ≡ marks.Prefix
-        → Operand d zero e ts rest → Operand (suc d) zero (unary t e) (t ∷ ts) rest
+    is_unary : {d : ℕ} {op : Prefix} {t : Token} {e : Tree} {ts rest : List Token}
+        → mark t ≡ marks.Prefix op → Operand d zero e ts rest
+        → Operand (suc d) zero (unary op t e) (t ∷ ts) rest
     is_tighter : {d l : ℕ} {e : Tree} {ts rest : List Token}
         → Operand d l e ts rest → Operand d (suc l) e ts rest
-    is_chain : {d l : ℕ} {t : Token} {first e : Tree} {more : Links} {ts us rest : List Token}
-        → Operand d l first ts us → Follows d l (link t e more) us rest
-        → Operand d (suc l) (chain first (link t e more)) ts rest
+    is_chain : {d l : ℕ} {op : Infix} {first e : Tree} {more : Links} {ts us rest : List Token}
+        → Operand d l first ts us → Follows d l (link op e more) us rest
+        → Operand d (suc l) (chain first (link op e more)) ts rest
 
   -- (operator operand)*, the operators of level l + 1
   pub data Follows : ℕ → ℕ → Links → List Token → List Token → Type 0 where
     no_more : {d l : ℕ} {ts : List Token} → Follows d l end ts ts
-    one_more : {d l : ℕ} {t : Token} {e : Tree} {more : Links} {ts us rest : List Token}
-        → precedence t ≡ suc l → Operand d l e ts us → Follows d l more us rest
-        → Follows d l (link t e more) (t ∷ ts) rest
+    one_more : {d l : ℕ} {op : Infix} {t : Token} {e : Tree} {more : Links}
+        {ts us rest : List Token}
+        → infix_of t ≡ Some op → infix_level op ≡ suc l → Operand d l e ts us
+        → Follows d l more us rest → Follows d l (link op e more) (t ∷ ts) rest
 
   -- ("," expr)*
   pub data AreParts : ℕ → Parts → List Token → List Token → Type 0 where

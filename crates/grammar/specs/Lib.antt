@@ -1,5 +1,6 @@
 pub mod Terminals
 pub mod Bounds
+pub mod Operators
 pub mod Marks
 pub mod Trees
 pub mod Expressions

@@ -1,5 +1,5 @@
 -- How a token may begin a primary, and how loosely it joins.
-use Rattle.std.specs.Prelude.{ℕ, List, [], ◌∷◌, Bool, ◌==◌}
+use Rattle.std.specs.Prelude.{ℕ, List, [], ◌∷◌, Bool, ◌==◌, Option, Some, None}
 use Rattle.lexer.specs.declared.token.Symbol.TheVariants as symbol
 use Rattle.lexer.specs.declared.token.Kind.{Kind}
 use Rattle.lexer.specs.declared.token.Kind.TheVariants as kind
@@ -7,27 +7,34 @@ use Rattle.lexer.specs.declared.token.Token.{Token}
 use Rattle.grammar.specs.declared.terminal.Terminal.{Terminal}
 use Rattle.grammar.specs.declared.terminal.Terminal.TheVariants as terminals
 use Rattle.grammar.specs.declared.mark.Function.TheVariants as function
+use Rattle.grammar.specs.declared.operator.Prefix.TheVariants as prefix
+use Rattle.grammar.specs.declared.operator.Infix.{Infix}
 use Rattle.grammar.specs.declared.mark.Mark.{Mark}
 use Rattle.grammar.specs.declared.mark.Mark.TheVariants.{Number, Name, Prefix, Opening, Brace, Past}
 use Rattle.grammar.specs.declared.mark.Mark.TheVariants.{Call, Other}
 use Rattle.grammar.specs.Terminals.{terminal}
+use Rattle.grammar.specs.Operators.{infix_of_kind, infix_level}
 
 -- the unary operators ! ~ & ~& | ~| ^ ~^ ^~
 abbrev pub mark_of_operator : Kind → Mark
-mark_of_operator (kind.Symbol symbol.Bang) = Prefix
-mark_of_operator (kind.Symbol symbol.Tilde) = Prefix
-mark_of_operator (kind.Symbol symbol.And) = Prefix
-mark_of_operator (kind.Symbol symbol.Nand) = Prefix
-mark_of_operator (kind.Symbol symbol.Or) = Prefix
-mark_of_operator (kind.Symbol symbol.Nor) = Prefix
-mark_of_operator (kind.Symbol symbol.Xor) = Prefix
-mark_of_operator (kind.Symbol symbol.Xnor) = Prefix
-mark_of_operator (kind.Symbol symbol.XnorCaret) = Prefix
+mark_of_operator (kind.Symbol symbol.Bang) = Prefix prefix.Not
+mark_of_operator (kind.Symbol symbol.Tilde) = Prefix prefix.Complement
+mark_of_operator (kind.Symbol symbol.And) = Prefix prefix.And
+mark_of_operator (kind.Symbol symbol.Nand) = Prefix prefix.Nand
+mark_of_operator (kind.Symbol symbol.Or) = Prefix prefix.Or
+mark_of_operator (kind.Symbol symbol.Nor) = Prefix prefix.Nor
+mark_of_operator (kind.Symbol symbol.Xor) = Prefix prefix.Xor
+mark_of_operator (kind.Symbol symbol.Xnor) = Prefix prefix.Xnor
+mark_of_operator (kind.Symbol symbol.XnorCaret) = Prefix prefix.Xnor
 mark_of_operator _ = Other
+
+abbrev pub mark_of_number : Kind → Mark
+mark_of_number (kind.Number n) = Number n
+mark_of_number _ = Other
 
 -- NUM, NAME, "(", "{", "$past", the functions of one operand, and the unary operators
 abbrev pub mark_of_terminal : Terminal → Kind → Mark
-mark_of_terminal terminals.Number k = Number
+mark_of_terminal terminals.Number k = mark_of_number k
 mark_of_terminal terminals.Counter k = Name
 mark_of_terminal terminals.Clear k = Name
 mark_of_terminal terminals.Load k = Name
@@ -52,26 +59,16 @@ mark t = mark_of_terminal (terminal t) t.kind
 -- How loosely a token joins what stands before it to what follows: 1 to 9 are the levels of the
 -- left operators, from the tightest, 10 is ?, 11 throughout, 12 [*, 13 ##, 15 and, 16 or, 17 the
 -- implications. 0 goes on with a path, 100 with nothing. (14 is left for intersect.)
+abbrev pub precedence_of_other : Kind → ℕ
+precedence_of_other (kind.Symbol symbol.Question) = 10
+precedence_of_other _ = 100
+
+abbrev pub precedence_by : Option Infix → Kind → ℕ
+precedence_by None k = precedence_of_other k
+precedence_by (Some op) k = infix_level op
+
 abbrev pub precedence_of_operator : Kind → ℕ
-precedence_of_operator (kind.Symbol symbol.Plus) = 1
-precedence_of_operator (kind.Symbol symbol.Minus) = 1
-precedence_of_operator (kind.Symbol symbol.ShiftLeft) = 2
-precedence_of_operator (kind.Symbol symbol.ShiftRight) = 2
-precedence_of_operator (kind.Symbol symbol.Less) = 3
-precedence_of_operator (kind.Symbol symbol.LessEqual) = 3
-precedence_of_operator (kind.Symbol symbol.Greater) = 3
-precedence_of_operator (kind.Symbol symbol.GreaterEqual) = 3
-precedence_of_operator (kind.Symbol symbol.Equal) = 4
-precedence_of_operator (kind.Symbol symbol.NotEqual) = 4
-precedence_of_operator (kind.Symbol symbol.And) = 5
-precedence_of_operator (kind.Symbol symbol.Xor) = 6
-precedence_of_operator (kind.Symbol symbol.Xnor) = 6
-precedence_of_operator (kind.Symbol symbol.XnorCaret) = 6
-precedence_of_operator (kind.Symbol symbol.Or) = 7
-precedence_of_operator (kind.Symbol symbol.AndAnd) = 8
-precedence_of_operator (kind.Symbol symbol.OrOr) = 9
-precedence_of_operator (kind.Symbol symbol.Question) = 10
-precedence_of_operator _ = 100
+precedence_of_operator k = precedence_by (infix_of_kind k) k
 
 abbrev pub precedence_of_terminal : Terminal → Kind → ℕ
 precedence_of_terminal terminals.Dot k = 0

@@ -5,11 +5,14 @@ use Rattle.grammar.specs.declared.bound.Select.{Select}
 use Rattle.grammar.specs.declared.mark.Mark.{Mark}
 use Rattle.grammar.specs.declared.mark.Mark.TheVariants as marks
 use Rattle.grammar.specs.declared.mark.Function.{Function}
+use Rattle.grammar.specs.declared.operator.Infix.{Infix}
+use Rattle.grammar.specs.declared.operator.Prefix.{Prefix}
 use Rattle.grammar.specs.declared.terminal.Terminal.TheVariants.{OpenRound, CloseRound, CloseBrace}
 use Rattle.grammar.specs.declared.terminal.Terminal.TheVariants.{OpenSquare, CloseSquare, Comma}
 use Rattle.grammar.specs.declared.terminal.Terminal.TheVariants.{Colon, Dot}
 use Rattle.grammar.specs.Terminals.{is, is_name, is_word}
 use Rattle.grammar.specs.Bounds.{index, bound_within}
+use Rattle.grammar.specs.Operators.{infix_of, is_infix}
 use Rattle.grammar.specs.Marks.{mark, has_precedence}
 use Rattle.grammar.specs.Trees.{Tree, number, path, concatenation, past, call, unary, chain, choice}
 use Rattle.grammar.specs.Trees.{Links, end, link, Parts, no_part, part}
@@ -41,7 +44,7 @@ pub record Inner : Type 0 where
   pub prefixed : Reader Tree
   pub select : Reader Select
 
-abbrev pub links_of : List (Token × Tree) → Links
+abbrev pub links_of : List (Infix × Tree) → Links
 links_of [] = end
 links_of (x ∷ xs) = link x.0 x.1 (links_of xs)
 
@@ -77,13 +80,13 @@ call_reader inner g t ts =
     expect OpenRound ts >>= λ o. bracket_reader inner o.1 >>= λ p. Some (call g t p.0, p.1)
 
 -- behind a unary operator
-unfoldable pub prefix_reader : Inner → Token → Reader Tree
-prefix_reader inner t ts = inner.prefixed ts >>= λ p. Some (unary t p.0, p.1)
+unfoldable pub prefix_reader : Inner → Prefix → Token → Reader Tree
+prefix_reader inner op t ts = inner.prefixed ts >>= λ p. Some (unary op t p.0, p.1)
 
 abbrev pub prefixed_by : Inner → Mark → Token → Reader Tree
-prefixed_by inner marks.Number t ts = Some (number t, ts)
+prefixed_by inner (marks.Number n) t ts = Some (number n t, ts)
 prefixed_by inner marks.Name t ts = name_reader inner t ts
-prefixed_by inner marks.Prefix t ts = prefix_reader inner t ts
+prefixed_by inner (marks.Prefix op) t ts = prefix_reader inner op t ts
 prefixed_by inner marks.Opening t ts = bracket_reader inner ts
 prefixed_by inner marks.Brace t ts = concatenation_reader inner t ts
 prefixed_by inner marks.Past t ts = past_reader inner t ts
@@ -95,12 +98,16 @@ unfoldable pub prefixed_with : Inner → Reader Tree
 prefixed_with inner [] = None
 prefixed_with inner (t ∷ ts) = prefixed_by inner (mark t) t ts
 
--- operators of level l + 1 with their right operands
-unfoldable pub links : Reader Tree → ℕ → Reader (List (Token × Tree))
-links operand l ts =
-    each (has_precedence (suc l)) (λ t us. operand us >>= λ p. Some ((t, p.0), p.1)) ts
+-- behind a left operator: it with its right operand
+unfoldable pub link_reader : Reader Tree → Token → Reader (Infix × Tree)
+link_reader operand t ts =
+    infix_of t >>= λ op. operand ts >>= λ p. Some ((op, p.0), p.1)
 
-abbrev pub chain_of : Tree → List (Token × Tree) → Tree
+-- operators of level l + 1 with their right operands
+unfoldable pub links : Reader Tree → ℕ → Reader (List (Infix × Tree))
+links operand l ts = each (is_infix (suc l)) (link_reader operand) ts
+
+abbrev pub chain_of : Tree → List (Infix × Tree) → Tree
 chain_of first [] = first
 chain_of first (x ∷ xs) = chain first (links_of (x ∷ xs))
 

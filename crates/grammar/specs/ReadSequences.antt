@@ -2,6 +2,8 @@
 use Rattle.std.specs.Prelude.{ℕ, zero, suc, List, [], ◌∷◌, Option, Some, None}
 use Rattle.lexer.specs.declared.token.Token.{Token}
 use Rattle.grammar.specs.declared.bound.Range.{Range}
+use Rattle.grammar.specs.declared.operator.Junction.{Junction}
+use Rattle.grammar.specs.declared.operator.Junction.TheVariants as junctions
 use Rattle.grammar.specs.declared.terminal.Terminal.TheVariants.{OpenRound, CloseRound, OpenSquare}
 use Rattle.grammar.specs.declared.terminal.Terminal.TheVariants.{OpenRepeat, CloseSquare, Colon}
 use Rattle.grammar.specs.declared.terminal.Terminal.TheVariants.{Delay, Throughout, And, Or}
@@ -9,7 +11,7 @@ use Rattle.grammar.specs.Terminals.{is}
 use Rattle.grammar.specs.Bounds.{bound_within}
 use Rattle.grammar.specs.Marks.{has_precedence}
 use Rattle.grammar.specs.Trees.{Tree, SequenceForm, boolean, repeated, late, delayed, throughout}
-use Rattle.grammar.specs.Trees.{all, either, Steps, no_step, step, Others, no_other, other}
+use Rattle.grammar.specs.Trees.{joined, Steps, no_step, step, Others, no_other, other}
 use Rattle.grammar.specs.Trees.{PropertyForm, plain, implication}
 use Rattle.grammar.specs.Sequences.{bound}
 use Rattle.grammar.specs.Readers.{◌>>=◌, Reader, refuse, lead, expect, pick, optional, each}
@@ -49,8 +51,7 @@ regroup d (repeated s n) ts = Some (repeated s n, ts)
 regroup d (late t n s) ts = Some (late t n s, ts)
 regroup d (delayed s more) ts = Some (delayed s more, ts)
 regroup d (throughout e s) ts = Some (throughout e s, ts)
-regroup d (all s more) ts = Some (all s more, ts)
-regroup d (either s more) ts = Some (either s more, ts)
+regroup d (joined j s more) ts = Some (joined j s more, ts)
 
 abbrev pub body_by : ℕ → Inner → Option (Token × List Token) → Reader SequenceForm
 body_by d inner None ts = expression d ts >>= λ p. Some (boolean p.0, p.1)
@@ -105,8 +106,7 @@ during_behind d inner (repeated s n) ts = cat_behind d inner (repeated s n) ts
 during_behind d inner (late t n s) ts = cat_behind d inner (late t n s) ts
 during_behind d inner (delayed s more) ts = cat_behind d inner (delayed s more) ts
 during_behind d inner (throughout e s) ts = cat_behind d inner (throughout e s) ts
-during_behind d inner (all s more) ts = cat_behind d inner (all s more) ts
-during_behind d inner (either s more) ts = cat_behind d inner (either s more) ts
+during_behind d inner (joined j s more) ts = cat_behind d inner (joined j s more) ts
 
 abbrev pub during_by : ℕ → Inner → Option (Token × List Token) → Reader SequenceForm
 during_by d inner None ts = body_with d inner ts >>= λ p. during_behind d inner p.0 p.1
@@ -121,26 +121,24 @@ abbrev pub others_of : List SequenceForm → Others
 others_of [] = no_other
 others_of (x ∷ xs) = other x (others_of xs)
 
-abbrev pub with_conjuncts : SequenceForm → List SequenceForm → SequenceForm
-with_conjuncts s [] = s
-with_conjuncts s (x ∷ xs) = all s (others_of (x ∷ xs))
+abbrev pub with_others : Junction → SequenceForm → List SequenceForm → SequenceForm
+with_others j s [] = s
+with_others j s (x ∷ xs) = joined j s (others_of (x ∷ xs))
 
 -- behind a thr: ("and" thr)*
 unfoldable pub conjunction_behind : ℕ → Inner → SequenceForm → Reader SequenceForm
 conjunction_behind d inner s ts =
-    each (is And) (λ t. during_with d inner) ts >>= λ q. Some (with_conjuncts s q.0, q.1)
+    each (is And) (λ t. during_with d inner) ts
+    >>= λ q. Some (with_others junctions.And s q.0, q.1)
 
 unfoldable pub conjunction_with : ℕ → Inner → Reader SequenceForm
 conjunction_with d inner ts = during_with d inner ts >>= λ p. conjunction_behind d inner p.0 p.1
 
-abbrev pub with_alternatives : SequenceForm → List SequenceForm → SequenceForm
-with_alternatives s [] = s
-with_alternatives s (x ∷ xs) = either s (others_of (x ∷ xs))
-
 -- behind an and_seq: ("or" and_seq)*
 unfoldable pub alternatives_behind : ℕ → Inner → SequenceForm → Reader SequenceForm
 alternatives_behind d inner s ts =
-    each (is Or) (λ t. conjunction_with d inner) ts >>= λ q. Some (with_alternatives s q.0, q.1)
+    each (is Or) (λ t. conjunction_with d inner) ts
+    >>= λ q. Some (with_others junctions.Or s q.0, q.1)
 
 -- behind a thr: all that goes on with a seq
 unfoldable pub sides_behind : ℕ → Inner → SequenceForm → Reader SequenceForm

@@ -4,6 +4,7 @@ use Rattle.std.specs.Prelude.{◌≡◌, ℕ, suc, List, ◌∷◌, Option, Some
 use Rattle.lexer.specs.declared.token.Token.{Token}
 use Rattle.grammar.specs.declared.bound.Bound.{Bound}
 use Rattle.grammar.specs.declared.bound.Range.{Range}
+use Rattle.grammar.specs.declared.operator.Junction.TheVariants as junctions
 use Rattle.grammar.specs.declared.terminal.Terminal.TheVariants.{OpenRound, CloseRound, OpenSquare}
 use Rattle.grammar.specs.declared.terminal.Terminal.TheVariants.{OpenRepeat, CloseSquare, Colon}
 use Rattle.grammar.specs.declared.terminal.Terminal.TheVariants.{Delay, Throughout, And, Or}
@@ -11,7 +12,7 @@ use Rattle.grammar.specs.Terminals.{terminal}
 use Rattle.grammar.specs.Bounds.{bound_within}
 use Rattle.grammar.specs.Marks.{precedence}
 use Rattle.grammar.specs.Trees.{Tree, SequenceForm, boolean, repeated, late, delayed, throughout}
-use Rattle.grammar.specs.Trees.{all, either, Steps, no_step, step, Others, no_other, other}
+use Rattle.grammar.specs.Trees.{joined, Steps, no_step, step, Others, no_other, other}
 use Rattle.grammar.specs.Trees.{PropertyForm, plain, implication}
 use Rattle.grammar.specs.Expressions.{Spells}
 
@@ -26,8 +27,7 @@ IsNoExpression (repeated s n) = Unit {0}
 IsNoExpression (late t n s) = Unit {0}
 IsNoExpression (delayed s more) = Unit {0}
 IsNoExpression (throughout e s) = Unit {0}
-IsNoExpression (all s more) = Unit {0}
-IsNoExpression (either s more) = Unit {0}
+IsNoExpression (joined j s more) = Unit {0}
 
 -- "[*" NUM [":" NUM] "]"
 pub data IsTimes : Range → List Token → List Token → Type 0 where
@@ -110,7 +110,7 @@ mutual
         → IsDuring d s ts rest → IsConjunction d s ts rest
     is_all : {d : ℕ} {s v : SequenceForm} {more : Others} {ts us rest : List Token}
         → IsDuring d s ts us → AreConjuncts d (other v more) us rest
-        → IsConjunction d (all s (other v more)) ts rest
+        → IsConjunction d (joined junctions.And s (other v more)) ts rest
 
   -- ("or" and_seq)*
   pub data AreAlternatives : ℕ → Others → List Token → List Token → Type 0 where
@@ -126,7 +126,7 @@ mutual
         → IsConjunction d s ts rest → IsSequence d s ts rest
     is_either : {d : ℕ} {s v : SequenceForm} {more : Others} {ts us rest : List Token}
         → IsConjunction d s ts us → AreAlternatives d (other v more) us rest
-        → IsSequence d (either s (other v more)) ts rest
+        → IsSequence d (joined junctions.Or s (other v more)) ts rest
 
 -- prop = "(" prop ")" | seq | seq "|->" seq | seq "|=>" seq
 pub data IsProperty : ℕ → PropertyForm → List Token → List Token → Type 0 where

@@ -1,34 +1,39 @@
 -- Trees without brackets, and without where they lie in memory.
 use Rattle.std.specs.Prelude.{List, Option}
+use Rattle.lexer.specs.declared.token.Number.{Number}
 use Rattle.lexer.specs.declared.token.Token.{Token}
 use Rattle.grammar.specs.declared.bound.Bound.{Bound}
 use Rattle.grammar.specs.declared.bound.Range.{Range}
 use Rattle.grammar.specs.declared.bound.Select.{Select}
 use Rattle.grammar.specs.declared.mark.Function.{Function}
+use Rattle.grammar.specs.declared.operator.Infix.{Infix}
+use Rattle.grammar.specs.declared.operator.Junction.{Junction}
+use Rattle.grammar.specs.declared.operator.Prefix.{Prefix}
 
--- An expression. The tokens that stand in it are those with which a node begins, and the operators.
+-- An expression. The tokens that stand in it are those with which a node begins.
 mutual
   pub data Tree : Type 0 where
-    number : Token → Tree
+    number : Number → Token → Tree
     path : List Token → Option Select → Tree
     concatenation : Token → Tree → Parts → Tree
     past : Token → Tree → Option Bound → Tree
     call : Function → Token → Tree → Tree
-    unary : Token → Tree → Tree
+    unary : Prefix → Token → Tree → Tree
     chain : Tree → Links → Tree
     choice : Tree → Tree → Tree → Tree
 
   -- left operators of one level, each with its right operand
   pub data Links : Type 0 where
     end : Links
-    link : Token → Tree → Links → Links
+    link : Infix → Tree → Links → Links
 
   -- more parts of a concatenation
   pub data Parts : Type 0 where
     no_part : Parts
     part : Tree → Parts → Parts
 
--- A sequence. Delays of one chain, and the sides of one "and" or "or", are one node.
+-- A sequence. Delays of one chain, and sides that are all joined by "and", or all by "or", are one
+-- node.
 mutual
   pub data SequenceForm : Type 0 where
     boolean : Tree → SequenceForm
@@ -37,8 +42,7 @@ mutual
     late : Token → Range → SequenceForm → SequenceForm
     delayed : SequenceForm → Steps → SequenceForm
     throughout : Tree → SequenceForm → SequenceForm
-    all : SequenceForm → Others → SequenceForm
-    either : SequenceForm → Others → SequenceForm
+    joined : Junction → SequenceForm → Others → SequenceForm
 
   -- delays, each with what it delays
   pub data Steps : Type 0 where

@@ -12,20 +12,21 @@
 //! ```text
 //! let terminal = terminal_of(token);       // Terminal::Sequence, Terminal::Name, ..
 //! let dot = is(Terminal::Dot, token);      // is_name and is_word ask for words
-//! let mark = mark_of(token);               // how it may begin a primary: Mark::Prefix, ..
+//! let mark = mark_of(token);               // how it may begin a primary: Mark::Name, ..
+//! let operator = infix_of(token);          // the left operator that it is, or none
 //! let precedence = precedence_of(token);   // 1 for + and -, up to 9 for ||, 10 for ?, ..
 //! let ticks = bound_of(token, 1, 64);      // a plain decimal within bounds, or none
 //! let bit = index_of(token);               // any number
 //! ```
 //!
 //! The definitions: what a token is to the rules in `specs/Terminals.antt`, and numbers as bounds
-//! in `specs/Bounds.antt`; how a token may begin a primary, and how loosely it joins, in
-//! `specs/Marks.antt`; the trees in `specs/Trees.antt`. The rules stand in
-//! `specs/Expressions.antt`, `specs/Sequences.antt` and `specs/Files.antt` (`IsFile`), the
-//! functions in `specs/ReadExpressions.antt`, `specs/ReadSequences.antt` and
-//! `specs/ReadFiles.antt`, with their common parts in `specs/Readers.antt`; what the law says
-//! stands in `specs/Laws.antt`. Of IEEE 1800-2017 the rules have a part of clauses 11 and 16.7 to
-//! 16.12 and of annexes A.8 and F.
+//! in `specs/Bounds.antt`; left operators with their levels in `specs/Operators.antt`; how a token
+//! may begin a primary, and how loosely it joins, in `specs/Marks.antt`; the trees in
+//! `specs/Trees.antt`. The rules stand in `specs/Expressions.antt`, `specs/Sequences.antt` and
+//! `specs/Files.antt` (`IsFile`), the functions in `specs/ReadExpressions.antt`,
+//! `specs/ReadSequences.antt` and `specs/ReadFiles.antt`, with their common parts in
+//! `specs/Readers.antt`; what the law says stands in `specs/Laws.antt`. Of IEEE 1800-2017 the rules
+//! have a part of clauses 11 and 16.7 to 16.12 and of annexes A.8 and F.
 //!
 //! Not promised: that a file which tokens spell means anything; names, widths and types are looked
 //! at by `types`. Nor does the grammar say at which token those that spell no file go wrong.
@@ -34,11 +35,13 @@
 mod bound;
 mod laws;
 mod mark;
+mod operator;
 mod precedence;
 mod terminal;
 
 pub use bound::{Bound, Index, Range, Select, bound_of, index_of};
 pub use laws::grammar_law;
 pub use mark::{Function, Mark, mark_of};
+pub use operator::{Infix, Junction, Prefix, infix_of};
 pub use precedence::precedence_of;
 pub use terminal::{Terminal, is, is_name, is_word, terminal_of};

@@ -1,10 +1,11 @@
 //! How a token may begin a primary.
 
 ghost use Rattle.std.specs.Prelude.{◌≡◌};
-ghost use Rattle.grammar.specs.Marks.{mark_of_operator, mark_of_terminal, mark};
+ghost use Rattle.grammar.specs.Marks.{mark_of_operator, mark_of_number, mark_of_terminal, mark};
 
+use crate::operator::Prefix;
 use crate::terminal::{Terminal, terminal_of};
-use lexer::{Kind, Symbol, Token};
+use lexer::{Kind, Number, Symbol, Token};
 
 /// A system function of one operand.
 #[derive(Clone, Copy, Debug, PartialEq, Eq)]
@@ -20,9 +21,9 @@ pub enum Function {
 /// How a token may begin a primary.
 #[derive(Clone, Copy, Debug, PartialEq, Eq)]
 pub enum Mark {
-    Number,
+    Number(Number),
     Name,
-    Prefix,
+    Prefix(Prefix),
     Opening,
     Brace,
     Past,
@@ -33,18 +34,27 @@ pub enum Mark {
 fn mark_of_operator(kind: Kind) -> Mark
     ensures { result ≡ mark_of_operator kind }
 {
+    let Kind::Symbol(symbol) = kind else {
+        return Mark::Other;
+    };
+    match symbol {
+        Symbol::Bang => Mark::Prefix(Prefix::Not),
+        Symbol::Tilde => Mark::Prefix(Prefix::Complement),
+        Symbol::And => Mark::Prefix(Prefix::And),
+        Symbol::Nand => Mark::Prefix(Prefix::Nand),
+        Symbol::Or => Mark::Prefix(Prefix::Or),
+        Symbol::Nor => Mark::Prefix(Prefix::Nor),
+        Symbol::Xor => Mark::Prefix(Prefix::Xor),
+        Symbol::Xnor | Symbol::XnorCaret => Mark::Prefix(Prefix::Xnor),
+        _ => Mark::Other,
+    }
+}
+
+fn mark_of_number(kind: Kind) -> Mark
+    ensures { result ≡ mark_of_number kind }
+{
     match kind {
-        Kind::Symbol(
-            Symbol::Bang
-            | Symbol::Tilde
-            | Symbol::And
-            | Symbol::Nand
-            | Symbol::Or
-            | Symbol::Nor
-            | Symbol::Xor
-            | Symbol::Xnor
-            | Symbol::XnorCaret,
-        ) => Mark::Prefix,
+        Kind::Number(number) => Mark::Number(number),
         _ => Mark::Other,
     }
 }
@@ -53,7 +63,7 @@ fn mark_of_terminal(terminal: Terminal, kind: Kind) -> Mark
     ensures { result ≡ mark_of_terminal terminal kind }
 {
     match terminal {
-        Terminal::Number => Mark::Number,
+        Terminal::Number => mark_of_number(kind),
         Terminal::Counter
         | Terminal::Clear
         | Terminal::Load

@@ -1,29 +1,28 @@
 //! One scale of how loosely a token joins what stands before it to what follows.
 
 ghost use Rattle.std.specs.Prelude.{◌≡◌};
-ghost use Rattle.grammar.specs.Marks.{precedence_of_operator, precedence_of_terminal, precedence};
+ghost use Rattle.grammar.specs.Marks.{precedence_of_other, precedence_of_operator};
+ghost use Rattle.grammar.specs.Marks.{precedence_of_terminal, precedence};
 
+use crate::operator::infix_of_kind;
 use crate::terminal::{Terminal, terminal_of};
 use lexer::{Kind, Symbol, Token};
+
+fn precedence_of_other(kind: Kind) -> usize
+    ensures { result ≡ precedence_of_other kind }
+{
+    match kind {
+        Kind::Symbol(Symbol::Question) => 10,
+        _ => 100,
+    }
+}
 
 fn precedence_of_operator(kind: Kind) -> usize
     ensures { result ≡ precedence_of_operator kind }
 {
-    let Kind::Symbol(symbol) = kind else {
-        return 100;
-    };
-    match symbol {
-        Symbol::Plus | Symbol::Minus => 1,
-        Symbol::ShiftLeft | Symbol::ShiftRight => 2,
-        Symbol::Less | Symbol::LessEqual | Symbol::Greater | Symbol::GreaterEqual => 3,
-        Symbol::Equal | Symbol::NotEqual => 4,
-        Symbol::And => 5,
-        Symbol::Xor | Symbol::Xnor | Symbol::XnorCaret => 6,
-        Symbol::Or => 7,
-        Symbol::AndAnd => 8,
-        Symbol::OrOr => 9,
-        Symbol::Question => 10,
-        _ => 100,
+    match infix_of_kind(kind) {
+        Some(operator) => operator.level(),
+        None => precedence_of_other(kind),
     }
 }
 

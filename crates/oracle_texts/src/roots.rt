@@ -1,18 +1,41 @@
 //! What stands at the root of the trees that texts have.
 
+use grammar::{Infix, Junction};
 use parser::{AssertionTree, ExprTree, File, ItemTree, PropertyTree, SequenceTree};
+
+/// The sign of a left operator: `~^` also where the text has `^~`.
+fn sign_of(operator: Infix) -> &'static str {
+    match operator {
+        Infix::Add => "+",
+        Infix::Sub => "-",
+        Infix::ShiftLeft => "<<",
+        Infix::ShiftRight => ">>",
+        Infix::Less => "<",
+        Infix::LessEqual => "<=",
+        Infix::Greater => ">",
+        Infix::GreaterEqual => ">=",
+        Infix::Equal => "==",
+        Infix::NotEqual => "!=",
+        Infix::And => "&",
+        Infix::Xor => "^",
+        Infix::Xnor => "~^",
+        Infix::Or => "|",
+        Infix::LogicalAnd => "&&",
+        Infix::LogicalOr => "||",
+    }
+}
 
 /// What stands at the root of an expression: its sign or kind, and how many operands it has.
 fn root_of<'a>(expr: &ExprTree<'a>) -> (&'a str, usize) {
     match expr {
-        ExprTree::Number(token) => (token.text, 0),
+        ExprTree::Number(_, token) => (token.text, 0),
         ExprTree::Path(path, _) => (path.first.text, path.more.len()),
         ExprTree::Concatenation(bracket, _, more) => (bracket.text, more.len().saturating_add(1)),
         ExprTree::Past(name, _, _) => (name.text, 1),
         ExprTree::Call(_, name, _) => (name.text, 1),
-        ExprTree::Unary(sign, _) => (sign.text, 1),
+        ExprTree::Unary(_, sign, _) => (sign.text, 1),
         ExprTree::Chain(_, more) => match more.first() {
-            Some((sign, _)) => (sign.text, more.len().saturating_add(1)),
+            Some((operator, _)) => (sign_of(*operator), more.len().saturating_add(1)),
             None => ("", 0),
         },
         ExprTree::Choice(_, _, _) => ("?", 3),
@@ -27,8 +50,8 @@ fn root<'a>(sequence: &SequenceTree<'a>) -> (&'a str, usize) {
         SequenceTree::Late(token, _, _) => (token.text, 1),
         SequenceTree::Delayed(_, more) => ("##", more.len().saturating_add(1)),
         SequenceTree::Throughout(_, _) => ("throughout", 2),
-        SequenceTree::And(_, more) => ("and", more.len().saturating_add(1)),
-        SequenceTree::Or(_, more) => ("or", more.len().saturating_add(1)),
+        SequenceTree::Joined(Junction::And, _, more) => ("and", more.len().saturating_add(1)),
+        SequenceTree::Joined(Junction::Or, _, more) => ("or", more.len().saturating_add(1)),
     }
 }
 

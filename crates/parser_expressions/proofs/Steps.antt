@@ -1,23 +1,27 @@
 -- Reading, in the steps of the code: what each step that was taken says, and each that failed. The rules are those of the grammar's functions.
 use Rattle.std.proofs.Common.{◌≡◌, ℕ, zero, suc, ◌+◌, ◌-◌, Bool, true, false, List, [], ◌∷◌, Option, Some, None, option_map, Result, refl, sym, ap, subst, ◌∙◌, arith}
 use Rattle.std.proofs.lemmas.Bool.{eq-eqb, ne_eqb}
+use Rattle.lexer.specs.declared.token.Number.{Number}
 use Rattle.lexer.specs.declared.token.Token.{Token}
 use Rattle.grammar.specs.declared.bound.Bound.{Bound}
 use Rattle.grammar.specs.declared.bound.Index.{Index}
 use Rattle.grammar.specs.declared.bound.Select.{Select}
 use Rattle.grammar.specs.declared.mark.Function.{Function}
+use Rattle.grammar.specs.declared.operator.Infix.{Infix}
+use Rattle.grammar.specs.declared.operator.Prefix.{Prefix}
 use Rattle.grammar.specs.declared.mark.Mark.TheVariants as marks
 use Rattle.grammar.specs.declared.terminal.Terminal.{Terminal}
 use Rattle.grammar.specs.declared.terminal.Terminal.TheVariants.{OpenRound, CloseRound, CloseBrace, OpenSquare, CloseSquare, Comma, Colon}
 use Rattle.grammar.specs.Terminals.{is, is_word}
 use Rattle.grammar.specs.Bounds.{index, bound_within}
+use Rattle.grammar.specs.Operators.{infix_of, infix_level, is_of_level, is_infix}
 use Rattle.grammar.specs.Marks.{mark, precedence, has_precedence}
 use Rattle.grammar.specs.Trees.{Tree, number, path, concatenation, past, call, unary, choice}
 use Rattle.grammar.specs.Readers.{◌>>=◌, Reader, refuse, lead, expect, pick, optional, each}
 use Rattle.grammar.specs.ReadExpressions.{word_of, members, select, parts_of, name_reader, bracket_reader, concatenation_reader, past_reader, call_reader, prefix_reader, prefixed_with, unary_reader, links, chain_of, climb, level, choice_with, readers, operand, finish, expression}
 use Rattle.parser_expressions.specs.declared.stop.Stop.{Stop}
 use Rattle.parser_expressions.specs.declared.stop.Stop.TheVariants as stops
-use Rattle.parser_expressions.specs.Views.{Fails, Gives}
+use Rattle.parser_expressions.specs.Views.{Fails, Gives, IsLed}
 
 pub failing : {A B : Type 0} (e : Stop) (o : Option A) (p : Option B) → (o ≡ None → p ≡ None) → Fails e o → Fails e p
 failing stops.Memory o p f h = tt
@@ -163,17 +167,17 @@ pub called-ok : (d : ℕ) (g : Function) (t : Token) (ts : List Token) (o : Toke
 unfolding call_reader
 called-ok d g t ts o qs e us h1 h2 = rw (h1, h2) refl
 
-pub prefixing-deep : (d : ℕ) (t : Token) (ts : List Token) (x : Stop) → d ≡ 0 → Fails x (prefix_reader (readers d) t ts)
+pub prefixing-deep : (d : ℕ) (op : Prefix) (t : Token) (ts : List Token) (x : Stop) → d ≡ 0 → Fails x (prefix_reader (readers d) op t ts)
 unfolding prefix_reader
-prefixing-deep d t ts x h = none-fails x _ (rw (prefixed-zero d h) refl)
+prefixing-deep d op t ts x h = none-fails x _ (rw (prefixed-zero d h) refl)
 
-pub prefixing-fail2 : (d : ℕ) (t : Token) (ts : List Token) (k : ℕ) (x : Stop) → d ≡ k + 1 → Fails x (unary_reader k ts) → Fails x (prefix_reader (readers d) t ts)
+pub prefixing-fail2 : (d : ℕ) (op : Prefix) (t : Token) (ts : List Token) (k : ℕ) (x : Stop) → d ≡ k + 1 → Fails x (unary_reader k ts) → Fails x (prefix_reader (readers d) op t ts)
 unfolding prefix_reader
-prefixing-fail2 d t ts k x depth f = failing x _ _ (λ none. rw (prefixed-at d k depth, none) refl) f
+prefixing-fail2 d op t ts k x depth f = failing x _ _ (λ none. rw (prefixed-at d k depth, none) refl) f
 
-pub prefixing-ok : (d : ℕ) (t : Token) (ts : List Token) (k : ℕ) (e : Tree) (us : List Token) → d ≡ k + 1 → unary_reader k ts ≡ Some (e, us) → prefix_reader (readers d) t ts ≡ Some (unary t e, us)
+pub prefixing-ok : (d : ℕ) (op : Prefix) (t : Token) (ts : List Token) (k : ℕ) (e : Tree) (us : List Token) → d ≡ k + 1 → unary_reader k ts ≡ Some (e, us) → prefix_reader (readers d) op t ts ≡ Some (unary op t e, us)
 unfolding prefix_reader
-prefixing-ok d t ts k e us depth h2 = rw (prefixed-at d k depth, h2) refl
+prefixing-ok d op t ts k e us depth h2 = rw (prefixed-at d k depth, h2) refl
 
 pub operand-fail1 : (d l : ℕ) (ts : List Token) (x : Stop) → Fails x (unary_reader d ts) → Fails x (operand d l ts)
 unfolding operand level unary_reader
@@ -239,6 +243,19 @@ pub operator-yes : (k : ℕ) (ts : List Token) (t : Token) (us : List Token) →
 unfolding has_precedence
 operator-yes k ts t us e h = lead-yes (has_precedence k) ts t us e (sym (eq-eqb (precedence t) k h))
 
+pub infix-none : (l : ℕ) (ts : List Token) (t : Token) (us : List Token) → ts ≡ t ∷ us → None ≡ infix_of t → lead (is_infix l) ts ≡ None
+unfolding is_infix
+infix-none l ts t us e h = lead-no (is_infix l) ts t us e (ap (is_of_level l) h)
+
+pub infix-other : (l : ℕ) (ts : List Token) (t : Token) (us : List Token) (op : Infix) → ts ≡ t ∷ us → Some op ≡ infix_of t → (infix_level op ≡ l → ⊥) → lead (is_infix l) ts ≡ None
+unfolding is_infix
+infix-other l ts t us op e h k = lead-no (is_infix l) ts t us e (sym (ne_eqb (infix_level op) l k) ∙ ap (is_of_level l) h)
+
+pub infix-led : (l : ℕ) (ts : List Token) (t : Token) (us : List Token) (op : Infix) → ts ≡ t ∷ us → Some op ≡ infix_of t → infix_level op ≡ l → IsLed l ts op us
+unfolding is_infix
+infix-led l ts t us op e h k =
+    record { token = t; led = lead-yes (is_infix l) ts t us e (sym (eq-eqb (infix_level op) l k) ∙ ap (is_of_level l) h); operator = sym h }
+
 pub word-nil : (ts : List Token) → ts ≡ [] → pick word_of ts ≡ None
 unfolding pick
 word-nil ts e = rw e refl
@@ -303,17 +320,17 @@ pub prefixed-nil : (d : ℕ) (ts : List Token) → ts ≡ [] → unary_reader d 
 unfolding unary_reader prefixed_with
 prefixed-nil d ts e = rw e refl
 
-pub prefixed-number : (d : ℕ) (ts : List Token) (t : Token) (us : List Token) → ts ≡ t ∷ us → marks.Number ≡ mark t → unary_reader d ts ≡ Some (number t, us)
+pub prefixed-number : (d : ℕ) (ts : List Token) (t : Token) (us : List Token) (n : Number) → ts ≡ t ∷ us → marks.Number n ≡ mark t → unary_reader d ts ≡ Some (number n t, us)
 unfolding unary_reader prefixed_with
-prefixed-number d ts t us e h = rw (e, ← h) refl
+prefixed-number d ts t us n e h = rw (e, ← h) refl
 
 pub prefixed-named : (d : ℕ) (ts : List Token) (t : Token) (us : List Token) → ts ≡ t ∷ us → marks.Name ≡ mark t → unary_reader d ts ≡ name_reader (readers d) t us
 unfolding unary_reader prefixed_with
 prefixed-named d ts t us e h = rw (e, ← h) refl
 
-pub prefixed-unary : (d : ℕ) (ts : List Token) (t : Token) (us : List Token) → ts ≡ t ∷ us → marks.Prefix ≡ mark t → unary_reader d ts ≡ prefix_reader (readers d) t us
+pub prefixed-unary : (d : ℕ) (ts : List Token) (t : Token) (us : List Token) (op : Prefix) → ts ≡ t ∷ us → marks.Prefix op ≡ mark t → unary_reader d ts ≡ prefix_reader (readers d) op t us
 unfolding unary_reader prefixed_with
-prefixed-unary d ts t us e h = rw (e, ← h) refl
+prefixed-unary d ts t us op e h = rw (e, ← h) refl
 
 pub prefixed-opening : (d : ℕ) (ts : List Token) (t : Token) (us : List Token) → ts ≡ t ∷ us → marks.Opening ≡ mark t → unary_reader d ts ≡ bracket_reader (readers d) us
 unfolding unary_reader prefixed_with
@@ -350,7 +367,7 @@ climb-fails d l first ts x some f = failing x _ _ (λ none. climb-suc d l first 
 pub links-fails : (d l : ℕ) (first : Tree) (ts : List Token) (e : Tree) (us : List Token) (x : Stop) → (l ≡ 0 → ⊥) → climb (prefixed_with (readers d)) (l - 1) first ts ≡ Some (e, us) → Fails x (links (operand d (l - 1)) (l - 1) us) → Fails x (climb (prefixed_with (readers d)) l first ts)
 links-fails d l first ts e us x some h f = failing x _ _ (λ none. climb-suc d l first ts some ∙ rw (h, none) refl) f
 
-pub climb-read : (d l : ℕ) (first : Tree) (ts : List Token) (e : Tree) (us : List Token) (xs : List (Token × Tree)) (vs : List Token) → (l ≡ 0 → ⊥) → climb (prefixed_with (readers d)) (l - 1) first ts ≡ Some (e, us) → links (operand d (l - 1)) (l - 1) us ≡ Some (xs, vs) → climb (prefixed_with (readers d)) l first ts ≡ Some (chain_of e xs, vs)
+pub climb-read : (d l : ℕ) (first : Tree) (ts : List Token) (e : Tree) (us : List Token) (xs : List (Infix × Tree)) (vs : List Token) → (l ≡ 0 → ⊥) → climb (prefixed_with (readers d)) (l - 1) first ts ≡ Some (e, us) → links (operand d (l - 1)) (l - 1) us ≡ Some (xs, vs) → climb (prefixed_with (readers d)) l first ts ≡ Some (chain_of e xs, vs)
 climb-read d l first ts e us xs vs some h k = climb-suc d l first ts some ∙ rw (h, k) refl
 
 pub finish-stop : (d : ℕ) (first : Tree) (ts : List Token) (c : Tree) (us : List Token) → climb (prefixed_with (readers d)) 9 first ts ≡ Some (c, us) → lead (has_precedence 10) us ≡ None → finish d first ts ≡ Some (c, us)
@@ -368,6 +385,8 @@ expression-tail d ts e us h = rw h refl
 pub ruleset for_accept = (expect-nil, expect-no, expect-yes)
 
 pub ruleset for_operator = (lead-nil, operator-no, operator-yes)
+
+pub ruleset for_left_operator = (lead-nil, infix-none, infix-other, infix-led)
 
 pub ruleset for_word = (word-nil, word-no, word-yes)
 

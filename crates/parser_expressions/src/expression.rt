@@ -18,11 +18,11 @@ use crate::node::{
 };
 use crate::read::{
     Read, accept, deeper, expect, expect_bound, expect_index, expect_name, expect_word, first,
-    operator, read, same,
+    left_operator, operator, read, same,
 };
 use crate::stop::Stop;
 use crate::tree::{ExprTree, Path};
-use grammar::{Bound, Function, Index, Mark, Select, Terminal, mark_of};
+use grammar::{Bound, Function, Index, Infix, Mark, Prefix, Select, Terminal, mark_of};
 use lexer::Token;
 use std::alloc::Global;
 
@@ -235,17 +235,18 @@ fn read_call<'t, 'a>(
 #[cycle(expressions)]
 fn read_unary<'t, 'a>(
     alloc: Global,
-    sign: Token<'a>,
+    sign: Prefix,
+    token: Token<'a>,
     tokens: &'t [Token<'a>],
     depth: usize,
 ) -> Read<'t, 'a, Box<ExprTree<'a>>>
     ensures read { Gives (λ r. (tree_of r.0.value, r.1.now)) result
-        (prefix_reader (readers depth) sign.entry tokens.now) }
+        (prefix_reader (readers depth) sign token.entry tokens.now) }
     ensures shorter { IfOk result (λ r. length r.1.now ≤ length tokens.now) }
 {
-    let inner = read!(deeper(depth, sign));
+    let inner = read!(deeper(depth, token));
     let (operand, rest) = read!(read_prefixed(alloc, tokens, inner));
-    unary(alloc, sign, operand, rest)
+    unary(alloc, sign, token, operand, rest)
 }
 
 /// What stands at the left of a left operator: a primary, or a unary operator with its operand.
@@ -264,9 +265,9 @@ fn read_prefixed<'t, 'a>(
         return Err(Stop::Expected("an expression", 0));
     };
     match mark_of(token) {
-        Mark::Number => number(alloc, token, rest),
+        Mark::Number(value) => number(alloc, value, token, rest),
         Mark::Name => read_named(alloc, token, rest, depth),
-        Mark::Prefix => read_unary(alloc, token, rest, depth),
+        Mark::Prefix(sign) => read_unary(alloc, sign, token, rest, depth),
         Mark::Opening => read_bracketed(alloc, token, rest, depth),
         Mark::Brace => read_concatenation(alloc, token, rest, depth),
         Mark::Past => read_past(alloc, token, rest, depth),
@@ -282,7 +283,7 @@ fn read_links<'t, 'a>(
     tokens: &'t [Token<'a>],
     depth: usize,
     level: usize,
-) -> Read<'t, 'a, Vec<(Token<'a>, ExprTree<'a>)>>
+) -> Read<'t, 'a, Vec<(Infix, ExprTree<'a>)>>
     requires level { level < 9 }
     ensures read { Gives (λ r. (map link_of r.0.items, r.1.now)) result
         (links (operand depth level) level tokens.now) }
@@ -291,11 +292,11 @@ fn read_links<'t, 'a>(
     let mut found = Vec::new(alloc);
     let mut left = tokens;
     'links: loop {
-        let Some((token, rest)) = operator(left, level + 1) else {
+        let Some((sign, rest)) = left_operator(left, level + 1) else {
             return Ok((found, left));
         };
         let (right, rest) = read!(read_operand(alloc, rest, depth, level));
-        read!(push_link(&mut found, token, right));
+        read!(push_link(&mut found, sign, right));
         left = same(rest);
     }
 }

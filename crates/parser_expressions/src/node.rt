@@ -9,22 +9,23 @@ ghost use Rattle.parser_expressions.specs.Views.{tree_of, link_of, Gives, read_a
 use crate::read::Read;
 use crate::stop::Stop;
 use crate::tree::ExprTree;
-use grammar::{Bound, Function};
-use lexer::Token;
+use grammar::{Bound, Function, Infix, Prefix};
+use lexer::{Number, Token};
 use std::alloc::Global;
 
 /// A number.
 #[tactic(auto, using(crate::proofs::TreeLaws::tree_rules))]
 pub(crate) fn number<'t, 'a>(
     alloc: Global,
+    value: Number,
     token: Token<'a>,
     rest: &'t [Token<'a>],
 ) -> Read<'t, 'a, Box<ExprTree<'a>>>
     ensures read { Gives (λ r. (tree_of r.0.value, r.1.now)) result
-        (read_as (trees.number token.entry) rest.now) }
+        (read_as (trees.number value token.entry) rest.now) }
     ensures shorter { IfOk result (λ r. length r.1.now ≤ length rest.now) }
 {
-    Ok((Box::new(alloc, ExprTree::Number(token))?, rest))
+    Ok((Box::new(alloc, ExprTree::Number(value, token))?, rest))
 }
 
 /// A concatenation.
@@ -86,15 +87,19 @@ pub(crate) fn call<'t, 'a>(
 #[tactic(auto, using(crate::proofs::TreeLaws::tree_rules))]
 pub(crate) fn unary<'t, 'a>(
     alloc: Global,
-    sign: Token<'a>,
+    sign: Prefix,
+    token: Token<'a>,
     operand: Box<ExprTree<'a>>,
     rest: &'t [Token<'a>],
 ) -> Read<'t, 'a, Box<ExprTree<'a>>>
     ensures read { Gives (λ r. (tree_of r.0.value, r.1.now)) result
-        (read_as (trees.unary sign.entry (tree_of operand.entry.value)) rest.now) }
+        (read_as (trees.unary sign token.entry (tree_of operand.entry.value)) rest.now) }
     ensures shorter { IfOk result (λ r. length r.1.now ≤ length rest.now) }
 {
-    Ok((Box::new(alloc, ExprTree::Unary(sign, operand))?, rest))
+    Ok((
+        Box::new(alloc, ExprTree::Unary(sign, token, operand))?,
+        rest,
+    ))
 }
 
 /// A condition with what it chooses.
@@ -119,7 +124,7 @@ pub(crate) fn choice<'t, 'a>(
 pub(crate) fn with_links<'t, 'a>(
     alloc: Global,
     left: Box<ExprTree<'a>>,
-    more: Vec<(Token<'a>, ExprTree<'a>)>,
+    more: Vec<(Infix, ExprTree<'a>)>,
     rest: &'t [Token<'a>],
 ) -> Read<'t, 'a, Box<ExprTree<'a>>>
     ensures read { Gives (λ r. (tree_of r.0.value, r.1.now)) result
@@ -146,12 +151,12 @@ pub(crate) fn push_part<'a>(
 
 /// Puts one more operator with its right operand behind those that were found.
 pub(crate) fn push_link<'a>(
-    found: &mut Vec<(Token<'a>, ExprTree<'a>)>,
-    sign: Token<'a>,
+    found: &mut Vec<(Infix, ExprTree<'a>)>,
+    sign: Infix,
     right: Box<ExprTree<'a>>,
 ) -> Result<(), Stop>
     ensures ok { IfOk result
-        (λ _. found.new.items ≡ found.old.items ++ (sign.entry, right.entry.value) ∷ []) }
+        (λ _. found.new.items ≡ found.old.items ++ (sign, right.entry.value) ∷ []) }
     ensures err { IfErr result (λ stop. stop ≡ Memory) }
 {
     found.push((sign, Box::into_inner(right)))?;

@@ -4,16 +4,20 @@ ghost use Rattle.std.specs.Prelude.{◌≡◌, ◌≤◌, ◌<◌, ◌+◌, ◌=
 ghost use Rattle.std.specs.Prelude.{MatchOption, IfSome, IfOk, IfErr};
 ghost use Rattle.lexer.specs.declared.token.Token.{Token};
 ghost use Rattle.grammar.specs.Bounds.{bound_within, index};
+ghost use Rattle.grammar.specs.Operators.{is_infix};
 ghost use Rattle.grammar.specs.Marks.{has_precedence};
 ghost use Rattle.grammar.specs.Readers.{lead, expect, pick};
 ghost use Rattle.grammar.specs.ReadExpressions.{name_of, word_of};
 ghost use Rattle.grammar.specs.ReadFiles.{is_verb_token};
 ghost use Rattle.grammar.specs.Terminals.{is_name};
-ghost use Rattle.parser_expressions.specs.Views.{Gives};
+ghost use Rattle.parser_expressions.specs.Views.{Gives, IsLed};
 ghost use Rattle.parser_expressions.specs.Bytes.{IsByteIn};
 
 use crate::stop::{Stop, in_words};
-use grammar::{Bound, Index, Terminal, bound_of, index_of, is, is_name, is_word, precedence_of};
+use grammar::{
+    Bound, Index, Infix, Terminal, bound_of, index_of, infix_of, is, is_name, is_word,
+    precedence_of,
+};
 use lexer::Token;
 
 /// A part, and the tokens behind it.
@@ -104,6 +108,28 @@ pub fn operator<'t, 'a>(
     };
     if precedence_of(token) == level {
         return Some((token, rest));
+    }
+    None
+}
+
+/// The first token, if it is a left operator of this level.
+#[tactic(auto, using(crate::proofs::Steps::for_left_operator))]
+pub(crate) fn left_operator<'t, 'a>(
+    tokens: &'t [Token<'a>],
+    level: usize,
+) -> Option<(Infix, &'t [Token<'a>])>
+    ensures sign { MatchOption result (lead (is_infix level) tokens.now
+        ≡ None) (λ r. IsLed level tokens.now r.0 r.1.now) }
+    ensures shorter { IfSome result (λ r. length r.1.now < length tokens.now) }
+{
+    let Some((token, rest)) = first(tokens) else {
+        return None;
+    };
+    let Some(sign) = infix_of(token) else {
+        return None;
+    };
+    if sign.level() == level {
+        return Some((sign, rest));
     }
     None
 }

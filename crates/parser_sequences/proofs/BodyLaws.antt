@@ -3,7 +3,7 @@ use Rattle.std.proofs.Common.{◌≡◌, List, None}
 use Rattle.lexer.specs.declared.token.Token.{Token}
 use Rattle.grammar.specs.declared.terminal.Terminal.TheVariants.{Throughout}
 use Rattle.grammar.specs.Readers.{expect}
-use Rattle.grammar.specs.Trees.{SequenceForm, boolean, repeated, late, delayed, throughout, all, either}
+use Rattle.grammar.specs.Trees.{SequenceForm, boolean, repeated, late, delayed, throughout, joined}
 use Rattle.grammar.specs.Sequences.{IsNoExpression}
 use Rattle.parser_sequences.specs.Bodies.{HasNoThroughout}
 
@@ -13,8 +13,7 @@ no-word (repeated s n) ts h = tt
 no-word (late t n s) ts h = tt
 no-word (delayed s more) ts h = tt
 no-word (throughout e s) ts h = tt
-no-word (all s more) ts h = tt
-no-word (either s more) ts h = tt
+no-word (joined j s more) ts h = tt
 
 pub no-expression : (s : SequenceForm) (ts : List Token) → IsNoExpression s → HasNoThroughout s ts
 no-expression (boolean e) ts h = absurd h
@@ -22,7 +21,6 @@ no-expression (repeated s n) ts h = tt
 no-expression (late t n s) ts h = tt
 no-expression (delayed s more) ts h = tt
 no-expression (throughout e s) ts h = tt
-no-expression (all s more) ts h = tt
-no-expression (either s more) ts h = tt
+no-expression (joined j s more) ts h = tt
 
 pub ruleset for_throughout = (no-word, no-expression)

@@ -3,13 +3,14 @@ use Rattle.std.proofs.Common.{◌≡◌, ℕ, suc, ◌+◌, ◌-◌, List, Optio
 use Rattle.lexer.specs.declared.token.Token.{Token}
 use Rattle.grammar.specs.declared.bound.Bound.{Bound}
 use Rattle.grammar.specs.declared.bound.Range.{Range}
+use Rattle.grammar.specs.declared.operator.Junction.TheVariants as junctions
 use Rattle.grammar.specs.declared.terminal.Terminal.TheVariants.{OpenRound, CloseRound, OpenSquare, OpenRepeat, CloseSquare, Colon, Delay, Throughout, And, Or}
 use Rattle.grammar.specs.Terminals.{is}
 use Rattle.grammar.specs.Bounds.{bound_within}
-use Rattle.grammar.specs.Trees.{Tree, SequenceForm, boolean, repeated, late, delayed, throughout, all, either}
+use Rattle.grammar.specs.Trees.{Tree, SequenceForm, boolean, repeated, late, delayed, throughout, joined}
 use Rattle.grammar.specs.Readers.{◌>>=◌, refuse, expect, pick, optional, each}
 use Rattle.grammar.specs.ReadExpressions.{expression, finish}
-use Rattle.grammar.specs.ReadSequences.{times, range_between, delay, regroup, body_with, with_times, repeat_behind, repetition_with, late_part, with_steps, delayed_behind, cat_behind, during_behind, during_with, with_conjuncts, conjunction_behind, conjunction_with, with_alternatives, alternatives_behind, sides_behind, whole_with, sequences, throughout_reader, whole, sequence_behind}
+use Rattle.grammar.specs.ReadSequences.{times, range_between, delay, regroup, body_with, with_times, repeat_behind, repetition_with, late_part, with_steps, delayed_behind, cat_behind, during_behind, during_with, with_others, conjunction_behind, conjunction_with, alternatives_behind, sides_behind, whole_with, sequences, throughout_reader, whole, sequence_behind}
 use Rattle.parser_expressions.specs.declared.stop.Stop.{Stop}
 use Rattle.parser_expressions.specs.Views.{Fails}
 use Rattle.parser_sequences.specs.Bodies.{HasNoThroughout}
@@ -115,8 +116,7 @@ regroup-proper d (repeated s n) ts w = refl
 regroup-proper d (late t n s) ts w = refl
 regroup-proper d (delayed s more) ts w = refl
 regroup-proper d (throughout e s) ts w = refl
-regroup-proper d (all s more) ts w = refl
-regroup-proper d (either s more) ts w = refl
+regroup-proper d (joined j s more) ts w = refl
 
 pub regroup-same : (d : ℕ) (s b : SequenceForm) (ts : List Token) → b ≡ s → IsNoExpression b → regroup d s ts ≡ Some (b, ts)
 regroup-same d s b ts same w = ap (λ (r : SequenceForm). regroup d r ts) (sym same) ∙ regroup-proper d b ts w
@@ -197,7 +197,7 @@ pub conjunction-fails : (d : ℕ) (s : SequenceForm) (ts : List Token) (x : Stop
 unfolding conjunction_behind
 conjunction-fails d s ts x f = failing x _ _ (λ none. rw (none) refl) f
 
-pub conjunction-ok : (d : ℕ) (s : SequenceForm) (ts : List Token) (xs : List SequenceForm) (us : List Token) → each (is And) (λ t. during_with d (sequences d)) ts ≡ Some (xs, us) → conjunction_behind d (sequences d) s ts ≡ Some (with_conjuncts s xs, us)
+pub conjunction-ok : (d : ℕ) (s : SequenceForm) (ts : List Token) (xs : List SequenceForm) (us : List Token) → each (is And) (λ t. during_with d (sequences d)) ts ≡ Some (xs, us) → conjunction_behind d (sequences d) s ts ≡ Some (with_others junctions.And s xs, us)
 unfolding conjunction_behind
 conjunction-ok d s ts xs us h = rw (h) refl
 
@@ -216,8 +216,7 @@ plain-behind d (repeated s n) ts h = refl
 plain-behind d (late t n s) ts h = refl
 plain-behind d (delayed s more) ts h = refl
 plain-behind d (throughout e s) ts h = refl
-plain-behind d (all s more) ts h = refl
-plain-behind d (either s more) ts h = refl
+plain-behind d (joined j s more) ts h = refl
 
 cat-fails : (d : ℕ) (s : SequenceForm) (ts : List Token) (x : Stop) → Fails x (repeat_behind (sequences d) s ts) → Fails x (cat_behind d (sequences d) s ts)
 unfolding cat_behind
@@ -273,7 +272,7 @@ pub alternatives-fails : (d : ℕ) (s : SequenceForm) (ts : List Token) (x : Sto
 unfolding alternatives_behind
 alternatives-fails d s ts x f = failing x _ _ (λ none. rw (none) refl) f
 
-pub alternatives-ok : (d : ℕ) (s : SequenceForm) (ts : List Token) (xs : List SequenceForm) (us : List Token) → each (is Or) (λ t. conjunction_with d (sequences d)) ts ≡ Some (xs, us) → alternatives_behind d (sequences d) s ts ≡ Some (with_alternatives s xs, us)
+pub alternatives-ok : (d : ℕ) (s : SequenceForm) (ts : List Token) (xs : List SequenceForm) (us : List Token) → each (is Or) (λ t. conjunction_with d (sequences d)) ts ≡ Some (xs, us) → alternatives_behind d (sequences d) s ts ≡ Some (with_others junctions.Or s xs, us)
 unfolding alternatives_behind
 alternatives-ok d s ts xs us h = rw (h) refl
 

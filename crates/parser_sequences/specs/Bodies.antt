@@ -12,5 +12,4 @@ HasNoThroughout (trees.repeated s n) ts = Unit {0}
 HasNoThroughout (trees.late t n s) ts = Unit {0}
 HasNoThroughout (trees.delayed s more) ts = Unit {0}
 HasNoThroughout (trees.throughout e s) ts = Unit {0}
-HasNoThroughout (trees.all s more) ts = Unit {0}
-HasNoThroughout (trees.either s more) ts = Unit {0}
+HasNoThroughout (trees.joined j s more) ts = Unit {0}

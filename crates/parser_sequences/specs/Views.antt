@@ -15,8 +15,7 @@ sequence_step (SequenceTree-F.Repeated s n) = trees.repeated s.value n
 sequence_step (SequenceTree-F.Late t n s) = trees.late t n s.value
 sequence_step (SequenceTree-F.Delayed s v) = trees.delayed s.value (steps_of v.items)
 sequence_step (SequenceTree-F.Throughout e s) = trees.throughout (tree_of e.value) s.value
-sequence_step (SequenceTree-F.And s v) = trees.all s.value (others_of v.items)
-sequence_step (SequenceTree-F.Or s v) = trees.either s.value (others_of v.items)
+sequence_step (SequenceTree-F.Joined j s v) = trees.joined j s.value (others_of v.items)
 
 abbrev pub sequence_of : SequenceTree → trees.SequenceForm
 sequence_of = fold-SequenceTree trees.SequenceForm sequence_step

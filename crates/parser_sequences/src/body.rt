@@ -7,15 +7,14 @@ ghost use Rattle.grammar.specs.declared.terminal.Terminal.TheVariants.{Throughou
 ghost use Rattle.grammar.specs.Trees.{boolean};
 ghost use Rattle.grammar.specs.Trees as trees;
 ghost use Rattle.grammar.specs.Readers.{expect};
-ghost use Rattle.grammar.specs.ReadSequences.{with_times, with_steps};
-ghost use Rattle.grammar.specs.ReadSequences.{with_conjuncts, with_alternatives};
+ghost use Rattle.grammar.specs.ReadSequences.{with_times, with_steps, with_others};
 ghost use Rattle.parser_expressions.specs.Views.{tree_of, Gives, read_as};
 ghost use Rattle.parser_sequences.specs.Views.{sequence_of, delay_step_of};
 ghost use Rattle.grammar.specs.Sequences.{IsNoExpression};
 ghost use Rattle.parser_sequences.specs.Bodies.{HasNoThroughout};
 
 use crate::tree::SequenceTree;
-use grammar::{Range, Terminal};
+use grammar::{Junction, Range, Terminal};
 use lexer::Token;
 use parser_expressions::{ExprTree, Read, Stop, accept};
 use std::alloc::Global;
@@ -96,42 +95,27 @@ pub(crate) fn with_steps<'t, 'a>(
     Ok((Box::new(alloc, SequenceTree::Delayed(head, more))?, rest))
 }
 
-/// A first side with those behind `and`.
-#[tactic(auto, using(crate::proofs::TreeLaws::conjuncts_rules))]
-pub(crate) fn with_conjuncts<'t, 'a>(
+/// A first side with those that are joined to it.
+#[tactic(auto, using(crate::proofs::TreeLaws::others_rules))]
+pub(crate) fn with_others<'t, 'a>(
     alloc: Global,
+    junction: Junction,
     side: Box<SequenceTree<'a>>,
     more: Vec<SequenceTree<'a>>,
     rest: &'t [Token<'a>],
 ) -> Read<'t, 'a, Box<SequenceTree<'a>>>
     ensures read { Gives (λ r. (sequence_of r.0.value, r.1.now)) result
-        (read_as (with_conjuncts (sequence_of side.entry.value)
+        (read_as (with_others junction (sequence_of side.entry.value)
         (map sequence_of more.entry.items)) rest.now) }
     ensures shorter { IfOk result (λ r. length r.1.now ≤ length rest.now) }
 {
     if more.is_empty() {
         return Ok((side, rest));
     }
-    Ok((Box::new(alloc, SequenceTree::And(side, more))?, rest))
-}
-
-/// A first side with those behind `or`.
-#[tactic(auto, using(crate::proofs::TreeLaws::alternatives_rules))]
-pub(crate) fn with_alternatives<'t, 'a>(
-    alloc: Global,
-    side: Box<SequenceTree<'a>>,
-    more: Vec<SequenceTree<'a>>,
-    rest: &'t [Token<'a>],
-) -> Read<'t, 'a, Box<SequenceTree<'a>>>
-    ensures read { Gives (λ r. (sequence_of r.0.value, r.1.now)) result
-        (read_as (with_alternatives (sequence_of side.entry.value)
-        (map sequence_of more.entry.items)) rest.now) }
-    ensures shorter { IfOk result (λ r. length r.1.now ≤ length rest.now) }
-{
-    if more.is_empty() {
-        return Ok((side, rest));
-    }
-    Ok((Box::new(alloc, SequenceTree::Or(side, more))?, rest))
+    Ok((
+        Box::new(alloc, SequenceTree::Joined(junction, side, more))?,
+        rest,
+    ))
 }
 
 /// A delay with nothing before it, and what it delays.

@@ -11,12 +11,12 @@ ghost use Rattle.parser_sequences.specs.Views.{sequence_of, boxed_step_of};
 
 use crate::body::{
     into_expression, late, plain, push_sequence, push_step, throughout, throughout_side,
-    with_alternatives, with_conjuncts, with_steps, with_times,
+    with_others, with_steps, with_times,
 };
 use crate::count::{read_counts, read_delay};
 use crate::read::read;
 use crate::tree::SequenceTree;
-use grammar::{Range, Terminal};
+use grammar::{Junction, Range, Terminal};
 use lexer::Token;
 use parser_expressions::{
     Read, Stop, accept, deeper, expect, finish_expression, read_expression, same,
@@ -186,7 +186,7 @@ fn read_conjunction<'t, 'a>(
     let mut left = tokens;
     'conjuncts: loop {
         let Some((_, rest)) = accept(left, Terminal::And) else {
-            return with_conjuncts(alloc, side, found, left);
+            return with_others(alloc, Junction::And, side, found, left);
         };
         let (conjunct, rest) = read!(read_during(alloc, rest, depth));
         read!(push_sequence(&mut found, conjunct));
@@ -226,7 +226,7 @@ fn read_alternatives<'t, 'a>(
     let mut left = tokens;
     'alternatives: loop {
         let Some((_, rest)) = accept(left, Terminal::Or) else {
-            return with_alternatives(alloc, side, found, left);
+            return with_others(alloc, Junction::Or, side, found, left);
         };
         let (alternative, rest) = read!(read_side(alloc, rest, depth));
         read!(push_sequence(&mut found, alternative));

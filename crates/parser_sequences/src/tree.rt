@@ -1,7 +1,7 @@
 //! The tree of a sequence. Brackets are not kept. A chain of left operators of one level is one
 //! node.
 
-use grammar::Range;
+use grammar::{Junction, Range};
 use lexer::Token;
 use parser_expressions::ExprTree;
 
@@ -16,6 +16,6 @@ pub enum SequenceTree<'a> {
     /// The first part, and each delay with what it delays. They group to the left.
     Delayed(Box<SequenceTree<'a>>, Vec<(Range, SequenceTree<'a>)>),
     Throughout(Box<ExprTree<'a>>, Box<SequenceTree<'a>>),
-    And(Box<SequenceTree<'a>>, Vec<SequenceTree<'a>>),
-    Or(Box<SequenceTree<'a>>, Vec<SequenceTree<'a>>),
+    /// The first side, and those that are joined to it. They group to the left.
+    Joined(Junction, Box<SequenceTree<'a>>, Vec<SequenceTree<'a>>),
 }

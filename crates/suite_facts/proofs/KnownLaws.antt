@@ -3,8 +3,10 @@ use Rattle.std.proofs.Common.{◌≡◌, ℕ, zero, suc, ◌+◌, List, [], ◌�
 use Rattle.std.proofs.Common.{slice_get, sym, subst}
 use Rattle.std.specs.Prelude.{option_map, option_and_then}
 use Rattle.std.specs.List.{AllByRecursion}
+use Rattle.grammar.specs.declared.operator.Junction.{Junction}
+use Rattle.grammar.specs.declared.operator.Junction.TheVariants.{And, Or}
 use Rattle.grammar.specs.Trees.{Tree, SequenceForm, boolean, repeated, late, delayed, throughout}
-use Rattle.grammar.specs.Trees.{all, either, Steps, no_step, step, Others, no_other, other}
+use Rattle.grammar.specs.Trees.{joined, Steps, no_step, step, Others, no_other, other}
 use Rattle.grammar.specs.Trees.{PropertyForm, plain, implication, ItemForm, counter, declaration}
 use Rattle.grammar.specs.Trees.{assertion}
 use Rattle.expressions.specs.declared.expr.Expr.{Expr}
@@ -21,7 +23,7 @@ use Rattle.types_sequences.specs.Drafts.{Draft, IsIn, both_there, spelling_of, n
 use Rattle.types_expressions.specs.Scopes.{Scope, sequence_named}
 use Rattle.types_suites.specs.Texts.{declarations_of, implication_by}
 use Rattle.types_suites.specs.Readings.{least_of, extra_of, IsAtom, ReadsBoolean, Reads, ReadsSteps}
-use Rattle.types_suites.specs.Readings.{ReadsAll, ReadsAny, AllRead}
+use Rattle.types_suites.specs.Readings.{joined_by, ReadsOthers, AllRead}
 use Rattle.types_suites.specs.Suites.{before_by, ReadsAntecedent, ReadsConsequent}
 use Rattle.text_depths.specs.Trees.{OfSequence, OfSteps, OfOthers, OfProperty, EachTree}
 
@@ -115,6 +117,11 @@ module _ (P : Boolean → Type 0) where
     boolean_each (Some p) t d q h = moved (drafts.name p) d h tt
     boolean_each None t d q h = moved (drafts.boolean h.0) d h.2 (atom t h.0 q h.1)
 
+    joined_each : (j : Junction) (a b : Draft Boolean) → EachDraft P a → EachDraft P b →
+        EachDraft P (joined_by j a b)
+    joined_each And a b g h = (g, h)
+    joined_each Or a b g h = (g, h)
+
     mutual
       unfolding Reads OfSequence
 
@@ -129,10 +136,8 @@ module _ (P : Boolean → Type 0) where
           steps_each h.0 steps d q.1 (reads_each x h.0 q.0 h.1) h.2
       reads_each (throughout t x) d q h =
           moved (drafts.throughout h.0 h.1) d h.4 (atom t h.0 q.0 h.2, reads_each x h.1 q.1 h.3)
-      reads_each (all x others) d q h =
-          all_each h.0 others d q.1 (reads_each x h.0 q.0 h.1) h.2
-      reads_each (either x others) d q h =
-          any_each h.0 others d q.1 (reads_each x h.0 q.0 h.1) h.2
+      reads_each (joined j x others) d q h =
+          others_each j h.0 others d q.1 (reads_each x h.0 q.0 h.1) h.2
 
       steps_each : (a : Draft Boolean) (steps : Steps) (d : Draft Boolean) → OfSteps Q steps →
           EachDraft P a → ReadsSteps s cs bs a steps d → EachDraft P d
@@ -141,17 +146,12 @@ module _ (P : Boolean → Type 0) where
           steps_each (drafts.delay a (least_of r) (extra_of r) h.0) steps d q.1
           (g, reads_each x h.0 q.0 h.1) h.2
 
-      all_each : (a : Draft Boolean) (others : Others) (d : Draft Boolean) → OfOthers Q others →
-          EachDraft P a → ReadsAll s cs bs a others d → EachDraft P d
-      all_each a no_other d q g h = moved a d h g
-      all_each a (other x others) d q g h =
-          all_each (drafts.and a h.0) others d q.1 (g, reads_each x h.0 q.0 h.1) h.2
-
-      any_each : (a : Draft Boolean) (others : Others) (d : Draft Boolean) → OfOthers Q others →
-          EachDraft P a → ReadsAny s cs bs a others d → EachDraft P d
-      any_each a no_other d q g h = moved a d h g
-      any_each a (other x others) d q g h =
-          any_each (drafts.or a h.0) others d q.1 (g, reads_each x h.0 q.0 h.1) h.2
+      others_each : (j : Junction) (a : Draft Boolean) (others : Others) (d : Draft Boolean) →
+          OfOthers Q others → EachDraft P a → ReadsOthers s cs bs j a others d → EachDraft P d
+      others_each j a no_other d q g h = moved a d h g
+      others_each j a (other x others) d q g h =
+          others_each j (joined_by j a h.0) others d q.1
+          (joined_each j a h.0 g (reads_each x h.0 q.0 h.1)) h.2
 
     pub bodies_each : (items : List ItemForm) (bodies : List (Draft Boolean)) → EachTree Q items →
         AllRead s cs bs (map (λ d. d.body) (declarations_of items)) bodies →

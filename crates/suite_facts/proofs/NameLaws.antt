@@ -203,7 +203,7 @@ module _ (s : Scope) (cs : List (List ℕ)) where
       unfolding Means
 
       pub means_named : (t : Tree) (e : Term) → Means s cs t e → AreNamed e
-      means_named (number t) e h = moved (terms.constant h.bits) e h.is tt
+      means_named (number n t) e h = moved (terms.constant h.bits) e h.is tt
       means_named (path words x) e h = read_named words x e h
       means_named (concatenation t d parts) e h =
           joins_named h.0 parts e (means_named d h.0 h.1) h.2
@@ -212,9 +212,9 @@ module _ (s : Scope) (cs : List (List ℕ)) where
       means_named (call f t d) e h =
           moved (call_term (call_of f) h.0) e h.2
           (call_named (call_of f) h.0 (means_named d h.0 h.1))
-      means_named (unary t d) e h =
-          moved (unary_term (unary_of t) h.0) e h.2
-          (unary_named (unary_of t) h.0 (means_named d h.0 h.1))
+      means_named (unary op t d) e h =
+          moved (unary_term (unary_of op) h.0) e h.2
+          (unary_named (unary_of op) h.0 (means_named d h.0 h.1))
       means_named (chain d links) e h = chains_named h.0 links e (means_named d h.0 h.1) h.2
       means_named (choice d x y) e h =
           moved (terms.choose h.0 h.1 h.2) e h.6
@@ -223,9 +223,9 @@ module _ (s : Scope) (cs : List (List ℕ)) where
       chains_named : (a : Term) (links : Links) (e : Term) → AreNamed a →
           Chains s cs a links e → AreNamed e
       chains_named a end e g h = moved a e h g
-      chains_named a (link t d links) e g h =
-          chains_named (binary_term (binary_of t) a h.0) links e
-          (binary_named (binary_of t) a h.0 g (means_named d h.0 h.1)) h.2
+      chains_named a (link op d links) e g h =
+          chains_named (binary_term (binary_of op) a h.0) links e
+          (binary_named (binary_of op) a h.0 g (means_named d h.0 h.1)) h.2
 
       joins_named : (a : Term) (parts : Parts) (e : Term) → AreNamed a → Joins s cs a parts e →
           AreNamed e

@@ -142,7 +142,7 @@ module _ (s : Scope) where
         (a.0, a.1.1)
     operand_paths (is_unary m o) h = operand_paths o h.1
     operand_paths (is_tighter o) h = operand_paths o h
-    operand_paths (is_chain {t = t} {first = e} {e = x} {more = more} o f) h =
+    operand_paths (is_chain {op = op} {first = e} {e = x} {more = more} o f) h =
         let a = operand_paths o h in
         let b = follows_paths f a.1 in
         (both (signals s e) (signals s x ++ link_signals s more) a.0 b.0, b.1)
@@ -150,7 +150,7 @@ module _ (s : Scope) where
     follows_paths : {d l : ℕ} {more : Links} {ts rest : Tokens} → Follows d l more ts rest →
         AreWorded ts → ArePaths (link_signals s more) × AreWorded rest
     follows_paths no_more h = (tt, h)
-    follows_paths (one_more {e = e} {more = more} m o f) h =
+    follows_paths (one_more {e = e} {more = more} m l o f) h =
         let a = operand_paths o h.1 in
         let b = follows_paths f a.1 in
         (both (signals s e) (link_signals s more) a.0 b.0, b.1)

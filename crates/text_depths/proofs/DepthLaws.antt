@@ -1,6 +1,6 @@
 -- What is meant by a part of a text is no deeper than the part.
 use Rattle.std.proofs.Common.{◌≡◌, ◌⊎◌, inl, inr, ℕ, suc, ◌+◌, ◌-◌, ◌<◌, ◌≤◌, max, Bool, true, false, if◌then◌else◌, ◌&&◌}
-use Rattle.std.proofs.Common.{List, Option, Some, None, refl, sym, ap, subst, arith}
+use Rattle.std.proofs.Common.{List, Option, Some, None, refl, sym, ap, ◌∙◌, subst, arith}
 use Rattle.std.specs.Prelude.{nat_le}
 use Rattle.std.proofs.lemmas.Bool.{cases_lt, le-leb, lt-leb, leb-true, and_parts}
 use Rattle.lexer.specs.declared.token.Base.{Base}
@@ -31,7 +31,7 @@ use Rattle.types_expressions.specs.Widths.{binary_of, unary_of, call_of, ticks_o
 use Rattle.types_expressions.specs.Meanings.{binary_term, unary_term, call_term, IsRead, Means, Chains, Joins, JoinsMore}
 use Rattle.expression_code.specs.Laws.{Each}
 use Rattle.expression_code.specs.Depths.{depth, level, bracketed, braced, reduction_depth, left_depth, IsShortPast}
-use Rattle.text_depths.proofs.LevelLaws.{binary_level, level-token}
+use Rattle.text_depths.proofs.LevelLaws.{binary_level, level-infix}
 
 -- so many are open in it
 pub record Shallow (deep : ℕ) (e : Term) : Type 0 where
@@ -232,16 +232,16 @@ module _ (s : Scope) (columns : List (List ℕ)) where
     operand-fits (is_past {d = d} {ticks = ticks} m o inner n c) low e is =
         fits-as 0 (suc d) e (terms.past is.0 (ticks_of ticks)) is.2 (past-fits d (ticks_of ticks) is.0 (ticks-most n) (spells-open inner is.0 is.1))
     operand-fits (is_call {d = d} {g = g} m o inner c) low e is = fits-as 0 (suc d) e (call_term (call_of g) is.0) is.2 (call-fits g d is.0 (spells-open inner is.0 is.1))
-    operand-fits (is_unary {d = d} {t = t} m inner) low e is = fits-as 0 (suc d) e (unary_term (unary_of t) is.0) is.2 (unary-fits (unary_of t) d is.0 (operand-fits inner low is.0 is.1))
+    operand-fits (is_unary {d = d} {op = op} m inner) low e is = fits-as 0 (suc d) e (unary_term (unary_of op) is.0) is.2 (unary-fits (unary_of op) d is.0 (operand-fits inner low is.0 is.1))
     operand-fits (is_tighter {d = d} {l = l} inner) low e is = looser l d e (operand-fits inner (omega arith) e is)
     operand-fits (is_chain {d = d} {l = l} first more) low e is = follows-fit more low is.0 (looser l d is.0 (operand-fits first (omega arith) is.0 is.1)) e is.2
 
     pub follows-fit : {d l : ℕ} {links : Links} {ts rest : List Token} → Follows d l links ts rest → suc l ≤ 9 → (a : Term) → Fits (suc l) d a →
         (e : Term) → Chains s columns a links e → Fits (suc l) d e
     follows-fit (no_more {d = d} {l = l}) low a fits e is = fits-as (suc l) d e a is fits
-    follows-fit (one_more {d = d} {l = l} {t = t} h operand more) low a fits e is =
-        follows-fit more low (binary_term (binary_of t) a is.0)
-        (binary-fits (binary_of t) l d a is.0 (level-token t (suc l) h (omega arith) (omega arith)) fits (operand-fits operand (omega arith) is.0 is.1)) e is.2
+    follows-fit (one_more {d = d} {l = l} {op = op} h k operand more) low a fits e is =
+        follows-fit more low (binary_term (binary_of op) a is.0)
+        (binary-fits (binary_of op) l d a is.0 (level-infix op ∙ k) fits (operand-fits operand (omega arith) is.0 is.1)) e is.2
 
     pub parts-fit : {d : ℕ} {parts : Parts} {ts rest : List Token} → AreParts d parts ts rest → (a b : Term) → Shallow (suc d) (terms.concat a b) →
         (e : Term) → JoinsMore s columns (terms.concat a b) parts e → Fits 0 (suc d) e

@@ -2,7 +2,7 @@
 use Rattle.std.specs.Prelude.{List, Option, Some, None}
 use Rattle.std.specs.List.{AllByRecursion}
 use Rattle.grammar.specs.Trees.{Tree, SequenceForm, boolean, repeated, late, delayed}
-use Rattle.grammar.specs.Trees.{throughout, all, either}
+use Rattle.grammar.specs.Trees.{throughout, joined}
 use Rattle.grammar.specs.Trees.{Steps, no_step, step, Others, no_other, other}
 use Rattle.grammar.specs.Trees.{PropertyForm, plain, implication, CounterForm, AssertionForm}
 use Rattle.grammar.specs.Trees.{ItemForm, counter, declaration, assertion}
@@ -24,8 +24,7 @@ unfoldable mutual
   OfSequence P (late t delay s) = OfSequence P s
   OfSequence P (delayed s more) = OfSequence P s × OfSteps P more
   OfSequence P (throughout t s) = P t × OfSequence P s
-  OfSequence P (all s more) = OfSequence P s × OfOthers P more
-  OfSequence P (either s more) = OfSequence P s × OfOthers P more
+  OfSequence P (joined j s more) = OfSequence P s × OfOthers P more
 
   pub OfSteps : (Tree → Type 0) → Steps → Type 0
   OfSteps P no_step = Unit {0}

@@ -1,8 +1,8 @@
 -- Lists that loops go over, from a place on.
 use Rattle.std.proofs.Common.{◌≡◌, ℕ, ◌+◌, ◌<◌, ◌≤◌, List, [], ◌∷◌, map, drop, length, get_or, refl, ap, drop-cons, add-one, Result, Ok, Err, IfOk}
 use Rattle.std.proofs.lemmas.List.{drop_all}
-use Rattle.lexer.specs.declared.token.Token.{Token}
 use Rattle.grammar.specs.declared.bound.Range.{Range}
+use Rattle.grammar.specs.declared.operator.Infix.{Infix}
 use Rattle.grammar.specs.Trees as trees
 use Rattle.grammar.specs.Trees.{Links, end, link, Parts, no_part, part, Steps, no_step, step, Others, no_other, other}
 use Rattle.grammar.specs.ReadExpressions.{links_of, parts_of}
@@ -20,12 +20,12 @@ at B f xs i x lt is = rw (drop-cons xs i x lt, add-one, ← is) refl
 pub past_end : {A : Type 0} (B : Type 0) (f : A → B) (xs : List A) (i : ℕ) → length xs ≤ i → map f (drop i xs) ≡ []
 past_end B f xs i le = ap (map f) (drop_all i xs le)
 
-pub links-at : (xs : List (Token × ExprTree)) (i : ℕ) (x : Token × ExprTree) → i < length xs → x ≡ get_or xs i x →
+pub links-at : (xs : List (Infix × ExprTree)) (i : ℕ) (x : Infix × ExprTree) → i < length xs → x ≡ get_or xs i x →
     links_of (map link_of (drop i xs)) ≡ link x.0 (tree_of x.1) (links_of (map link_of (drop (i + 1) xs)))
-links-at xs i x lt is = ap links_of (at (Token × trees.Tree) link_of xs i x lt is)
+links-at xs i x lt is = ap links_of (at (Infix × trees.Tree) link_of xs i x lt is)
 
-pub links-end : (xs : List (Token × ExprTree)) (i : ℕ) → length xs ≤ i → links_of (map link_of (drop i xs)) ≡ end
-links-end xs i le = ap links_of (past_end (Token × trees.Tree) link_of xs i le)
+pub links-end : (xs : List (Infix × ExprTree)) (i : ℕ) → length xs ≤ i → links_of (map link_of (drop i xs)) ≡ end
+links-end xs i le = ap links_of (past_end (Infix × trees.Tree) link_of xs i le)
 
 pub parts-at : (xs : List ExprTree) (i : ℕ) (x : ExprTree) → i < length xs → x ≡ get_or xs i x →
     parts_of (map tree_of (drop i xs)) ≡ part (tree_of x) (parts_of (map tree_of (drop (i + 1) xs)))

@@ -53,20 +53,20 @@ module _ (s : Scope) (cs : List (List ℕ)) where
     unfolding Means own_width
 
     pub mean-width : (t : Tree) (e : Term) → Means s cs t e → width_of e ≡ own_width s t
-    mean-width (number t) e m = ap width_of m.is ∙ m.width
+    mean-width (number n t) e m = ap width_of m.is ∙ m.width
     mean-width (path words x) e m = read-width (meaning s words) (column_of cs (path_text words)) x e m
     mean-width (concatenation t d parts) e m = joins-width parts m.0 (own_width s d) e (mean-width d m.0 m.1) m.2
     mean-width (past t d n) e m = ap width_of m.2 ∙ mean-width d m.0 m.1
     mean-width (call f t d) e m = ap width_of m.2 ∙ called-width (call_of f) m.0
-    mean-width (unary t d) e m = ap width_of m.2 ∙ prefixed-width (unary_of t) m.0 ∙ ap (unary_width (unary_of t)) (mean-width d m.0 m.1)
+    mean-width (unary op t d) e m = ap width_of m.2 ∙ prefixed-width (unary_of op) m.0 ∙ ap (unary_width (unary_of op)) (mean-width d m.0 m.1)
     mean-width (chain d links) e m = chains-width links m.0 (own_width s d) e (mean-width d m.0 m.1) m.2
     mean-width (choice d x y) e m = ap width_of m.6 ∙ ap (λ n. max n (width_of m.2)) (mean-width x m.1 m.4) ∙ ap (max (own_width s x)) (mean-width y m.2 m.5)
 
     chains-width : (links : Links) (a : Term) (w : ℕ) (e : Term) → width_of a ≡ w → Chains s cs a links e → width_of e ≡ chain_width s w links
     chains-width end a w e h m = ap width_of m ∙ h
-    chains-width (link t d links) a w e h m =
-        chains-width links (binary_term (binary_of t) a m.0) (binary_width (binary_of t) w (own_width s d)) e
-        (combined-width (binary_of t) a m.0 ∙ ap (λ n. binary_width (binary_of t) n (width_of m.0)) h ∙ ap (binary_width (binary_of t) w) (mean-width d m.0 m.1)) m.2
+    chains-width (link op d links) a w e h m =
+        chains-width links (binary_term (binary_of op) a m.0) (binary_width (binary_of op) w (own_width s d)) e
+        (combined-width (binary_of op) a m.0 ∙ ap (λ n. binary_width (binary_of op) n (width_of m.0)) h ∙ ap (binary_width (binary_of op) w) (mean-width d m.0 m.1)) m.2
 
     joins-width : (parts : Parts) (a : Term) (w : ℕ) (e : Term) → width_of a ≡ w → Joins s cs a parts e → width_of e ≡ parts_width s w parts
     joins-width no_part a w e h m = ap width_of m ∙ h

@@ -144,12 +144,12 @@ module _ (x : Samples) where
       unfolding Means
 
       pub one-meaning : (t : Tree) (e f : Term) → Means s cs t e → Means s cs t f → AreSame x e f
-      one-meaning (number t) e f m n = same-by e f (terms.constant m.bits) (terms.constant n.bits) m.is n.is (record { width = m.width ∙ sym n.width; value = λ k w. m.value ∙ sym n.value })
+      one-meaning (number form t) e f m n = same-by e f (terms.constant m.bits) (terms.constant n.bits) m.is n.is (record { width = m.width ∙ sym n.width; value = λ k w. m.value ∙ sym n.value })
       one-meaning (path words sel) e f m n = same-read (meaning s words) (column_of cs (path_text words)) sel e f m n
       one-meaning (concatenation t d parts) e f m n = one-join parts m.0 n.0 e f (one-meaning d m.0 n.0 m.1 n.1) m.2 n.2
       one-meaning (past t d p) e f m n = same-by e f (terms.past m.0 (ticks_of p)) (terms.past n.0 (ticks_of p)) m.2 n.2 (same-past (ticks_of p) m.0 n.0 (one-meaning d m.0 n.0 m.1 n.1))
       one-meaning (call g t d) e f m n = same-by e f (call_term (call_of g) m.0) (call_term (call_of g) n.0) m.2 n.2 (same-called (call_of g) m.0 n.0 (one-meaning d m.0 n.0 m.1 n.1))
-      one-meaning (unary t d) e f m n = same-by e f (unary_term (unary_of t) m.0) (unary_term (unary_of t) n.0) m.2 n.2 (same-prefixed (unary_of t) m.0 n.0 (one-meaning d m.0 n.0 m.1 n.1))
+      one-meaning (unary op t d) e f m n = same-by e f (unary_term (unary_of op) m.0) (unary_term (unary_of op) n.0) m.2 n.2 (same-prefixed (unary_of op) m.0 n.0 (one-meaning d m.0 n.0 m.1 n.1))
       one-meaning (chain d links) e f m n = one-chain links m.0 n.0 e f (one-meaning d m.0 n.0 m.1 n.1) m.2 n.2
       one-meaning (choice c y z) e f m n =
           same-by e f (terms.choose m.0 m.1 m.2) (terms.choose n.0 n.1 n.2) m.6 n.6
@@ -157,8 +157,8 @@ module _ (x : Samples) where
 
       one-chain : (links : Links) (a b e f : Term) → AreSame x a b → Chains s cs a links e → Chains s cs b links f → AreSame x e f
       one-chain end a b e f h m n = same-by e f a b m n h
-      one-chain (link t d links) a b e f h m n =
-          one-chain links (binary_term (binary_of t) a m.0) (binary_term (binary_of t) b n.0) e f (same-combined (binary_of t) a b m.0 n.0 h (one-meaning d m.0 n.0 m.1 n.1)) m.2 n.2
+      one-chain (link op d links) a b e f h m n =
+          one-chain links (binary_term (binary_of op) a m.0) (binary_term (binary_of op) b n.0) e f (same-combined (binary_of op) a b m.0 n.0 h (one-meaning d m.0 n.0 m.1 n.1)) m.2 n.2
 
       one-join : (parts : Parts) (a b e f : Term) → AreSame x a b → Joins s cs a parts e → Joins s cs b parts f → AreSame x e f
       one-join no_part a b e f h m n = same-by e f (terms.group a) (terms.group b) m n (same-group a b h)

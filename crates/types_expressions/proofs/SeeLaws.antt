@@ -3,6 +3,7 @@ use Rattle.std.proofs.Common.{◌≡◌, ℕ, ◌+◌, ◌≤◌, min, ◌++◌,
 use Rattle.std.specs.Prelude.{nat_le}
 use Rattle.std.proofs.lemmas.Bool.Decides.{nat_tests}
 use Rattle.lexer.specs.declared.token.Token.{Token}
+use Rattle.grammar.specs.declared.operator.Infix.{Infix}
 use Rattle.grammar.specs.Trees.{Tree, concatenation, chain, choice, Links, link, Parts, part}
 use Rattle.types_expressions.specs.declared.own.Sought.{Sought}
 use Rattle.types_expressions.specs.declared.own.Sought.TheVariants.{Unknown, Wide, OutOfRange}
@@ -69,13 +70,13 @@ module _ (s : Scope) where
         five ∙ ap (λ o. earlier o inner) one ∙ ap (earlier (least (faults s k c))) arms ∙ sym (least-append (faults s k c) (faults s k a ++ faults s k b)) ∙ ap (λ y. least (faults s k y)) (sym is)
 
     -- one more operand of a loop
-    pub link-step : (t : Token) (e : Tree) (rest now : Links) (w v next total : ℕ) → now ≡ link t e rest → v ≡ min (own_width s e) 129 → next ≡ binary_width (binary_of t) w v →
+    pub link-step : (op : Infix) (e : Tree) (rest now : Links) (w v next total : ℕ) → now ≡ link op e rest → v ≡ min (own_width s e) 129 → next ≡ binary_width (binary_of op) w v →
         min (chain_width s w now) 129 ≡ total → min (chain_width s next rest) 129 ≡ total
     unfolding own_width
-    link-step t e rest now w v next total is one step h =
+    link-step op e rest now w v next total is one step h =
         let same : min v 129 ≡ min (own_width s e) 129 = ap (λ n. min n 129) one ∙ held-held (own_width s e) in
-        let held : min next 129 ≡ min (binary_width (binary_of t) w (own_width s e)) 129 = ap (λ n. min n 129) step ∙ binary-held (binary_of t) w v w (own_width s e) refl same in
-        chain-held s next (binary_width (binary_of t) w (own_width s e)) rest held ∙ ap (λ ls. min (chain_width s w ls) 129) (sym is) ∙ h
+        let held : min next 129 ≡ min (binary_width (binary_of op) w (own_width s e)) 129 = ap (λ n. min n 129) step ∙ binary-held (binary_of op) w v w (own_width s e) refl same in
+        chain-held s next (binary_width (binary_of op) w (own_width s e)) rest held ∙ ap (λ ls. min (chain_width s w ls) 129) (sym is) ∙ h
 
     pub part-step : (e : Tree) (rest now : Parts) (w v next total : ℕ) → now ≡ part e rest → v ≡ min (own_width s e) 129 → next ≡ min (w + v) 129 →
         min (parts_width s w now) 129 ≡ total → min (parts_width s next rest) 129 ≡ total
@@ -85,10 +86,10 @@ module _ (s : Scope) where
         let held : min next 129 ≡ min (w + own_width s e) 129 = ap (λ n. min n 129) step ∙ held-held (w + v) ∙ sum-held w v w (own_width s e) refl same in
         parts-held s next (w + own_width s e) rest held ∙ ap (λ ps. min (parts_width s w ps) 129) (sym is) ∙ h
 
-    pub link-fault-step : (t : Token) (e : Tree) (rest now : Links) (f g next total : Option ℕ) → now ≡ link t e rest → g ≡ least (faults s k e) → next ≡ earlier f g →
+    pub link-fault-step : (op : Infix) (e : Tree) (rest now : Links) (f g next total : Option ℕ) → now ≡ link op e rest → g ≡ least (faults s k e) → next ≡ earlier f g →
         earlier f (least (link_faults s k now)) ≡ total → earlier next (least (link_faults s k rest)) ≡ total
     unfolding faults
-    link-fault-step t e rest now f g next total is one step h =
+    link-fault-step op e rest now f g next total is one step h =
         ap (λ o. earlier o (least (link_faults s k rest))) (step ∙ ap (earlier f) one) ∙ earlier-assoc f (least (faults s k e)) (least (link_faults s k rest))
         ∙ ap (earlier f) (sym (least-append (faults s k e) (link_faults s k rest))) ∙ ap (λ ls. earlier f (least (link_faults s k ls))) (sym is) ∙ h
 

@@ -2,7 +2,9 @@
 use Rattle.std.proofs.Common.{◌≡◌, ℕ, List, ◌++◌, Option, sym, ap, ◌∙◌}
 use Rattle.lexer.specs.declared.token.Token.{Token}
 use Rattle.grammar.specs.declared.bound.Range.{Range}
-use Rattle.grammar.specs.Trees.{Tree, concatenation, chain, choice, Links, link, Parts, part, SequenceForm, delayed, throughout, all, either, Steps, step, Others, other}
+use Rattle.grammar.specs.declared.operator.Infix.{Infix}
+use Rattle.grammar.specs.declared.operator.Junction.{Junction}
+use Rattle.grammar.specs.Trees.{Tree, concatenation, chain, choice, Links, link, Parts, part, SequenceForm, delayed, throughout, joined, Steps, step, Others, other}
 use Rattle.types_expressions.specs.declared.own.Sought.{Sought}
 use Rattle.types_expressions.specs.Scopes.{Scope}
 use Rattle.types_expressions.specs.Faults.{faults, sequence_faults, step_faults, other_faults, earlier, least}
@@ -43,9 +45,9 @@ module _ (s : Scope) where
   unfolding signals
   signals-choice x c a b is = record { is = ap (signals s) is }
 
-  pub signals-link : (now : Links) (t : Token) (e : Tree) (rest : Links) → now ≡ link t e rest → Joins (link_signals s now) (signals s e) (link_signals s rest)
+  pub signals-link : (now : Links) (op : Infix) (e : Tree) (rest : Links) → now ≡ link op e rest → Joins (link_signals s now) (signals s e) (link_signals s rest)
   unfolding signals
-  signals-link now t e rest is = record { is = ap (link_signals s) is }
+  signals-link now op e rest is = record { is = ap (link_signals s) is }
 
   pub signals-part : (now : Parts) (e : Tree) (rest : Parts) → now ≡ part e rest → Joins (part_signals s now) (signals s e) (part_signals s rest)
   unfolding signals
@@ -59,13 +61,9 @@ module _ (s : Scope) where
   unfolding sequence_signals
   signals-throughout x e q is = record { is = ap (sequence_signals s) is }
 
-  pub signals-all : (x q : SequenceForm) (others : Others) → x ≡ all q others → Joins (sequence_signals s x) (sequence_signals s q) (other_signals s others)
+  pub signals-joined : (x : SequenceForm) (j : Junction) (q : SequenceForm) (others : Others) → x ≡ joined j q others → Joins (sequence_signals s x) (sequence_signals s q) (other_signals s others)
   unfolding sequence_signals
-  signals-all x q others is = record { is = ap (sequence_signals s) is }
-
-  pub signals-either : (x q : SequenceForm) (others : Others) → x ≡ either q others → Joins (sequence_signals s x) (sequence_signals s q) (other_signals s others)
-  unfolding sequence_signals
-  signals-either x q others is = record { is = ap (sequence_signals s) is }
+  signals-joined x j q others is = record { is = ap (sequence_signals s) is }
 
   pub signals-step : (now : Steps) (n : Range) (q : SequenceForm) (rest : Steps) → now ≡ step n q rest → Joins (step_signals s now) (sequence_signals s q) (step_signals s rest)
   unfolding sequence_signals
@@ -84,13 +82,9 @@ module _ (s : Scope) where
     unfolding sequence_faults
     faults-throughout x e q is = record { is = ap (sequence_faults s k) is }
 
-    pub faults-all : (x q : SequenceForm) (others : Others) → x ≡ all q others → Joins (sequence_faults s k x) (sequence_faults s k q) (other_faults s k others)
+    pub faults-joined : (x : SequenceForm) (j : Junction) (q : SequenceForm) (others : Others) → x ≡ joined j q others → Joins (sequence_faults s k x) (sequence_faults s k q) (other_faults s k others)
     unfolding sequence_faults
-    faults-all x q others is = record { is = ap (sequence_faults s k) is }
-
-    pub faults-either : (x q : SequenceForm) (others : Others) → x ≡ either q others → Joins (sequence_faults s k x) (sequence_faults s k q) (other_faults s k others)
-    unfolding sequence_faults
-    faults-either x q others is = record { is = ap (sequence_faults s k) is }
+    faults-joined x j q others is = record { is = ap (sequence_faults s k) is }
 
     pub faults-step : (now : Steps) (n : Range) (q : SequenceForm) (rest : Steps) → now ≡ step n q rest → Joins (step_faults s k now) (sequence_faults s k q) (step_faults s k rest)
     unfolding sequence_faults

@@ -1,10 +1,14 @@
 -- What the tree of an expression or a sequence is, where its node is known; with the operands where the code sees them.
 use Rattle.std.proofs.Common.{◌≡◌, List, map, Option, Vec, Box, Global, sym, ap, ◌∙◌}
+use Rattle.lexer.specs.declared.token.Number.{Number}
 use Rattle.lexer.specs.declared.token.Token.{Token}
 use Rattle.grammar.specs.declared.bound.Bound.{Bound}
 use Rattle.grammar.specs.declared.bound.Range.{Range}
 use Rattle.grammar.specs.declared.bound.Select.{Select}
 use Rattle.grammar.specs.declared.mark.Function.{Function}
+use Rattle.grammar.specs.declared.operator.Infix.{Infix}
+use Rattle.grammar.specs.declared.operator.Junction.{Junction}
+use Rattle.grammar.specs.declared.operator.Prefix.{Prefix}
 use Rattle.grammar.specs.Trees as trees
 use Rattle.grammar.specs.ReadExpressions.{links_of, parts_of}
 use Rattle.grammar.specs.ReadSequences.{steps_of, others_of}
@@ -16,10 +20,10 @@ use Rattle.parser_sequences.specs.declared.tree.SequenceTree as seq
 use Rattle.parser_expressions.specs.Views.{path_of, tree_of, link_of}
 use Rattle.parser_sequences.specs.Views.{sequence_of, delay_step_of}
 use Rattle.parser_expressions.proofs.TreeLaws.{tree-Number, tree-Path, tree-Concatenation, tree-Past, tree-Call, tree-Unary, tree-Chain, tree-Choice}
-use Rattle.parser_sequences.proofs.TreeLaws.{seq-Boolean, seq-Repeated, seq-Late, seq-Delayed, seq-Throughout, seq-And, seq-Or}
+use Rattle.parser_sequences.proofs.TreeLaws.{seq-Boolean, seq-Repeated, seq-Late, seq-Delayed, seq-Throughout, seq-Joined}
 
-pub is-Number : (x : ExprTree) (t : Token) → x ≡ expr.Number t → tree_of x ≡ trees.number t
-is-Number x t is = ap tree_of is ∙ tree-Number t
+pub is-Number : (x : ExprTree) (n : Number) (t : Token) → x ≡ expr.Number n t → tree_of x ≡ trees.number n t
+is-Number x n t is = ap tree_of is ∙ tree-Number n t
 
 pub is-Path : (x : ExprTree) (p : Path) (s : Option Select) → x ≡ expr.Path p s → tree_of x ≡ trees.path (path_of p) s
 is-Path x p s is = ap tree_of is ∙ tree-Path p s
@@ -35,13 +39,13 @@ is-Past x t b n e is one = ap tree_of is ∙ tree-Past t b n ∙ ap (λ (d : Exp
 pub is-Call : (x : ExprTree) (f : Function) (t : Token) (b : Box ExprTree Global) (e : ExprTree) → x ≡ expr.Call f t b → e ≡ b.value → tree_of x ≡ trees.call f t (tree_of e)
 is-Call x f t b e is one = ap tree_of is ∙ tree-Call f t b ∙ ap (λ (d : ExprTree). trees.call f t (tree_of d)) (sym one)
 
-pub is-Unary : (x : ExprTree) (t : Token) (b : Box ExprTree Global) (e : ExprTree) → x ≡ expr.Unary t b → e ≡ b.value → tree_of x ≡ trees.unary t (tree_of e)
-is-Unary x t b e is one = ap tree_of is ∙ tree-Unary t b ∙ ap (λ (d : ExprTree). trees.unary t (tree_of d)) (sym one)
+pub is-Unary : (x : ExprTree) (op : Prefix) (t : Token) (b : Box ExprTree Global) (e : ExprTree) → x ≡ expr.Unary op t b → e ≡ b.value → tree_of x ≡ trees.unary op t (tree_of e)
+is-Unary x op t b e is one = ap tree_of is ∙ tree-Unary op t b ∙ ap (λ (d : ExprTree). trees.unary op t (tree_of d)) (sym one)
 
-pub is-Chain : (x : ExprTree) (b : Box ExprTree Global) (v : Vec (Token × ExprTree) Global) (e : ExprTree) (es : List (Token × ExprTree)) → x ≡ expr.Chain b v → e ≡ b.value → es ≡ v.items →
+pub is-Chain : (x : ExprTree) (b : Box ExprTree Global) (v : Vec (Infix × ExprTree) Global) (e : ExprTree) (es : List (Infix × ExprTree)) → x ≡ expr.Chain b v → e ≡ b.value → es ≡ v.items →
     tree_of x ≡ trees.chain (tree_of e) (links_of (map link_of es))
 is-Chain x b v e es is one more = ap tree_of is ∙ tree-Chain b v
-    ∙ ap (λ (d : ExprTree). trees.chain (tree_of d) (links_of (map link_of v.items))) (sym one) ∙ ap (λ (ds : List (Token × ExprTree)). trees.chain (tree_of e) (links_of (map link_of ds))) (sym more)
+    ∙ ap (λ (d : ExprTree). trees.chain (tree_of d) (links_of (map link_of v.items))) (sym one) ∙ ap (λ (ds : List (Infix × ExprTree)). trees.chain (tree_of e) (links_of (map link_of ds))) (sym more)
 
 pub is-Choice : (x : ExprTree) (a b c : Box ExprTree Global) (d e f : ExprTree) → x ≡ expr.Choice a b c → d ≡ a.value → e ≡ b.value → f ≡ c.value → tree_of x ≡ trees.choice (tree_of d) (tree_of e) (tree_of f)
 is-Choice x a b c d e f is one two three = ap tree_of is ∙ tree-Choice a b c
@@ -68,12 +72,7 @@ pub is-Throughout : (x : SequenceTree) (a : Box ExprTree Global) (b : Box Sequen
 is-Throughout x a b e q is one two = ap sequence_of is ∙ seq-Throughout a b
     ∙ ap (λ (d : ExprTree). trees.throughout (tree_of d) (sequence_of b.value)) (sym one) ∙ ap (λ (d : SequenceTree). trees.throughout (tree_of e) (sequence_of d)) (sym two)
 
-pub is-And : (x : SequenceTree) (b : Box SequenceTree Global) (v : Vec SequenceTree Global) (q : SequenceTree) (qs : List SequenceTree) → x ≡ seq.And b v → q ≡ b.value → qs ≡ v.items →
-    sequence_of x ≡ trees.all (sequence_of q) (others_of (map sequence_of qs))
-is-And x b v q qs is one more = ap sequence_of is ∙ seq-And b v
-    ∙ ap (λ (d : SequenceTree). trees.all (sequence_of d) (others_of (map sequence_of v.items))) (sym one) ∙ ap (λ (ds : List SequenceTree). trees.all (sequence_of q) (others_of (map sequence_of ds))) (sym more)
-
-pub is-Or : (x : SequenceTree) (b : Box SequenceTree Global) (v : Vec SequenceTree Global) (q : SequenceTree) (qs : List SequenceTree) → x ≡ seq.Or b v → q ≡ b.value → qs ≡ v.items →
-    sequence_of x ≡ trees.either (sequence_of q) (others_of (map sequence_of qs))
-is-Or x b v q qs is one more = ap sequence_of is ∙ seq-Or b v
-    ∙ ap (λ (d : SequenceTree). trees.either (sequence_of d) (others_of (map sequence_of v.items))) (sym one) ∙ ap (λ (ds : List SequenceTree). trees.either (sequence_of q) (others_of (map sequence_of ds))) (sym more)
+pub is-Joined : (x : SequenceTree) (j : Junction) (b : Box SequenceTree Global) (v : Vec SequenceTree Global) (q : SequenceTree) (qs : List SequenceTree) → x ≡ seq.Joined j b v → q ≡ b.value → qs ≡ v.items →
+    sequence_of x ≡ trees.joined j (sequence_of q) (others_of (map sequence_of qs))
+is-Joined x j b v q qs is one more = ap sequence_of is ∙ seq-Joined j b v
+    ∙ ap (λ (d : SequenceTree). trees.joined j (sequence_of d) (others_of (map sequence_of v.items))) (sym one) ∙ ap (λ (ds : List SequenceTree). trees.joined j (sequence_of q) (others_of (map sequence_of ds))) (sym more)

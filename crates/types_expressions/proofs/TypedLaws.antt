@@ -2,10 +2,13 @@
 use Rattle.std.proofs.Common.{◌≡◌, ℕ, ◌+◌, ◌≤◌, ◌<◌, Bool, true, false, List, [], ◌∷◌, ◌++◌, map, length, Option, Some, None, refl, sym, ap, ◌∙◌, subst, arith, IsTrue}
 use Rattle.std.specs.Prelude.{nat_le, nat_lt, is_some}
 use Rattle.std.proofs.lemmas.Bool.{and_parts, leb-true, ltb-true}
+use Rattle.lexer.specs.declared.token.Number.{Number}
 use Rattle.lexer.specs.declared.token.Token.{Token}
 use Rattle.grammar.specs.declared.bound.Bound.{Bound}
 use Rattle.grammar.specs.declared.bound.Select.{Select}
 use Rattle.grammar.specs.declared.mark.Function.{Function}
+use Rattle.grammar.specs.declared.operator.Infix.{Infix}
+use Rattle.grammar.specs.declared.operator.Prefix.{Prefix}
 use Rattle.grammar.specs.Trees.{Tree, number, path, concatenation, past, call, unary, chain, choice, Links, end, link, Parts, no_part, part}
 use Rattle.grammar.specs.ReadExpressions.{parts_of}
 use Rattle.parser_expressions.specs.declared.tree.ExprTree.{ExprTree}
@@ -21,7 +24,7 @@ use Rattle.types_expressions.specs.declared.own.Meaning.TheVariants.{Signal, Own
 use Rattle.types_expressions.specs.declared.own.Sought.{Sought}
 use Rattle.types_expressions.specs.declared.own.Sought.TheVariants.{Unknown, Wide, OutOfRange}
 use Rattle.types_expressions.specs.Scopes.{Scope, path_text, first_byte, meaning, bits_of}
-use Rattle.types_expressions.specs.Widths.{binary_of, unary_of, call_of, token_width, number_value, ticks_of, high_of, low_of, own_width, parts_width}
+use Rattle.types_expressions.specs.Widths.{binary_of, unary_of, call_of, literal_width, literal_value, ticks_of, high_of, low_of, own_width, parts_width}
 use Rattle.types_expressions.specs.Faults.{unless, has_bits, path_faults, wide_faults, faults, link_faults, part_faults, IsSound}
 use Rattle.types_expressions.specs.Columns.{signals, link_signals, part_signals, path_signals, all_listed, column_of, HasColumns}
 use Rattle.types_expressions.specs.Meanings.{binary_term, unary_term, call_term, IsNameOf, IsRead, Means, Chains, Joins, JoinsMore}
@@ -65,9 +68,9 @@ module _ (s : Scope) (cs : List (List ℕ)) where
   unfolding faults signals
   ready-call x f t e is sound listed = record { sound = λ k. sym (ap (faults s k) is) ∙ sound k; listed = subst (λ (y : Tree). HasColumns s cs y) is listed }
 
-  pub ready-unary : (x : Tree) (t : Token) (e : Tree) → x ≡ unary t e → IsSound s x → HasColumns s cs x → IsReady e
+  pub ready-unary : (x : Tree) (op : Prefix) (t : Token) (e : Tree) → x ≡ unary op t e → IsSound s x → HasColumns s cs x → IsReady e
   unfolding faults signals
-  ready-unary x t e is sound listed = record { sound = λ k. sym (ap (faults s k) is) ∙ sound k; listed = subst (λ (y : Tree). HasColumns s cs y) is listed }
+  ready-unary x op t e is sound listed = record { sound = λ k. sym (ap (faults s k) is) ∙ sound k; listed = subst (λ (y : Tree). HasColumns s cs y) is listed }
 
   pub ready-chain : (x e : Tree) (links : Links) → x ≡ chain e links → IsSound s x → HasColumns s cs x → IsReady e × AreReadyLinks links
   unfolding faults signals
@@ -85,9 +88,9 @@ module _ (s : Scope) (cs : List (List ℕ)) where
       let inner = listed-parts cs (signals s a) (signals s b) columns.1 in
       (record { sound = λ k. (whole k).0; listed = columns.0 }, record { sound = λ k. (arms k).0; listed = inner.0 }, record { sound = λ k. (arms k).1; listed = inner.1 })
 
-  pub ready-link : (now : Links) (t : Token) (e : Tree) (rest : Links) → now ≡ link t e rest → ((k : Sought) → link_faults s k now ≡ []) → IsTrue (all_listed cs (link_signals s now)) → IsReady e × AreReadyLinks rest
+  pub ready-link : (now : Links) (op : Infix) (e : Tree) (rest : Links) → now ≡ link op e rest → ((k : Sought) → link_faults s k now ≡ []) → IsTrue (all_listed cs (link_signals s now)) → IsReady e × AreReadyLinks rest
   unfolding faults signals
-  ready-link now t e rest is sound listed =
+  ready-link now op e rest is sound listed =
       let whole = λ (k : Sought). no_faults-parts (faults s k e) (link_faults s k rest) (sym (ap (link_faults s k) is) ∙ sound k) in
       let columns = listed-parts cs (signals s e) (link_signals s rest) (subst (λ (y : Links). IsTrue (all_listed cs (link_signals s y))) is listed) in
       (record { sound = λ k. (whole k).0; listed = columns.0 }, record { sound = λ k. (whole k).1; listed = columns.1 })
@@ -130,9 +133,9 @@ module _ (s : Scope) (cs : List (List ℕ)) where
   first-narrow e parts a m narrow = subst (λ (n : ℕ). parts_width s n parts ≤ 128) (sym (mean-width s cs e a m)) narrow
 
   -- what each node means
-  pub means-number : (x : Tree) (t : Token) (bits : Bits) (e : Term) → x ≡ number t → bits.width ≡ token_width t → bits.value ≡ number_value t → e ≡ terms.constant bits → Means s cs x e
+  pub means-number : (x : Tree) (n : Number) (t : Token) (bits : Bits) (e : Term) → x ≡ number n t → bits.width ≡ literal_width n → bits.value ≡ literal_value n → e ≡ terms.constant bits → Means s cs x e
   unfolding Means
-  means-number x t bits e is width value made = subst (λ (y : Tree). Means s cs y e) (sym is) (record { bits = bits; width = width; value = value; is = made })
+  means-number x n t bits e is width value made = subst (λ (y : Tree). Means s cs y e) (sym is) (record { bits = bits; width = width; value = value; is = made })
 
   pub means-path : (x : Tree) (words : List Token) (sel : Option Select) (e : Term) → x ≡ path words sel → IsRead (meaning s words) (column_of cs (path_text words)) sel e → Means s cs x e
   unfolding Means
@@ -150,9 +153,9 @@ module _ (s : Scope) (cs : List (List ℕ)) where
   unfolding Means
   means-call x f t d a e is m h = subst (λ (y : Tree). Means s cs y e) (sym is) (a, m, h)
 
-  pub means-unary : (x : Tree) (t : Token) (d : Tree) (a e : Term) → x ≡ unary t d → Means s cs d a → e ≡ unary_term (unary_of t) a → Means s cs x e
+  pub means-unary : (x : Tree) (op : Prefix) (t : Token) (d : Tree) (a e : Term) → x ≡ unary op t d → Means s cs d a → e ≡ unary_term (unary_of op) a → Means s cs x e
   unfolding Means
-  means-unary x t d a e is m h = subst (λ (y : Tree). Means s cs y e) (sym is) (a, m, h)
+  means-unary x op t d a e is m h = subst (λ (y : Tree). Means s cs y e) (sym is) (a, m, h)
 
   pub means-chain : (x d : Tree) (links : Links) (a e : Term) → x ≡ chain d links → Means s cs d a → Chains s cs a links e → Means s cs x e
   unfolding Means
@@ -163,9 +166,9 @@ module _ (s : Scope) (cs : List (List ℕ)) where
   means-choice x d f g c a b e is m n o h = subst (λ (y : Tree). Means s cs y e) (sym is) (c, a, b, m, n, o, h)
 
   -- one more of a loop: what is left means what the whole does
-  pub chains-step : (now : Links) (t : Token) (d : Tree) (rest : Links) (a b f e : Term) → now ≡ link t d rest → Means s cs d b → f ≡ binary_term (binary_of t) a b → Chains s cs f rest e → Chains s cs a now e
+  pub chains-step : (now : Links) (op : Infix) (d : Tree) (rest : Links) (a b f e : Term) → now ≡ link op d rest → Means s cs d b → f ≡ binary_term (binary_of op) a b → Chains s cs f rest e → Chains s cs a now e
   unfolding Means
-  chains-step now t d rest a b f e is m made h = subst (λ (y : Links). Chains s cs a y e) (sym is) (b, m, subst (λ (g : Term). Chains s cs g rest e) made h)
+  chains-step now op d rest a b f e is m made h = subst (λ (y : Links). Chains s cs a y e) (sym is) (b, m, subst (λ (g : Term). Chains s cs g rest e) made h)
 
   pub chains-end : (now : Links) (a : Term) → now ≡ end → Chains s cs a now a
   unfolding Means

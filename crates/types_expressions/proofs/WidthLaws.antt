@@ -30,8 +30,8 @@ unary-held (unaries.Reduce op) a c h = refl
 pub chain-held : (s : Scope) (a b : ℕ) (links : Links) → min a 129 ≡ min b 129 → min (chain_width s a links) 129 ≡ min (chain_width s b links) 129
 unfolding own_width
 chain-held s a b end h = h
-chain-held s a b (link t e links) h =
-    chain-held s (binary_width (binary_of t) a (own_width s e)) (binary_width (binary_of t) b (own_width s e)) links (binary-held (binary_of t) a (own_width s e) b (own_width s e) h refl)
+chain-held s a b (link op e links) h =
+    chain-held s (binary_width (binary_of op) a (own_width s e)) (binary_width (binary_of op) b (own_width s e)) links (binary-held (binary_of op) a (own_width s e) b (own_width s e) h refl)
 
 pub parts-held : (s : Scope) (a b : ℕ) (parts : Parts) → min a 129 ≡ min b 129 → min (parts_width s a parts) 129 ≡ min (parts_width s b parts) 129
 unfolding own_width

@@ -4,7 +4,7 @@ use Rattle.std.specs.Prelude.{◌&&◌, bytes_eq, position, IsTrue}
 use Rattle.std.specs.List.{flat_map, list_any}
 use Rattle.grammar.specs.Trees.{Tree, number, path, concatenation, past, call, unary, chain, choice}
 use Rattle.grammar.specs.Trees.{Links, end, link, Parts, no_part, part, SequenceForm, boolean}
-use Rattle.grammar.specs.Trees.{repeated, late, delayed, throughout, all, either, Steps, no_step}
+use Rattle.grammar.specs.Trees.{repeated, late, delayed, throughout, joined, Steps, no_step}
 use Rattle.grammar.specs.Trees.{step, Others, no_other, other, PropertyForm, plain, implication}
 use Rattle.grammar.specs.Trees.{CounterForm, AssertionForm, ItemForm, counter, declaration}
 use Rattle.grammar.specs.Trees.{assertion}
@@ -20,18 +20,18 @@ path_signals text (Some (Declared o)) = []
 -- the paths that an expression reads as signals, in the order of the text, each time that it does
 unfoldable mutual
   pub signals : Scope → Tree → List (List ℕ)
-  signals s (number t) = []
+  signals s (number n t) = []
   signals s (path words x) = path_signals (path_text words) (meaning s words)
   signals s (concatenation t e parts) = signals s e ++ part_signals s parts
   signals s (past t e n) = signals s e
   signals s (call f t e) = signals s e
-  signals s (unary t e) = signals s e
+  signals s (unary op t e) = signals s e
   signals s (chain e links) = signals s e ++ link_signals s links
   signals s (choice c a b) = signals s c ++ (signals s a ++ signals s b)
 
   pub link_signals : Scope → Links → List (List ℕ)
   link_signals s end = []
-  link_signals s (link t e links) = signals s e ++ link_signals s links
+  link_signals s (link op e links) = signals s e ++ link_signals s links
 
   pub part_signals : Scope → Parts → List (List ℕ)
   part_signals s no_part = []
@@ -44,8 +44,7 @@ unfoldable mutual
   sequence_signals s (late t n q) = sequence_signals s q
   sequence_signals s (delayed q steps) = sequence_signals s q ++ step_signals s steps
   sequence_signals s (throughout e q) = signals s e ++ sequence_signals s q
-  sequence_signals s (all q others) = sequence_signals s q ++ other_signals s others
-  sequence_signals s (either q others) = sequence_signals s q ++ other_signals s others
+  sequence_signals s (joined j q others) = sequence_signals s q ++ other_signals s others
 
   pub step_signals : Scope → Steps → List (List ℕ)
   step_signals s no_step = []

@@ -5,7 +5,7 @@ use Rattle.std.specs.List.{flat_map}
 use Rattle.grammar.specs.declared.bound.Select.{Select}
 use Rattle.grammar.specs.Trees.{Tree, number, path, concatenation, past, call, unary, chain, choice}
 use Rattle.grammar.specs.Trees.{Links, end, link, Parts, no_part, part, SequenceForm, boolean}
-use Rattle.grammar.specs.Trees.{repeated, late, delayed, throughout, all, either, Steps, no_step}
+use Rattle.grammar.specs.Trees.{repeated, late, delayed, throughout, joined, Steps, no_step}
 use Rattle.grammar.specs.Trees.{step, Others, no_other, other, PropertyForm, plain, implication}
 use Rattle.grammar.specs.Trees.{CounterForm, AssertionForm, ItemForm, counter, declaration}
 use Rattle.grammar.specs.Trees.{assertion}
@@ -40,20 +40,20 @@ wide_faults OutOfRange at width = []
 -- the bytes at which faults of a kind stand in an expression, in the order of the text
 unfoldable mutual
   pub faults : Scope → Sought → Tree → List ℕ
-  faults s k (number t) = []
+  faults s k (number n t) = []
   faults s k (path words x) = path_faults k (first_byte words) (bits_of (meaning s words)) x
   faults s k (concatenation t e parts) =
       wide_faults k t.at (parts_width s (own_width s e) parts)
       ++ (faults s k e ++ part_faults s k parts)
   faults s k (past t e n) = faults s k e
   faults s k (call f t e) = faults s k e
-  faults s k (unary t e) = faults s k e
+  faults s k (unary op t e) = faults s k e
   faults s k (chain e links) = faults s k e ++ link_faults s k links
   faults s k (choice c a b) = faults s k c ++ (faults s k a ++ faults s k b)
 
   pub link_faults : Scope → Sought → Links → List ℕ
   link_faults s k end = []
-  link_faults s k (link t e links) = faults s k e ++ link_faults s k links
+  link_faults s k (link op e links) = faults s k e ++ link_faults s k links
 
   pub part_faults : Scope → Sought → Parts → List ℕ
   part_faults s k no_part = []
@@ -70,8 +70,7 @@ unfoldable mutual
   sequence_faults s k (late t n q) = sequence_faults s k q
   sequence_faults s k (delayed q steps) = sequence_faults s k q ++ step_faults s k steps
   sequence_faults s k (throughout e q) = faults s k e ++ sequence_faults s k q
-  sequence_faults s k (all q others) = sequence_faults s k q ++ other_faults s k others
-  sequence_faults s k (either q others) = sequence_faults s k q ++ other_faults s k others
+  sequence_faults s k (joined j q others) = sequence_faults s k q ++ other_faults s k others
 
   pub step_faults : Scope → Sought → Steps → List ℕ
   step_faults s k no_step = []

@@ -1,6 +1,6 @@
 -- What the expressions of a text mean.
 use Rattle.std.specs.Prelude.{◌≡◌, ℕ, List, Option, Some, None}
-use Rattle.lexer.specs.declared.token.Token.{Token}
+use Rattle.lexer.specs.declared.token.Number.{Number}
 use Rattle.grammar.specs.declared.bound.Select.{Select}
 use Rattle.grammar.specs.Trees.{Tree, number, path, concatenation, past, call, unary, chain, choice}
 use Rattle.grammar.specs.Trees.{Links, end, link, Parts, no_part, part}
@@ -22,7 +22,8 @@ use Rattle.types_expressions.specs.declared.operator.Unary.TheVariants as unarie
 use Rattle.types_expressions.specs.declared.operator.Call.{Call}
 use Rattle.types_expressions.specs.declared.operator.Call.TheVariants as calls
 use Rattle.types_expressions.specs.Scopes.{Scope, path_text, meaning}
-use Rattle.types_expressions.specs.Widths.{binary_of, unary_of, call_of, token_width, number_value}
+use Rattle.types_expressions.specs.Widths.{binary_of, unary_of, call_of, literal_width}
+use Rattle.types_expressions.specs.Widths.{literal_value}
 use Rattle.types_expressions.specs.Widths.{high_of, low_of, ticks_of}
 use Rattle.types_expressions.specs.Columns.{column_of}
 
@@ -42,10 +43,10 @@ call_term (calls.Change op) a = terms.change op a
 call_term (calls.Reduce op) a = terms.reduce op a
 
 -- the constant of a number's width and value
-pub record IsNumber (t : Token) (e : Term) : Type 0 where
+pub record IsNumber (n : Number) (e : Term) : Type 0 where
   pub bits : Bits
-  pub width : bits.width ≡ token_width t
-  pub value : bits.value ≡ number_value t
+  pub width : bits.width ≡ literal_width n
+  pub value : bits.value ≡ literal_value n
   pub is : e ≡ terms.constant bits
 
 -- A name of so many bits in a column of the rows, or of the counters. The path of a sequence, and
@@ -85,7 +86,7 @@ IsRead means column (Some x) e = IsPart means column x e
 -- concatenation group to the left.
 unfoldable mutual
   pub Means : Scope → List (List ℕ) → Tree → Term → Type 0
-  Means s columns (number t) e = IsNumber t e
+  Means s columns (number n t) e = IsNumber n e
   Means s columns (path words x) e =
       IsRead (meaning s words) (column_of columns (path_text words)) x e
   Means s columns (concatenation t d parts) e =
@@ -93,7 +94,8 @@ unfoldable mutual
   Means s columns (past t d n) e =
       (a : Term) × Means s columns d a × (e ≡ terms.past a (ticks_of n))
   Means s columns (call f t d) e = (a : Term) × Means s columns d a × (e ≡ call_term (call_of f) a)
-  Means s columns (unary t d) e = (a : Term) × Means s columns d a × (e ≡ unary_term (unary_of t) a)
+  Means s columns (unary op t d) e =
+      (a : Term) × Means s columns d a × (e ≡ unary_term (unary_of op) a)
   Means s columns (chain d links) e = (a : Term) × Means s columns d a × Chains s columns a links e
   Means s columns (choice d x y) e =
       (c : Term) × (a : Term) × (b : Term) × Means s columns d c × Means s columns x a
@@ -102,8 +104,8 @@ unfoldable mutual
   -- a, and each operator with its operand
   pub Chains : Scope → List (List ℕ) → Term → Links → Term → Type 0
   Chains s columns a end e = e ≡ a
-  Chains s columns a (link t d links) e =
-      (b : Term) × Means s columns d b × Chains s columns (binary_term (binary_of t) a b) links e
+  Chains s columns a (link op d links) e =
+      (b : Term) × Means s columns d b × Chains s columns (binary_term (binary_of op) a b) links e
 
   -- {a}, or {a, and each part}
   pub Joins : Scope → List (List ℕ) → Term → Parts → Term → Type 0

@@ -16,8 +16,7 @@ use crate::number::number_bits;
 use crate::operator::{Binary, Unary, binary_of, unary_of};
 use crate::own::Sought;
 use crate::scope::{Scope, bits_of};
-use grammar::Select;
-use lexer::Token;
+use grammar::{Infix, Select};
 use parser::{ExprTree, Path};
 use std::alloc::{AllocError, Global};
 
@@ -148,8 +147,8 @@ pub(crate) fn see(
         ≡ least (faults (scope_of scope.now) sought (tree_of expr.now))) }
 {
     match expr {
-        ExprTree::Number(token) => Ok(Seen {
-            width: usize::from(number_bits(*token).width),
+        ExprTree::Number(number, _) => Ok(Seen {
+            width: usize::from(number_bits(*number).width),
             fault: None,
         }),
         ExprTree::Path(path, select) => see_path(alloc, scope, sought, path, *select),
@@ -170,10 +169,10 @@ pub(crate) fn see(
                 fault: operand.fault,
             })
         }
-        ExprTree::Unary(token, operand) => {
+        ExprTree::Unary(operator, _, operand) => {
             let operand = see(alloc, scope, sought, operand)?;
             Ok(Seen {
-                width: unary_width(unary_of(*token), operand.width),
+                width: unary_width(unary_of(*operator), operand.width),
                 fault: operand.fault,
             })
         }
@@ -201,7 +200,7 @@ fn see_links(
     scope: &Scope,
     sought: Sought,
     first: Seen,
-    links: &[(Token, ExprTree)],
+    links: &[(Infix, ExprTree)],
 ) -> Result<Seen, AllocError>
     requires { first.width ≤ 129 }
     ensures width { IfOk result (λ r. r.width

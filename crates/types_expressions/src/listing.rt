@@ -18,8 +18,7 @@ use crate::columns::SignalPaths;
 use crate::own::Meaning;
 use crate::path::path_string;
 use crate::scope::Scope;
-use grammar::Range;
-use lexer::Token;
+use grammar::{Infix, Range};
 use parser::{
     AssertionTree, CounterTree, ExprTree, ItemTree, Operands, Path, PropertyTree, SequenceTree,
 };
@@ -76,7 +75,7 @@ fn list_expression(
         ≡ columns_with (scope_of scope.now) (columns_in columns.old) (tree_of expr.now)) }
 {
     match expr {
-        ExprTree::Number(_) => Ok(()),
+        ExprTree::Number(_, _) => Ok(()),
         ExprTree::Path(path, _) => list_path(alloc, scope, columns, path),
         ExprTree::Concatenation(_, first, parts) => {
             list_expression(alloc, scope, columns, first)?;
@@ -84,7 +83,7 @@ fn list_expression(
         }
         ExprTree::Past(_, operand, _) => list_expression(alloc, scope, columns, operand),
         ExprTree::Call(_, _, operand) => list_expression(alloc, scope, columns, operand),
-        ExprTree::Unary(_, operand) => list_expression(alloc, scope, columns, operand),
+        ExprTree::Unary(_, _, operand) => list_expression(alloc, scope, columns, operand),
         ExprTree::Chain(first, links) => {
             list_expression(alloc, scope, columns, first)?;
             list_links(alloc, scope, columns, links)
@@ -104,7 +103,7 @@ fn list_links(
     alloc: Global,
     scope: &Scope,
     columns: &mut SignalPaths,
-    links: &[(Token, ExprTree)],
+    links: &[(Infix, ExprTree)],
 ) -> Result<(), AllocError>
     ensures { OnOk result (columns_in columns.new
         ≡ with_paths (columns_in columns.old)
@@ -160,11 +159,7 @@ fn list_sequence(
             list_expression(alloc, scope, columns, expr)?;
             list_sequence(alloc, scope, columns, body)
         }
-        SequenceTree::And(first, others) => {
-            list_sequence(alloc, scope, columns, first)?;
-            list_others(alloc, scope, columns, others)
-        }
-        SequenceTree::Or(first, others) => {
+        SequenceTree::Joined(_, first, others) => {
             list_sequence(alloc, scope, columns, first)?;
             list_others(alloc, scope, columns, others)
         }

@@ -1,22 +1,16 @@
 //! Numbers of the text.
 
 ghost use Rattle.std.specs.Prelude.{◌≡◌};
-ghost use Rattle.types_expressions.specs.Widths.{token_width, number_value};
+ghost use Rattle.types_expressions.specs.Widths.{literal_width, literal_value};
 
 use crate::width::Width;
-use lexer::{Kind, Token};
+use lexer::Number;
 use signals::Bits;
 
 /// A number's width and value.
-pub(crate) fn number_bits(token: Token) -> Bits
-    ensures width { result.width ≡ token_width token.entry }
-    ensures value { result.value ≡ number_value token.entry }
+pub(crate) fn number_bits(number: Number) -> Bits
+    ensures width { result.width ≡ literal_width number }
+    ensures value { result.value ≡ literal_value number }
 {
-    match token.kind {
-        Kind::Number(number) => Bits::low(Width::within(number.width()).bits, number.value),
-        _ => Bits {
-            width: 32,
-            value: 0,
-        },
-    }
+    Bits::low(Width::within(number.width()).bits, number.value)
 }

@@ -1,12 +1,10 @@
 //! Operators and functions of the text, by the rule for their operands' widths.
 
 ghost use Rattle.std.specs.Prelude.{◌≡◌};
-ghost use Rattle.types_expressions.specs.Widths.{binary_of_symbol, binary_of, unary_of_symbol};
-ghost use Rattle.types_expressions.specs.Widths.{unary_of, call_of};
+ghost use Rattle.types_expressions.specs.Widths.{binary_of, unary_of, call_of};
 
 use expressions::{Arithmetic, Change, Comparison, Connective, Reduction, Shift};
-use grammar::Function;
-use lexer::{Kind, Symbol, Token};
+use grammar::{Function, Infix, Prefix};
 
 /// An operator of two operands.
 #[derive(Clone, Copy, PartialEq, Eq, Debug)]
@@ -31,63 +29,43 @@ pub enum Call {
     Reduce(Reduction),
 }
 
-fn binary_of_symbol(symbol: Symbol) -> Binary
-    ensures { result ≡ binary_of_symbol symbol }
+/// What a left operator does.
+pub(crate) fn binary_of(operator: Infix) -> Binary
+    ensures { result ≡ binary_of operator }
 {
-    match symbol {
-        Symbol::Minus => Binary::Arithmetic(Arithmetic::Sub),
-        Symbol::ShiftLeft => Binary::Shift(Shift::Left),
-        Symbol::ShiftRight => Binary::Shift(Shift::Right),
-        Symbol::Less => Binary::Comparison(Comparison::Less),
-        Symbol::LessEqual => Binary::Comparison(Comparison::AtMost),
-        Symbol::Greater => Binary::Comparison(Comparison::Greater),
-        Symbol::GreaterEqual => Binary::Comparison(Comparison::AtLeast),
-        Symbol::Equal => Binary::Comparison(Comparison::Equal),
-        Symbol::NotEqual => Binary::Comparison(Comparison::Differs),
-        Symbol::And => Binary::Arithmetic(Arithmetic::And),
-        Symbol::Xor => Binary::Arithmetic(Arithmetic::Xor),
-        Symbol::Xnor => Binary::Arithmetic(Arithmetic::Xnor),
-        Symbol::XnorCaret => Binary::Arithmetic(Arithmetic::Xnor),
-        Symbol::Or => Binary::Arithmetic(Arithmetic::Or),
-        Symbol::AndAnd => Binary::Connective(Connective::Both),
-        Symbol::OrOr => Binary::Connective(Connective::Either),
-        _ => Binary::Arithmetic(Arithmetic::Add),
+    match operator {
+        Infix::Add => Binary::Arithmetic(Arithmetic::Add),
+        Infix::Sub => Binary::Arithmetic(Arithmetic::Sub),
+        Infix::ShiftLeft => Binary::Shift(Shift::Left),
+        Infix::ShiftRight => Binary::Shift(Shift::Right),
+        Infix::Less => Binary::Comparison(Comparison::Less),
+        Infix::LessEqual => Binary::Comparison(Comparison::AtMost),
+        Infix::Greater => Binary::Comparison(Comparison::Greater),
+        Infix::GreaterEqual => Binary::Comparison(Comparison::AtLeast),
+        Infix::Equal => Binary::Comparison(Comparison::Equal),
+        Infix::NotEqual => Binary::Comparison(Comparison::Differs),
+        Infix::And => Binary::Arithmetic(Arithmetic::And),
+        Infix::Xor => Binary::Arithmetic(Arithmetic::Xor),
+        Infix::Xnor => Binary::Arithmetic(Arithmetic::Xnor),
+        Infix::Or => Binary::Arithmetic(Arithmetic::Or),
+        Infix::LogicalAnd => Binary::Connective(Connective::Both),
+        Infix::LogicalOr => Binary::Connective(Connective::Either),
     }
 }
 
-/// The operator of two operands that a token is.
-pub(crate) fn binary_of(token: Token) -> Binary
-    ensures { result ≡ binary_of token.entry }
+/// What a unary operator does.
+pub(crate) fn unary_of(operator: Prefix) -> Unary
+    ensures { result ≡ unary_of operator }
 {
-    match token.kind {
-        Kind::Symbol(symbol) => binary_of_symbol(symbol),
-        _ => Binary::Arithmetic(Arithmetic::Add),
-    }
-}
-
-fn unary_of_symbol(symbol: Symbol) -> Unary
-    ensures { result ≡ unary_of_symbol symbol }
-{
-    match symbol {
-        Symbol::Bang => Unary::Reduce(Reduction::Zero),
-        Symbol::And => Unary::Reduce(Reduction::AllOnes),
-        Symbol::Nand => Unary::Reduce(Reduction::NotAllOnes),
-        Symbol::Or => Unary::Reduce(Reduction::NonZero),
-        Symbol::Nor => Unary::Reduce(Reduction::Zero),
-        Symbol::Xor => Unary::Reduce(Reduction::Odd),
-        Symbol::Xnor => Unary::Reduce(Reduction::Even),
-        Symbol::XnorCaret => Unary::Reduce(Reduction::Even),
-        _ => Unary::Complement,
-    }
-}
-
-/// The operator of one operand that a token is.
-pub(crate) fn unary_of(token: Token) -> Unary
-    ensures { result ≡ unary_of token.entry }
-{
-    match token.kind {
-        Kind::Symbol(symbol) => unary_of_symbol(symbol),
-        _ => Unary::Complement,
+    match operator {
+        Prefix::Not => Unary::Reduce(Reduction::Zero),
+        Prefix::Complement => Unary::Complement,
+        Prefix::And => Unary::Reduce(Reduction::AllOnes),
+        Prefix::Nand => Unary::Reduce(Reduction::NotAllOnes),
+        Prefix::Or => Unary::Reduce(Reduction::NonZero),
+        Prefix::Nor => Unary::Reduce(Reduction::Zero),
+        Prefix::Xor => Unary::Reduce(Reduction::Odd),
+        Prefix::Xnor => Unary::Reduce(Reduction::Even),
     }
 }
 

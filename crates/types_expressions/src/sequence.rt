@@ -59,11 +59,7 @@ pub(crate) fn sequence_fault(
             let body = sequence_fault(alloc, scope, sought, body)?;
             Ok(earlier(seen.fault, body))
         }
-        SequenceTree::And(first, others) => {
-            let first = sequence_fault(alloc, scope, sought, first)?;
-            others_fault(alloc, scope, sought, first, others)
-        }
-        SequenceTree::Or(first, others) => {
+        SequenceTree::Joined(_, first, others) => {
             let first = sequence_fault(alloc, scope, sought, first)?;
             others_fault(alloc, scope, sought, first, others)
         }

@@ -26,8 +26,7 @@ use crate::own::{Meaning, Own};
 use crate::path::path_string;
 use crate::scope::Scope;
 use expressions::{Name, Origin, Slice};
-use grammar::{Bound, Select};
-use lexer::Token;
+use grammar::{Bound, Infix, Select};
 use parser::{ExprTree, Path};
 use std::alloc::{AllocError, Global};
 
@@ -199,7 +198,7 @@ pub fn typed_expression(
         (columns_in columns.now) (tree_of expr.now) (term_of e)) }
 {
     match expr {
-        ExprTree::Number(token) => Ok(expressions::Expr::constant(number_bits(*token))),
+        ExprTree::Number(number, _) => { Ok(expressions::Expr::constant(number_bits(*number))) }
         ExprTree::Path(path, select) => typed_path(alloc, scope, columns, path, *select),
         ExprTree::Concatenation(_, first, parts) => {
             let first = typed_expression(alloc, scope, columns, first)?;
@@ -213,9 +212,9 @@ pub fn typed_expression(
             let operand = typed_expression(alloc, scope, columns, operand)?;
             call(alloc, call_of(*function), operand)
         }
-        ExprTree::Unary(token, operand) => {
+        ExprTree::Unary(operator, _, operand) => {
             let operand = typed_expression(alloc, scope, columns, operand)?;
-            prefix(alloc, unary_of(*token), operand)
+            prefix(alloc, unary_of(*operator), operand)
         }
         ExprTree::Chain(first, links) => {
             let first = typed_expression(alloc, scope, columns, first)?;
@@ -237,7 +236,7 @@ fn chain(
     scope: &Scope,
     columns: &SignalPaths,
     first: expressions::Expr,
-    links: &[(Token, ExprTree)],
+    links: &[(Infix, ExprTree)],
 ) -> Result<expressions::Expr, AllocError>
     requires sound { (k : Sought) → link_faults (scope_of scope.now) k
         (links_of (map link_of links.now)) ≡ [] }

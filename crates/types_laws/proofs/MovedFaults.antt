@@ -2,7 +2,8 @@
 use Rattle.std.proofs.Common.{◌≡◌, ℕ, zero, suc, ◌+◌, List, [], ◌∷◌, ◌++◌, map, Option, Some, None, refl, sym, ap, ◌∙◌, subst, max}
 use Rattle.std.specs.Prelude.{is_some, slice_get, bytes_eq, if◌then◌else◌}
 use Rattle.lexer.specs.declared.token.Token.{Token}
-use Rattle.grammar.specs.Trees.{Tree, number, path, concatenation, past, call, unary, chain, choice, Links, end, link, Parts, no_part, part, SequenceForm, boolean, repeated, late, delayed, throughout, all, either, Steps, no_step, step, Others, no_other, other, PropertyForm, plain, implication, CounterForm, DeclarationForm, AssertionForm, ItemForm, counter, declaration, assertion}
+use Rattle.grammar.specs.declared.operator.Junction.{Junction}
+use Rattle.grammar.specs.Trees.{Tree, number, path, concatenation, past, call, unary, chain, choice, Links, end, link, Parts, no_part, part, SequenceForm, boolean, repeated, late, delayed, throughout, joined, Steps, no_step, step, Others, no_other, other, PropertyForm, plain, implication, CounterForm, DeclarationForm, AssertionForm, ItemForm, counter, declaration, assertion}
 use Rattle.assertions.specs.Written.{Written}
 use Rattle.types_sequences.specs.Drafts as drafts
 use Rattle.types_sequences.specs.Drafts.{Draft, IsIn, IsCyclic}
@@ -12,7 +13,7 @@ use Rattle.types_expressions.specs.Widths.{own_width, chain_width, parts_width, 
 use Rattle.types_expressions.specs.Faults.{path_faults, wide_faults, faults, link_faults, part_faults, boolean_faults, sequence_faults, step_faults, other_faults, property_faults, optional_faults, clause_faults, counter_faults, assertion_faults, item_faults, file_faults}
 use Rattle.types.specs.declared.fault.TypeFault.{TypeFault}
 use Rattle.types.specs.declared.fault.TypeFault.TheVariants.{UnknownName, Duplicate, WiderThan128, SliceRange, Degenerate, AdmitsEmpty as Empty, OtherClock, CyclicSequence, TooWide, Memory}
-use Rattle.types_suites.specs.Readings.{Dot, dot, outline, outline_steps, outline_all, outline_any, outline_by, least_of, extra_of}
+use Rattle.types_suites.specs.Readings.{Dot, dot, joined_by, outline, outline_steps, outline_others, outline_by, least_of, extra_of}
 use Rattle.types_suites.specs.Texts.{declarations_of, assertions_of, label_byte, assertions_after, name_made, names_from, repeated_names, duplicates, label_text, clocks_unlike, clock_of, other_clocks, tree_byte, sequence_byte, implication_by}
 use Rattle.types_suites.specs.Readings.{outlines_of}
 use Rattle.types.specs.Faults.{Side, outline_before, antecedents_in, consequent_in, sides_of, consequents_of, CycleAt, SideAt, FaultStands}
@@ -34,19 +35,19 @@ module _ (lies : ℕ → ℕ × ℕ) where
       unfolding moved_tree own_width
 
       width-moved : (t : Tree) → own_width s (moved_tree lies t) ≡ own_width s t
-      width-moved (number t) = refl
+      width-moved (number n t) = refl
       width-moved (path words x) = ap (λ (o : Option ℕ). path_width_by o x) (bits-moved words)
       width-moved (concatenation t e parts) = ap (λ (w : ℕ). parts_width s w (moved_parts lies parts)) (width-moved e) ∙ parts_width-moved (own_width s e) parts
       width-moved (past t e n) = width-moved e
       width-moved (call f t e) = refl
-      width-moved (unary t e) = ap (unary_width (unary_of t)) (width-moved e)
+      width-moved (unary op t e) = ap (unary_width (unary_of op)) (width-moved e)
       width-moved (chain e links) = ap (λ (w : ℕ). chain_width s w (moved_links lies links)) (width-moved e) ∙ chain_width-moved (own_width s e) links
       width-moved (choice c a b) = ap (λ (w : ℕ). max w (own_width s (moved_tree lies b))) (width-moved a) ∙ ap (max (own_width s a)) (width-moved b)
 
       chain_width-moved : (w : ℕ) (links : Links) → chain_width s w (moved_links lies links) ≡ chain_width s w links
       chain_width-moved w end = refl
-      chain_width-moved w (link t e links) =
-          ap (λ (v : ℕ). chain_width s (binary_width (binary_of t) w v) (moved_links lies links)) (width-moved e) ∙ chain_width-moved (binary_width (binary_of t) w (own_width s e)) links
+      chain_width-moved w (link op e links) =
+          ap (λ (v : ℕ). chain_width s (binary_width (binary_of op) w v) (moved_links lies links)) (width-moved e) ∙ chain_width-moved (binary_width (binary_of op) w (own_width s e)) links
 
       parts_width-moved : (w : ℕ) (parts : Parts) → parts_width s w (moved_parts lies parts) ≡ parts_width s w parts
       parts_width-moved w no_part = refl
@@ -58,7 +59,7 @@ module _ (lies : ℕ → ℕ × ℕ) where
         unfolding moved_tree faults
 
         faults-moved : (t : Tree) → faults s k (moved_tree lies t) ≡ faults s k t
-        faults-moved (number t) = refl
+        faults-moved (number n t) = refl
         faults-moved (path words x) = ap (λ (o : Option ℕ). path_faults k (first_byte (map (moved lies) words)) o x) (bits-moved words) ∙ ap (λ (at : ℕ). path_faults k at (bits_of (meaning s words)) x) (byte-moved words)
         faults-moved (concatenation t e parts) =
             both_same (wide_faults k t.at (parts_width s (own_width s (moved_tree lies e)) (moved_parts lies parts))) (wide_faults k t.at (parts_width s (own_width s e) parts)) _ (faults s k e ++ part_faults s k parts)
@@ -66,14 +67,14 @@ module _ (lies : ℕ → ℕ × ℕ) where
             (both_same _ (faults s k e) _ (part_faults s k parts) (faults-moved e) (part_faults-moved parts))
         faults-moved (past t e n) = faults-moved e
         faults-moved (call f t e) = faults-moved e
-        faults-moved (unary t e) = faults-moved e
+        faults-moved (unary op t e) = faults-moved e
         faults-moved (chain e links) = both_same _ (faults s k e) _ (link_faults s k links) (faults-moved e) (link_faults-moved links)
         faults-moved (choice c a b) =
             both_same _ (faults s k c) _ (faults s k a ++ faults s k b) (faults-moved c) (both_same _ (faults s k a) _ (faults s k b) (faults-moved a) (faults-moved b))
 
         link_faults-moved : (links : Links) → link_faults s k (moved_links lies links) ≡ link_faults s k links
         link_faults-moved end = refl
-        link_faults-moved (link t e links) = both_same _ (faults s k e) _ (link_faults s k links) (faults-moved e) (link_faults-moved links)
+        link_faults-moved (link op e links) = both_same _ (faults s k e) _ (link_faults s k links) (faults-moved e) (link_faults-moved links)
 
         part_faults-moved : (parts : Parts) → part_faults s k (moved_parts lies parts) ≡ part_faults s k parts
         part_faults-moved no_part = refl
@@ -92,8 +93,7 @@ module _ (lies : ℕ → ℕ × ℕ) where
         sequence_faults-moved (late t n q) = sequence_faults-moved q
         sequence_faults-moved (delayed q steps) = both_same _ (sequence_faults s k q) _ (step_faults s k steps) (sequence_faults-moved q) (step_faults-moved steps)
         sequence_faults-moved (throughout e q) = both_same _ (faults s k e) _ (sequence_faults s k q) (faults-moved e) (sequence_faults-moved q)
-        sequence_faults-moved (all q others) = both_same _ (sequence_faults s k q) _ (other_faults s k others) (sequence_faults-moved q) (other_faults-moved others)
-        sequence_faults-moved (either q others) = both_same _ (sequence_faults s k q) _ (other_faults s k others) (sequence_faults-moved q) (other_faults-moved others)
+        sequence_faults-moved (joined j q others) = both_same _ (sequence_faults s k q) _ (other_faults s k others) (sequence_faults-moved q) (other_faults-moved others)
 
         step_faults-moved : (steps : Steps) → step_faults s k (moved_steps lies steps) ≡ step_faults s k steps
         step_faults-moved no_step = refl
@@ -189,21 +189,16 @@ module _ (lies : ℕ → ℕ × ℕ) where
       outline-moved (late t r q) = ap (drafts.lead (least_of r) (extra_of r)) (outline-moved q)
       outline-moved (delayed q steps) = ap (λ (d : Draft Dot). outline_steps s d (moved_steps lies steps)) (outline-moved q) ∙ outline_steps-moved (outline s q) steps
       outline-moved (throughout e q) = ap (drafts.throughout dot) (outline-moved q)
-      outline-moved (all q others) = ap (λ (d : Draft Dot). outline_all s d (moved_others lies others)) (outline-moved q) ∙ outline_all-moved (outline s q) others
-      outline-moved (either q others) = ap (λ (d : Draft Dot). outline_any s d (moved_others lies others)) (outline-moved q) ∙ outline_any-moved (outline s q) others
+      outline-moved (joined j q others) = ap (λ (d : Draft Dot). outline_others s j d (moved_others lies others)) (outline-moved q) ∙ outline_others-moved j (outline s q) others
 
       outline_steps-moved : (a : Draft Dot) (steps : Steps) → outline_steps s a (moved_steps lies steps) ≡ outline_steps s a steps
       outline_steps-moved a no_step = refl
       outline_steps-moved a (step r q steps) =
           ap (λ (d : Draft Dot). outline_steps s (drafts.delay a (least_of r) (extra_of r) d) (moved_steps lies steps)) (outline-moved q) ∙ outline_steps-moved (drafts.delay a (least_of r) (extra_of r) (outline s q)) steps
 
-      outline_all-moved : (a : Draft Dot) (others : Others) → outline_all s a (moved_others lies others) ≡ outline_all s a others
-      outline_all-moved a no_other = refl
-      outline_all-moved a (other q others) = ap (λ (d : Draft Dot). outline_all s (drafts.and a d) (moved_others lies others)) (outline-moved q) ∙ outline_all-moved (drafts.and a (outline s q)) others
-
-      outline_any-moved : (a : Draft Dot) (others : Others) → outline_any s a (moved_others lies others) ≡ outline_any s a others
-      outline_any-moved a no_other = refl
-      outline_any-moved a (other q others) = ap (λ (d : Draft Dot). outline_any s (drafts.or a d) (moved_others lies others)) (outline-moved q) ∙ outline_any-moved (drafts.or a (outline s q)) others
+      outline_others-moved : (j : Junction) (a : Draft Dot) (others : Others) → outline_others s j a (moved_others lies others) ≡ outline_others s j a others
+      outline_others-moved j a no_other = refl
+      outline_others-moved j a (other q others) = ap (λ (d : Draft Dot). outline_others s j (joined_by j a d) (moved_others lies others)) (outline-moved q) ∙ outline_others-moved j (joined_by j a (outline s q)) others
 
     outlines-moved : (items : List ItemForm) → outlines_of s (map (moved_item lies) items) ≡ outlines_of s items
     outlines-moved [] = refl
@@ -214,12 +209,12 @@ module _ (lies : ℕ → ℕ × ℕ) where
     -- sides, and where they begin
     tree_byte-moved : (t : Tree) → tree_byte (moved_tree lies t) ≡ tree_byte t
     unfolding moved_tree
-    tree_byte-moved (number t) = refl
+    tree_byte-moved (number n t) = refl
     tree_byte-moved (path words x) = byte-moved words
     tree_byte-moved (concatenation t e parts) = refl
     tree_byte-moved (past t e n) = refl
     tree_byte-moved (call f t e) = refl
-    tree_byte-moved (unary t e) = refl
+    tree_byte-moved (unary op t e) = refl
     tree_byte-moved (chain e links) = tree_byte-moved e
     tree_byte-moved (choice c a b) = tree_byte-moved c
 
@@ -230,8 +225,7 @@ module _ (lies : ℕ → ℕ × ℕ) where
     sequence_byte-moved (late t n q) = refl
     sequence_byte-moved (delayed q steps) = sequence_byte-moved q
     sequence_byte-moved (throughout e q) = tree_byte-moved e
-    sequence_byte-moved (all q others) = sequence_byte-moved q
-    sequence_byte-moved (either q others) = sequence_byte-moved q
+    sequence_byte-moved (joined j q others) = sequence_byte-moved q
 
     side_by : Draft Dot → ℕ → Side
     side_by d at = record { outline = d; byte = at }

@@ -7,8 +7,9 @@ use Rattle.grammar.specs.declared.bound.Select.{Select}
 use Rattle.grammar.specs.declared.terminal.Terminal.{Terminal}
 use Rattle.grammar.specs.Terminals.{is_name, is_word}
 use Rattle.grammar.specs.Bounds.{index, bound_within}
+use Rattle.grammar.specs.Operators.{infix_of}
 use Rattle.grammar.specs.Marks.{mark, precedence}
-use Rattle.grammar.specs.Trees.{Tree, Links, Parts, SequenceForm, boolean, repeated, late, delayed, throughout, all, either, Steps, Others, PropertyForm, CounterForm, DeclarationForm, AssertionForm, ItemForm, counter, declaration, assertion}
+use Rattle.grammar.specs.Trees.{Tree, Links, Parts, SequenceForm, boolean, repeated, late, delayed, throughout, joined, Steps, Others, PropertyForm, CounterForm, DeclarationForm, AssertionForm, ItemForm, counter, declaration, assertion}
 use Rattle.grammar.specs.Expressions.{AreMembers, no_member, member, IsPath, name, IsSelected, whole, bit, bits, IsTicks, one_tick, some_ticks, Operand, is_number, is_path, is_concatenation, in_brackets, is_past, is_call, is_unary, is_tighter, is_chain, Follows, no_more, one_more, AreParts, no_parts, one_part, Spells, is_operand, is_choice}
 use Rattle.grammar.specs.Sequences as sequences
 use Rattle.grammar.specs.Sequences.{IsNoExpression, IsTimes, times, times_to, IsDelay, after, between, IsBody, is_boolean, IsRepetition, is_once, is_repeated, IsHead, is_prompt, is_late, AreSteps, no_steps, one_step, IsDelayed, is_head, is_delayed, IsDuring, is_cat, is_throughout, AreConjuncts, no_conjunct, one_conjunct, IsConjunction, is_during, is_all, AreAlternatives, no_alternative, one_alternative, IsSequence, is_conjunction, is_either, IsProperty, is_plain, is_implication, bracketed}
@@ -43,7 +44,7 @@ module _ (lies : ℕ → ℕ × ℕ) where
   ticks-moved (some_ticks a b) = some_ticks a b
 
   mutual
-    unfolding moved_tree mark precedence
+    unfolding moved_tree infix_of mark precedence
 
     operand-moved : {d l : ℕ} {e : Tree} {ts rest : Tokens} → Operand d l e ts rest → Operand d l (moved_tree lies e) (moved_all ts) (moved_all rest)
     operand-moved (is_number m) = is_number m
@@ -58,7 +59,7 @@ module _ (lies : ℕ → ℕ × ℕ) where
 
     follows-moved : {d l : ℕ} {more : Links} {ts rest : Tokens} → Follows d l more ts rest → Follows d l (moved_links lies more) (moved_all ts) (moved_all rest)
     follows-moved no_more = no_more
-    follows-moved (one_more h o f) = one_more h (operand-moved o) (follows-moved f)
+    follows-moved (one_more h k o f) = one_more h k (operand-moved o) (follows-moved f)
 
     parts-moved : {d : ℕ} {more : Parts} {ts rest : Tokens} → AreParts d more ts rest → AreParts d (moved_parts lies more) (moved_all ts) (moved_all rest)
     parts-moved no_parts = no_parts
@@ -85,8 +86,7 @@ module _ (lies : ℕ → ℕ × ℕ) where
   no_expression-moved (late t n q) h = h
   no_expression-moved (delayed q steps) h = h
   no_expression-moved (throughout e q) h = h
-  no_expression-moved (all q more) h = h
-  no_expression-moved (either q more) h = h
+  no_expression-moved (joined j q more) h = h
 
   mutual
     unfolding moved_sequence

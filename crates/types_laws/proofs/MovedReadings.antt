@@ -4,7 +4,8 @@ use Rattle.std.specs.Prelude.{codes}
 use Rattle.std.specs.List.{flat_map}
 use Rattle.lexer.specs.declared.token.Token.{Token}
 use Rattle.grammar.specs.declared.bound.Select.{Select}
-use Rattle.grammar.specs.Trees.{Tree, number, path, concatenation, past, call, unary, chain, choice, Links, end, link, Parts, no_part, part, SequenceForm, boolean, repeated, late, delayed, throughout, all, either, Steps, no_step, step, Others, no_other, other}
+use Rattle.grammar.specs.declared.operator.Junction.{Junction}
+use Rattle.grammar.specs.Trees.{Tree, number, path, concatenation, past, call, unary, chain, choice, Links, end, link, Parts, no_part, part, SequenceForm, boolean, repeated, late, delayed, throughout, joined, Steps, no_step, step, Others, no_other, other}
 use Rattle.expressions.specs.declared.expr.Expr.{Expr}
 use Rattle.expressions.specs.Terms.{Term}
 use Rattle.assertions.specs.declared.sequence.Boolean.{Boolean}
@@ -12,7 +13,7 @@ use Rattle.types_sequences.specs.Drafts.{Draft}
 use Rattle.types_expressions.specs.Scopes.{Scope, path_text, meaning_by, meaning, meaning_place, sequence_named}
 use Rattle.types_expressions.specs.Columns.{path_signals, signals, link_signals, part_signals, sequence_signals, step_signals, other_signals, column_of}
 use Rattle.types_expressions.specs.Meanings.{IsRead, Means, Chains, Joins, JoinsMore}
-use Rattle.types_suites.specs.Readings.{IsAtom, ReadsBoolean, Reads, ReadsSteps, ReadsAll, ReadsAny}
+use Rattle.types_suites.specs.Readings.{IsAtom, ReadsBoolean, Reads, ReadsSteps, ReadsOthers}
 use Rattle.types_laws.proofs.MovedTrees.{moved, moved_tree, moved_links, moved_parts, moved_sequence, moved_steps, moved_others}
 
 -- joined lists
@@ -35,7 +36,7 @@ module _ (lies : ℕ → ℕ × ℕ) where
 
     pub named-moved : (t : Tree) → sequence_named s (moved_tree lies t) ≡ sequence_named s t
     unfolding moved_tree
-    named-moved (number t) = refl
+    named-moved (number n t) = refl
     named-moved (path [] x) = refl
     named-moved (path (w ∷ []) None) = ap meaning_place (meaning-moved (w ∷ []))
     named-moved (path (w ∷ []) (Some x)) = refl
@@ -43,7 +44,7 @@ module _ (lies : ℕ → ℕ × ℕ) where
     named-moved (concatenation t e parts) = refl
     named-moved (past t e n) = refl
     named-moved (call f t e) = refl
-    named-moved (unary t e) = refl
+    named-moved (unary op t e) = refl
     named-moved (chain e links) = refl
     named-moved (choice c a b) = refl
 
@@ -52,12 +53,12 @@ module _ (lies : ℕ → ℕ × ℕ) where
       unfolding moved_tree signals
 
       pub signals-moved : (t : Tree) → signals s (moved_tree lies t) ≡ signals s t
-      signals-moved (number t) = refl
+      signals-moved (number n t) = refl
       signals-moved (path words x) = ap (λ (p : List ℕ). path_signals p (meaning_by (s.own p) (s.dump p))) (path_text-moved words)
       signals-moved (concatenation t e parts) = both_same (signals s (moved_tree lies e)) (signals s e) (part_signals s (moved_parts lies parts)) (part_signals s parts) (signals-moved e) (part_signals-moved parts)
       signals-moved (past t e n) = signals-moved e
       signals-moved (call f t e) = signals-moved e
-      signals-moved (unary t e) = signals-moved e
+      signals-moved (unary op t e) = signals-moved e
       signals-moved (chain e links) = both_same (signals s (moved_tree lies e)) (signals s e) (link_signals s (moved_links lies links)) (link_signals s links) (signals-moved e) (link_signals-moved links)
       signals-moved (choice c a b) =
           both_same (signals s (moved_tree lies c)) (signals s c) (signals s (moved_tree lies a) ++ signals s (moved_tree lies b)) (signals s a ++ signals s b) (signals-moved c)
@@ -65,7 +66,7 @@ module _ (lies : ℕ → ℕ × ℕ) where
 
       link_signals-moved : (links : Links) → link_signals s (moved_links lies links) ≡ link_signals s links
       link_signals-moved end = refl
-      link_signals-moved (link t e links) = both_same (signals s (moved_tree lies e)) (signals s e) (link_signals s (moved_links lies links)) (link_signals s links) (signals-moved e) (link_signals-moved links)
+      link_signals-moved (link op e links) = both_same (signals s (moved_tree lies e)) (signals s e) (link_signals s (moved_links lies links)) (link_signals s links) (signals-moved e) (link_signals-moved links)
 
       part_signals-moved : (parts : Parts) → part_signals s (moved_parts lies parts) ≡ part_signals s parts
       part_signals-moved no_part = refl
@@ -82,9 +83,7 @@ module _ (lies : ℕ → ℕ × ℕ) where
           both_same (sequence_signals s (moved_sequence lies q)) (sequence_signals s q) (step_signals s (moved_steps lies steps)) (step_signals s steps) (sequence_signals-moved q) (step_signals-moved steps)
       sequence_signals-moved (throughout e q) =
           both_same (signals s (moved_tree lies e)) (signals s e) (sequence_signals s (moved_sequence lies q)) (sequence_signals s q) (signals-moved e) (sequence_signals-moved q)
-      sequence_signals-moved (all q others) =
-          both_same (sequence_signals s (moved_sequence lies q)) (sequence_signals s q) (other_signals s (moved_others lies others)) (other_signals s others) (sequence_signals-moved q) (other_signals-moved others)
-      sequence_signals-moved (either q others) =
+      sequence_signals-moved (joined j q others) =
           both_same (sequence_signals s (moved_sequence lies q)) (sequence_signals s q) (other_signals s (moved_others lies others)) (other_signals s others) (sequence_signals-moved q) (other_signals-moved others)
 
       step_signals-moved : (steps : Steps) → step_signals s (moved_steps lies steps) ≡ step_signals s steps
@@ -106,18 +105,18 @@ module _ (lies : ℕ → ℕ × ℕ) where
         unfolding moved_tree Means
 
         pub means-moved : (t : Tree) (e : Term) → Means s cs t e → Means s cs (moved_tree lies t) e
-        means-moved (number t) e h = record { bits = h.bits; width = h.width; value = h.value; is = h.is }
+        means-moved (number n t) e h = record { bits = h.bits; width = h.width; value = h.value; is = h.is }
         means-moved (path words x) e h = read-moved words x e h
         means-moved (concatenation t d parts) e h = (h.0, means-moved d h.0 h.1, joins-moved parts h.0 e h.2)
         means-moved (past t d n) e h = (h.0, means-moved d h.0 h.1, h.2)
         means-moved (call f t d) e h = (h.0, means-moved d h.0 h.1, h.2)
-        means-moved (unary t d) e h = (h.0, means-moved d h.0 h.1, h.2)
+        means-moved (unary op t d) e h = (h.0, means-moved d h.0 h.1, h.2)
         means-moved (chain d links) e h = (h.0, means-moved d h.0 h.1, chains-moved links h.0 e h.2)
         means-moved (choice d x y) e h = (h.0, h.1, h.2, means-moved d h.0 h.3, means-moved x h.1 h.4, means-moved y h.2 h.5, h.6)
 
         chains-moved : (links : Links) (a e : Term) → Chains s cs a links e → Chains s cs a (moved_links lies links) e
         chains-moved end a e h = h
-        chains-moved (link t d links) a e h = (h.0, means-moved d h.0 h.1, chains-moved links _ e h.2)
+        chains-moved (link op d links) a e h = (h.0, means-moved d h.0 h.1, chains-moved links _ e h.2)
 
         joins-moved : (parts : Parts) (a e : Term) → Joins s cs a parts e → Joins s cs a (moved_parts lies parts) e
         joins-moved no_part a e h = h
@@ -148,17 +147,12 @@ module _ (lies : ℕ → ℕ × ℕ) where
           reads-moved (late t n q) d h = (h.0, reads-moved q h.0 h.1, h.2)
           reads-moved (delayed q steps) d h = (h.0, reads-moved q h.0 h.1, steps-moved h.0 steps d h.2)
           reads-moved (throughout t q) d h = (h.0, h.1, atom-moved t h.0 h.2, reads-moved q h.1 h.3, h.4)
-          reads-moved (all q others) d h = (h.0, reads-moved q h.0 h.1, all-moved h.0 others d h.2)
-          reads-moved (either q others) d h = (h.0, reads-moved q h.0 h.1, any-moved h.0 others d h.2)
+          reads-moved (joined j q others) d h = (h.0, reads-moved q h.0 h.1, others-moved j h.0 others d h.2)
 
           steps-moved : (a : Draft Boolean) (steps : Steps) (d : Draft Boolean) → ReadsSteps s cs bs a steps d → ReadsSteps s cs bs a (moved_steps lies steps) d
           steps-moved a no_step d h = h
           steps-moved a (step n q steps) d h = (h.0, reads-moved q h.0 h.1, steps-moved _ steps d h.2)
 
-          all-moved : (a : Draft Boolean) (others : Others) (d : Draft Boolean) → ReadsAll s cs bs a others d → ReadsAll s cs bs a (moved_others lies others) d
-          all-moved a no_other d h = h
-          all-moved a (other q others) d h = (h.0, reads-moved q h.0 h.1, all-moved _ others d h.2)
-
-          any-moved : (a : Draft Boolean) (others : Others) (d : Draft Boolean) → ReadsAny s cs bs a others d → ReadsAny s cs bs a (moved_others lies others) d
-          any-moved a no_other d h = h
-          any-moved a (other q others) d h = (h.0, reads-moved q h.0 h.1, any-moved _ others d h.2)
+          others-moved : (j : Junction) (a : Draft Boolean) (others : Others) (d : Draft Boolean) → ReadsOthers s cs bs j a others d → ReadsOthers s cs bs j a (moved_others lies others) d
+          others-moved j a no_other d h = h
+          others-moved j a (other q others) d h = (h.0, reads-moved q h.0 h.1, others-moved j _ others d h.2)

@@ -1,7 +1,7 @@
 -- Trees whose tokens lie elsewhere in memory: the same kinds, places and texts.
 use Rattle.std.proofs.Common.{ℕ, map, Option, Some, None}
 use Rattle.lexer.specs.declared.token.Token.{Token}
-use Rattle.grammar.specs.Trees.{Tree, number, path, concatenation, past, call, unary, chain, choice, Links, end, link, Parts, no_part, part, SequenceForm, boolean, repeated, late, delayed, throughout, all, either, Steps, no_step, step, Others, no_other, other, PropertyForm, plain, implication, CounterForm, DeclarationForm, AssertionForm, ItemForm, counter, declaration, assertion}
+use Rattle.grammar.specs.Trees.{Tree, number, path, concatenation, past, call, unary, chain, choice, Links, end, link, Parts, no_part, part, SequenceForm, boolean, repeated, late, delayed, throughout, joined, Steps, no_step, step, Others, no_other, other, PropertyForm, plain, implication, CounterForm, DeclarationForm, AssertionForm, ItemForm, counter, declaration, assertion}
 
 -- by the byte at which a token stands, where its text is to lie
 module _ (lies : ℕ → ℕ × ℕ) where
@@ -14,18 +14,18 @@ module _ (lies : ℕ → ℕ × ℕ) where
 
   unfoldable mutual
     pub moved_tree : Tree → Tree
-    moved_tree (number t) = number (moved t)
+    moved_tree (number n t) = number n (moved t)
     moved_tree (path words x) = path (map moved words) x
     moved_tree (concatenation t e parts) = concatenation (moved t) (moved_tree e) (moved_parts parts)
     moved_tree (past t e n) = past (moved t) (moved_tree e) n
     moved_tree (call f t e) = call f (moved t) (moved_tree e)
-    moved_tree (unary t e) = unary (moved t) (moved_tree e)
+    moved_tree (unary op t e) = unary op (moved t) (moved_tree e)
     moved_tree (chain e links) = chain (moved_tree e) (moved_links links)
     moved_tree (choice c a b) = choice (moved_tree c) (moved_tree a) (moved_tree b)
 
     pub moved_links : Links → Links
     moved_links end = end
-    moved_links (link t e links) = link (moved t) (moved_tree e) (moved_links links)
+    moved_links (link op e links) = link op (moved_tree e) (moved_links links)
 
     pub moved_parts : Parts → Parts
     moved_parts no_part = no_part
@@ -38,8 +38,7 @@ module _ (lies : ℕ → ℕ × ℕ) where
     moved_sequence (late t n q) = late (moved t) n (moved_sequence q)
     moved_sequence (delayed q steps) = delayed (moved_sequence q) (moved_steps steps)
     moved_sequence (throughout e q) = throughout (moved_tree e) (moved_sequence q)
-    moved_sequence (all q others) = all (moved_sequence q) (moved_others others)
-    moved_sequence (either q others) = either (moved_sequence q) (moved_others others)
+    moved_sequence (joined j q others) = joined j (moved_sequence q) (moved_others others)
 
     pub moved_steps : Steps → Steps
     moved_steps no_step = no_step

@@ -1,7 +1,9 @@
 -- Two readings of one sequence as one: a draft of pairs of booleans that are true at the same ticks.
 use Rattle.std.proofs.Common.{◌≡◌, ℕ, List, [], ◌∷◌, map, Option, Some, None, refl, sym, ap, ◌∙◌}
 use Rattle.std.specs.Prelude.{◌==◌, not}
-use Rattle.grammar.specs.Trees.{Tree, SequenceForm, boolean, repeated, late, delayed, throughout, all, either, Steps, no_step, step, Others, no_other, other}
+use Rattle.grammar.specs.declared.operator.Junction.{Junction}
+use Rattle.grammar.specs.declared.operator.Junction.TheVariants.{And, Or}
+use Rattle.grammar.specs.Trees.{Tree, SequenceForm, boolean, repeated, late, delayed, throughout, joined, Steps, no_step, step, Others, no_other, other}
 use Rattle.expressions.specs.declared.expr.Expr.{Expr}
 use Rattle.expressions.specs.Terms.{Term, Samples, width_of, value_of, is_true}
 use Rattle.expressions.specs.Expressions.{term_of}
@@ -14,7 +16,7 @@ use Rattle.types_sequences.specs.Placed.{atom_true}
 use Rattle.types_expressions.specs.Scopes.{Scope, sequence_named}
 use Rattle.types_expressions.specs.Meanings.{Means}
 use Rattle.types_expressions.proofs.OneMeaning.{one-meaning}
-use Rattle.types_suites.specs.Readings.{least_of, extra_of, IsAtom, ReadsBoolean, Reads, ReadsSteps, ReadsAll, ReadsAny, AllRead}
+use Rattle.types_suites.specs.Readings.{least_of, extra_of, IsAtom, ReadsBoolean, joined_by, Reads, ReadsSteps, ReadsOthers, AllRead}
 
 -- what one tree means is true at the same ticks
 pub one_truth : (s : Scope) (cs : List (List ℕ)) (t : Tree) (e f : Term) → Means s cs t e → Means s cs t f → (x : Samples) (k : ℕ) → is_true x e k ≡ is_true x f k
@@ -79,6 +81,10 @@ module _ (ones others : List Expr) where
     second = ap (λ (x : Draft Boolean). drafts.or x d) h.second ∙ ap (λ (x : Draft Boolean). drafts.or (seconds h.both) x) k.second;
   }
 
+  paired_joined : (j : Junction) (a b c d : Draft Boolean) → IsPaired a b → IsPaired c d → IsPaired (joined_by j a c) (joined_by j b d)
+  paired_joined And a b c d h k = paired_and a b c d h k
+  paired_joined Or a b c d h k = paired_or a b c d h k
+
   -- the same inside one form
   paired_repeat : (a b : Draft Boolean) (least extra : ℕ) → IsPaired a b → IsPaired (drafts.repeat a least extra) (drafts.repeat b least extra)
   paired_repeat a b least extra h = record {
@@ -129,8 +135,7 @@ module _ (ones others : List Expr) where
       reads_paired (delayed q steps) a b m n = steps_paired steps m.0 n.0 a b (reads_paired q m.0 n.0 m.1 n.1) m.2 n.2
       reads_paired (throughout t q) a b m n =
           paired_by a b (drafts.throughout m.0 m.1) (drafts.throughout n.0 n.1) m.4 n.4 (paired_throughout m.0 n.0 m.1 n.1 (atoms_alike t m.0 n.0 m.2 n.2) (reads_paired q m.1 n.1 m.3 n.3))
-      reads_paired (all q more) a b m n = all_paired more m.0 n.0 a b (reads_paired q m.0 n.0 m.1 n.1) m.2 n.2
-      reads_paired (either q more) a b m n = any_paired more m.0 n.0 a b (reads_paired q m.0 n.0 m.1 n.1) m.2 n.2
+      reads_paired (joined j q more) a b m n = others_paired j more m.0 n.0 a b (reads_paired q m.0 n.0 m.1 n.1) m.2 n.2
 
       steps_paired : (steps : Steps) (c d a b : Draft Boolean) → IsPaired c d → ReadsSteps s cs ones c steps a → ReadsSteps s cs others d steps b → IsPaired a b
       steps_paired no_step c d a b h m n = paired_by a b c d m n h
@@ -138,15 +143,10 @@ module _ (ones others : List Expr) where
           steps_paired steps (drafts.delay c (least_of r) (extra_of r) m.0) (drafts.delay d (least_of r) (extra_of r) n.0) a b
           (paired_delay c d m.0 n.0 (least_of r) (extra_of r) h (reads_paired q m.0 n.0 m.1 n.1)) m.2 n.2
 
-      all_paired : (more : Others) (c d a b : Draft Boolean) → IsPaired c d → ReadsAll s cs ones c more a → ReadsAll s cs others d more b → IsPaired a b
-      all_paired no_other c d a b h m n = paired_by a b c d m n h
-      all_paired (other q more) c d a b h m n =
-          all_paired more (drafts.and c m.0) (drafts.and d n.0) a b (paired_and c d m.0 n.0 h (reads_paired q m.0 n.0 m.1 n.1)) m.2 n.2
-
-      any_paired : (more : Others) (c d a b : Draft Boolean) → IsPaired c d → ReadsAny s cs ones c more a → ReadsAny s cs others d more b → IsPaired a b
-      any_paired no_other c d a b h m n = paired_by a b c d m n h
-      any_paired (other q more) c d a b h m n =
-          any_paired more (drafts.or c m.0) (drafts.or d n.0) a b (paired_or c d m.0 n.0 h (reads_paired q m.0 n.0 m.1 n.1)) m.2 n.2
+      others_paired : (j : Junction) (more : Others) (c d a b : Draft Boolean) → IsPaired c d → ReadsOthers s cs ones j c more a → ReadsOthers s cs others j d more b → IsPaired a b
+      others_paired j no_other c d a b h m n = paired_by a b c d m n h
+      others_paired j (other q more) c d a b h m n =
+          others_paired j more (joined_by j c m.0) (joined_by j d n.0) a b (paired_joined j c d m.0 n.0 h (reads_paired q m.0 n.0 m.1 n.1)) m.2 n.2
 
     pub all_read_paired : (qs : List SequenceForm) (ds es : List (Draft Boolean)) → AllRead s cs ones qs ds → AllRead s cs others qs es → ArePaired ds es
     all_read_paired [] [] [] m n = record { both = []; first = refl; second = refl }

@@ -1,7 +1,9 @@
 -- What is read of a sequence has its outline, and its names are those of declared sequences.
-use Rattle.std.proofs.Common.{◌≡◌, ◌⊎◌, inl, inr, ℕ, zero, suc, ◌+◌, ◌<◌, List, [], ◌∷◌, map, length, Bool, true, false, Option, Some, None, refl, sym, ap, ◌∙◌, subst, arith}
+use Rattle.std.proofs.Common.{◌≡◌, ◌⊎◌, inl, inr, ℕ, zero, suc, ◌+◌, ◌<◌, List, [], ◌∷◌, ◌++◌, map, length, Bool, true, false, Option, Some, None, refl, sym, ap, ◌∙◌, subst, arith}
 use Rattle.std.specs.Prelude.{cond, bytes_eq}
-use Rattle.grammar.specs.Trees.{Tree, path, SequenceForm, boolean, repeated, late, delayed, throughout, all, either, Steps, no_step, step, Others, no_other, other, ItemForm, counter, declaration, assertion}
+use Rattle.grammar.specs.declared.operator.Junction.{Junction}
+use Rattle.grammar.specs.declared.operator.Junction.TheVariants as junctions
+use Rattle.grammar.specs.Trees.{Tree, path, SequenceForm, boolean, repeated, late, delayed, throughout, joined, Steps, no_step, step, Others, no_other, other, ItemForm, counter, declaration, assertion}
 use Rattle.expressions.specs.declared.expr.Expr.{Expr}
 use Rattle.assertions.specs.declared.sequence.Boolean.{Boolean}
 use Rattle.types_sequences.specs.Drafts as drafts
@@ -13,12 +15,20 @@ use Rattle.types_expressions.specs.declared.own.Own.TheVariants as own
 use Rattle.types_expressions.specs.Scopes.{Scope, sequence_named, meaning_place, meaning_by, path_text, owns_from, owns, look_up, scope_for, width_in}
 use Rattle.types_sequences.specs.Placed.{Extends}
 use Rattle.types_suites.specs.Texts.{declarations_of}
-use Rattle.types_suites.specs.Readings.{least_of, extra_of, Reads, ReadsBoolean, ReadsSteps, ReadsAll, ReadsAny, AllRead, Dot, dot, outline_by, outline, outline_steps, outline_all, outline_any}
+use Rattle.types_suites.specs.Readings.{least_of, extra_of, joined_by, Reads, ReadsBoolean, ReadsSteps, ReadsOthers, AllRead, Dot, dot, outline_by, outline, outline_steps, outline_others}
 use Rattle.types_suites.proofs.ReadingLaws.{reads_grows}
 
 -- a dot for each boolean
 abbrev pub dotted : Draft Boolean → Draft Dot
 dotted d = map_draft (λ (b : Boolean). dot) d
+
+joined_dotted : (j : Junction) (a b : Draft Boolean) → dotted (joined_by j a b) ≡ joined_by j (dotted a) (dotted b)
+joined_dotted junctions.And a b = refl
+joined_dotted junctions.Or a b = refl
+
+joined_uses : (j : Junction) (a b : Draft Boolean) → uses (joined_by j a b) ≡ uses a ++ uses b
+joined_uses junctions.And a b = refl
+joined_uses junctions.Or a b = refl
 
 module _ (s : Scope) (cs : List (List ℕ)) (e : List Expr) where
   boolean_outline : (o : Option ℕ) (t : Tree) (d : Draft Boolean) → ReadsBoolean s cs e o t d → dotted d ≡ outline_by o
@@ -35,8 +45,7 @@ module _ (s : Scope) (cs : List (List ℕ)) (e : List Expr) where
     reads_outline (late t r q) d h = ap dotted h.2 ∙ ap (λ (x : Draft Dot). drafts.lead (least_of r) (extra_of r) x) (reads_outline q h.0 h.1)
     reads_outline (delayed q steps) d h = steps_outline h.0 steps d h.2 ∙ ap (λ (x : Draft Dot). outline_steps s x steps) (reads_outline q h.0 h.1)
     reads_outline (throughout t q) d h = ap dotted h.4 ∙ ap (λ (x : Draft Dot). drafts.throughout dot x) (reads_outline q h.1 h.3)
-    reads_outline (all q others) d h = all_outline h.0 others d h.2 ∙ ap (λ (x : Draft Dot). outline_all s x others) (reads_outline q h.0 h.1)
-    reads_outline (either q others) d h = any_outline h.0 others d h.2 ∙ ap (λ (x : Draft Dot). outline_any s x others) (reads_outline q h.0 h.1)
+    reads_outline (joined j q others) d h = others_outline j h.0 others d h.2 ∙ ap (λ (x : Draft Dot). outline_others s j x others) (reads_outline q h.0 h.1)
 
     steps_outline : (a : Draft Boolean) (steps : Steps) (d : Draft Boolean) → ReadsSteps s cs e a steps d → dotted d ≡ outline_steps s (dotted a) steps
     steps_outline a no_step d h = ap dotted h
@@ -44,13 +53,11 @@ module _ (s : Scope) (cs : List (List ℕ)) (e : List Expr) where
         steps_outline (drafts.delay a (least_of r) (extra_of r) h.0) steps d h.2
         ∙ ap (λ (x : Draft Dot). outline_steps s (drafts.delay (dotted a) (least_of r) (extra_of r) x) steps) (reads_outline q h.0 h.1)
 
-    all_outline : (a : Draft Boolean) (others : Others) (d : Draft Boolean) → ReadsAll s cs e a others d → dotted d ≡ outline_all s (dotted a) others
-    all_outline a no_other d h = ap dotted h
-    all_outline a (other q others) d h = all_outline (drafts.and a h.0) others d h.2 ∙ ap (λ (x : Draft Dot). outline_all s (drafts.and (dotted a) x) others) (reads_outline q h.0 h.1)
-
-    any_outline : (a : Draft Boolean) (others : Others) (d : Draft Boolean) → ReadsAny s cs e a others d → dotted d ≡ outline_any s (dotted a) others
-    any_outline a no_other d h = ap dotted h
-    any_outline a (other q others) d h = any_outline (drafts.or a h.0) others d h.2 ∙ ap (λ (x : Draft Dot). outline_any s (drafts.or (dotted a) x) others) (reads_outline q h.0 h.1)
+    others_outline : (j : Junction) (a : Draft Boolean) (others : Others) (d : Draft Boolean) → ReadsOthers s cs e j a others d → dotted d ≡ outline_others s j (dotted a) others
+    others_outline j a no_other d h = ap dotted h
+    others_outline j a (other q others) d h =
+        others_outline j (joined_by j a h.0) others d h.2
+        ∙ ap (λ (x : Draft Dot). outline_others s j x others) (joined_dotted j a h.0 ∙ ap (joined_by j (dotted a)) (reads_outline q h.0 h.1))
 
   pub all_outlines : (qs : List SequenceForm) (ds : List (Draft Boolean)) → AllRead s cs e qs ds → map dotted ds ≡ map (outline s) qs
   all_outlines [] [] h = refl
@@ -79,21 +86,18 @@ module _ (s : Scope) (cs : List (List ℕ)) (e : List Expr) where
       reads_below (late t r q) d h p i = reads_below q h.0 h.1 p (subst (λ (x : Draft Boolean). IsIn p (uses x)) h.2 i)
       reads_below (delayed q steps) d h p i = steps_below h.0 steps d h.2 p (reads_below q h.0 h.1 p) i
       reads_below (throughout t q) d h p i = reads_below q h.1 h.3 p (subst (λ (x : Draft Boolean). IsIn p (uses x)) h.4 i)
-      reads_below (all q others) d h p i = all_below h.0 others d h.2 p (reads_below q h.0 h.1 p) i
-      reads_below (either q others) d h p i = any_below h.0 others d h.2 p (reads_below q h.0 h.1 p) i
+      reads_below (joined j q others) d h p i = others_below j h.0 others d h.2 p (reads_below q h.0 h.1 p) i
 
       steps_below : (a : Draft Boolean) (steps : Steps) (d : Draft Boolean) → ReadsSteps s cs e a steps d → (p : ℕ) → (IsIn p (uses a) → p < n) → IsIn p (uses d) → p < n
       steps_below a no_step d h p f i = f (subst (λ (x : Draft Boolean). IsIn p (uses x)) h i)
       steps_below a (step r q steps) d h p f i =
           steps_below (drafts.delay a (least_of r) (extra_of r) h.0) steps d h.2 p (λ k. either_below p a h.0 f (reads_below q h.0 h.1 p) (in_either p (uses a) (uses h.0) k)) i
 
-      all_below : (a : Draft Boolean) (others : Others) (d : Draft Boolean) → ReadsAll s cs e a others d → (p : ℕ) → (IsIn p (uses a) → p < n) → IsIn p (uses d) → p < n
-      all_below a no_other d h p f i = f (subst (λ (x : Draft Boolean). IsIn p (uses x)) h i)
-      all_below a (other q others) d h p f i = all_below (drafts.and a h.0) others d h.2 p (λ k. either_below p a h.0 f (reads_below q h.0 h.1 p) (in_either p (uses a) (uses h.0) k)) i
-
-      any_below : (a : Draft Boolean) (others : Others) (d : Draft Boolean) → ReadsAny s cs e a others d → (p : ℕ) → (IsIn p (uses a) → p < n) → IsIn p (uses d) → p < n
-      any_below a no_other d h p f i = f (subst (λ (x : Draft Boolean). IsIn p (uses x)) h i)
-      any_below a (other q others) d h p f i = any_below (drafts.or a h.0) others d h.2 p (λ k. either_below p a h.0 f (reads_below q h.0 h.1 p) (in_either p (uses a) (uses h.0) k)) i
+      others_below : (j : Junction) (a : Draft Boolean) (others : Others) (d : Draft Boolean) → ReadsOthers s cs e j a others d → (p : ℕ) → (IsIn p (uses a) → p < n) → IsIn p (uses d) → p < n
+      others_below j a no_other d h p f i = f (subst (λ (x : Draft Boolean). IsIn p (uses x)) h i)
+      others_below j a (other q others) d h p f i =
+          others_below j (joined_by j a h.0) others d h.2 p
+          (λ k. either_below p a h.0 f (reads_below q h.0 h.1 p) (in_either p (uses a) (uses h.0) (subst (IsIn p) (joined_uses j a h.0) k))) i
 
 -- the places of named sequences are below their number
 entry_below : (b : Bool) (o : Own) (rest : Option Own) (p n : ℕ) → (o ≡ own.Sequence p → p < n) → (rest ≡ Some (own.Sequence p) → p < n) → cond b (Some o) rest ≡ Some (own.Sequence p) → p < n

@@ -2,7 +2,8 @@
 use Rattle.std.proofs.Common.{◌≡◌, ℕ, zero, suc, List, [], ◌∷◌, ◌++◌, length, Option, Some, None, slice_get, refl, sym, ap, ◌∙◌, subst, IsTrue, Result, Ok, Err, IfOk, OnOk}
 use Rattle.std.proofs.lemmas.List.{append-nil, append_assoc}
 use Rattle.grammar.specs.declared.bound.Range.{Range}
-use Rattle.grammar.specs.Trees.{Tree, SequenceForm, boolean, repeated, late, delayed, throughout, all, either, Steps, no_step, step, Others, no_other, other}
+use Rattle.grammar.specs.declared.operator.Junction.{Junction}
+use Rattle.grammar.specs.Trees.{Tree, SequenceForm, boolean, repeated, late, delayed, throughout, joined, Steps, no_step, step, Others, no_other, other}
 use Rattle.lexer.specs.declared.token.Token.{Token}
 use Rattle.expressions.specs.declared.expr.Expr.{Expr}
 use Rattle.expressions.specs.Expressions.{term_of}
@@ -19,7 +20,7 @@ use Rattle.types_expressions.proofs.FaultLaws.{no_faults-parts}
 use Rattle.types_expressions.proofs.ColumnLaws.{listed-parts}
 use Rattle.types_expressions.proofs.TypedLaws.{IsReady}
 use Rattle.types_sequences.specs.Placed.{Extends}
-use Rattle.types_suites.specs.Readings.{least_of, extra_of, IsAtom, ReadsBoolean, Reads, ReadsSteps, ReadsAll, ReadsAny}
+use Rattle.types_suites.specs.Readings.{least_of, extra_of, IsAtom, ReadsBoolean, joined_by, Reads, ReadsSteps, ReadsOthers}
 
 -- what stood in a list stands in a longer one
 in_longer : {A : Type 0} (xs ys : List A) (p : ℕ) (x : A) → slice_get xs p ≡ Some x → slice_get (xs ++ ys) p ≡ Some x
@@ -63,20 +64,15 @@ module _ (s : Scope) (cs : List (List ℕ)) where
       reads_grows (late t r q) d h = (h.0, reads_grows q h.0 h.1, h.2)
       reads_grows (delayed q steps) d h = (h.0, reads_grows q h.0 h.1, steps_grow h.0 steps d h.2)
       reads_grows (throughout t q) d h = (h.0, h.1, atom_grows t h.0 h.2, reads_grows q h.1 h.3, h.4)
-      reads_grows (all q others) d h = (h.0, reads_grows q h.0 h.1, all_grow h.0 others d h.2)
-      reads_grows (either q others) d h = (h.0, reads_grows q h.0 h.1, any_grow h.0 others d h.2)
+      reads_grows (joined j q others) d h = (h.0, reads_grows q h.0 h.1, others_grow j h.0 others d h.2)
 
       steps_grow : (a : Draft Boolean) (steps : Steps) (d : Draft Boolean) → ReadsSteps s cs now a steps d → ReadsSteps s cs next a steps d
       steps_grow a no_step d h = h
       steps_grow a (step r q steps) d h = (h.0, reads_grows q h.0 h.1, steps_grow (drafts.delay a (least_of r) (extra_of r) h.0) steps d h.2)
 
-      all_grow : (a : Draft Boolean) (others : Others) (d : Draft Boolean) → ReadsAll s cs now a others d → ReadsAll s cs next a others d
-      all_grow a no_other d h = h
-      all_grow a (other q others) d h = (h.0, reads_grows q h.0 h.1, all_grow (drafts.and a h.0) others d h.2)
-
-      any_grow : (a : Draft Boolean) (others : Others) (d : Draft Boolean) → ReadsAny s cs now a others d → ReadsAny s cs next a others d
-      any_grow a no_other d h = h
-      any_grow a (other q others) d h = (h.0, reads_grows q h.0 h.1, any_grow (drafts.or a h.0) others d h.2)
+      others_grow : (j : Junction) (a : Draft Boolean) (others : Others) (d : Draft Boolean) → ReadsOthers s cs now j a others d → ReadsOthers s cs next j a others d
+      others_grow j a no_other d h = h
+      others_grow j a (other q others) d h = (h.0, reads_grows q h.0 h.1, others_grow j (joined_by j a h.0) others d h.2)
 
   -- no faults, and the columns, of the parts of what has none and has them
   pub record IsReadySequence (q : SequenceForm) : Type 0 where
@@ -121,16 +117,9 @@ module _ (s : Scope) (cs : List (List ℕ)) where
       let columns = listed-parts cs (signals s t) (sequence_signals s q) (subst (λ (y : SequenceForm). IsTrue (all_listed cs (sequence_signals s y))) is r.listed) in
       (record { sound = λ k. (parts k).0; listed = columns.0 }, record { sound = λ k. (parts k).1; listed = columns.1 })
 
-  pub ready-all : (x q : SequenceForm) (others : Others) → x ≡ all q others → IsReadySequence x → IsReadySequence q × AreReadyOthers others
+  pub ready-joined : (x : SequenceForm) (j : Junction) (q : SequenceForm) (others : Others) → x ≡ joined j q others → IsReadySequence x → IsReadySequence q × AreReadyOthers others
   unfolding sequence_faults sequence_signals
-  ready-all x q others is r =
-      let parts = λ (k : Sought). no_faults-parts (sequence_faults s k q) (other_faults s k others) (sym (ap (sequence_faults s k) is) ∙ r.sound k) in
-      let columns = listed-parts cs (sequence_signals s q) (other_signals s others) (subst (λ (y : SequenceForm). IsTrue (all_listed cs (sequence_signals s y))) is r.listed) in
-      (record { sound = λ k. (parts k).0; listed = columns.0 }, record { sound = λ k. (parts k).1; listed = columns.1 })
-
-  pub ready-either : (x q : SequenceForm) (others : Others) → x ≡ either q others → IsReadySequence x → IsReadySequence q × AreReadyOthers others
-  unfolding sequence_faults sequence_signals
-  ready-either x q others is r =
+  ready-joined x j q others is r =
       let parts = λ (k : Sought). no_faults-parts (sequence_faults s k q) (other_faults s k others) (sym (ap (sequence_faults s k) is) ∙ r.sound k) in
       let columns = listed-parts cs (sequence_signals s q) (other_signals s others) (subst (λ (y : SequenceForm). IsTrue (all_listed cs (sequence_signals s y))) is r.listed) in
       (record { sound = λ k. (parts k).0; listed = columns.0 }, record { sound = λ k. (parts k).1; listed = columns.1 })
@@ -173,13 +162,9 @@ module _ (s : Scope) (cs : List (List ℕ)) where
     unfolding Reads
     reads-delayed x q steps a d is m h = subst (λ (y : SequenceForm). Reads s cs next y d) (sym is) (a, reads_grows now next more q a m, h)
 
-    pub reads-all : (x q : SequenceForm) (others : Others) (a d : Draft Boolean) → x ≡ all q others → Reads s cs now q a → ReadsAll s cs next a others d → Reads s cs next x d
+    pub reads-joined : (x : SequenceForm) (j : Junction) (q : SequenceForm) (others : Others) (a d : Draft Boolean) → x ≡ joined j q others → Reads s cs now q a → ReadsOthers s cs next j a others d → Reads s cs next x d
     unfolding Reads
-    reads-all x q others a d is m h = subst (λ (y : SequenceForm). Reads s cs next y d) (sym is) (a, reads_grows now next more q a m, h)
-
-    pub reads-either : (x q : SequenceForm) (others : Others) (a d : Draft Boolean) → x ≡ either q others → Reads s cs now q a → ReadsAny s cs next a others d → Reads s cs next x d
-    unfolding Reads
-    reads-either x q others a d is m h = subst (λ (y : SequenceForm). Reads s cs next y d) (sym is) (a, reads_grows now next more q a m, h)
+    reads-joined x j q others a d is m h = subst (λ (y : SequenceForm). Reads s cs next y d) (sym is) (a, reads_grows now next more q a m, h)
 
     -- one more of a loop: what is left reads what the whole does
     pub steps-step : (left : Steps) (r : Range) (q : SequenceForm) (rest : Steps) (a b f d : Draft Boolean) → left ≡ step r q rest → Reads s cs now q b → f ≡ drafts.delay a (least_of r) (extra_of r) b →
@@ -188,27 +173,19 @@ module _ (s : Scope) (cs : List (List ℕ)) where
     steps-step left r q rest a b f d is m made h =
         subst (λ (y : Steps). ReadsSteps s cs next a y d) (sym is) (b, reads_grows now next more q b m, subst (λ (g : Draft Boolean). ReadsSteps s cs next g rest d) made h)
 
-    pub all-step : (left : Others) (q : SequenceForm) (rest : Others) (a b f d : Draft Boolean) → left ≡ other q rest → Reads s cs now q b → f ≡ drafts.and a b → ReadsAll s cs next f rest d → ReadsAll s cs next a left d
+    pub others-step : (j : Junction) (left : Others) (q : SequenceForm) (rest : Others) (a b f d : Draft Boolean) → left ≡ other q rest → Reads s cs now q b → f ≡ joined_by j a b →
+        ReadsOthers s cs next j f rest d → ReadsOthers s cs next j a left d
     unfolding Reads
-    all-step left q rest a b f d is m made h =
-        subst (λ (y : Others). ReadsAll s cs next a y d) (sym is) (b, reads_grows now next more q b m, subst (λ (g : Draft Boolean). ReadsAll s cs next g rest d) made h)
-
-    pub any-step : (left : Others) (q : SequenceForm) (rest : Others) (a b f d : Draft Boolean) → left ≡ other q rest → Reads s cs now q b → f ≡ drafts.or a b → ReadsAny s cs next f rest d → ReadsAny s cs next a left d
-    unfolding Reads
-    any-step left q rest a b f d is m made h =
-        subst (λ (y : Others). ReadsAny s cs next a y d) (sym is) (b, reads_grows now next more q b m, subst (λ (g : Draft Boolean). ReadsAny s cs next g rest d) made h)
+    others-step j left q rest a b f d is m made h =
+        subst (λ (y : Others). ReadsOthers s cs next j a y d) (sym is) (b, reads_grows now next more q b m, subst (λ (g : Draft Boolean). ReadsOthers s cs next j g rest d) made h)
 
   pub steps-end : (e : List Expr) (left : Steps) (a : Draft Boolean) → left ≡ no_step → ReadsSteps s cs e a left a
   unfolding Reads
   steps-end e left a is = subst (λ (y : Steps). ReadsSteps s cs e a y a) (sym is) refl
 
-  pub all-end : (e : List Expr) (left : Others) (a : Draft Boolean) → left ≡ no_other → ReadsAll s cs e a left a
+  pub others-end : (e : List Expr) (j : Junction) (left : Others) (a : Draft Boolean) → left ≡ no_other → ReadsOthers s cs e j a left a
   unfolding Reads
-  all-end e left a is = subst (λ (y : Others). ReadsAll s cs e a y a) (sym is) refl
-
-  pub any-end : (e : List Expr) (left : Others) (a : Draft Boolean) → left ≡ no_other → ReadsAny s cs e a left a
-  unfolding Reads
-  any-end e left a is = subst (λ (y : Others). ReadsAny s cs e a y a) (sym is) refl
+  others-end e j left a is = subst (λ (y : Others). ReadsOthers s cs e j a y a) (sym is) refl
 
 pub extends_same : {A : Type 0} (xs : List A) → Extends xs xs
 extends_same xs = record { added = []; is = sym (append-nil xs) }

@@ -2,7 +2,7 @@
 use Rattle.std.proofs.Common.{◌≡◌, ℕ, List, [], ◌∷◌, ◌++◌, Option, Some, None, refl, ap, inl, inr, suc, zero, take, drop, slice_get}
 use Rattle.std.proofs.lemmas.Bool.{cases_Bool}
 use Rattle.std.specs.Prelude.{string_bytes}
-use Rattle.grammar.specs.Trees.{Tree, number, path, concatenation, past, call, unary, chain, choice, Links, end, link, Parts, no_part, part, SequenceForm, boolean, repeated, late, delayed, throughout, all, either, Steps, no_step, step, Others, no_other, other, PropertyForm, plain, implication, ItemForm, counter, declaration, assertion}
+use Rattle.grammar.specs.Trees.{Tree, number, path, concatenation, past, call, unary, chain, choice, Links, end, link, Parts, no_part, part, SequenceForm, boolean, repeated, late, delayed, throughout, joined, Steps, no_step, step, Others, no_other, other, PropertyForm, plain, implication, ItemForm, counter, declaration, assertion}
 use Rattle.assertions.specs.declared.signal.Signal.{Signal}
 use Rattle.types_expressions.specs.declared.own.Own.{Own}
 use Rattle.types_expressions.specs.Scopes.{Scope, path_text, meaning_by}
@@ -27,18 +27,18 @@ module _ (s : Scope) where
     unfolding signals
 
     known : (t : Tree) → Known (signals s t)
-    known (number t) = tt
+    known (number n t) = tt
     known (path words x) = path_known (path_text words) (s.own (path_text words)) (s.dump (path_text words)) refl
     known (concatenation t e parts) = both (signals s e) (part_signals s parts) (known e) (parts_known parts)
     known (past t e n) = known e
     known (call f t e) = known e
-    known (unary t e) = known e
+    known (unary op t e) = known e
     known (chain e links) = both (signals s e) (link_signals s links) (known e) (links_known links)
     known (choice c a b) = both (signals s c) (signals s a ++ signals s b) (known c) (both (signals s a) (signals s b) (known a) (known b))
 
     links_known : (links : Links) → Known (link_signals s links)
     links_known end = tt
-    links_known (link t e links) = both (signals s e) (link_signals s links) (known e) (links_known links)
+    links_known (link op e links) = both (signals s e) (link_signals s links) (known e) (links_known links)
 
     parts_known : (parts : Parts) → Known (part_signals s parts)
     parts_known no_part = tt
@@ -53,8 +53,7 @@ module _ (s : Scope) where
     sequence_known (late t n q) = sequence_known q
     sequence_known (delayed q steps) = both (sequence_signals s q) (step_signals s steps) (sequence_known q) (steps_known steps)
     sequence_known (throughout e q) = both (signals s e) (sequence_signals s q) (known e) (sequence_known q)
-    sequence_known (all q others) = both (sequence_signals s q) (other_signals s others) (sequence_known q) (others_known others)
-    sequence_known (either q others) = both (sequence_signals s q) (other_signals s others) (sequence_known q) (others_known others)
+    sequence_known (joined j q others) = both (sequence_signals s q) (other_signals s others) (sequence_known q) (others_known others)
 
     steps_known : (steps : Steps) → Known (step_signals s steps)
     steps_known no_step = tt

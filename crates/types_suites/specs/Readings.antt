@@ -4,8 +4,10 @@ use Rattle.std.specs.Prelude.{◌≡◌, ℕ, ◌-◌, List, [], ◌∷◌, map,
 use Rattle.std.specs.List.{AllZip}
 use Rattle.grammar.specs.declared.bound.Bound.{Bound}
 use Rattle.grammar.specs.declared.bound.Range.{Range}
+use Rattle.grammar.specs.declared.operator.Junction.{Junction}
+use Rattle.grammar.specs.declared.operator.Junction.TheVariants.{And, Or}
 use Rattle.grammar.specs.Trees.{Tree, SequenceForm, boolean, repeated, late, delayed, throughout}
-use Rattle.grammar.specs.Trees.{all, either, Steps, no_step, step, Others, no_other, other}
+use Rattle.grammar.specs.Trees.{joined, Steps, no_step, step, Others, no_other, other}
 use Rattle.grammar.specs.Trees.{ItemForm}
 use Rattle.expressions.specs.declared.expr.Expr.{Expr}
 use Rattle.expressions.specs.Expressions.{term_of}
@@ -46,6 +48,11 @@ ReadsBoolean s columns booleans (Some p) tree d = d ≡ drafts.name p
 ReadsBoolean s columns booleans None tree d =
     (b : Boolean) × IsAtom s columns booleans tree b × (d ≡ drafts.boolean b)
 
+-- two sides, joined
+abbrev pub joined_by : {B : Type 0} → Junction → Draft B → Draft B → Draft B
+joined_by And a b = drafts.and a b
+joined_by Or a b = drafts.or a b
+
 -- What a sequence of the text says, each expression by its place in a list of typed ones. Delays,
 -- and the sides of "and" and "or", group to the left.
 unfoldable mutual
@@ -63,10 +70,9 @@ unfoldable mutual
   Reads s columns booleans (throughout tree q) d =
       (b : Boolean) × (a : Draft Boolean) × IsAtom s columns booleans tree b
       × Reads s columns booleans q a × (d ≡ drafts.throughout b a)
-  Reads s columns booleans (all q others) d =
-      (a : Draft Boolean) × Reads s columns booleans q a × ReadsAll s columns booleans a others d
-  Reads s columns booleans (either q others) d =
-      (a : Draft Boolean) × Reads s columns booleans q a × ReadsAny s columns booleans a others d
+  Reads s columns booleans (joined j q others) d =
+      (a : Draft Boolean) × Reads s columns booleans q a
+      × ReadsOthers s columns booleans j a others d
 
   -- a, and each delay with what it delays
   pub ReadsSteps : Scope → List (List ℕ) → List Expr → Draft Boolean → Steps → Draft Boolean
@@ -76,19 +82,13 @@ unfoldable mutual
       (b : Draft Boolean) × Reads s columns booleans q b
       × ReadsSteps s columns booleans (drafts.delay a (least_of r) (extra_of r) b) steps d
 
-  -- a, and each further side of "and"
-  pub ReadsAll : Scope → List (List ℕ) → List Expr → Draft Boolean → Others → Draft Boolean → Type 0
-  ReadsAll s columns booleans a no_other d = d ≡ a
-  ReadsAll s columns booleans a (other q others) d =
+  -- a, and each further side of "and" or "or"
+  pub ReadsOthers : Scope → List (List ℕ) → List Expr → Junction → Draft Boolean → Others
+      → Draft Boolean → Type 0
+  ReadsOthers s columns booleans j a no_other d = d ≡ a
+  ReadsOthers s columns booleans j a (other q others) d =
       (b : Draft Boolean) × Reads s columns booleans q b
-      × ReadsAll s columns booleans (drafts.and a b) others d
-
-  -- a, and each further side of "or"
-  pub ReadsAny : Scope → List (List ℕ) → List Expr → Draft Boolean → Others → Draft Boolean → Type 0
-  ReadsAny s columns booleans a no_other d = d ≡ a
-  ReadsAny s columns booleans a (other q others) d =
-      (b : Draft Boolean) × Reads s columns booleans q b
-      × ReadsAny s columns booleans (drafts.or a b) others d
+      × ReadsOthers s columns booleans j (joined_by j a b) others d
 
 -- the same of several sequences, in their order
 abbrev pub AllRead : Scope → List (List ℕ) → List Expr → List SequenceForm → List (Draft Boolean)
@@ -112,21 +112,16 @@ unfoldable mutual
   outline s (late t r q) = drafts.lead (least_of r) (extra_of r) (outline s q)
   outline s (delayed q steps) = outline_steps s (outline s q) steps
   outline s (throughout tree q) = drafts.throughout dot (outline s q)
-  outline s (all q others) = outline_all s (outline s q) others
-  outline s (either q others) = outline_any s (outline s q) others
+  outline s (joined j q others) = outline_others s j (outline s q) others
 
   pub outline_steps : Scope → Draft Dot → Steps → Draft Dot
   outline_steps s a no_step = a
   outline_steps s a (step r q steps) =
       outline_steps s (drafts.delay a (least_of r) (extra_of r) (outline s q)) steps
 
-  pub outline_all : Scope → Draft Dot → Others → Draft Dot
-  outline_all s a no_other = a
-  outline_all s a (other q others) = outline_all s (drafts.and a (outline s q)) others
-
-  pub outline_any : Scope → Draft Dot → Others → Draft Dot
-  outline_any s a no_other = a
-  outline_any s a (other q others) = outline_any s (drafts.or a (outline s q)) others
+  pub outline_others : Scope → Junction → Draft Dot → Others → Draft Dot
+  outline_others s j a no_other = a
+  outline_others s j a (other q others) = outline_others s j (joined_by j a (outline s q)) others
 
 -- where a text's names are looked up
 abbrev pub Where : Type 0

@@ -8,8 +8,8 @@ use Rattle.lexer.specs.declared.token.Symbol.TheVariants as symbol
 use Rattle.lexer.specs.declared.token.Kind.{Kind}
 use Rattle.lexer.specs.declared.token.Kind.TheVariants as kinds
 use Rattle.grammar.specs.Trees.{Tree, number, path, concatenation, past, call, unary, chain, choice}
-use Rattle.grammar.specs.Trees.{SequenceForm, boolean, repeated, late, delayed, throughout, all}
-use Rattle.grammar.specs.Trees.{either, CounterForm, DeclarationForm, AssertionForm, ItemForm}
+use Rattle.grammar.specs.Trees.{SequenceForm, boolean, repeated, late, delayed, throughout, joined}
+use Rattle.grammar.specs.Trees.{CounterForm, DeclarationForm, AssertionForm, ItemForm}
 use Rattle.grammar.specs.Trees.{counter, declaration, assertion}
 use Rattle.types_sequences.specs.declared.implication.Implication.{Implication}
 use Rattle.types_sequences.specs.declared.implication.Implication.TheVariants.{Overlapped}
@@ -95,12 +95,12 @@ other_clocks some = clocks_unlike (clock_of some) some
 
 -- the first byte of an expression, and of a sequence, but for brackets
 abbrev pub tree_byte : Tree → ℕ
-tree_byte (number t) = t.at
+tree_byte (number n t) = t.at
 tree_byte (path words x) = first_byte words
 tree_byte (concatenation t e parts) = t.at
 tree_byte (past t e n) = t.at
 tree_byte (call f t e) = t.at
-tree_byte (unary t e) = t.at
+tree_byte (unary op t e) = t.at
 tree_byte (chain e links) = tree_byte e
 tree_byte (choice c a b) = tree_byte c
 
@@ -110,8 +110,7 @@ sequence_byte (repeated q n) = sequence_byte q
 sequence_byte (late t n q) = t.at
 sequence_byte (delayed q steps) = sequence_byte q
 sequence_byte (throughout e q) = tree_byte e
-sequence_byte (all q others) = sequence_byte q
-sequence_byte (either q others) = sequence_byte q
+sequence_byte (joined j q others) = sequence_byte q
 
 -- |=> or |->, by its token
 abbrev pub implication_by : Kind → Implication

@@ -12,12 +12,12 @@ pub(crate) fn expression_at(expr: &ExprTree) -> usize
     ensures { result ≡ tree_byte (tree_of expr.now) }
 {
     match expr {
-        ExprTree::Number(token) => token.at,
+        ExprTree::Number(_, token) => token.at,
         ExprTree::Path(path, _) => path.first.at,
         ExprTree::Concatenation(bracket, _, _) => bracket.at,
         ExprTree::Past(name, _, _) => name.at,
         ExprTree::Call(_, name, _) => name.at,
-        ExprTree::Unary(sign, _) => sign.at,
+        ExprTree::Unary(_, sign, _) => sign.at,
         ExprTree::Chain(first, _) => expression_at(first),
         ExprTree::Choice(condition, _, _) => expression_at(condition),
     }
@@ -33,7 +33,6 @@ pub(crate) fn sequence_at(sequence: &SequenceTree) -> usize
         SequenceTree::Late(sign, _, _) => sign.at,
         SequenceTree::Delayed(first, _) => sequence_at(first),
         SequenceTree::Throughout(expr, _) => expression_at(expr),
-        SequenceTree::And(first, _) => sequence_at(first),
-        SequenceTree::Or(first, _) => sequence_at(first),
+        SequenceTree::Joined(_, first, _) => sequence_at(first),
     }
 }

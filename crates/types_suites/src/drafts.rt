@@ -5,7 +5,7 @@ ghost use Rattle.grammar.specs.ReadSequences.{steps_of, others_of};
 ghost use Rattle.parser_expressions.specs.Views.{tree_of};
 ghost use Rattle.parser_sequences.specs.Views.{sequence_of, delay_step_of};
 ghost use Rattle.assertions.specs.declared.sequence.Boolean.TheVariants.{Listed};
-ghost use Rattle.types_sequences.specs.Drafts.{name, delay, lead, repeat, or, and, throughout};
+ghost use Rattle.types_sequences.specs.Drafts.{name, delay, lead, repeat, throughout};
 ghost use Rattle.types_sequences.specs.Views.{draft_of};
 ghost use Rattle.types_expressions.specs.declared.own.Sought.{Sought};
 ghost use Rattle.types_expressions.specs.Scopes.{sequence_named};
@@ -15,10 +15,10 @@ ghost use Rattle.types_expressions.specs.Columns.{HasColumns, all_listed, sequen
 ghost use Rattle.types_expressions.specs.Columns.{step_signals, other_signals};
 ghost use Rattle.types_expressions.specs.Views.{scope_of, columns_in};
 ghost use Rattle.types_suites.specs.Readings.{least_of, extra_of, IsAtom, ReadsBoolean, Reads};
-ghost use Rattle.types_suites.specs.Readings.{ReadsSteps, ReadsAll, ReadsAny};
+ghost use Rattle.types_suites.specs.Readings.{joined_by, ReadsSteps, ReadsOthers};
 ghost use Rattle.types_sequences.specs.Placed.{Extends};
 
-use grammar::Range;
+use grammar::{Junction, Range};
 use parser::{ExprTree, SequenceTree};
 use std::alloc::{AllocError, Global};
 use types_expressions::{Scope, SignalPaths, typed_expression};
@@ -66,6 +66,22 @@ fn delayed_draft(
 {
     let (least, extra) = extent(range);
     Ok(Box::new(alloc, Draft::Delay(first, least, extra, second))?)
+}
+
+/// Two sides, joined.
+fn joined_draft(
+    alloc: Global,
+    junction: Junction,
+    first: Box<Draft>,
+    second: Box<Draft>,
+) -> Result<Box<Draft>, AllocError>
+    ensures { IfOk result (λ d. draft_of d.value
+        ≡ joined_by junction (draft_of first.value) (draft_of second.value)) }
+{
+    match junction {
+        Junction::And => Ok(Box::new(alloc, Draft::And(first, second))?),
+        Junction::Or => Ok(Box::new(alloc, Draft::Or(first, second))?),
+    }
 }
 
 /// The expression, typed and put behind the others: its place.
@@ -148,13 +164,9 @@ pub(crate) fn draft_of(
             let body = draft_of(alloc, scope, columns, body, booleans)?;
             Ok(Box::new(alloc, Draft::Throughout(place, body))?)
         }
-        SequenceTree::And(first, others) => {
+        SequenceTree::Joined(junction, first, others) => {
             let first = draft_of(alloc, scope, columns, first, booleans)?;
-            with_all(alloc, scope, columns, others, first, booleans)
-        }
-        SequenceTree::Or(first, others) => {
-            let first = draft_of(alloc, scope, columns, first, booleans)?;
-            with_any(alloc, scope, columns, others, first, booleans)
+            with_others(alloc, scope, columns, *junction, others, first, booleans)
         }
     }
 }
@@ -186,12 +198,13 @@ fn with_steps(
     Ok(whole)
 }
 
-/// More sides of "and", behind a first one.
+/// More sides, behind a first one.
 #[cycle(drafts)]
-fn with_all(
+fn with_others(
     alloc: Global,
     scope: &Scope,
     columns: &SignalPaths,
+    junction: Junction,
     others: &[SequenceTree],
     first: Box<Draft>,
     booleans: &mut Vec<expressions::Expr>,
@@ -202,40 +215,13 @@ fn with_all(
         (other_signals (scope_of scope.now) (others_of (map sequence_of others.now)))) }
     ensures grows { OnOk result (Extends booleans.old.items booleans.new.items) }
     ensures reads { IfOk result (λ d.
-        ReadsAll (scope_of scope.now) (columns_in columns.now) booleans.new.items
+        ReadsOthers (scope_of scope.now) (columns_in columns.now) booleans.new.items junction
         (draft_of first.value) (others_of (map sequence_of others.now)) (draft_of d.value)) }
 {
     let mut whole = first;
     for other in others {
         let next = draft_of(alloc, scope, columns, other, booleans)?;
-        whole = Box::new(alloc, Draft::And(whole, next))?;
-    }
-    Ok(whole)
-}
-
-/// More sides of "or", behind a first one.
-#[cycle(drafts)]
-fn with_any(
-    alloc: Global,
-    scope: &Scope,
-    columns: &SignalPaths,
-    others: &[SequenceTree],
-    first: Box<Draft>,
-    booleans: &mut Vec<expressions::Expr>,
-) -> Result<Box<Draft>, AllocError>
-    requires sound { (k : Sought)
-        → other_faults (scope_of scope.now) k (others_of (map sequence_of others.now)) ≡ [] }
-    requires listed { IsTrue (all_listed (columns_in columns.now)
-        (other_signals (scope_of scope.now) (others_of (map sequence_of others.now)))) }
-    ensures grows { OnOk result (Extends booleans.old.items booleans.new.items) }
-    ensures reads { IfOk result (λ d.
-        ReadsAny (scope_of scope.now) (columns_in columns.now) booleans.new.items
-        (draft_of first.value) (others_of (map sequence_of others.now)) (draft_of d.value)) }
-{
-    let mut whole = first;
-    for other in others {
-        let next = draft_of(alloc, scope, columns, other, booleans)?;
-        whole = Box::new(alloc, Draft::Or(whole, next))?;
+        whole = joined_draft(alloc, junction, whole, next)?;
     }
     Ok(whole)
 }

@@ -1,10 +1,10 @@
 //! Each function at the tokens of a text, against the grammar.
 
 use grammar::{
-    Bound, Function, Index, Mark, Terminal, bound_of, grammar_law, index_of, is, is_name, is_word,
-    mark_of, precedence_of, terminal_of,
+    Bound, Function, Index, Infix, Mark, Prefix, Terminal, bound_of, grammar_law, index_of,
+    infix_of, is, is_name, is_word, mark_of, precedence_of, terminal_of,
 };
-use lexer::{Kind, Token, lex};
+use lexer::{Base, Kind, Number, Token, lex};
 use std::test::Fail;
 
 #[test]
@@ -68,12 +68,19 @@ fn precedence(rt: HostRuntime) -> Result<(), Fail> {
 #[test]
 fn marks(rt: HostRuntime) -> Result<(), Fail> {
     for (text, expected) in [
-        ("4'b1", Mark::Number),
+        (
+            "4'b1",
+            Mark::Number(Number {
+                size: Some(4),
+                base: Some(Base::Binary),
+                value: 1,
+            }),
+        ),
         ("ready", Mark::Name),
         ("counter", Mark::Name),
-        ("!", Mark::Prefix),
-        ("~|", Mark::Prefix),
-        ("^~", Mark::Prefix),
+        ("!", Mark::Prefix(Prefix::Not)),
+        ("~|", Mark::Prefix(Prefix::Nor)),
+        ("^~", Mark::Prefix(Prefix::Xnor)),
         ("(", Mark::Opening),
         ("{", Mark::Brace),
         ("$past", Mark::Past),
@@ -93,6 +100,29 @@ fn marks(rt: HostRuntime) -> Result<(), Fail> {
         let tokens = lex(rt.alloc(), text)?;
         assert!(rt; tokens.len() > 0, "{text}");
         assert!(rt; mark_of(tokens[0]) == expected, "{text}");
+    }
+    Ok(())
+}
+
+#[test]
+fn left_operators(rt: HostRuntime) -> Result<(), Fail> {
+    for (text, expected) in [
+        ("-", Some(Infix::Sub)),
+        (">>", Some(Infix::ShiftRight)),
+        (">=", Some(Infix::GreaterEqual)),
+        ("!=", Some(Infix::NotEqual)),
+        ("^~", Some(Infix::Xnor)),
+        ("|", Some(Infix::Or)),
+        ("||", Some(Infix::LogicalOr)),
+        ("?", None),
+        ("!", None),
+        ("*", None),
+        ("or", None),
+        ("", None),
+    ] {
+        let tokens = lex(rt.alloc(), text)?;
+        assert!(rt; tokens.len() > 0, "{text}");
+        assert_eq!(rt; infix_of(tokens[0]), expected, "{text}");
     }
     Ok(())
 }

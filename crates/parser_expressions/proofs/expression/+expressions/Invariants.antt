@@ -1,9 +1,8 @@
 use Rattle.std.proofs.Common.{suc, ◌+◌, ◌*◌, ◌≤◌, map, length, Some}
 use Rattle.grammar.specs.declared.terminal.Terminal.TheVariants.{Comma}
 use Rattle.grammar.specs.Terminals.{is}
-use Rattle.grammar.specs.Marks.{has_precedence}
-use Rattle.grammar.specs.Readers.{◌>>=◌}
-use Rattle.grammar.specs.ReadExpressions.{operand, expression}
+use Rattle.grammar.specs.Operators.{is_infix}
+use Rattle.grammar.specs.ReadExpressions.{link_reader, operand, expression}
 use Rattle.parser_expressions.specs.Views.{tree_of, link_of}
 use Rattle.parser_expressions.proofs.LoopLaws.{Turns}
 use Rattle.parser_expressions.proofs.expression.+expressions.Given as goal
@@ -45,7 +44,7 @@ abbrev pub decreases-read_unary : goal.decreases-read_unary
 decreases-read_unary l = 100 * l.depth
 
 abbrev pub invariant-read_links-links : goal.invariant-read_links-links
-invariant-read_links-links l = (length l.left ≤ length l.tokens) × Turns (has_precedence (suc l.level)) (λ t us. operand l.depth l.level us >>= λ p. Some ((t, p.0), p.1)) l.tokens (map link_of l.found.items) l.left
+invariant-read_links-links l = (length l.left ≤ length l.tokens) × Turns (is_infix (suc l.level)) (link_reader (operand l.depth l.level)) l.tokens (map link_of l.found.items) l.left
 
 abbrev pub decreases-read_links-links : goal.decreases-read_links-links
 decreases-read_links-links l = length l.left

@@ -18,7 +18,7 @@ pub read_alternatives-returns-in_default-clause-read : goal.read_alternatives-re
 read_alternatives-returns-in_default-clause-read t c =
     gives-as _ _ _ _
     (alternatives-ok _ _ _ _ _ (turns-stop (is Or) (λ t. conjunction_with c.args.depth (sequences c.args.depth)) _ _ _ c.alternatives.invariant.1 (expect-lead Or _ _ c.in_default.ensures.token)))
-    c.with_alternatives.ensures.read
+    c.with_others.ensures.read
 
 pub read_alternatives-returns-in-Err-clause-read : goal.read_alternatives-returns-in-Err-clause-read
 read_alternatives-returns-in-Err-clause-read t c = alternatives-fails _ _ _ _ (turns-fail (is Or) (λ t. conjunction_with c.args.depth (sequences c.args.depth)) _ _ _ c.alternatives.invariant.1 _ _ (expect-lead Or _ _ c.in-Some.ensures.token) c.in-Some.ensures.shorter _ c.in-Err.ensures.read)
@@ -38,7 +38,7 @@ pub read_conjunction-returns-in_default-clause-read : goal.read_conjunction-retu
 read_conjunction-returns-in_default-clause-read t c =
     gives-as _ _ _ _
     (conjunction-ok _ _ _ _ _ (turns-stop (is And) (λ t. during_with c.args.depth (sequences c.args.depth)) _ _ _ c.conjuncts.invariant.1 (expect-lead And _ _ c.in_default.ensures.token)))
-    c.with_conjuncts.ensures.read
+    c.with_others.ensures.read
 
 pub read_conjunction-returns-in-Err-clause-read : goal.read_conjunction-returns-in-Err-clause-read
 read_conjunction-returns-in-Err-clause-read t c = conjunction-fails _ _ _ _ (turns-fail (is And) (λ t. during_with c.args.depth (sequences c.args.depth)) _ _ _ c.conjuncts.invariant.1 _ _ (expect-lead And _ _ c.in-Some.ensures.token) c.in-Some.ensures.shorter _ (with-fails _ _ _ c.in-Err.ensures.read))

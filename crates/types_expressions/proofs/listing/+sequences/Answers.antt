@@ -1,8 +1,8 @@
 use Rattle.parser_sequences.specs.Views.{sequence_of}
 use Rattle.types_expressions.specs.Views.{scope_of, columns_in}
 use Rattle.types_expressions.proofs.Lists.{steps-at, others-at, when_ok}
-use Rattle.types_expressions.proofs.TreeSteps.{is-Delayed, is-Throughout, is-And, is-Or}
-use Rattle.types_expressions.proofs.SequenceLaws.{listed-joined, listed-step, signals-delayed, signals-throughout, signals-all, signals-either, signals-step, signals-other}
+use Rattle.types_expressions.proofs.TreeSteps.{is-Delayed, is-Throughout, is-Joined}
+use Rattle.types_expressions.proofs.SequenceLaws.{listed-joined, listed-step, signals-delayed, signals-throughout, signals-joined, signals-step, signals-other}
 use Rattle.types_expressions.proofs.listing.+sequences.Goals as goal
 
 pub list_sequence-returns-in_ok-list_sequence-in-Delayed : goal.list_sequence-returns-in_ok-list_sequence-in-Delayed
@@ -11,17 +11,11 @@ list_sequence-returns-in_ok-list_sequence-in-Delayed t c =
     let is = is-Delayed c.args.sequence.now k.first k.steps c.deref-in-Delayed.result.now c.deref-in-Delayed-2.result.now k.is c.deref-in-Delayed.ensures c.deref-in-Delayed-2.ensures.value in
     when_ok c.list_steps.result (λ r h. listed-joined _ _ _ (columns_in c.args.columns.now) (columns_in c.list_sequence-in-Delayed.new.columns) (columns_in c.list_steps.new.columns) (signals-delayed (scope_of c.args.scope.now) _ _ _ is) c.in_ok-list_sequence-in-Delayed.ensures h) c.list_steps.ensures
 
-pub list_sequence-returns-in_ok-list_sequence-in-And : goal.list_sequence-returns-in_ok-list_sequence-in-And
-list_sequence-returns-in_ok-list_sequence-in-And t c =
-    let k = c.in-And in
-    let is = is-And c.args.sequence.now k.first k.others c.deref-in-And.result.now c.deref-in-And-2.result.now k.is c.deref-in-And.ensures c.deref-in-And-2.ensures.value in
-    when_ok c.list_others.result (λ r h. listed-joined _ _ _ (columns_in c.args.columns.now) (columns_in c.list_sequence-in-And.new.columns) (columns_in c.list_others.new.columns) (signals-all (scope_of c.args.scope.now) _ _ _ is) c.in_ok-list_sequence-in-And.ensures h) c.list_others.ensures
-
-pub list_sequence-returns-in_ok-list_sequence-in-Or : goal.list_sequence-returns-in_ok-list_sequence-in-Or
-list_sequence-returns-in_ok-list_sequence-in-Or t c =
-    let k = c.in-Or in
-    let is = is-Or c.args.sequence.now k.first k.others c.deref-in-Or.result.now c.deref-in-Or-2.result.now k.is c.deref-in-Or.ensures c.deref-in-Or-2.ensures.value in
-    when_ok c.list_others-in-Or.result (λ r h. listed-joined _ _ _ (columns_in c.args.columns.now) (columns_in c.list_sequence-in-Or.new.columns) (columns_in c.list_others-in-Or.new.columns) (signals-either (scope_of c.args.scope.now) _ _ _ is) c.in_ok-list_sequence-in-Or.ensures h) c.list_others-in-Or.ensures
+pub list_sequence-returns-in_ok-list_sequence-in-Joined : goal.list_sequence-returns-in_ok-list_sequence-in-Joined
+list_sequence-returns-in_ok-list_sequence-in-Joined t c =
+    let k = c.in-Joined in
+    let is = is-Joined c.args.sequence.now k.field-0 k.first k.others c.deref-in-Joined.result.now c.deref-in-Joined-2.result.now k.is c.deref-in-Joined.ensures c.deref-in-Joined-2.ensures.value in
+    when_ok c.list_others.result (λ r h. listed-joined _ _ _ (columns_in c.args.columns.now) (columns_in c.list_sequence-in-Joined.new.columns) (columns_in c.list_others.new.columns) (signals-joined (scope_of c.args.scope.now) _ _ _ _ is) c.in_ok-list_sequence-in-Joined.ensures h) c.list_others.ensures
 
 pub list_sequence-returns-in_ok-list_expression-in-Throughout : goal.list_sequence-returns-in_ok-list_expression-in-Throughout
 list_sequence-returns-in_ok-list_expression-in-Throughout t c =

@@ -3,8 +3,8 @@ use Rattle.parser_sequences.specs.Views.{sequence_of}
 use Rattle.types_expressions.specs.Faults.{earlier}
 use Rattle.types_expressions.specs.Views.{scope_of}
 use Rattle.types_expressions.proofs.Lists.{steps-at, others-at, when_ok}
-use Rattle.types_expressions.proofs.TreeSteps.{is-Delayed, is-Throughout, is-And, is-Or}
-use Rattle.types_expressions.proofs.SequenceLaws.{least-joined, least-step, faults-delayed, faults-throughout, faults-all, faults-either, faults-step, faults-other}
+use Rattle.types_expressions.proofs.TreeSteps.{is-Delayed, is-Throughout, is-Joined}
+use Rattle.types_expressions.proofs.SequenceLaws.{least-joined, least-step, faults-delayed, faults-throughout, faults-joined, faults-step, faults-other}
 use Rattle.types_expressions.proofs.sequence.+sequences.Goals as goal
 
 pub sequence_fault-returns-in_ok-first-in-Delayed : goal.sequence_fault-returns-in_ok-first-in-Delayed
@@ -13,17 +13,11 @@ sequence_fault-returns-in_ok-first-in-Delayed t c =
     let is = is-Delayed c.args.sequence.now k.first k.steps c.deref-in-Delayed.result.now c.deref-in-Delayed-2.result.now k.is c.deref-in-Delayed.ensures c.deref-in-Delayed-2.ensures.value in
     when_ok c.steps_fault.result (λ r h. least-joined _ _ _ c.in_ok-first-in-Delayed.first r (faults-delayed (scope_of c.args.scope.now) c.args.sought _ _ _ is) c.in_ok-first-in-Delayed.ensures h) c.steps_fault.ensures
 
-pub sequence_fault-returns-in_ok-first-in-And : goal.sequence_fault-returns-in_ok-first-in-And
-sequence_fault-returns-in_ok-first-in-And t c =
-    let k = c.in-And in
-    let is = is-And c.args.sequence.now k.first k.others c.deref-in-And.result.now c.deref-in-And-2.result.now k.is c.deref-in-And.ensures c.deref-in-And-2.ensures.value in
-    when_ok c.others_fault.result (λ r h. least-joined _ _ _ c.in_ok-first-in-And.first r (faults-all (scope_of c.args.scope.now) c.args.sought _ _ _ is) c.in_ok-first-in-And.ensures h) c.others_fault.ensures
-
-pub sequence_fault-returns-in_ok-first-in-Or : goal.sequence_fault-returns-in_ok-first-in-Or
-sequence_fault-returns-in_ok-first-in-Or t c =
-    let k = c.in-Or in
-    let is = is-Or c.args.sequence.now k.first k.others c.deref-in-Or.result.now c.deref-in-Or-2.result.now k.is c.deref-in-Or.ensures c.deref-in-Or-2.ensures.value in
-    when_ok c.others_fault-in-Or.result (λ r h. least-joined _ _ _ c.in_ok-first-in-Or.first r (faults-either (scope_of c.args.scope.now) c.args.sought _ _ _ is) c.in_ok-first-in-Or.ensures h) c.others_fault-in-Or.ensures
+pub sequence_fault-returns-in_ok-first-in-Joined : goal.sequence_fault-returns-in_ok-first-in-Joined
+sequence_fault-returns-in_ok-first-in-Joined t c =
+    let k = c.in-Joined in
+    let is = is-Joined c.args.sequence.now k.field-0 k.first k.others c.deref-in-Joined.result.now c.deref-in-Joined-2.result.now k.is c.deref-in-Joined.ensures c.deref-in-Joined-2.ensures.value in
+    when_ok c.others_fault.result (λ r h. least-joined _ _ _ c.in_ok-first-in-Joined.first r (faults-joined (scope_of c.args.scope.now) c.args.sought _ _ _ _ is) c.in_ok-first-in-Joined.ensures h) c.others_fault.ensures
 
 pub sequence_fault-returns-in_ok-body-in-Throughout : goal.sequence_fault-returns-in_ok-body-in-Throughout
 sequence_fault-returns-in_ok-body-in-Throughout t c =

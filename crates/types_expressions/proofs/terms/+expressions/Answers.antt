@@ -116,8 +116,8 @@ typed_expression-typed_expression-requires-in-Call t c =
 pub typed_expression-typed_expression-requires-in-Unary : goal.typed_expression-typed_expression-requires-in-Unary
 typed_expression-typed_expression-requires-in-Unary t c =
     let k = c.in-Unary in
-    let is = is-Unary c.args.expr.now k.token k.operand c.deref-in-Unary.result.now k.is c.deref-in-Unary.ensures in
-    let r = ready-unary (scope_of c.args.scope.now) (columns_in c.args.columns.now) _ k.token _ is c.requires.sound c.requires.listed in
+    let is = is-Unary c.args.expr.now k.operator k.field-1 k.operand c.deref-in-Unary.result.now k.is c.deref-in-Unary.ensures in
+    let r = ready-unary (scope_of c.args.scope.now) (columns_in c.args.columns.now) _ k.operator k.field-1 _ is c.requires.sound c.requires.listed in
     (search (rules, the_lemmas), (r.sound, r.listed))
 
 pub typed_expression-typed_expression-requires-in-Chain : goal.typed_expression-typed_expression-requires-in-Chain
@@ -157,7 +157,8 @@ typed_expression-typed_expression-requires-in-Choice-3 t c =
 
 pub typed_expression-returns-in-Number : goal.typed_expression-returns-in-Number
 typed_expression-returns-in-Number t c =
-    means-number (scope_of c.args.scope.now) (columns_in c.args.columns.now) _ c.in-Number.token c.number_bits.result _ (is-Number c.args.expr.now c.in-Number.token c.in-Number.is) c.number_bits.ensures.width c.number_bits.ensures.value c.constant.ensures
+    let k = c.in-Number in
+    means-number (scope_of c.args.scope.now) (columns_in c.args.columns.now) _ k.number k.field-1 c.number_bits.result _ (is-Number c.args.expr.now k.number k.field-1 k.is) c.number_bits.ensures.width c.number_bits.ensures.value c.constant.ensures
 
 pub typed_expression-returns-in-Path : goal.typed_expression-returns-in-Path
 typed_expression-returns-in-Path t c =
@@ -184,8 +185,8 @@ typed_expression-returns-in_ok-operand-in-Call t c =
 pub typed_expression-returns-in_ok-operand-in-Unary : goal.typed_expression-returns-in_ok-operand-in-Unary
 typed_expression-returns-in_ok-operand-in-Unary t c =
     let k = c.in-Unary in
-    let is = is-Unary c.args.expr.now k.token k.operand c.deref-in-Unary.result.now k.is c.deref-in-Unary.ensures in
-    when_ok c.prefix.result (λ e h. means-unary (scope_of c.args.scope.now) (columns_in c.args.columns.now) _ k.token _ (term_of c.in_ok-operand-in-Unary.operand) (term_of e) is c.in_ok-operand-in-Unary.ensures (h ∙ ap (λ op. unary_term op (term_of c.in_ok-operand-in-Unary.operand)) c.unary_of.ensures)) c.prefix.ensures
+    let is = is-Unary c.args.expr.now k.operator k.field-1 k.operand c.deref-in-Unary.result.now k.is c.deref-in-Unary.ensures in
+    when_ok c.prefix.result (λ e h. means-unary (scope_of c.args.scope.now) (columns_in c.args.columns.now) _ k.operator k.field-1 _ (term_of c.in_ok-operand-in-Unary.operand) (term_of e) is c.in_ok-operand-in-Unary.ensures (h ∙ ap (λ op. unary_term op (term_of c.in_ok-operand-in-Unary.operand)) c.unary_of.ensures)) c.prefix.ensures
 
 pub typed_expression-returns-in_ok-first-in-Chain : goal.typed_expression-returns-in_ok-first-in-Chain
 typed_expression-returns-in_ok-first-in-Chain t c =

@@ -5,8 +5,8 @@ use Rattle.assertions.specs.declared.sequence.Boolean.TheVariants.{Listed}
 use Rattle.types_sequences.specs.Views.{draft_of}
 use Rattle.types_expressions.specs.Views.{scope_of, columns_in}
 use Rattle.types_expressions.proofs.Lists.{steps-at, steps-end, others-at, others-end, when_ok}
-use Rattle.types_expressions.proofs.TreeSteps.{is-Boolean, is-Repeated, is-Late, is-Delayed, is-Throughout, is-And, is-Or}
-use Rattle.types_suites.proofs.ReadingLaws.{when_both, extends_same, extends_on, atom_grows, ready-boolean, ready-repeated, ready-late, ready-delayed, ready-throughout, ready-all, ready-either, ready-step, ready-other, reads-boolean, reads-repeated, reads-late, reads-throughout, reads-delayed, reads-all, reads-either, steps-step, all-step, any-step, steps-end as steps-done, all-end, any-end}
+use Rattle.types_expressions.proofs.TreeSteps.{is-Boolean, is-Repeated, is-Late, is-Delayed, is-Throughout, is-Joined}
+use Rattle.types_suites.proofs.ReadingLaws.{when_both, extends_same, extends_on, atom_grows, ready-boolean, ready-repeated, ready-late, ready-delayed, ready-throughout, ready-joined, ready-step, ready-other, reads-boolean, reads-repeated, reads-late, reads-throughout, reads-delayed, reads-joined, steps-step, others-step, steps-end as steps-done, others-end as others-done}
 use Rattle.types_suites.proofs.drafts.+drafts.Goals as goal
 
 pub draft_of-boolean-requires-clause-sound : goal.draft_of-boolean-requires-clause-sound
@@ -70,32 +70,18 @@ draft_of-draft_of-requires-in-Throughout t c =
     let r = ready-throughout (scope_of c.args.scope.now) (columns_in c.args.columns.now) _ _ _ is (record { sound = c.requires.sound; listed = c.requires.listed }) in
     (search (rules, the_lemmas), (r.1.sound, r.1.listed))
 
-pub draft_of-draft_of-requires-in-And : goal.draft_of-draft_of-requires-in-And
-draft_of-draft_of-requires-in-And t c =
-    let k = c.in-And in
-    let is = is-And c.args.sequence.now k.first k.others c.deref-in-And.result.now _ k.is c.deref-in-And.ensures refl in
-    let r = ready-all (scope_of c.args.scope.now) (columns_in c.args.columns.now) _ _ _ is (record { sound = c.requires.sound; listed = c.requires.listed }) in
+pub draft_of-draft_of-requires-in-Joined : goal.draft_of-draft_of-requires-in-Joined
+draft_of-draft_of-requires-in-Joined t c =
+    let k = c.in-Joined in
+    let is = is-Joined c.args.sequence.now k.junction k.first k.others c.deref-in-Joined.result.now _ k.is c.deref-in-Joined.ensures refl in
+    let r = ready-joined (scope_of c.args.scope.now) (columns_in c.args.columns.now) _ _ _ _ is (record { sound = c.requires.sound; listed = c.requires.listed }) in
     (search (rules, the_lemmas), (r.0.sound, r.0.listed))
 
-pub draft_of-with_all-requires : goal.draft_of-with_all-requires
-draft_of-with_all-requires t c =
-    let k = c.in-And in
-    let is = is-And c.args.sequence.now k.first k.others c.deref-in-And.result.now c.deref-in-And-2.result.now k.is c.deref-in-And.ensures c.deref-in-And-2.ensures.value in
-    let r = ready-all (scope_of c.args.scope.now) (columns_in c.args.columns.now) _ _ _ is (record { sound = c.requires.sound; listed = c.requires.listed }) in
-    (search (rules, the_lemmas), (r.1.sound, r.1.listed))
-
-pub draft_of-draft_of-requires-in-Or : goal.draft_of-draft_of-requires-in-Or
-draft_of-draft_of-requires-in-Or t c =
-    let k = c.in-Or in
-    let is = is-Or c.args.sequence.now k.first k.others c.deref-in-Or.result.now _ k.is c.deref-in-Or.ensures refl in
-    let r = ready-either (scope_of c.args.scope.now) (columns_in c.args.columns.now) _ _ _ is (record { sound = c.requires.sound; listed = c.requires.listed }) in
-    (search (rules, the_lemmas), (r.0.sound, r.0.listed))
-
-pub draft_of-with_any-requires : goal.draft_of-with_any-requires
-draft_of-with_any-requires t c =
-    let k = c.in-Or in
-    let is = is-Or c.args.sequence.now k.first k.others c.deref-in-Or.result.now c.deref-in-Or-2.result.now k.is c.deref-in-Or.ensures c.deref-in-Or-2.ensures.value in
-    let r = ready-either (scope_of c.args.scope.now) (columns_in c.args.columns.now) _ _ _ is (record { sound = c.requires.sound; listed = c.requires.listed }) in
+pub draft_of-with_others-requires : goal.draft_of-with_others-requires
+draft_of-with_others-requires t c =
+    let k = c.in-Joined in
+    let is = is-Joined c.args.sequence.now k.junction k.first k.others c.deref-in-Joined.result.now c.deref-in-Joined-2.result.now k.is c.deref-in-Joined.ensures c.deref-in-Joined-2.ensures.value in
+    let r = ready-joined (scope_of c.args.scope.now) (columns_in c.args.columns.now) _ _ _ _ is (record { sound = c.requires.sound; listed = c.requires.listed }) in
     (search (rules, the_lemmas), (r.1.sound, r.1.listed))
 
 pub draft_of-returns-in-Boolean-clause-reads : goal.draft_of-returns-in-Boolean-clause-reads
@@ -141,23 +127,14 @@ draft_of-returns-in_ok-new-in-Throughout-clause-reads t c =
     reads-throughout s cs _ _ _ _ place (draft_of c.in_ok-body-in-Throughout.body.value) _ is (atom_grows s cs _ _ c.in_ok-body-in-Throughout.ensures.grows _ place c.in_ok-place-in-Throughout.ensures.atom)
     c.in_ok-body-in-Throughout.ensures.reads (ap draft_of c.in_ok-new-in-Throughout.ensures.ok)
 
-pub draft_of-returns-in_ok-first-in-And-clause-reads :
-    goal.draft_of-returns-in_ok-first-in-And-clause-reads
-draft_of-returns-in_ok-first-in-And-clause-reads t c =
-    let k = c.in-And in
-    let is = is-And c.args.sequence.now k.first k.others c.deref-in-And.result.now c.deref-in-And-2.result.now k.is c.deref-in-And.ensures c.deref-in-And-2.ensures.value in
-    when_both c.with_all.result
-    (λ d g h. reads-all (scope_of c.args.scope.now) (columns_in c.args.columns.now) _ _ g _ _ _ (draft_of c.in_ok-first-in-And.first.value) (draft_of d.value) is c.in_ok-first-in-And.ensures.reads h)
-    c.with_all.ensures.grows c.with_all.ensures.reads
-
-pub draft_of-returns-in_ok-first-in-Or-clause-reads :
-    goal.draft_of-returns-in_ok-first-in-Or-clause-reads
-draft_of-returns-in_ok-first-in-Or-clause-reads t c =
-    let k = c.in-Or in
-    let is = is-Or c.args.sequence.now k.first k.others c.deref-in-Or.result.now c.deref-in-Or-2.result.now k.is c.deref-in-Or.ensures c.deref-in-Or-2.ensures.value in
-    when_both c.with_any.result
-    (λ d g h. reads-either (scope_of c.args.scope.now) (columns_in c.args.columns.now) _ _ g _ _ _ (draft_of c.in_ok-first-in-Or.first.value) (draft_of d.value) is c.in_ok-first-in-Or.ensures.reads h)
-    c.with_any.ensures.grows c.with_any.ensures.reads
+pub draft_of-returns-in_ok-first-in-Joined-clause-reads :
+    goal.draft_of-returns-in_ok-first-in-Joined-clause-reads
+draft_of-returns-in_ok-first-in-Joined-clause-reads t c =
+    let k = c.in-Joined in
+    let is = is-Joined c.args.sequence.now k.junction k.first k.others c.deref-in-Joined.result.now c.deref-in-Joined-2.result.now k.is c.deref-in-Joined.ensures c.deref-in-Joined-2.ensures.value in
+    when_both c.with_others.result
+    (λ d g h. reads-joined (scope_of c.args.scope.now) (columns_in c.args.columns.now) _ _ g _ _ _ _ (draft_of c.in_ok-first-in-Joined.first.value) (draft_of d.value) is c.in_ok-first-in-Joined.ensures.reads h)
+    c.with_others.ensures.grows c.with_others.ensures.reads
 
 pub with_steps-draft_of-requires : goal.with_steps-draft_of-requires
 with_steps-draft_of-requires t c =
@@ -166,15 +143,8 @@ with_steps-draft_of-requires t c =
     let r = ready-step (scope_of c.args.scope.now) (columns_in c.args.columns.now) _ x.0 (sequence_of x.1) _ at c.loop-step.invariant.ready in
     (search (rules, the_lemmas), (r.0.sound, r.0.listed))
 
-pub with_all-draft_of-requires : goal.with_all-draft_of-requires
-with_all-draft_of-requires t c =
-    let x = c.other-item.result in
-    let at = others-at c.args.others.now c.loop-other.other-index x c.loop-other-test.true c.other-item.is in
-    let r = ready-other (scope_of c.args.scope.now) (columns_in c.args.columns.now) _ (sequence_of x) _ at c.loop-other.invariant.ready in
-    (search (rules, the_lemmas), (r.0.sound, r.0.listed))
-
-pub with_any-draft_of-requires : goal.with_any-draft_of-requires
-with_any-draft_of-requires t c =
+pub with_others-draft_of-requires : goal.with_others-draft_of-requires
+with_others-draft_of-requires t c =
     let x = c.other-item.result in
     let at = others-at c.args.others.now c.loop-other.other-index x c.loop-other-test.true c.other-item.is in
     let r = ready-other (scope_of c.args.scope.now) (columns_in c.args.columns.now) _ (sequence_of x) _ at c.loop-other.invariant.ready in
@@ -200,8 +170,8 @@ with_steps-returns-clause-reads t c =
     c.loop-step.invariant.reads _ (extends_same _) (draft_of c.loop-step.whole.value)
     (steps-done (scope_of c.args.scope.now) (columns_in c.args.columns.now) _ _ (draft_of c.loop-step.whole.value) (steps-end c.args.steps.now c.loop-step.step-index c.loop-step-test.false))
 
-pub with_all-loop-other-preserved : goal.with_all-loop-other-preserved
-with_all-loop-other-preserved t c =
+pub with_others-loop-other-preserved : goal.with_others-loop-other-preserved
+with_others-loop-other-preserved t c =
     let s = scope_of c.args.scope.now in
     let cs = columns_in c.args.columns.now in
     let x = c.other-item.result in
@@ -212,30 +182,10 @@ with_all-loop-other-preserved t c =
       ready = r.1;
       grows = extends_on _ _ _ c.loop-other.invariant.grows grown;
       reads = λ later more d h. c.loop-other.invariant.reads later (extends_on _ _ _ grown more) d
-          (all-step s cs _ later more _ (sequence_of x) _ (draft_of c.loop-other.whole.value) (draft_of c.in_ok-next.next.value) (draft_of c.in_ok-whole.whole.value) d at c.in_ok-next.ensures.reads (ap draft_of c.in_ok-whole.ensures.ok) h);
+          (others-step s cs _ later more c.args.junction _ (sequence_of x) _ (draft_of c.loop-other.whole.value) (draft_of c.in_ok-next.next.value) (draft_of c.in_ok-whole.whole.value) d at c.in_ok-next.ensures.reads c.in_ok-whole.ensures h);
     }
 
-pub with_all-returns-clause-reads : goal.with_all-returns-clause-reads
-with_all-returns-clause-reads t c =
+pub with_others-returns-clause-reads : goal.with_others-returns-clause-reads
+with_others-returns-clause-reads t c =
     c.loop-other.invariant.reads _ (extends_same _) (draft_of c.loop-other.whole.value)
-    (all-end (scope_of c.args.scope.now) (columns_in c.args.columns.now) _ _ (draft_of c.loop-other.whole.value) (others-end c.args.others.now c.loop-other.other-index c.loop-other-test.false))
-
-pub with_any-loop-other-preserved : goal.with_any-loop-other-preserved
-with_any-loop-other-preserved t c =
-    let s = scope_of c.args.scope.now in
-    let cs = columns_in c.args.columns.now in
-    let x = c.other-item.result in
-    let at = others-at c.args.others.now c.loop-other.other-index x c.loop-other-test.true c.other-item.is in
-    let r = ready-other s cs _ (sequence_of x) _ at c.loop-other.invariant.ready in
-    let grown = c.in_ok-next.ensures.grows in
-    record {
-      ready = r.1;
-      grows = extends_on _ _ _ c.loop-other.invariant.grows grown;
-      reads = λ later more d h. c.loop-other.invariant.reads later (extends_on _ _ _ grown more) d
-          (any-step s cs _ later more _ (sequence_of x) _ (draft_of c.loop-other.whole.value) (draft_of c.in_ok-next.next.value) (draft_of c.in_ok-whole.whole.value) d at c.in_ok-next.ensures.reads (ap draft_of c.in_ok-whole.ensures.ok) h);
-    }
-
-pub with_any-returns-clause-reads : goal.with_any-returns-clause-reads
-with_any-returns-clause-reads t c =
-    c.loop-other.invariant.reads _ (extends_same _) (draft_of c.loop-other.whole.value)
-    (any-end (scope_of c.args.scope.now) (columns_in c.args.columns.now) _ _ (draft_of c.loop-other.whole.value) (others-end c.args.others.now c.loop-other.other-index c.loop-other-test.false))
+    (others-done (scope_of c.args.scope.now) (columns_in c.args.columns.now) _ c.args.junction _ (draft_of c.loop-other.whole.value) (others-end c.args.others.now c.loop-other.other-index c.loop-other-test.false))

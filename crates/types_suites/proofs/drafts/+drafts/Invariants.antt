@@ -6,7 +6,7 @@ use Rattle.assertions.specs.declared.sequence.Boolean.{Boolean}
 use Rattle.types_sequences.specs.Drafts.{Draft}
 use Rattle.types_sequences.specs.Views.{draft_of}
 use Rattle.types_expressions.specs.Views.{scope_of, columns_in}
-use Rattle.types_suites.specs.Readings.{ReadsSteps, ReadsAll, ReadsAny}
+use Rattle.types_suites.specs.Readings.{ReadsSteps, ReadsOthers}
 use Rattle.types_sequences.specs.Placed.{Extends}
 use Rattle.types_suites.proofs.ReadingLaws.{AreReadySteps, AreReadyOthers}
 use Rattle.types_suites.proofs.drafts.+drafts.Given as goal
@@ -20,20 +20,11 @@ invariant-with_steps-loop-step l = record {
       ReadsSteps (scope_of l.scope) (columns_in l.columns) later (draft_of l.fn.first.value) (steps_of (map delay_step_of l.steps)) d;
 }
 
-abbrev pub invariant-with_all-loop-other : goal.invariant-with_all-loop-other
-invariant-with_all-loop-other l = record {
+abbrev pub invariant-with_others-loop-other : goal.invariant-with_others-loop-other
+invariant-with_others-loop-other l = record {
   ready : AreReadyOthers (scope_of l.scope) (columns_in l.columns) (others_of (map sequence_of (drop l.other-index l.others)));
   grows : Extends l.fn.booleans.items l.booleans.items;
   reads : (later : List Expr) → Extends l.booleans.items later → (d : Draft Boolean) →
-      ReadsAll (scope_of l.scope) (columns_in l.columns) later (draft_of l.whole.value) (others_of (map sequence_of (drop l.other-index l.others))) d →
-      ReadsAll (scope_of l.scope) (columns_in l.columns) later (draft_of l.fn.first.value) (others_of (map sequence_of l.others)) d;
-}
-
-abbrev pub invariant-with_any-loop-other : goal.invariant-with_any-loop-other
-invariant-with_any-loop-other l = record {
-  ready : AreReadyOthers (scope_of l.scope) (columns_in l.columns) (others_of (map sequence_of (drop l.other-index l.others)));
-  grows : Extends l.fn.booleans.items l.booleans.items;
-  reads : (later : List Expr) → Extends l.booleans.items later → (d : Draft Boolean) →
-      ReadsAny (scope_of l.scope) (columns_in l.columns) later (draft_of l.whole.value) (others_of (map sequence_of (drop l.other-index l.others))) d →
-      ReadsAny (scope_of l.scope) (columns_in l.columns) later (draft_of l.fn.first.value) (others_of (map sequence_of l.others)) d;
+      ReadsOthers (scope_of l.scope) (columns_in l.columns) later l.junction (draft_of l.whole.value) (others_of (map sequence_of (drop l.other-index l.others))) d →
+      ReadsOthers (scope_of l.scope) (columns_in l.columns) later l.junction (draft_of l.fn.first.value) (others_of (map sequence_of l.others)) d;
 }
