@@ -1,4 +1,3 @@
-pub mod NameLaws
 pub mod LineLaws
 pub mod PushLaws
 pub mod SampledLaws

@@ -3,18 +3,12 @@ use Rattle.std.proofs.Common.{
   ◌≡◌,
   ℕ,
   ◌<◌,
-  Bool,
-  true,
-  false,
-  cond,
   List,
   [],
   ◌∷◌,
   length,
   map,
   arith,
-  Option,
-  Some,
   None,
   sym,
   ap,
@@ -22,8 +16,6 @@ use Rattle.std.proofs.Common.{
   subst,
 }
 use Rattle.std.specs.Prelude.{Result, Ok, Err, IfErr, IsErrAnd, string_bytes}
-use Rattle.std.specs.Option.{option_map}
-use Rattle.std.specs.Str.{is_utf8}
 use Rattle.lexer.specs.declared.token.Token.{Token}
 use Rattle.lexer.specs.declared.fault.LexFault.{LexFault}
 use Rattle.lexer.specs.declared.fault.LexFault.TheVariants as lexing
@@ -38,7 +30,7 @@ use Rattle.parser.specs.Faults as parser_faults
 use Rattle.grammar.specs.Trees.{ItemForm}
 use Rattle.assertions.specs.declared.signal.Signal.{Signal}
 use Rattle.assertions.specs.declared.suite.Suite.{Suite}
-use Rattle.types_expressions.specs.Scopes.{Scope, look_up, scope_for}
+use Rattle.types_expressions.specs.Dumps.{width_named}
 use Rattle.types_expressions.specs.Columns.{columns_of}
 use Rattle.types.specs.declared.fault.TypeFault.{TypeFault}
 use Rattle.types.specs.declared.fault.TypeFault.TheVariants as types
@@ -50,7 +42,7 @@ use Rattle.compiled_lines.specs.declared.fault.LinesFault.TheVariants.{Program}
 use Rattle.compiled_lines.specs.declared.fault.LinesFault.TheVariants as lines
 use Rattle.compiler.specs.declared.fault.CompileFault.TheVariants as compiles
 use Rattle.compiled_lines.specs.Faults.{WhyNoLines}
-use Rattle.vcd_reader.specs.Variables.{Declared, variable_named, size_of}
+use Rattle.vcd_reader.specs.Variables.{Declared, variable_named}
 use Rattle.vcd_reader.specs.Dump.{Contents}
 use Rattle.cycle_window.specs.declared.fault.WindowFault.{WindowFault}
 use Rattle.cycle_window.specs.declared.fault.WindowFault.TheVariants as windows
@@ -74,7 +66,7 @@ use Rattle.cli.specs.declared.fault.Fault.TheVariants.{
   File,
   Memory,
 }
-use Rattle.cli.specs.Named.{width_named, scope_over, AreNamed}
+use Rattle.cli.specs.Named.{scope_over, AreNamed}
 use Rattle.cli.specs.Faults.{lex_fault, parse_fault, type_fault, window_fault, lines_fault}
 use Rattle.cli.specs.Reported.{AreTokens, HasItems, IsTyped, SaysSuite}
 use Rattle.cli.specs.Outcomes.{
@@ -127,24 +119,13 @@ unparsed text tokens (parsing.BadBound at) cut h p =
     no_items text tokens (parsing.BadBound at) cut (λ e. cc) h (p (tokens_some text tokens cut))
 unparsed text tokens parsing.Memory cut h p = tt
 
--- the same scope, under both spellings
-pub scope_is : (vs : List Declared) (names : List (List ℕ × ℕ)) (items : List ItemForm)
-    → look_up names ≡ width_named vs → scope_for items names ≡ scope_over vs items
-scope_is vs names items e =
-    ap (λ (dump : List ℕ → Option ℕ). let s : Scope =
-    record { own = (scope_over vs items).own; dump = dump } in s) e
-
+-- what stands over the dump's variables stands over its contents
 pub why_not_typed :
-    (c : Contents) (vs : List Declared) (names : List (List ℕ × ℕ)) (items : List ItemForm)
-    (e : TypeFault) → vs ≡ c.variables → look_up names ≡ width_named vs
-    → faults.IsTypeFault (scope_for items names) items e → WhyNotTyped c items e
-why_not_typed c vs names items e same dump h = by e moved
+    (c : Contents) (vs : List Declared) (items : List ItemForm) (e : TypeFault)
+    → vs ≡ c.variables → faults.IsTypeFault (scope_over vs items) items e → WhyNotTyped c items e
+why_not_typed c vs items e same h =
+    by e (subst (λ (ds : List Declared). faults.IsTypeFault (scope_over ds items) items e) same h)
   where
-    moved : faults.IsTypeFault (scope_over c.variables items) items e
-    moved =
-        subst (λ (ds : List Declared). faults.IsTypeFault (scope_over ds items) items e) same
-        (subst (λ (s : Scope). faults.IsTypeFault s items e) (scope_is vs names items dump) h)
-
     by : (f : TypeFault) → faults.IsTypeFault (scope_over c.variables items) items f
         → WhyNotTyped c items f
     by (types.UnknownName at) k = k
@@ -158,36 +139,22 @@ why_not_typed c vs names items e same dump h = by e moved
     by (types.TooWide at) k = k
     by types.Memory k = tt
 
-pub is_typed :
-    (c : Contents) (vs : List Declared) (names : List (List ℕ × ℕ)) (items : List ItemForm)
-    (suite : Suite) → vs ≡ c.variables → look_up names ≡ width_named vs
-    → IsFaultless (scope_for items names) items → IsSuite (scope_for items names) items suite
-    → IsTyped c items suite
-is_typed c vs names items suite same dump clear is =
-    let e : scope_for items names ≡ scope_over c.variables items =
-    scope_is vs names items dump ∙ ap (λ (ds : List Declared). scope_over ds items) same in
-    record {
-      faultless = subst (λ (s : Scope). IsFaultless s items) e clear;
-      says = subst (λ (s : Scope). IsSuite s items suite) e is;
-    }
+pub is_typed : (c : Contents) (vs : List Declared) (items : List ItemForm) (suite : Suite)
+    → vs ≡ c.variables → IsFaultless (scope_over vs items) items
+    → IsSuite (scope_over vs items) items suite → IsTyped c items suite
+is_typed c vs items suite same clear is = record {
+  faultless = subst (λ (ds : List Declared). IsFaultless (scope_over ds items) items) same clear;
+  says = subst (λ (ds : List Declared). IsSuite (scope_over ds items) items suite) same is;
+}
 
 -- a suite's signals are variables of the dump
-text_named : (u : Bool) (o : Option ℕ) (w : ℕ) → cond u o None ≡ Some w → o ≡ Some w
-text_named true o w e = e
-text_named false o w e = absurd cc
-
 named_all : (vs : List Declared) (items : List ItemForm) (paths : List (List ℕ))
     (signals : List Signal) → AreSignals (scope_over vs items) paths signals → AreNamed vs signals
 named_all vs items [] [] h = tt
 named_all vs items [] (x ∷ xs) h = elim h [ ]
 named_all vs items (p ∷ ps) [] h = elim h [ ]
 named_all vs items (p ∷ ps) (x ∷ xs) h =
-    let at : width_named vs (string_bytes x.path) ≡ Some x.width =
-    ap (width_named vs) h.0.0 ∙ h.0.1 in (
-      text_named (is_utf8 (string_bytes x.path))
-          (option_map (size_of vs) (variable_named vs (string_bytes x.path))) x.width at,
-      named_all vs items ps xs h.1,
-    )
+    (ap (width_named vs) h.0.0 ∙ h.0.1, named_all vs items ps xs h.1)
 
 pub are_named : (c : Contents) (vs : List Declared) (items : List ItemForm) (suite : Suite)
     → vs ≡ c.variables → IsTyped c items suite → AreNamed vs suite.names.items

@@ -27,7 +27,6 @@ mod checked;
 mod code_lines;
 mod fault;
 mod lines;
-mod names;
 mod programs;
 mod report;
 mod run;

@@ -8,12 +8,11 @@ ghost use Rattle.cli.specs.Reported.{HasItems, IsTyped};
 ghost use Rattle.cli.specs.Outcomes.{WhyNoItems, WhyNotTyped};
 
 use crate::fault::Fault;
-use crate::names::names_of;
 use assertions::Suite;
 use lexer::lex;
 use parser::{File, parse};
 use std::alloc::Global;
-use types::{TypeFault, check};
+use types::{Paths, TypeFault, check};
 use vcd_reader::Dump;
 
 /// The items of a text.
@@ -32,9 +31,5 @@ pub(crate) fn suite_of(alloc: Global, dump: &Dump, file: &File) -> Result<Suite,
     ensures err { (c : Contents) → HoldsContents dump.now c
         → IfErr result (WhyNotTyped c (items_of file.now)) }
 {
-    let names = match names_of(alloc, dump) {
-        Ok(names) => names,
-        Err(_) => return Err(TypeFault::Memory),
-    };
-    check(alloc, file, &names)
+    check(alloc, file, Paths::Dump(dump))
 }

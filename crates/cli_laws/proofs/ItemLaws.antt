@@ -31,7 +31,8 @@ use Rattle.types_laws.proofs.MovedFiles.{file-moved}
 use Rattle.types_laws.proofs.MovedSuites.{owns-moved, suite-moved}
 use Rattle.types_laws.proofs.MovedFaults.{stands-moved}
 use Rattle.vcd_reader.specs.Variables.{Declared}
-use Rattle.cli.specs.Named.{width_named, scope_over}
+use Rattle.types_expressions.specs.Dumps.{width_named}
+use Rattle.cli.specs.Named.{scope_over}
 use Rattle.cli.specs.Reported.{AreTokens, HasItems}
 use Rattle.cli_laws.proofs.TokenLaws.{lies_in, moved_tokens}
 

@@ -1,7 +1,7 @@
 //! Programs of assertions: `compile` makes the bytecode whose verdicts are the assertion's.
 //!
 //! ```text
-//! let suite = check(alloc, &file, &names)?;
+//! let suite = check(alloc, &file, paths)?;
 //! for assertion in suite.assertions() {
 //!     let verified = compile(alloc, assertion, &suite)?;
 //! }

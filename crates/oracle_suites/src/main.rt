@@ -12,7 +12,7 @@ use parser::parse;
 use std::alloc::Global;
 use std::time::Instant;
 use std::{env, fs};
-use types::{Names, check};
+use types::{Names, Paths, check};
 
 /// Paths with their widths, one a line.
 fn names_of(alloc: Global, lines: &str) -> Result<Names> {
@@ -35,7 +35,7 @@ fn verdict(alloc: Global, names: &Names, text: &str) -> Result<String> {
     let Ok(file) = parse(alloc, tokens.as_slice()) else {
         bail!("a text is not read");
     };
-    match check(alloc, &file, names) {
+    match check(alloc, &file, Paths::Listed(names)) {
         Ok(suite) => {
             let count = suite.assertions.len();
             Ok(format!(in alloc; "assertions {count}")?)
@@ -54,7 +54,7 @@ fn time_text(rt: &HostRuntime, names: &Names, text: &str) -> Result<()> {
         bail!("the text is not read");
     };
     let start = Instant::now(rt)?;
-    let checked = check(alloc, &file, names);
+    let checked = check(alloc, &file, Paths::Listed(names));
     let took = start.elapsed(rt)?.as_micros();
     match checked {
         Ok(suite) => {

@@ -12,7 +12,7 @@ use parser::parse;
 use signals::Verdict;
 use std::alloc::Global;
 use std::io::Print;
-use types::{Names, check};
+use types::{Names, Paths, check};
 
 /// The suite of an assertion over signals of one bit.
 fn suite_of(alloc: Global, property: &str) -> Result<Suite> {
@@ -25,7 +25,7 @@ fn suite_of(alloc: Global, property: &str) -> Result<Suite> {
     let Ok(file) = parse(alloc, tokens.as_slice()) else {
         bail!("{property}: it is not read");
     };
-    match check(alloc, &file, &names) {
+    match check(alloc, &file, Paths::Listed(&names)) {
         Ok(suite) => Ok(suite),
         Err(fault) => bail!("{property}: {fault}"),
     }

@@ -25,7 +25,7 @@ use Rattle.expression_code.proofs.NarrowLaws.{expression-narrow}
 use Rattle.types_sequences.specs.Drafts.{Draft, IsIn}
 use Rattle.types_sequences.proofs.UsedLaws.{each_used}
 use Rattle.types_expressions.specs.declared.own.Own.TheVariants as own
-use Rattle.types_expressions.specs.Scopes.{Scope}
+use Rattle.types_expressions.specs.Scopes.{Scope, scope_for}
 use Rattle.types_expressions.specs.Columns.{is_listed, with_path, with_paths, columns_of}
 use Rattle.types_expressions.specs.Columns.{file_signals}
 use Rattle.types_expressions.specs.Meanings.{Means}
@@ -39,7 +39,7 @@ use Rattle.compiler.specs.Conditions.{IsKnown, IsKnownAt, CountsByKnown, IsSound
 use Rattle.compiler.specs.Conditions.{IsProper, IsFit}
 use Rattle.text_depths.specs.Trees.{OfOne, OfTwo, OfAssertion, EachTree}
 use Rattle.text_depths.specs.Laws.{MeansShallow, TextsAreShallow}
-use Rattle.suite_facts.specs.Laws.{SuitesFit, scope_with}
+use Rattle.suite_facts.specs.Laws.{SuitesFit}
 use Rattle.suite_facts.proofs.WordLaws.{made_word, tokens_worded}
 use Rattle.suite_facts.proofs.PathLaws.{IsPathText, ArePaths, both, IsLabelWord, IsSpoken}
 use Rattle.suite_facts.proofs.PathLaws.{file_paths}
@@ -239,9 +239,9 @@ module _
 
 -- The suite of a text.
 pub suites-fit : TextsAreShallow → SuitesFit
-suites-fit law dump text suite x =
+suites-fit law widths text suite x =
     let items = x.items in
-    let s = scope_with dump items in
+    let s = scope_for items widths in
     let cs = columns_of s items in
     let h = x.says in
     let spoken = file_paths s items x.tokens x.spelled (tokens_worded text x.tokens x.cut) in

@@ -6,31 +6,23 @@ use Rattle.lexer.specs.Cutting.{cut_of, tokens_of}
 use Rattle.grammar.specs.Trees.{ItemForm}
 use Rattle.grammar.specs.Files.{IsFile}
 use Rattle.assertions.specs.declared.suite.Suite.{Suite}
-use Rattle.types_expressions.specs.Scopes.{Scope, look_up, owns}
+use Rattle.types_expressions.specs.Scopes.{scope_for}
 use Rattle.types_suites.specs.Suites.{IsSuite}
 use Rattle.types.specs.Faults.{IsFaultless}
 use Rattle.compiler.specs.Conditions.{IsFit}
 
--- which paths a dump has, with their widths
-abbrev pub Paths : Type 0
-Paths = List ℕ → Option ℕ
-
--- the scope of items over a dump: the text's own names, and the dump's paths
-abbrev pub scope_with : Paths → List ItemForm → Scope
-scope_with dump items = record { own = look_up (owns items); dump = dump }
-
 -- The text's bytes are cut into tokens, these spell items in which no fault of types stands over
--- the dump's paths, and the suite says what the items say.
-pub record SaysOver (dump : Paths) (text : List ℕ) (suite : Suite) : Type 0 where
+-- the dump's paths, which have these widths, and the suite says what the items say.
+pub record SaysOver (widths : List ℕ → Option ℕ) (text : List ℕ) (suite : Suite) : Type 0 where
   pub tokens : List Token
   pub items : List ItemForm
   pub cut : tokens_of text ≡ Ok (map cut_of tokens)
   pub spelled : IsFile items tokens
-  pub faultless : IsFaultless (scope_with dump items) items
-  pub says : IsSuite (scope_with dump items) items suite
+  pub faultless : IsFaultless (scope_for items widths) items
+  pub says : IsSuite (scope_for items widths) items suite
 
 -- Each assertion of the suite of a text is fit to be compiled.
 abbrev pub SuitesFit : Type 0
 SuitesFit =
-    (dump : Paths) (text : List ℕ) (suite : Suite) → SaysOver dump text suite →
+    (widths : List ℕ → Option ℕ) (text : List ℕ) (suite : Suite) → SaysOver widths text suite →
     AllByRecursion (IsFit suite) suite.assertions.items

@@ -1,54 +1,109 @@
 -- Names that are known.
-use Rattle.std.proofs.Common.{◌≡◌, ℕ, List, [], ◌∷◌, ◌++◌, Bool, true, false, map, Option, Some, None, refl, sym, ap, ◌∙◌, ◌≤◌, ◌+◌, arith}
-use Rattle.std.specs.Prelude.{is_some, bytes_eq, if◌then◌else◌, option_map}
-use Rattle.types_expressions.specs.Scopes.{look_up}
-use Rattle.types_expressions.specs.Entries.{with_entry}
+use Rattle.std.proofs.Common.{
+  ◌≡◌,
+  ℕ,
+  List,
+  [],
+  ◌∷◌,
+  ◌++◌,
+  Bool,
+  true,
+  false,
+  not,
+  ◌||◌,
+  map,
+  Option,
+  Some,
+  String,
+  string_bytes,
+  Global,
+  refl,
+  sym,
+  ap,
+  ◌∙◌,
+  ◌≤◌,
+  ◌+◌,
+  arith,
+}
+use Rattle.std.proofs.lemmas.List.{map-append}
+use Rattle.std.specs.Prelude.{bytes_eq, if◌then◌else◌}
+use Rattle.std.specs.List.{list_any}
+use Rattle.std.specs.String.{string_eq}
+use Rattle.indexmap.specs.IndexSet.{insert_key}
 use Rattle.types_expressions.specs.Faults.{earlier, least}
 use Rattle.types_expressions.proofs.FaultLaws.{earlier-assoc}
 use Rattle.types_suites.specs.Texts.{is_among, repeated_names, assertions_after}
 use Rattle.grammar.specs.Trees.{ItemForm, counter, declaration, assertion}
 
--- the names alone
-abbrev pub texts_of : List (List ℕ × ℕ) → List (List ℕ)
-texts_of entries = map (λ e. e.0) entries
+-- the keys of a set, as texts
+abbrev pub texts_of : List (String Global) → List (List ℕ)
+texts_of keys = map string_bytes keys
 
--- a name that is there stands among the names
-found_step : (e : List ℕ × ℕ) (entries : List (List ℕ × ℕ)) (name : List ℕ) (b : Bool) → bytes_eq name e.0 ≡ b → is_some (look_up entries name) ≡ is_among (texts_of entries) name →
-    is_some (look_up (e ∷ entries) name) ≡ is_among (texts_of (e ∷ entries)) name
-found_step e entries name true h rest = rw h refl
-found_step e entries name false h rest = rw h rest
-
-pub found_among : (entries : List (List ℕ × ℕ)) (name : List ℕ) → is_some (look_up entries name) ≡ is_among (texts_of entries) name
+-- a key that is there stands among the texts
+found_among : (keys : List (String Global)) (name : String Global)
+    → list_any (string_eq name) keys ≡ is_among (texts_of keys) (string_bytes name)
 found_among [] name = refl
-found_among (e ∷ entries) name = found_step e entries name (bytes_eq name e.0) refl (found_among entries name)
+found_among (k ∷ keys) name =
+    ap (λ (b : Bool). bytes_eq (string_bytes name) (string_bytes k) || b) (found_among keys name)
 
-texts_append : (entries : List (List ℕ × ℕ)) (e : List ℕ × ℕ) → texts_of (entries ++ e ∷ []) ≡ texts_of entries ++ e.0 ∷ []
-texts_append [] e = refl
-texts_append (x ∷ entries) e = ap (λ (xs : List (List ℕ)). x.0 ∷ xs) (texts_append entries e)
+among : (keys : List (String Global)) (name : String Global) (text : List ℕ) (b : Bool)
+    → string_bytes name ≡ text → list_any (string_eq name) keys ≡ b
+    → is_among (texts_of keys) text ≡ b
+among keys name text b same h =
+    ap (is_among (texts_of keys)) (sym same) ∙ sym (found_among keys name) ∙ h
 
-with_new : (entries : List (List ℕ × ℕ)) (name : List ℕ) (v : ℕ) → is_some (look_up entries name) ≡ false → texts_of (with_entry entries name v) ≡ texts_of entries ++ name ∷ []
-with_new entries name v h = rw h (texts_append entries (name, v))
+inserted : (keys more : List (String Global)) (name : String Global) (b : Bool)
+    → more ≡ insert_key string_eq keys name → list_any (string_eq name) keys ≡ b
+    → texts_of more ≡ texts_of (if b then keys else keys ++ name ∷ [])
+inserted keys more name b is h =
+    ap texts_of is ∙ ap (λ (c : Bool). texts_of (if c then keys else keys ++ name ∷ [])) h
+
+pub not_is : (b c : Bool) → not b ≡ c → b ≡ not c
+not_is true c h = ap not h
+not_is false c h = ap not h
+
+-- what is repeated from a name on, by whether it is known
+abbrev repeated_by : Bool → List (List ℕ) → List ℕ × ℕ → List (List ℕ × ℕ) → List ℕ
+repeated_by b known n names =
+    if b then n.1 ∷ repeated_names known names else repeated_names (known ++ n.0 ∷ []) names
+
+by_first : (known : List (List ℕ)) (n : List ℕ × ℕ) (names : List (List ℕ × ℕ)) (fault : Option ℕ)
+    (b : Bool) → is_among known n.0 ≡ b
+    → earlier fault (least (repeated_names known (n ∷ names)))
+    ≡ earlier fault (least (repeated_by b known n names))
+by_first known n names fault b h =
+    ap (λ (c : Bool). earlier fault (least (repeated_by c known n names))) h
 
 -- one more name, that is known
-pub known_step : (entries : List (List ℕ × ℕ)) (n : List ℕ × ℕ) (names : List (List ℕ × ℕ)) (fault next total : Option ℕ) → is_some (look_up entries n.0) ≡ true → next ≡ earlier fault (Some n.1) →
-    earlier fault (least (repeated_names (texts_of entries) (n ∷ names))) ≡ total → earlier next (least (repeated_names (texts_of entries) names)) ≡ total
-known_step entries n names fault next total there is h =
-    ap (λ (o : Option ℕ). earlier o (least (repeated_names (texts_of entries) names))) is
-    ∙ earlier-assoc fault (Some n.1) (least (repeated_names (texts_of entries) names))
-    ∙ sym (ap (λ (b : Bool). earlier fault (least (if b then n.1 ∷ repeated_names (texts_of entries) names else repeated_names (texts_of entries ++ n.0 ∷ []) names))) (sym (found_among entries n.0) ∙ there))
+pub known_step :
+    (keys more : List (String Global)) (name : String Global) (n : List ℕ × ℕ)
+    (names : List (List ℕ × ℕ)) (fault next total : Option ℕ) → string_bytes name ≡ n.0
+    → list_any (string_eq name) keys ≡ true → more ≡ insert_key string_eq keys name
+    → next ≡ earlier fault (Some n.1)
+    → earlier fault (least (repeated_names (texts_of keys) (n ∷ names))) ≡ total
+    → earlier next (least (repeated_names (texts_of more) names)) ≡ total
+known_step keys more name n names fault next total text there put is h =
+    ap (λ (ts : List (List ℕ)). earlier next (least (repeated_names ts names)))
+    (inserted keys more name true put there)
+    ∙ ap (λ (o : Option ℕ). earlier o (least (repeated_names (texts_of keys) names))) is
+    ∙ earlier-assoc fault (Some n.1) (least (repeated_names (texts_of keys) names))
+    ∙ sym (by_first (texts_of keys) n names fault true (among keys name n.0 true text there))
     ∙ h
 
 -- and one that is new
-pub new_step : (entries after : List (List ℕ × ℕ)) (n : List ℕ × ℕ) (names : List (List ℕ × ℕ)) (fault total : Option ℕ) → is_some (look_up entries n.0) ≡ false → after ≡ with_entry entries n.0 1 →
-    earlier fault (least (repeated_names (texts_of entries) (n ∷ names))) ≡ total → earlier fault (least (repeated_names (texts_of after) names)) ≡ total
-new_step entries after n names fault total none is h =
-    ap (λ (ts : List (List ℕ)). earlier fault (least (repeated_names ts names))) (ap texts_of is ∙ with_new entries n.0 1 none)
-    ∙ sym (ap (λ (b : Bool). earlier fault (least (if b then n.1 ∷ repeated_names (texts_of entries) names else repeated_names (texts_of entries ++ n.0 ∷ []) names))) (sym (found_among entries n.0) ∙ none))
+pub new_step :
+    (keys more : List (String Global)) (name : String Global) (n : List ℕ × ℕ)
+    (names : List (List ℕ × ℕ)) (fault total : Option ℕ) → string_bytes name ≡ n.0
+    → list_any (string_eq name) keys ≡ false → more ≡ insert_key string_eq keys name
+    → earlier fault (least (repeated_names (texts_of keys) (n ∷ names))) ≡ total
+    → earlier fault (least (repeated_names (texts_of more) names)) ≡ total
+new_step keys more name n names fault total text absent put h =
+    let added : texts_of more ≡ texts_of keys ++ n.0 ∷ [] =
+    inserted keys more name false put absent ∙ map-append string_bytes keys (name ∷ [])
+    ∙ ap (λ (t : List ℕ). texts_of keys ++ t ∷ []) text in
+    ap (λ (ts : List (List ℕ)). earlier fault (least (repeated_names ts names))) added
+    ∙ sym (by_first (texts_of keys) n names fault false (among keys name n.0 false text absent))
     ∙ h
-
-pub some_map : {A C : Type 0} (f : A → C) (o : Option A) → is_some (option_map f o) ≡ is_some o
-some_map f None = refl
-some_map f (Some x) = refl
 
 pub after_most : (before i : ℕ) (x : ItemForm) → before ≤ i → assertions_after before x ≤ i + 1
 after_most before i (counter c) h = omega (arith, h)

@@ -1,17 +1,15 @@
 //! Names, widths and types of a text: the suite that it says, or the first fault in it.
 //!
-//! `check` takes the tree of a text's items and the paths of a dump with their widths. A text in
-//! which no fault stands has a suite: the path of its clock, the signals that it reads, its
-//! counters, its typed expressions and its assertions, with named sequences written out. Any other
-//! is refused with its first fault, by kind, in the order Y1, Y2, Y3, Y4, Y7, Y8, Y9, Y5, Y6, then
-//! by the byte where it stands.
+//! `check` takes the tree of a text's items and the paths of a dump, of which it asks for one at a
+//! time. A text in which no fault stands has a suite: the path of its clock, the signals that it
+//! reads, its counters, its typed expressions and its assertions, with named sequences written out.
+//! Any other is refused with its first fault, by kind, in the order Y1, Y2, Y3, Y4, Y7, Y8, Y9, Y5,
+//! Y6, then by the byte where it stands.
 //!
 //! ```text
-//! let mut names = Names::new(alloc);
-//! names.push(alloc, "top.clk", 1)?;
 //! let tokens = lex(alloc, text)?;
 //! let file = parse(alloc, tokens.as_slice())?;
-//! let suite = check(alloc, &file, &names)?;      // or TypeFault::UnknownName(31), ..
+//! let suite = check(alloc, &file, Paths::Dump(&dump))?;    // or TypeFault::UnknownName(31), ..
 //! ```
 //!
 //! `TypeFault` says what each kind is, and which byte is told. Want of memory is a fault, too, and
@@ -41,4 +39,4 @@ mod suite;
 pub use assertions::{Assertion, Suite};
 pub use fault::TypeFault;
 pub use suite::check;
-pub use types_expressions::{Names, path_string};
+pub use types_expressions::{Names, Paths, path_string};

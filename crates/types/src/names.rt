@@ -6,9 +6,10 @@ ghost use Rattle.parser.specs.Views.{assertion_of, item_of};
 ghost use Rattle.types_expressions.specs.Faults.{least};
 ghost use Rattle.types_suites.specs.Texts.{label_byte, name_made, assertions_after, duplicates};
 
+use indexmap::IndexSet;
 use parser::{AssertionTree, ItemTree};
 use std::alloc::{AllocError, Global};
-use types_expressions::{Names, earlier};
+use types_expressions::earlier;
 use types_suites::label_string;
 
 /// A name with the byte where it stands.
@@ -70,17 +71,16 @@ pub(crate) fn first_duplicate(
 ) -> Result<Option<usize>, AllocError>
     ensures { IfOk result (λ r. r ≡ least (duplicates (map item_of items.now))) }
 {
-    let mut known = Names::new(alloc);
+    let mut known = IndexSet::new(alloc);
     let mut before = 0usize;
     let mut fault = None;
     for item in items {
-        let made = name_of(alloc, before, item)?;
+        let Made { text, at } = name_of(alloc, before, item)?;
         before = assertions_after(before, item);
-        if known.width(made.text.as_str()).is_some() {
-            fault = earlier(fault, Some(made.at));
+        if known.insert(text)? {
             continue;
         }
-        known.push(alloc, made.text.as_str(), 1)?;
+        fault = earlier(fault, Some(at));
     }
     Ok(fault)
 }

@@ -9,7 +9,7 @@ ghost use Rattle.types_expressions.specs.declared.own.Sought.{Sought};
 ghost use Rattle.types_expressions.specs.Scopes.{sequence_named, scope_for};
 ghost use Rattle.types_expressions.specs.Columns.{all_listed, file_signals};
 ghost use Rattle.types_expressions.specs.Faults.{file_faults};
-ghost use Rattle.types_expressions.specs.Views.{scope_of, columns_in, names_in};
+ghost use Rattle.types_expressions.specs.Views.{scope_of, columns_in, widths_in};
 ghost use Rattle.types_sequences.specs.Placed.{Extends};
 ghost use Rattle.types_suites.specs.Texts.{declarations_of, assertions_of, clock_of};
 ghost use Rattle.types_suites.specs.Readings.{Where, outlines_of};
@@ -27,7 +27,7 @@ use crate::stages::{check_cycles, check_expressions, check_sides};
 use assertions::Suite;
 use parser::{File, ItemTree};
 use std::alloc::Global;
-use types_expressions::{Names, Scope, SignalPaths, columns_of};
+use types_expressions::{Paths, Scope, SignalPaths, columns_of};
 use types_sequences::{Entry, resolve};
 use types_suites::{
     Resolved, all_resolved, assertions_of, bodies_of, counters_of, name_bytes, signals_of,
@@ -128,8 +128,8 @@ fn suite_of(
 /// counters, its typed expressions and its assertions, with named sequences written out.
 ///
 /// The clock's path is not looked up among the dump's. A text's own names come before the dump's
-/// paths. The cost is about linear in the text, but for names of sequences that are declared in an
-/// adversarial order.
+/// paths, which are looked up one by one. The cost is about linear in the text, but for names of
+/// sequences that are declared in an adversarial order.
 ///
 /// # Errors
 ///
@@ -138,16 +138,16 @@ fn suite_of(
 /// are looked at too, but for Y9, Y5 and Y6, which are of antecedents and consequents.
 ///
 /// IEEE 1800-2017, clauses 11.6 to 11.8, 16.6 to 16.9, 16.12.7, 16.12.22.
-pub fn check(alloc: Global, file: &File, names: &Names) -> Result<Suite, TypeFault>
+pub fn check(alloc: Global, file: &File, paths: Paths) -> Result<Suite, TypeFault>
     ensures faultless { IfOk result (λ _.
-        IsFaultless (scope_for (items_of file.now) (names_in names.now)) (items_of file.now)) }
+        IsFaultless (scope_for (items_of file.now) (widths_in paths.entry)) (items_of file.now)) }
     ensures suite { IfOk result
-        (IsSuite (scope_for (items_of file.now) (names_in names.now)) (items_of file.now)) }
+        (IsSuite (scope_for (items_of file.now) (widths_in paths.entry)) (items_of file.now)) }
     ensures refused { IfErr result
-        (IsTypeFault (scope_for (items_of file.now) (names_in names.now)) (items_of file.now)) }
+        (IsTypeFault (scope_for (items_of file.now) (widths_in paths.entry)) (items_of file.now)) }
 {
     let items = file.items.as_slice();
-    let scope = Scope::of(alloc, names, items)?;
+    let scope = Scope::of(alloc, paths, items)?;
     let clock = first_clock(alloc, items)?;
     check_expressions(alloc, &scope, items, clock.as_str())?;
     suite_of(alloc, &scope, items, clock)

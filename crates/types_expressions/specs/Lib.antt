@@ -1,4 +1,5 @@
 pub mod Scopes
+pub mod Dumps
 pub mod Widths
 pub mod Faults
 pub mod Columns

@@ -48,9 +48,10 @@ pub record Scope : Type 0 where
   pub own : List ℕ → Option Own
   pub dump : List ℕ → Option ℕ
 
--- the scope of a text over a dump: with a name declared twice the first declaration counts
-abbrev pub scope_for : List ItemForm → List (List ℕ × ℕ) → Scope
-scope_for items names = record { own = look_up (owns items); dump = look_up names }
+-- The scope of a text over a dump whose paths have these widths: with a name declared twice the
+-- first declaration counts.
+abbrev pub scope_for : List ItemForm → (List ℕ → Option ℕ) → Scope
+scope_for items widths = record { own = look_up (owns items); dump = widths }
 
 abbrev pub meaning_by : Option Own → Option ℕ → Option Meaning
 meaning_by (Some o) width = Some (Declared o)

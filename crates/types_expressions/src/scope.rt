@@ -7,12 +7,12 @@ ghost use Rattle.types_expressions.specs.Scopes.{look_up, owns, is_narrow, bits_
 ghost use Rattle.types_expressions.specs.Scopes.{meaning_by, scope_for, sequence_named};
 ghost use Rattle.types_expressions.specs.Scopes.{meaning_place};
 ghost use Rattle.types_expressions.specs.Entries.{with_entry};
-ghost use Rattle.types_expressions.specs.Views.{names_in, entries_in, scope_of};
+ghost use Rattle.types_expressions.specs.Views.{widths_in, entries_in, scope_of};
 
 use crate::declared::OwnName;
-use crate::names::Names;
 use crate::own::{Meaning, Own};
 use crate::path::path_string;
+use crate::paths::Paths;
 use crate::width::Width;
 use indexmap::IndexMap;
 use parser::{ExprTree, ItemTree, Path};
@@ -23,7 +23,7 @@ use std::alloc::{AllocError, Global};
 #[derive(Drop)]
 pub struct Scope<'n> {
     pub(crate) own: IndexMap<String, OwnName>,
-    pub(crate) names: &'n Names,
+    pub(crate) paths: Paths<'n>,
 }
 
 /// Adds a name, unless it is there.
@@ -98,12 +98,12 @@ fn meaning_place(means: Option<Meaning>) -> Option<usize>
 
 impl<'n> Scope<'n> {
     /// The scope of a text over a dump.
-    pub fn of(alloc: Global, names: &'n Names, items: &[ItemTree]) -> Result<Scope<'n>, AllocError>
+    pub fn of(alloc: Global, paths: Paths<'n>, items: &[ItemTree]) -> Result<Scope<'n>, AllocError>
         ensures { IfOk result (λ s. scope_of s
-            ≡ scope_for (map item_of items.now) (names_in names.now)) }
+            ≡ scope_for (map item_of items.now) (widths_in paths.entry)) }
     {
         let own = owns_of(alloc, items)?;
-        Ok(Scope { own, names })
+        Ok(Scope { own, paths })
     }
 
     /// What a text stands for, as a path.
@@ -115,7 +115,7 @@ impl<'n> Scope<'n> {
         if let Some(declared) = self.own.get(text) {
             return Some(Meaning::Own(declared.own));
         }
-        match self.names.width(text) {
+        match self.paths.width(text) {
             Some(width) => Some(Meaning::Signal(width.bits)),
             None => None,
         }
@@ -137,7 +137,7 @@ impl<'n> Scope<'n> {
     pub fn signal_width(&self, path: &str) -> Option<Width>
         ensures { option_map (λ w. w.bits) result ≡ (scope_of self.now).dump path.now }
     {
-        self.names.width(path)
+        self.paths.width(path)
     }
 
     /// The place of the named sequence that an expression is the name of, where it stands as a

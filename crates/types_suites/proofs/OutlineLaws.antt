@@ -126,10 +126,10 @@ place_sequence None (Some w) p h = absurd cc
 place_sequence (Some (own.Counter q w)) width p h = absurd cc
 place_sequence (Some (own.Sequence q)) width p h = cc
 
-pub named_below : (items : List ItemForm) (names : List (List ℕ × ℕ)) (t : Tree) (p : ℕ) → sequence_named (scope_for items names) t ≡ Some p → p < length (declarations_of items)
-named_below items names (path (w ∷ []) None) p h =
-    omega (arith, owns_below items (path_text (w ∷ [])) 0 0 p (place_sequence (look_up (owns items) (path_text (w ∷ []))) (look_up names (path_text (w ∷ []))) p h))
-named_below items names t p h = absurd cc
+pub named_below : (items : List ItemForm) (widths : List ℕ → Option ℕ) (t : Tree) (p : ℕ) → sequence_named (scope_for items widths) t ≡ Some p → p < length (declarations_of items)
+named_below items widths (path (w ∷ []) None) p h =
+    omega (arith, owns_below items (path_text (w ∷ [])) 0 0 p (place_sequence (look_up (owns items) (path_text (w ∷ []))) (widths (path_text (w ∷ []))) p h))
+named_below items widths t p h = absurd cc
 
 -- As many are read as there are.
 pub all_long : (s : Scope) (cs : List (List ℕ)) (e : List Expr) (qs : List SequenceForm) (ds : List (Draft Boolean)) → AllRead s cs e qs ds → length ds ≡ length qs

@@ -5,7 +5,9 @@ use lexer::lex;
 use parser::{ExprTree, File, ItemTree, PropertyTree, SequenceTree, parse};
 use std::alloc::{AllocError, Global};
 use std::test::Fail;
-use types_expressions::{Names, Scope, SignalPaths, Sought, columns_of, first_fault, meaning_law};
+use types_expressions::{
+    Names, Paths, Scope, SignalPaths, Sought, columns_of, first_fault, meaning_law,
+};
 
 /// The paths of a dump.
 fn dump(alloc: Global) -> Result<Names, AllocError> {
@@ -21,7 +23,7 @@ fn dump(alloc: Global) -> Result<Names, AllocError> {
 /// The faults of a file: an unknown name, a wide concatenation, a select out of range.
 fn faults_of(alloc: Global, file: &File) -> Result<[Option<usize>; 3], AllocError> {
     let names = dump(alloc)?;
-    let scope = Scope::of(alloc, &names, &file.items)?;
+    let scope = Scope::of(alloc, Paths::Listed(&names), &file.items)?;
     let unknown = first_fault(alloc, &scope, Sought::Unknown, &file.items)?;
     let wide = first_fault(alloc, &scope, Sought::Wide, &file.items)?;
     let outside = first_fault(alloc, &scope, Sought::OutOfRange, &file.items)?;
@@ -81,7 +83,7 @@ fn is_named(alloc: Global, text: &str, place: Option<usize>) -> Result<bool, Fai
     let Ok(file) = parse(alloc, tokens.as_slice()) else {
         return Ok(false);
     };
-    let scope = Scope::of(alloc, &names, &file.items)?;
+    let scope = Scope::of(alloc, Paths::Listed(&names), &file.items)?;
     match first_boolean(&file) {
         Some(expr) => Ok(scope.sequence_named(expr) == place),
         None => Ok(false),
@@ -126,7 +128,7 @@ fn columns_in_order(rt: HostRuntime) -> Result<(), Fail> {
     let Ok(file) = parse(alloc, tokens.as_slice()) else {
         return Err(Fail::from("it is refused"));
     };
-    let scope = Scope::of(alloc, &names, &file.items)?;
+    let scope = Scope::of(alloc, Paths::Listed(&names), &file.items)?;
     let found = columns_of(alloc, &scope, &file.items)?;
     assert!(rt; are_in_order(&found));
     Ok(())

@@ -4,7 +4,7 @@ use assertions::Suite;
 use lexer::lex;
 use parser::parse;
 use std::test::Fail;
-use types::{Names, check};
+use types::{Names, Paths, check};
 
 /// Whether the suite has so many counters, signals and assertions, and this clock.
 fn has_parts(suite: &Suite, counters: usize, signals: usize, assertions: usize) -> bool {
@@ -26,7 +26,7 @@ fn parts_of_a_suite(rt: HostRuntime) -> Result<(), Fail> {
     let Ok(file) = parse(alloc, tokens.as_slice()) else {
         return Err(Fail::from("it is not read"));
     };
-    let Ok(suite) = check(alloc, &file, &names) else {
+    let Ok(suite) = check(alloc, &file, Paths::Listed(&names)) else {
         return Err(Fail::from("it is refused"));
     };
     assert!(rt; has_parts(&suite, 2, 1, 1));
