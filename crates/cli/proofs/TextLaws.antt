@@ -3,12 +3,18 @@ use Rattle.std.proofs.Common.{
   ◌≡◌,
   ℕ,
   ◌<◌,
+  Bool,
+  true,
+  false,
+  cond,
   List,
   [],
   ◌∷◌,
   length,
   map,
   arith,
+  Option,
+  Some,
   None,
   sym,
   ap,
@@ -16,6 +22,8 @@ use Rattle.std.proofs.Common.{
   subst,
 }
 use Rattle.std.specs.Prelude.{Result, Ok, Err, IfErr, IsErrAnd, string_bytes}
+use Rattle.std.specs.Option.{option_map}
+use Rattle.std.specs.Str.{is_utf8}
 use Rattle.lexer.specs.declared.token.Token.{Token}
 use Rattle.lexer.specs.declared.fault.LexFault.{LexFault}
 use Rattle.lexer.specs.declared.fault.LexFault.TheVariants as lexing
@@ -42,7 +50,7 @@ use Rattle.compiled_lines.specs.declared.fault.LinesFault.TheVariants.{Program}
 use Rattle.compiled_lines.specs.declared.fault.LinesFault.TheVariants as lines
 use Rattle.compiler.specs.declared.fault.CompileFault.TheVariants as compiles
 use Rattle.compiled_lines.specs.Faults.{WhyNoLines}
-use Rattle.vcd_reader.specs.Variables.{Declared, variable_named}
+use Rattle.vcd_reader.specs.Variables.{Declared, variable_named, size_of}
 use Rattle.vcd_reader.specs.Dump.{Contents}
 use Rattle.cycle_window.specs.declared.fault.WindowFault.{WindowFault}
 use Rattle.cycle_window.specs.declared.fault.WindowFault.TheVariants as windows
@@ -148,13 +156,22 @@ is_typed c vs items suite same clear is = record {
 }
 
 -- a suite's signals are variables of the dump
+text_named : (u : Bool) (o : Option ℕ) (w : ℕ) → cond u o None ≡ Some w → o ≡ Some w
+text_named true o w e = e
+text_named false o w e = absurd cc
+
 named_all : (vs : List Declared) (items : List ItemForm) (paths : List (List ℕ))
     (signals : List Signal) → AreSignals (scope_over vs items) paths signals → AreNamed vs signals
 named_all vs items [] [] h = tt
 named_all vs items [] (x ∷ xs) h = elim h [ ]
 named_all vs items (p ∷ ps) [] h = elim h [ ]
 named_all vs items (p ∷ ps) (x ∷ xs) h =
-    (ap (width_named vs) h.0.0 ∙ h.0.1, named_all vs items ps xs h.1)
+    let at : width_named vs (string_bytes x.path) ≡ Some x.width =
+    ap (width_named vs) h.0.0 ∙ h.0.1 in (
+      text_named (is_utf8 (string_bytes x.path))
+          (option_map (size_of vs) (variable_named vs (string_bytes x.path))) x.width at,
+      named_all vs items ps xs h.1,
+    )
 
 pub are_named : (c : Contents) (vs : List Declared) (items : List ItemForm) (suite : Suite)
     → vs ≡ c.variables → IsTyped c items suite → AreNamed vs suite.names.items

@@ -1,10 +1,11 @@
 -- The names of a text over a dump.
 use Rattle.std.specs.Prelude.{◌≡◌, ℕ, List, [], ◌∷◌, Some, string_bytes}
+use Rattle.std.specs.Option.{option_map}
 use Rattle.grammar.specs.Trees.{ItemForm}
 use Rattle.assertions.specs.declared.signal.Signal.{Signal}
 use Rattle.types_expressions.specs.Scopes.{Scope, scope_for}
 use Rattle.types_expressions.specs.Dumps.{width_named}
-use Rattle.vcd_reader.specs.Variables.{Declared}
+use Rattle.vcd_reader.specs.Variables.{Declared, variable_named, size_of}
 use Rattle.cycle_window.specs.Bound.{Wanted}
 
 -- The scope of a text over the variables of a dump: the text's own names, and the dump's paths.
@@ -14,7 +15,9 @@ scope_over vs items = scope_for items (width_named vs)
 -- Each signal's path names a variable of the signal's width.
 abbrev pub AreNamed : List Declared → List Signal → Type 0
 AreNamed vs [] = Unit {0}
-AreNamed vs (s ∷ ss) = (width_named vs (string_bytes s.path) ≡ Some s.width) × AreNamed vs ss
+AreNamed vs (s ∷ ss) =
+    (option_map (size_of vs) (variable_named vs (string_bytes s.path)) ≡ Some s.width)
+    × AreNamed vs ss
 
 -- a signal as it is bound
 abbrev pub wanted_in_suite : Signal → Wanted
