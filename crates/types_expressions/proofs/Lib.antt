@@ -1,3 +1,4 @@
+pub mod PathLaws
 pub mod EntryLaws
 pub mod FaultLaws
 pub mod Lists
