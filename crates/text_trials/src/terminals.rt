@@ -122,7 +122,7 @@ fn left_operators(rt: HostRuntime) -> Result<(), Fail> {
     ] {
         let tokens = lex(rt.alloc(), text)?;
         assert!(rt; tokens.len() > 0, "{text}");
-        assert_eq!(rt; infix_of(tokens[0]), expected, "{text}");
+        assert!(rt; infix_of(tokens[0]) == expected, "{text}");
     }
     Ok(())
 }

@@ -1,5 +1,5 @@
 use Rattle.std.proofs.Common.{◌∙◌, sym}
-use Rattle.unit_trials.proofs.dumps.values_in.Goals as goal
+use Rattle.dump_trials.proofs.dumps.values_in.Goals as goal
 
 pub loop-init : goal.loop-init
 loop-init c =
