@@ -1,5 +1,7 @@
 -- What a token is to the grammar.
-use Rattle.std.specs.Prelude.{ℕ, List, Bool, true, false, ◌||◌, ◌==◌, codes, if◌then◌else◌}
+use Rattle.std.specs.Prelude.{ℕ, List, [], ◌∷◌, Bool, true, false, ◌==◌, codes}
+use Rattle.std.specs.Prelude.{if◌then◌else◌}
+use Rattle.std.specs.List.{list_any}
 use Rattle.std.specs.Str.{bytes_eq}
 use Rattle.lexer.specs.declared.token.Symbol.{Symbol}
 use Rattle.lexer.specs.declared.token.Symbol.TheVariants as symbols
@@ -23,37 +25,20 @@ use Rattle.grammar.specs.declared.terminal.Terminal.TheVariants.{ForeignSymbol, 
 
 -- Words of constructs that the profile leaves out. (`property` where an item begins, and `iff`
 -- other than behind `disable`, are left out too.)
-unfoldable pub foreign_1 : List ℕ → Bool
-foreign_1 text =
-    bytes_eq text (codes "intersect") || bytes_eq text (codes "within")
-    || bytes_eq text (codes "first_match") || bytes_eq text (codes "strong")
-    || bytes_eq text (codes "weak") || bytes_eq text (codes "not") || bytes_eq text (codes "if")
-    || bytes_eq text (codes "else")
+unfoldable pub foreign_words : List (List ℕ)
+foreign_words =
+    codes "intersect" ∷ codes "within" ∷ codes "first_match" ∷ codes "strong" ∷ codes "weak"
+    ∷ codes "not" ∷ codes "if" ∷ codes "else" ∷ codes "case" ∷ codes "always" ∷ codes "nexttime"
+    ∷ codes "eventually" ∷ codes "until" ∷ codes "s_always" ∷ codes "s_nexttime"
+    ∷ codes "s_eventually" ∷ codes "s_until" ∷ codes "s_until_with" ∷ codes "until_with"
+    ∷ codes "implies" ∷ codes "accept_on" ∷ codes "reject_on" ∷ codes "cover" ∷ codes "restrict"
+    ∷ codes "default" ∷ codes "clocking" ∷ codes "negedge" ∷ codes "edge" ∷ codes "local" ∷ []
 
-unfoldable pub foreign_2 : List ℕ → Bool
-foreign_2 text =
-    bytes_eq text (codes "case") || bytes_eq text (codes "always")
-    || bytes_eq text (codes "nexttime") || bytes_eq text (codes "eventually")
-    || bytes_eq text (codes "until") || bytes_eq text (codes "s_always")
-    || bytes_eq text (codes "s_nexttime") || bytes_eq text (codes "s_eventually")
-
-unfoldable pub foreign_3 : List ℕ → Bool
-foreign_3 text =
-    bytes_eq text (codes "s_until") || bytes_eq text (codes "s_until_with")
-    || bytes_eq text (codes "until_with") || bytes_eq text (codes "implies")
-    || bytes_eq text (codes "accept_on") || bytes_eq text (codes "reject_on")
-    || bytes_eq text (codes "cover") || bytes_eq text (codes "restrict")
-
-unfoldable pub foreign_4 : List ℕ → Bool
-foreign_4 text =
-    bytes_eq text (codes "default") || bytes_eq text (codes "clocking")
-    || bytes_eq text (codes "negedge") || bytes_eq text (codes "edge")
-    || bytes_eq text (codes "local")
+abbrev pub is_foreign : List ℕ → Bool
+is_foreign text = list_any (bytes_eq text) foreign_words
 
 abbrev pub foreign_word : List ℕ → Terminal
-foreign_word text =
-    if foreign_1 text || foreign_2 text || foreign_3 text || foreign_4 text then ForeignWord
-    else Name
+foreign_word text = if is_foreign text then ForeignWord else Name
 
 -- the words that the rules quote
 unfoldable pub inner_word : List ℕ → Terminal

@@ -1,7 +1,9 @@
 //! What a token is to the grammar.
 
-ghost use Rattle.std.specs.Prelude.{◌≡◌};
-ghost use Rattle.grammar.specs.Terminals.{foreign_1, foreign_2, foreign_3, foreign_4, foreign_word};
+ghost use Rattle.std.specs.Prelude.{◌≡◌, map};
+ghost use Rattle.std.specs.List.{list_any};
+ghost use Rattle.std.specs.Str.{bytes_eq};
+ghost use Rattle.grammar.specs.Terminals.{is_foreign, foreign_word};
 ghost use Rattle.grammar.specs.Terminals.{inner_word, word_terminal, system_terminal};
 ghost use Rattle.grammar.specs.Terminals.{symbol_terminal, terminal, is, is_name, is_word};
 
@@ -62,63 +64,61 @@ pub enum Terminal {
     End,
 }
 
-#[tactic(auto, unfolding(crate::specs::Terminals::foreign_1))]
-fn foreign_1(text: &str) -> bool
-    ensures { result ≡ foreign_1 text.now }
+/// Words of constructs that the profile leaves out.
+const FOREIGN_WORDS: [&str; 29] = [
+    "intersect",
+    "within",
+    "first_match",
+    "strong",
+    "weak",
+    "not",
+    "if",
+    "else",
+    "case",
+    "always",
+    "nexttime",
+    "eventually",
+    "until",
+    "s_always",
+    "s_nexttime",
+    "s_eventually",
+    "s_until",
+    "s_until_with",
+    "until_with",
+    "implies",
+    "accept_on",
+    "reject_on",
+    "cover",
+    "restrict",
+    "default",
+    "clocking",
+    "negedge",
+    "edge",
+    "local",
+];
+
+fn is_one_of(text: &str, words: &[&str]) -> bool
+    ensures { result ≡ list_any (bytes_eq text.now) (map (λ word. word.now) words.now) }
 {
-    text == "intersect"
-        || text == "within"
-        || text == "first_match"
-        || text == "strong"
-        || text == "weak"
-        || text == "not"
-        || text == "if"
-        || text == "else"
+    for word in words {
+        if text == *word {
+            return true;
+        }
+    }
+    false
 }
 
-#[tactic(auto, unfolding(crate::specs::Terminals::foreign_2))]
-fn foreign_2(text: &str) -> bool
-    ensures { result ≡ foreign_2 text.now }
+#[tactic(auto, unfolding(crate::specs::Terminals::foreign_words))]
+fn is_foreign(text: &str) -> bool
+    ensures { result ≡ is_foreign text.now }
 {
-    text == "case"
-        || text == "always"
-        || text == "nexttime"
-        || text == "eventually"
-        || text == "until"
-        || text == "s_always"
-        || text == "s_nexttime"
-        || text == "s_eventually"
-}
-
-#[tactic(auto, unfolding(crate::specs::Terminals::foreign_3))]
-fn foreign_3(text: &str) -> bool
-    ensures { result ≡ foreign_3 text.now }
-{
-    text == "s_until"
-        || text == "s_until_with"
-        || text == "until_with"
-        || text == "implies"
-        || text == "accept_on"
-        || text == "reject_on"
-        || text == "cover"
-        || text == "restrict"
-}
-
-#[tactic(auto, unfolding(crate::specs::Terminals::foreign_4))]
-fn foreign_4(text: &str) -> bool
-    ensures { result ≡ foreign_4 text.now }
-{
-    text == "default"
-        || text == "clocking"
-        || text == "negedge"
-        || text == "edge"
-        || text == "local"
+    is_one_of(text, &FOREIGN_WORDS)
 }
 
 fn foreign_word(text: &str) -> Terminal
     ensures { result ≡ foreign_word text.now }
 {
-    if foreign_1(text) || foreign_2(text) || foreign_3(text) || foreign_4(text) {
+    if is_foreign(text) {
         Terminal::ForeignWord
     } else {
         Terminal::Name
