@@ -5,7 +5,7 @@ use expressions::{
     Arithmetic, Change, Comparison, Connective, Expr, Name, Origin, Reduction, Shift, Slice,
 };
 use signals::Bits;
-use std::alloc::Global;
+use std::alloc::{AllocError, Global};
 
 fn arithmetic_of(word: &str) -> Option<Arithmetic> {
     match word {
@@ -92,34 +92,67 @@ pub fn pop(stack: &mut Vec<Expr>) -> Result<Expr> {
     stack.pop().context("an operand is missing")
 }
 
-/// The two operands on top, the lower one first.
-fn pop_two(stack: &mut Vec<Expr>) -> Result<(Expr, Expr)> {
-    let right = pop(stack)?;
-    let left = pop(stack)?;
-    Ok((left, right))
+/// An operator of one operand.
+#[derive(Clone, Copy)]
+enum One {
+    Reduce(Reduction),
+    Change(Change),
+    Complement,
+    Group,
+    Past(u8),
 }
 
-/// An operator of one operand, if the word is one.
-fn apply_one(alloc: Global, stack: &mut Vec<Expr>, word: &str) -> Result<bool> {
-    if let Some(op) = reduction_of(word) {
-        let operand = pop(stack)?;
-        stack.push(operand.reduce(alloc, op)?)?;
-    } else if let Some(op) = change_of(word) {
-        let operand = pop(stack)?;
-        stack.push(operand.change(alloc, op)?)?;
-    } else if word == "~" {
-        let operand = pop(stack)?;
-        stack.push(operand.complement(alloc)?)?;
-    } else if word == "{}" {
-        let operand = pop(stack)?;
-        stack.push(operand.group(alloc)?)?;
-    } else if let Some(ticks) = word.strip_prefix("past:") {
-        let operand = pop(stack)?;
-        stack.push(operand.past(alloc, small(ticks)?)?)?;
-    } else {
-        return Ok(false);
+/// An operator of two operands.
+#[derive(Clone, Copy)]
+enum Two {
+    Combine(Arithmetic),
+    Shift(Shift),
+    Compare(Comparison),
+    Connect(Connective),
+    Concat,
+}
+
+/// The operator of one operand that a word is, if it is one.
+fn one_of(word: &str) -> Result<Option<One>> {
+    if let Some(ticks) = word.strip_prefix("past:") {
+        return Ok(Some(One::Past(small(ticks)?)));
     }
-    Ok(true)
+    Ok(match word {
+        "~" => Some(One::Complement),
+        "{}" => Some(One::Group),
+        _ => match reduction_of(word) {
+            Some(op) => Some(One::Reduce(op)),
+            None => change_of(word).map(One::Change),
+        },
+    })
+}
+
+/// The operator of two operands that a word is, if it is one.
+fn two_of(word: &str) -> Option<Two> {
+    if word == "," {
+        return Some(Two::Concat);
+    }
+    if let Some(op) = arithmetic_of(word) {
+        return Some(Two::Combine(op));
+    }
+    if let Some(op) = shift_of(word) {
+        return Some(Two::Shift(op));
+    }
+    if let Some(op) = comparison_of(word) {
+        return Some(Two::Compare(op));
+    }
+    connective_of(word).map(Two::Connect)
+}
+
+/// What an operator makes of an operand.
+fn made_of_one(alloc: Global, op: One, operand: Expr) -> Result<Expr, AllocError> {
+    match op {
+        One::Reduce(op) => operand.reduce(alloc, op),
+        One::Change(op) => operand.change(alloc, op),
+        One::Complement => operand.complement(alloc),
+        One::Group => operand.group(alloc),
+        One::Past(ticks) => operand.past(alloc, ticks),
+    }
 }
 
 /// `{left, right}`
@@ -130,50 +163,43 @@ fn join(alloc: Global, left: Expr, right: Expr) -> Result<Expr> {
     Ok(left.concat(alloc, right)?)
 }
 
-/// What an operator of two operands makes, if the word is one.
-fn made_of_two(alloc: Global, stack: &mut Vec<Expr>, word: &str) -> Result<Option<Expr>> {
-    let made = if let Some(op) = arithmetic_of(word) {
-        let (left, right) = pop_two(stack)?;
-        left.combine(alloc, op, right)?
-    } else if let Some(op) = shift_of(word) {
-        let (left, right) = pop_two(stack)?;
-        left.shift(alloc, op, right)?
-    } else if let Some(op) = comparison_of(word) {
-        let (left, right) = pop_two(stack)?;
-        left.compare(alloc, op, right)?
-    } else if let Some(op) = connective_of(word) {
-        let (left, right) = pop_two(stack)?;
-        left.connect(alloc, op, right)?
-    } else if word == "," {
-        let (left, right) = pop_two(stack)?;
-        join(alloc, left, right)?
-    } else {
-        return Ok(None);
+/// What an operator makes of two operands.
+fn made_of_two(alloc: Global, op: Two, left: Expr, right: Expr) -> Result<Expr> {
+    let made = match op {
+        Two::Combine(op) => left.combine(alloc, op, right),
+        Two::Shift(op) => left.shift(alloc, op, right),
+        Two::Compare(op) => left.compare(alloc, op, right),
+        Two::Connect(op) => left.connect(alloc, op, right),
+        Two::Concat => return join(alloc, left, right),
     };
-    Ok(Some(made))
+    Ok(made?)
+}
+
+/// Applies an operator to the operand on top.
+fn apply_one(alloc: Global, stack: &mut Vec<Expr>, op: One) -> Result<()> {
+    let operand = pop(stack)?;
+    let made = made_of_one(alloc, op, operand)?;
+    stack.push(made)?;
+    Ok(())
+}
+
+/// Applies an operator to the two operands on top, of which the lower one is the first.
+fn apply_two(alloc: Global, stack: &mut Vec<Expr>, op: Two) -> Result<()> {
+    let right = pop(stack)?;
+    let left = pop(stack)?;
+    let made = made_of_two(alloc, op, left, right)?;
+    stack.push(made)?;
+    Ok(())
 }
 
 /// The choice of the three operands on top.
-fn choose(alloc: Global, stack: &mut Vec<Expr>) -> Result<Expr> {
+fn choose(alloc: Global, stack: &mut Vec<Expr>) -> Result<()> {
     let second = pop(stack)?;
-    let (condition, first) = pop_two(stack)?;
-    Ok(condition.choose(alloc, first, second)?)
-}
-
-/// An operator of two or three operands, if the word is one.
-fn apply_more(alloc: Global, stack: &mut Vec<Expr>, word: &str) -> Result<bool> {
-    if word == "?" {
-        let made = choose(alloc, stack)?;
-        stack.push(made)?;
-        return Ok(true);
-    }
-    match made_of_two(alloc, stack, word)? {
-        Some(made) => {
-            stack.push(made)?;
-            Ok(true)
-        }
-        None => Ok(false),
-    }
+    let first = pop(stack)?;
+    let condition = pop(stack)?;
+    let made = condition.choose(alloc, first, second)?;
+    stack.push(made)?;
+    Ok(())
 }
 
 /// `WIDTH'VALUE`
@@ -215,9 +241,16 @@ fn leaf(word: &str) -> Result<Expr> {
 
 /// Puts what the word makes on the stack.
 pub fn apply(alloc: Global, stack: &mut Vec<Expr>, word: &str) -> Result<()> {
-    if apply_one(alloc, stack, word)? || apply_more(alloc, stack, word)? {
-        return Ok(());
+    if word == "?" {
+        return choose(alloc, stack);
     }
-    stack.push(leaf(word)?)?;
+    if let Some(op) = one_of(word)? {
+        return apply_one(alloc, stack, op);
+    }
+    if let Some(op) = two_of(word) {
+        return apply_two(alloc, stack, op);
+    }
+    let made = leaf(word)?;
+    stack.push(made)?;
     Ok(())
 }

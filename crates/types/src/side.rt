@@ -9,7 +9,7 @@ use types_expressions::earlier;
 use types_sequences::Facts;
 
 /// What is known of an antecedent or a consequent, with the byte of its first token but brackets.
-#[derive(Clone, Copy, Debug)]
+#[derive(Clone, Copy)]
 pub(crate) struct Side {
     pub facts: Facts,
     pub at: usize,

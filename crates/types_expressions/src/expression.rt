@@ -22,7 +22,7 @@ use std::alloc::{AllocError, Global};
 
 /// What is seen of an expression: its own width, held at 129, and the first fault of the kind that
 /// is sought.
-#[derive(Clone, Copy, Debug)]
+#[derive(Clone, Copy)]
 pub(crate) struct Seen {
     pub(crate) width: usize,
     pub(crate) fault: Option<usize>,
