@@ -1,7 +1,8 @@
 //! Compiled assertions: refusals at their borders, and programs that are built and run.
 
+use crate::told::told;
 use bytecode::decode;
-use cli::{build_one, check_one, fault_line};
+use cli::{build_one, check_one};
 use cli_runs::run_code;
 use signals::{Counted, CutWriter};
 use std::alloc::{AllocError, Global};
@@ -25,11 +26,14 @@ fn assertion(rt: &impl AllocGlobal, name: &str, property: &str) -> Result<String
 fn check_line(rt: &impl AllocGlobal, dump: &str, text: &str) -> Result<String, Fail> {
     let mut source = Counted::new(dump.as_bytes());
     let mut out = Counted::new(CutWriter::new(rt.alloc(), 400_000)?);
-    match check_one(rt.alloc(), &mut source, text, 7, &mut out) {
-        Ok(_) => Ok(String::new(rt.alloc())),
-        Err(fault) if out.inner.as_slice().is_empty() => Ok(fault_line(rt.alloc(), &fault)?),
-        Err(_) => Err(Fail::from("it was refused behind a beginning")),
+    let told = told(
+        rt.alloc(),
+        check_one(rt.alloc(), &mut source, text, 7, &mut out),
+    )?;
+    if told.totals.is_none() && !out.inner.as_slice().is_empty() {
+        return Err(Fail::from("it was refused behind a beginning"));
     }
+    Ok(told.line)
 }
 
 /// Pieces from a place up to another, each made from its place, with a word between two.
@@ -177,10 +181,14 @@ const EIGHT_LINES: [&str; 8] = [
 fn eight_report(rt: &impl AllocGlobal, dump: &str, window: u64) -> Result<String, Fail> {
     let mut source = Counted::new(dump.as_bytes());
     let mut out = Counted::new(CutWriter::new(rt.alloc(), 50_000)?);
-    match check_one(rt.alloc(), &mut source, EIGHT, window, &mut out) {
-        Ok(_) => Ok(String::from_utf8_lossy(rt.alloc(), out.inner.as_slice())?),
-        Err(_) => Err(Fail::from("it is refused")),
+    let told = told(
+        rt.alloc(),
+        check_one(rt.alloc(), &mut source, EIGHT, window, &mut out),
+    )?;
+    if told.totals.is_none() {
+        return Err(Fail::from("it is refused"));
     }
+    Ok(String::from_utf8_lossy(rt.alloc(), out.inner.as_slice())?)
 }
 
 #[test]
@@ -206,13 +214,16 @@ struct Built {
 
 fn build(rt: &impl AllocGlobal, text: &str, name: &str) -> Result<Built, AllocError> {
     let mut source = Counted::new(DUMP.as_bytes());
-    let mut bytes = Vec::new(rt.alloc());
-    let mut line = String::new(rt.alloc());
     match build_one(rt.alloc(), &mut source, text, name) {
-        Ok(made) => bytes = made,
-        Err(fault) => line = fault_line(rt.alloc(), &fault)?,
+        Ok(bytes) => Ok(Built {
+            bytes,
+            line: String::new(rt.alloc()),
+        }),
+        Err(fault) => Ok(Built {
+            bytes: Vec::new(rt.alloc()),
+            line: told(rt.alloc(), Err(fault))?.line,
+        }),
     }
-    Ok(Built { bytes, line })
 }
 
 /// How many instructions the sample code of a program has; none where the bytes are no program.
@@ -271,10 +282,14 @@ fn first_fault_of_a_program(rt: HostRuntime) -> Result<(), Fail> {
 fn report_run(rt: &impl AllocGlobal, code: &[u8]) -> Result<String, Fail> {
     let mut source = Counted::new(DUMP.as_bytes());
     let mut out = Counted::new(CutWriter::new(rt.alloc(), 10_000)?);
-    match run_code(rt.alloc(), &mut source, code, 1024, &mut out) {
-        Ok(_) => Ok(String::from_utf8_lossy(rt.alloc(), out.inner.as_slice())?),
-        Err(fault) => Ok(fault_line(rt.alloc(), &fault)?),
+    let told = told(
+        rt.alloc(),
+        run_code(rt.alloc(), &mut source, code, 1024, &mut out),
+    )?;
+    if told.totals.is_none() {
+        return Ok(told.line);
     }
+    Ok(String::from_utf8_lossy(rt.alloc(), out.inner.as_slice())?)
 }
 
 #[test]

@@ -14,4 +14,6 @@ mod programs;
 #[cfg(test)]
 mod reports;
 #[cfg(test)]
+mod told;
+#[cfg(test)]
 mod words;

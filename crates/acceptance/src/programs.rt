@@ -1,7 +1,8 @@
 //! Programs from bytes: their limits, and each refusal with its line.
 
 use crate::reports::has_line;
-use cli::{Fault, fault_line, verify_code};
+use crate::told::told;
+use cli::{Fault, verify_code};
 use cli_runs::run_code;
 use signals::{Counted, CutWriter};
 use std::alloc::{AllocError, Global};
@@ -35,17 +36,17 @@ fn changed(alloc: Global, place: usize, bytes: &[u8]) -> Result<Vec<u8>, AllocEr
     Ok(code)
 }
 
-/// What is told of a program: the line of its limits, or that of its fault.
-fn told(alloc: Global, code: &[u8]) -> Result<String, Fail> {
+/// The line of a program's limits, or that of its fault, before which nothing is written.
+fn line_of(alloc: Global, code: &[u8]) -> Result<String, Fail> {
     let mut out = Counted::new(CutWriter::new(alloc, 100)?);
-    match verify_code(alloc, code, &mut out) {
-        Err(fault) if out.inner.as_slice().is_empty() => Ok(fault_line(alloc, &fault)?),
-        Err(_) => Err(Fail::from("it was refused behind a beginning of the line")),
-        Ok(()) => match str::from_utf8(out.inner.as_slice()) {
-            Ok(line) => Ok(String::from_str(alloc, line)?),
-            Err(_) => Err(Fail::from("the line is no text")),
-        },
+    if let Err(fault) = verify_code(alloc, code, &mut out) {
+        let line = told(alloc, Err(fault))?.line;
+        if out.inner.as_slice().is_empty() {
+            return Ok(line);
+        }
+        return Err(Fail::from("it was refused behind a beginning of the line"));
     }
+    Ok(String::from_utf8_lossy(alloc, out.inner.as_slice())?)
 }
 
 /// A dump with one tick, at which x is 1 and y is 0.
@@ -62,7 +63,8 @@ fn report_of_a_program(rt: HostRuntime) -> Result<(), Fail> {
     let mut source = Counted::new(DUMP.as_bytes());
     let mut out = Counted::new(CutWriter::new(rt.alloc(), 1000)?);
     let answer = run_code(rt.alloc(), &mut source, PROGRAM.as_slice(), 1024, &mut out);
-    assert!(rt; answer.ok() == Some([0, 0, 1, 0, 0]));
+    let told = told(rt.alloc(), answer)?;
+    assert!(rt; told.totals == Some([0, 0, 1, 0, 0]));
     assert!(rt; out.inner.as_slice() == REPORT);
     Ok(())
 }
@@ -70,7 +72,7 @@ fn report_of_a_program(rt: HostRuntime) -> Result<(), Fail> {
 /// Whether this is told of the program with other bytes from a place on.
 fn is_told(alloc: Global, place: usize, bytes: &[u8], line: &str) -> Result<bool, Fail> {
     let code = changed(alloc, place, bytes)?;
-    Ok(told(alloc, code.as_slice())?.as_str() == line)
+    Ok(line_of(alloc, code.as_slice())?.as_str() == line)
 }
 
 /// The program as it stands, and with the most that each of its limits may be.
@@ -165,7 +167,7 @@ fn refused_programs(rt: HostRuntime) -> Result<(), Fail> {
 fn is_cut(alloc: Global, end: usize) -> Result<bool, Fail> {
     let line = format!(in alloc; "svamon: B3 Truncated {end}")?;
     let code = PROGRAM.as_slice().get(..end).unwrap_or(PROGRAM.as_slice());
-    Ok(told(alloc, code)?.as_str() == line.as_str())
+    Ok(line_of(alloc, code)?.as_str() == line.as_str())
 }
 
 #[test]
@@ -176,7 +178,7 @@ fn cut_and_longer_programs(rt: HostRuntime) -> Result<(), Fail> {
     }
     let mut longer = changed(alloc, 114, [].as_slice())?;
     longer.push(0)?;
-    let line = told(alloc, longer.as_slice())?;
+    let line = line_of(alloc, longer.as_slice())?;
     assert!(rt; line.as_str() == "svamon: B6 TrailingBytes 114");
     Ok(())
 }

@@ -1,7 +1,8 @@
 //! Devices that fail, the size of a window, and the lines of those faults that no small dump or
 //! text brings. What reports say of dumps and texts is the table of `oracle_reports`.
 
-use cli::{Fault, WordsFault, check_one, fault_line, judge_one, status};
+use crate::told::{Told, told};
+use cli::{Fault, WordsFault, check_one, judge_one, status};
 use cycle_window::WindowFault;
 use parser::ParseFault;
 use signals::{Counted, CutReader, CutWriter, Sink, Source};
@@ -24,35 +25,21 @@ const REPORT: &[u8] = b"svamon 1\nclocks 1\nmonitor r holds 0 vacuous 0 fails 1 
 /// The counts of the report.
 const TOTALS: [u64; 5] = [0, 0, 1, 0, 0];
 
-/// What a run of the text left: its counts or the line of its fault, its status, and what it wrote.
+/// What a run of the text left: what it told, and what it wrote.
 #[derive(Drop)]
 struct Outcome {
-    totals: Option<[u64; 5]>,
-    line: String,
-    status: u8,
+    told: Told,
     written: Vec<u8>,
     /// How many calls of the device failed.
     failed: u64,
 }
 
 impl Outcome {
-    /// What an answer left, with what was written; no line where it is no fault.
-    fn of(
-        alloc: Global,
-        answer: Result<[u64; 5], Fault>,
-        written: &[u8],
-        failed: u64,
-    ) -> Result<Self, AllocError> {
-        let line = match &answer {
-            Ok(_) => String::new(alloc),
-            Err(fault) => fault_line(alloc, fault)?,
-        };
-        let status = status(&answer);
+    /// What was told, with what was written.
+    fn of(alloc: Global, told: Told, written: &[u8], failed: u64) -> Result<Self, AllocError> {
         let written = Vec::from_slice(alloc, written)?;
         Ok(Outcome {
-            totals: answer.ok(),
-            line,
-            status,
+            told,
             written,
             failed,
         })
@@ -61,14 +48,14 @@ impl Outcome {
     /// Whether it was refused so, and what it wrote is the beginning of the report up to a byte.
     fn is_refused(&self, line: &str, status: u8, end: usize) -> bool {
         let report = REPORT.get(..end).unwrap_or(REPORT);
-        self.line.as_str() == line && self.status == status && self.written.as_slice() == report
+        self.told.is(line, status) && self.written.as_slice() == report
     }
 
     /// Whether it is the report of the dump.
     fn is_report(&self) -> bool {
-        self.totals == Some(TOTALS)
-            && self.line.as_str().is_empty()
-            && self.status == 1
+        self.told.totals == Some(TOTALS)
+            && self.told.line.as_str().is_empty()
+            && self.told.status == 1
             && self.written.as_slice() == REPORT
     }
 }
@@ -77,8 +64,8 @@ impl Outcome {
 fn run(alloc: Global, dump: &[u8], window: u64) -> Result<Outcome, AllocError> {
     let mut source = Counted::new(dump);
     let mut out = Counted::new(CutWriter::new(alloc, 10_000)?);
-    let answer = check_one(alloc, &mut source, TEXT, window, &mut out);
-    Outcome::of(alloc, answer, out.inner.as_slice(), source.failed_calls())
+    let told = told(alloc, check_one(alloc, &mut source, TEXT, window, &mut out))?;
+    Outcome::of(alloc, told, out.inner.as_slice(), source.failed_calls())
 }
 
 #[test]
@@ -86,8 +73,11 @@ fn whole_reports(rt: HostRuntime) -> Result<(), Fail> {
     assert!(rt; run(rt.alloc(), DUMP.as_bytes(), 1024)?.is_report());
     let mut source = Counted::new(DUMP.as_bytes());
     let mut out = Counted::new(CutWriter::new(rt.alloc(), 10_000)?);
-    let answer = judge_one(rt.alloc(), &mut source, TEXT, &mut out);
-    assert!(rt; Outcome::of(rt.alloc(), answer, out.inner.as_slice(), 0)?.is_report());
+    let told = told(
+        rt.alloc(),
+        judge_one(rt.alloc(), &mut source, TEXT, &mut out),
+    )?;
+    assert!(rt; Outcome::of(rt.alloc(), told, out.inner.as_slice(), 0)?.is_report());
     assert!(rt; status(&Ok([3, 2, 0, 1, 1])) == 0);
     assert!(rt; status(&Ok([3, 2, 1, 1, 1])) == 1);
     Ok(())
@@ -110,8 +100,8 @@ fn sizes_of_windows(rt: HostRuntime) -> Result<(), Fail> {
 fn run_into(alloc: Global, room: usize) -> Result<Outcome, AllocError> {
     let mut source = Counted::new(DUMP.as_bytes());
     let mut out = Counted::new(CutWriter::new(alloc, room)?);
-    let answer = check_one(alloc, &mut source, TEXT, 7, &mut out);
-    Outcome::of(alloc, answer, out.inner.as_slice(), out.failed_calls())
+    let told = told(alloc, check_one(alloc, &mut source, TEXT, 7, &mut out))?;
+    Outcome::of(alloc, told, out.inner.as_slice(), out.failed_calls())
 }
 
 #[test]
@@ -128,8 +118,8 @@ fn cut_reports(rt: HostRuntime) -> Result<(), Fail> {
 fn run_from(alloc: Global, cut: usize) -> Result<Outcome, AllocError> {
     let mut source = Counted::new(CutReader::new(DUMP.as_bytes(), cut));
     let mut out = Counted::new(CutWriter::new(alloc, 10_000)?);
-    let answer = check_one(alloc, &mut source, TEXT, 1024, &mut out);
-    Outcome::of(alloc, answer, out.inner.as_slice(), source.failed_calls())
+    let told = told(alloc, check_one(alloc, &mut source, TEXT, 1024, &mut out))?;
+    Outcome::of(alloc, told, out.inner.as_slice(), source.failed_calls())
 }
 
 #[test]
@@ -149,7 +139,7 @@ fn short_dumps(rt: HostRuntime) -> Result<(), Fail> {
     for end in 0..DUMP.len() {
         let bytes = DUMP.as_bytes().get(..end).unwrap_or(DUMP.as_bytes());
         let outcome = run(rt.alloc(), bytes, 1024)?;
-        let is_whole = outcome.totals.is_none() == outcome.written.is_empty();
+        let is_whole = outcome.told.totals.is_none() == outcome.written.is_empty();
         assert!(rt; is_whole && outcome.failed == 0, "ends at {end}");
     }
     Ok(())
@@ -157,8 +147,7 @@ fn short_dumps(rt: HostRuntime) -> Result<(), Fail> {
 
 /// Whether a fault has this line and this status.
 pub fn has_line(alloc: Global, fault: Fault, line: &str, number: u8) -> Result<bool, AllocError> {
-    let told = fault_line(alloc, &fault)?;
-    Ok(told.as_str() == line && status(&Err(fault)) == number)
+    Ok(told(alloc, Err(fault))?.is(line, number))
 }
 
 #[test]

@@ -8,11 +8,11 @@ mod verdicts;
 
 use anyhow::{Context, Result, bail};
 use lexer::lex;
-use parser::parse;
-use std::alloc::Global;
+use parser::{File, parse};
+use std::alloc::{AllocError, Global};
 use std::time::Instant;
 use std::{env, fs};
-use types::{Names, Paths, check};
+use types::{Names, Paths, TypeFault, check};
 
 /// Paths with their widths, one a line.
 fn names_of(alloc: Global, lines: &str) -> Result<Names> {
@@ -27,43 +27,58 @@ fn names_of(alloc: Global, lines: &str) -> Result<Names> {
     Ok(names)
 }
 
-/// How many assertions the suite of the text has, or its first fault.
-fn verdict(alloc: Global, names: &Names, text: &str) -> Result<String> {
+/// How many assertions the suite of a file has, or its first fault.
+fn count_of(alloc: Global, names: &Names, file: &File) -> Result<usize, TypeFault> {
+    match check(alloc, file, Paths::Listed(names)) {
+        Ok(suite) => Ok(suite.assertions.len()),
+        Err(fault) => Err(fault),
+    }
+}
+
+/// The same of a text, if it is read.
+fn counted(alloc: Global, names: &Names, text: &str) -> Option<Result<usize, TypeFault>> {
     let Ok(tokens) = lex(alloc, text) else {
-        bail!("a text is not cut into tokens");
+        return None;
     };
     let Ok(file) = parse(alloc, tokens.as_slice()) else {
-        bail!("a text is not read");
+        return None;
     };
-    match check(alloc, &file, Paths::Listed(names)) {
-        Ok(suite) => {
-            let count = suite.assertions.len();
-            Ok(format!(in alloc; "assertions {count}")?)
-        }
-        Err(fault) => Ok(format!(in alloc; "{fault}")?),
+    Some(count_of(alloc, names, &file))
+}
+
+/// How many assertions there are, or the fault.
+fn told(alloc: Global, counted: Result<usize, TypeFault>) -> Result<String, AllocError> {
+    match counted {
+        Ok(count) => format!(in alloc; "assertions {count}"),
+        Err(fault) => format!(in alloc; "{fault}"),
     }
+}
+
+/// What is told of a text.
+fn verdict(alloc: Global, names: &Names, text: &str) -> Result<String> {
+    let counted = counted(alloc, names, text).context("a text is not read")?;
+    Ok(told(alloc, counted)?)
+}
+
+/// Checks a file, lets go of its suite, and prints how long that took.
+fn time_file(rt: &HostRuntime, names: &Names, file: &File) -> Result<()> {
+    let start = Instant::now(rt)?;
+    let counted = count_of(rt.alloc(), names, file);
+    let took = start.elapsed(rt)?.as_micros();
+    let told = told(rt.alloc(), counted)?;
+    println!(rt; "check {took} us {told}")?;
+    Ok(())
 }
 
 /// Checks a text, and prints how long that took.
 fn time_text(rt: &HostRuntime, names: &Names, text: &str) -> Result<()> {
-    let alloc = rt.alloc();
-    let Ok(tokens) = lex(alloc, text) else {
+    let Ok(tokens) = lex(rt.alloc(), text) else {
         bail!("the text is not cut into tokens");
     };
-    let Ok(file) = parse(alloc, tokens.as_slice()) else {
+    let Ok(file) = parse(rt.alloc(), tokens.as_slice()) else {
         bail!("the text is not read");
     };
-    let start = Instant::now(rt)?;
-    let checked = check(alloc, &file, Paths::Listed(names));
-    let took = start.elapsed(rt)?.as_micros();
-    match checked {
-        Ok(suite) => {
-            let count = suite.assertions.len();
-            println!(rt; "check {took} us assertions {count}")?;
-        }
-        Err(fault) => println!(rt; "check {took} us {fault}")?,
-    }
-    Ok(())
+    time_file(rt, names, &file)
 }
 
 fn main(rt: HostRuntime) -> Result<()> {

@@ -14,20 +14,25 @@ use std::alloc::Global;
 use std::io::Print;
 use types::{Names, Paths, check};
 
+/// The suite of a text, if it has one.
+fn checked(alloc: Global, names: &Names, text: &str) -> Option<Suite> {
+    let Ok(tokens) = lex(alloc, text) else {
+        return None;
+    };
+    let Ok(file) = parse(alloc, tokens.as_slice()) else {
+        return None;
+    };
+    check(alloc, &file, Paths::Listed(names)).ok()
+}
+
 /// The suite of an assertion over signals of one bit.
 fn suite_of(alloc: Global, property: &str) -> Result<Suite> {
     let text = format!(in alloc; "assert property (@(posedge clk) {property});")?;
     let paths = [("a", 1), ("b", 1), ("c", 1), ("d", 1), ("e", 1), ("f", 1)];
     let names = Names::of(alloc, &paths)?;
-    let Ok(tokens) = lex(alloc, text.as_str()) else {
-        bail!("{property}: it is not cut into tokens");
-    };
-    let Ok(file) = parse(alloc, tokens.as_slice()) else {
-        bail!("{property}: it is not read");
-    };
-    match check(alloc, &file, Paths::Listed(&names)) {
-        Ok(suite) => Ok(suite),
-        Err(fault) => bail!("{property}: {fault}"),
+    match checked(alloc, &names, text.as_str()) {
+        Some(suite) => Ok(suite),
+        None => bail!("{property}: it has no suite"),
     }
 }
 
@@ -66,20 +71,25 @@ fn told(alloc: Global, verdict: Verdict) -> Result<String> {
     Ok(told)
 }
 
-/// The verdicts of a line, one a tick.
-fn answer(alloc: Global, line: &str) -> Result<String> {
-    let (ticks, property) = line.split_once("; ").context("a line without ticks")?;
-    let suite = suite_of(alloc, property)?;
-    let signals = signals_of(alloc, &suite, ticks)?;
-    let rows = count(alloc, signals, suite.counters.as_slice())?;
+/// The verdicts on the first assertion of a suite, one a tick.
+fn verdicts_of(alloc: Global, suite: &Suite, ticks: &str) -> Result<String> {
     let assertion = suite.assertions.as_slice().first().context("no assertion")?;
+    let signals = signals_of(alloc, suite, ticks)?;
+    let rows = count(alloc, signals, suite.counters.as_slice())?;
     let mut answer = String::new(alloc);
     for tick in 0..rows.signals.len() {
-        let verdict = judge(alloc, assertion, &suite, &rows, tick)?;
+        let verdict = judge(alloc, assertion, suite, &rows, tick)?;
         answer.push_str(if tick == 0 { "" } else { ", " })?;
         answer.push_str(told(alloc, verdict)?.as_str())?;
     }
     Ok(answer)
+}
+
+/// The verdicts of a line.
+fn answer(alloc: Global, line: &str) -> Result<String> {
+    let (ticks, property) = line.split_once("; ").context("a line without ticks")?;
+    let suite = suite_of(alloc, property)?;
+    verdicts_of(alloc, &suite, ticks)
 }
 
 /// Prints the verdicts of each line.

@@ -27,11 +27,11 @@ fn report_fault<R: Eprint + AllocGlobal>(rt: &R, fault: &Fault) {
 }
 
 /// The status of an outcome. The line of a fault goes to standard error.
-fn shown_status<R: Eprint + AllocGlobal>(rt: &R, outcome: &Result<[u64; 5], Fault>) -> u8 {
-    if let Err(fault) = outcome {
+fn shown_status<R: Eprint + AllocGlobal>(rt: &R, outcome: Result<[u64; 5], Fault>) -> u8 {
+    if let Err(fault) = &outcome {
         report_fault(rt, fault);
     }
-    status(outcome)
+    status(&outcome)
 }
 
 /// Judges a text over a dump, through windows of so many clocks, or by the slow judge where there
@@ -60,13 +60,13 @@ fn serve_text<R: Files + Print + Eprint + AllocGlobal>(
 ) -> u8 {
     let dump = match open(rt, vcd) {
         Ok(dump) => dump,
-        Err(fault) => return shown_status(rt, &Err(fault)),
+        Err(fault) => return shown_status(rt, Err(fault)),
     };
     let text = match read_assertions(rt, sva, axi) {
         Ok(text) => text,
-        Err(fault) => return shown_status(rt, &Err(fault)),
+        Err(fault) => return shown_status(rt, Err(fault)),
     };
-    shown_status(rt, &judge_text(rt, dump, text.as_str(), window))
+    shown_status(rt, judge_text(rt, dump, text.as_str(), window))
 }
 
 /// Compiles an assertion of a text over a dump, and makes a file of its program.
@@ -94,15 +94,15 @@ fn serve_build<R: Files + Eprint + AllocGlobal>(
 ) -> u8 {
     let dump = match open(rt, vcd) {
         Ok(dump) => dump,
-        Err(fault) => return shown_status(rt, &Err(fault)),
+        Err(fault) => return shown_status(rt, Err(fault)),
     };
     let text = match read_assertions(rt, sva, axi) {
         Ok(text) => text,
-        Err(fault) => return shown_status(rt, &Err(fault)),
+        Err(fault) => return shown_status(rt, Err(fault)),
     };
     match build_text(rt, dump, text.as_str(), name, out) {
         Ok(()) => 0,
-        Err(fault) => shown_status(rt, &Err(fault)),
+        Err(fault) => shown_status(rt, Err(fault)),
     }
 }
 
@@ -125,7 +125,7 @@ fn print_rules<R: Files + Print + AllocGlobal>(rt: &R, axi: &str) -> Result<(), 
 fn serve_rules<R: Files + Print + Eprint + AllocGlobal>(rt: &R, axi: &str) -> u8 {
     match print_rules(rt, axi) {
         Ok(()) => 0,
-        Err(fault) => shown_status(rt, &Err(fault)),
+        Err(fault) => shown_status(rt, Err(fault)),
     }
 }
 
@@ -140,7 +140,7 @@ fn verify_file<R: Files + Print + AllocGlobal>(rt: &R, path: &str) -> Result<(),
 fn serve_code<R: Files + Print + Eprint + AllocGlobal>(rt: &R, path: &str) -> u8 {
     match verify_file(rt, path) {
         Ok(()) => 0,
-        Err(fault) => shown_status(rt, &Err(fault)),
+        Err(fault) => shown_status(rt, Err(fault)),
     }
 }
 
@@ -202,7 +202,7 @@ fn serve<R: Files + Print + Eprint + AllocGlobal>(rt: &R, request: &Request) -> 
         ),
         Request::Verify { code } => serve_code(rt, code.as_str()),
         Request::Run { vcd, code, window } => {
-            shown_status(rt, &run_file(rt, vcd.as_str(), code.as_str(), *window))
+            shown_status(rt, run_file(rt, vcd.as_str(), code.as_str(), *window))
         }
         Request::Judge { vcd, sva, axi } => {
             serve_text(rt, vcd.as_str(), sva.as_str(), path_of(axi), None)
@@ -226,7 +226,7 @@ fn refuse_words<R: Eprint + AllocGlobal>(rt: &R, error: &io::Error) -> u8 {
         );
         return 2;
     }
-    shown_status(rt, &Err(Fault::Memory))
+    shown_status(rt, Err(Fault::Memory))
 }
 
 /// The words as slices.
@@ -255,6 +255,6 @@ pub fn answer<R: Files + Env + Print + Eprint + AllocGlobal>(rt: &R) -> u8 {
     };
     match request_of(rt, words.as_slice()) {
         Ok(request) => serve(rt, &request),
-        Err(fault) => shown_status(rt, &Err(fault)),
+        Err(fault) => shown_status(rt, Err(fault)),
     }
 }
