@@ -47,7 +47,7 @@ fn bit_of(tick: &str, path: &str) -> u128 {
 }
 
 /// The values of a suite's signals at the ticks.
-fn signals_of(alloc: Global, suite: &Suite, ticks: &str) -> Result<Table> {
+fn signals_of(alloc: Global, suite: &Suite, ticks: &str) -> Result<Table<u128>> {
     let mut signals = Table::new(alloc);
     for tick in ticks.split(' ') {
         let mut row = Vec::new(alloc);
