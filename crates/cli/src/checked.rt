@@ -58,6 +58,7 @@ pub(crate) fn check_through<'a, S: Source, W: Sink>(
 {
     let dump = read_dump(alloc, source)?;
     let report = report_checked(alloc, dump, text, size)?;
+    // An arm knows which fault it is; by `?` the search doesn't find why that one stands.
     match write_report(alloc, &report, out) {
         Ok(()) => Ok(totals(&report)),
         Err(ReportFault::Memory) => Err(Fault::Memory),
