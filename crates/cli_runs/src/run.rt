@@ -61,6 +61,7 @@ fn run_through<S: Source, W: Sink>(
 {
     let dump = read_dump(alloc, source)?;
     let report = report_of(alloc, dump, code, size)?;
+    // An arm knows which fault it is; by `?` the search doesn't find why that one stands.
     match write_report(alloc, &report, out) {
         Ok(()) => Ok(totals(&report)),
         Err(ReportFault::Memory) => Err(Fault::Memory),

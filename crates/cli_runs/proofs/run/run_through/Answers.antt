@@ -4,8 +4,8 @@ use Rattle.verdicts.specs.Texts.{report_text}
 use Rattle.verdicts.specs.Written.{WhyUnwritten}
 use Rattle.cli_runs.proofs.run.run_through.Goals as goal
 
-pub returns-in-Ok-write_report-clause-answered : goal.returns-in-Ok-write_report-clause-answered
-returns-in-Ok-write_report-clause-answered g c =
+pub returns-in-Ok-clause-answered : goal.returns-in-Ok-clause-answered
+returns-in-Ok-clause-answered g c =
     let read = c.in_ok-dump.ensures.accepted in
     record {
       bytes = read.1.0;
@@ -17,10 +17,10 @@ returns-in-Ok-write_report-clause-answered g c =
         dump = read.1.2;
         has = c.in_ok-report.ensures.ok read.0 read.2;
       };
-      written = c.in-Ok-write_report.ensures.written;
+      written = c.in-Ok.ensures.written;
       totals_are = c.totals.ensures;
       reads = c.in_ok-dump.ensures.counted;
-      writes = c.in-Ok-write_report.ensures.counted;
+      writes = c.in-Ok.ensures.counted;
     }
 
 pub returns-clause-refused : goal.returns-clause-refused
