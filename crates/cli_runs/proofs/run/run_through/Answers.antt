@@ -1,8 +1,25 @@
-use Rattle.std.proofs.Common.{subst}
+use Rattle.std.proofs.Common.{refl, subst}
 use Rattle.verdicts.specs.Shown.{data_of}
 use Rattle.verdicts.specs.Texts.{report_text}
 use Rattle.verdicts.specs.Written.{WhyUnwritten}
+use Rattle.cli.specs.Outcomes.{run_of}
+use Rattle.cli.proofs.TextLaws.{err_is}
+use Rattle.cli_runs.specs.Outcomes.{WhyRunFails}
+use Rattle.cli_runs.proofs.RunLaws.{refused_run}
 use Rattle.cli_runs.proofs.run.run_through.Goals as goal
+
+pub returns-in_err-report-clause-refused : goal.returns-in_err-report-clause-refused
+returns-in_err-report-clause-refused g c =
+    let read = c.in_ok-dump.ensures.accepted in
+    let before = g.S.Source.state c.args.source.now in
+    let after = g.S.Source.state c.read_dump.new.source in
+    let held = g.W.Sink.state c.args.out.now in
+    let r = run_of c.args.code.now before after held held in
+    let fault = c.in_err-report.field-0.0 in
+    err_is c.from_residual-in_err-report.result fault (WhyRunFails c.args.size r)
+    c.from_residual-in_err-report.ensures.1
+    (refused_run c.args.size r read.0 read.1 c.in_ok-dump.ensures.counted
+    (record { held = refl; counted = refl }) fault (c.in_err-report.ensures.err read.0 read.2))
 
 pub returns-in-Ok-clause-answered : goal.returns-in-Ok-clause-answered
 returns-in-Ok-clause-answered g c =
