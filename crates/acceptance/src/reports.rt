@@ -1,7 +1,7 @@
 //! Devices that fail, the size of a window, and the lines of those faults that no small dump or
 //! text brings. What reports say of dumps and texts is the table of `oracle_reports`.
 
-use crate::told::{Told, told};
+use crate::told::{Answer, told};
 use cli::{Fault, WordsFault, check_one, judge_one, status};
 use cycle_window::WindowFault;
 use parser::ParseFault;
@@ -28,7 +28,7 @@ const TOTALS: [u64; 5] = [0, 0, 1, 0, 0];
 /// What a run of the text left: what it told, and what it wrote.
 #[derive(Drop)]
 struct Outcome {
-    told: Told,
+    told: Answer,
     written: Vec<u8>,
     /// How many calls of the device failed.
     failed: u64,
@@ -36,7 +36,7 @@ struct Outcome {
 
 impl Outcome {
     /// What was told, with what was written.
-    fn of(alloc: Global, told: Told, written: &[u8], failed: u64) -> Result<Self, AllocError> {
+    fn of(alloc: Global, told: Answer, written: &[u8], failed: u64) -> Result<Self, AllocError> {
         let written = Vec::from_slice(alloc, written)?;
         Ok(Outcome {
             told,

@@ -6,14 +6,14 @@ use std::alloc::{AllocError, Global};
 
 /// What an answer tells: its counts or the line of its fault, and its status.
 #[derive(Drop)]
-pub struct Told {
+pub struct Answer {
     pub totals: Option<[u64; 5]>,
     /// No line where it is no fault.
     pub line: String,
     pub status: u8,
 }
 
-impl Told {
+impl Answer {
     /// Whether it is a fault with this line and this status.
     pub fn is(&self, line: &str, status: u8) -> bool {
         self.totals.is_none() && self.line.as_str() == line && self.status == status
@@ -29,12 +29,12 @@ fn line_of(alloc: Global, answer: &Result<[u64; 5], Fault>) -> Result<String, Al
 }
 
 /// What an answer tells.
-pub fn told(alloc: Global, answer: Result<[u64; 5], Fault>) -> Result<Told, AllocError> {
+pub fn told(alloc: Global, answer: Result<[u64; 5], Fault>) -> Result<Answer, AllocError> {
     let status = status(&answer);
     let line = line_of(alloc, &answer);
     let totals = answer.ok();
     let line = line?;
-    Ok(Told {
+    Ok(Answer {
         totals,
         line,
         status,
