@@ -46,7 +46,8 @@ fn tables(rt: HostRuntime) -> Result<(), Fail> {
     assert!(rt; run.signals.len() == 2 && !run.signals.is_empty());
     assert!(rt; run.signals.cell(1, 0) == 3);
     assert!(rt; run.signals.cell(2, 0) == 0 && run.signals.cell(0, 1) == 0);
-    assert!(rt; Table::new(alloc).is_empty());
+    let empty: Table<u128> = Table::new(alloc);
+    assert!(rt; empty.is_empty());
     assert!(rt; Name::new(Origin::Signal, 0, 129).is_none());
     let byte = Name::new(Origin::Signal, 0, 8).ok_or("a width of 1 to 128")?;
     assert!(rt; Slice::new(byte, 8, 0).is_none());
