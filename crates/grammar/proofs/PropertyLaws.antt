@@ -1,33 +1,49 @@
 -- Properties are read as what spells them, both ways.
 use Rattle.std.proofs.Common.{◌≡◌, ℕ, zero, suc, ◌<◌, List, [], ◌∷◌, Option, Some, None, refl, sym, ap, ◌∙◌, subst, arith}
-use Rattle.std.proofs.lemmas.Bool.{eqb-true, eq-eqb, ne_eqb}
 use Rattle.lexer.specs.declared.token.Token.{Token}
-use Rattle.grammar.specs.declared.terminal.Terminal.TheVariants.{OpenRound, CloseRound, Delay}
+use Rattle.lexer.specs.declared.token.Kind.{Kind}
+use Rattle.grammar.specs.declared.operator.Implication.{Implication}
+use Rattle.grammar.specs.declared.terminal.Terminal.{Terminal}
+use Rattle.grammar.specs.declared.terminal.Terminal.TheVariants.{OpenRound, CloseRound, Delay, Overlapped, Following}
 use Rattle.grammar.specs.Terminals.{terminal}
-use Rattle.grammar.specs.Marks.{precedence, next_precedence, has_precedence}
+use Rattle.grammar.specs.Marks.{precedence_of_terminal, precedence, next_precedence}
+use Rattle.grammar.specs.Operators.{implication_of_terminal, implication_of}
 use Rattle.grammar.specs.Trees.{Tree, SequenceForm, boolean, repeated, late, delayed, throughout, joined, PropertyForm, plain, implication}
 use Rattle.grammar.specs.Sequences.{IsBody, is_boolean, in_brackets, is_once, is_prompt, is_head, is_cat, is_during, IsSequence, is_conjunction, IsProperty, is_plain, is_implication, bracketed}
 use Rattle.grammar.specs.Expressions as expressions
-use Rattle.grammar.specs.Expressions.{Spells, is_operand, is_tighter}
-use Rattle.grammar.specs.Readers.{◌>>=◌, lead, expect}
+use Rattle.grammar.specs.Expressions.{is_operand, is_tighter}
+use Rattle.grammar.specs.Readers.{◌>>=◌, expect, pick}
 use Rattle.grammar.specs.ReadSequences.{regroup, body_with, during_behind, during_with, sides_behind, whole_with, sequences, sequence_behind, whole, implication_from, implication_behind, regroup_property, property_by, property_with, properties, property}
-use Rattle.grammar.proofs.ReaderLaws.{Reads, bind-some, lead-true, lead-false, lead-nil, lead-some, expect-is, expect-not, expect-some, precedence-CloseRound}
+use Rattle.grammar.proofs.ReaderLaws.{Reads, bind-some, pick-nil, pick-no, pick-is, pick-some, expect-is, expect-not, expect-some, precedence-CloseRound}
 use Rattle.grammar.proofs.Sound.{opening-mark}
 use Rattle.grammar.proofs.SequencesComplete.{body, during, sequence-none, regroup-none, sequence-read}
 use Rattle.grammar.proofs.SequencesSound.{sequence-is_boolean, regroup-sound, behind-sound, sides-sound, is_sound_below, sequence-sound}
 
 -- implications
+implication-level : (w : Terminal) (k : Kind) (i : Implication) → implication_of_terminal w ≡ Some i → precedence_of_terminal w k ≡ 17
+implication-level Overlapped k i h = refl
+implication-level Following k i h = refl
+implication-level _ k i h = absurd cc
+
+implication-precedence : (t : Token) (i : Implication) → implication_of t ≡ Some i → precedence t ≡ 17
+unfolding implication_of precedence
+implication-precedence t i h = implication-level (terminal t) t.kind i h
+
+no_implication : (t : Token) (o : Option Implication) → implication_of t ≡ o → (precedence t ≡ 17 → ⊥) → o ≡ None
+no_implication t None e h = refl
+no_implication t (Some i) e h = absurd (h (implication-precedence t i e))
+
 implication-none : (d : ℕ) (s : SequenceForm) (ts : List Token) → (next_precedence ts ≡ 17 → ⊥) → implication_behind d s ts ≡ Some (plain s, ts)
-unfolding implication_behind has_precedence
+unfolding implication_behind
 implication-none d s ts h = rw (no_sign ts h) refl
   where
-    no_sign : (us : List Token) → (next_precedence us ≡ 17 → ⊥) → lead (has_precedence 17) us ≡ None
-    no_sign [] k = lead-nil (has_precedence 17)
-    no_sign (u ∷ us) k = lead-false (has_precedence 17) u us (ne_eqb (precedence u) 17 k)
+    no_sign : (us : List Token) → (next_precedence us ≡ 17 → ⊥) → pick implication_of us ≡ None
+    no_sign [] k = pick-nil implication_of
+    no_sign (u ∷ us) k = pick-no implication_of u us (no_implication u (implication_of u) refl k)
 
-implication-some : (d : ℕ) (a c : SequenceForm) (t : Token) (us rest : List Token) → precedence t ≡ 17 → whole d us ≡ Some (c, rest) → implication_behind d a (t ∷ us) ≡ Some (implication a t c, rest)
-unfolding implication_behind has_precedence
-implication-some d a c t us rest h k = rw (lead-true (has_precedence 17) t us (eq-eqb (precedence t) 17 h), k) refl
+implication-some : (d : ℕ) (i : Implication) (a c : SequenceForm) (t : Token) (us rest : List Token) → implication_of t ≡ Some i → whole d us ≡ Some (c, rest) → implication_behind d a (t ∷ us) ≡ Some (implication a i c, rest)
+unfolding implication_behind
+implication-some d i a c t us rest h k = rw (pick-is implication_of i t us h, k) refl
 
 -- Where a seq is read, a prop goes on with its implication.
 record Grouped (d : ℕ) (s : SequenceForm) (ts rest : List Token) : Type 0 where
@@ -123,11 +139,12 @@ whole-read w le = sequence-read w le
 regroup-stays : (d : ℕ) (p : PropertyForm) (ts : List Token) → 17 < next_precedence ts → regroup_property d p ts ≡ Some (p, ts)
 unfolding regroup_property
 regroup-stays d (plain s) ts h = rw (regroup-none d s ts (omega arith), sequence-none d s ts (omega arith)) (implication-none d s ts (λ e. omega arith))
-regroup-stays d (implication a t c) ts h = refl
+regroup-stays d (implication a i c) ts h = refl
 
 pub property-read : {d : ℕ} {p : PropertyForm} {ts rest : List Token} → IsProperty d p ts rest → 17 < next_precedence rest → property d ts ≡ Some (p, rest)
 property-read (is_plain {d = d} {s = s} {ts = ts} {rest = rest} w) le = goes_on d ts s rest (whole-read w (omega arith)) ∙ implication-none d s rest (λ e. omega arith)
-property-read (is_implication {d = d} {t = t} {a = a} {c = c} {ts = ts} {us = us} {rest = rest} k v w) le = goes_on d ts a (t ∷ us) (whole-read v (omega arith)) ∙ implication-some d a c t us rest k (whole-read w (omega arith))
+property-read (is_implication {d = d} {t = t} {i = i} {a = a} {c = c} {ts = ts} {us = us} {rest = rest} k v w) le =
+    goes_on d ts a (t ∷ us) (whole-read v (omega (arith, implication-precedence t i k))) ∙ implication-some d i a c t us rest k (whole-read w (omega arith))
 property-read (bracketed {d = d} {left = left} {right = right} {p = p} {ts = ts} {rest = rest} o c w) le =
     property-opens (suc d) left right ts rest p o (inner-property d ts ∙ property-read w (omega (arith, precedence-CloseRound right c))) c ∙ regroup-stays (suc d) p rest le
 
@@ -154,18 +171,17 @@ pub whole-sound : (d : ℕ) → Reads (whole d) (λ s ts rest. IsSequence d s ts
 unfolding whole
 whole-sound d ts p h = sequence-sound d ts p h
 
-implication_by-sound : (d : ℕ) (s : SequenceForm) (ts us : List Token) (p : PropertyForm × List Token) → IsSequence d s ts us → (o : Option (Token × List Token)) → lead (has_precedence 17) us ≡ o → implication_from d o s us ≡ Some p → IsProperty d p.0 ts p.1
-unfolding has_precedence
+implication_by-sound : (d : ℕ) (s : SequenceForm) (ts us : List Token) (p : PropertyForm × List Token) → IsSequence d s ts us → (o : Option (Implication × List Token)) → pick implication_of us ≡ o → implication_from d o s us ≡ Some p → IsProperty d p.0 ts p.1
 implication_by-sound d s ts us p w None l h = let same : (plain s, us) ≡ p = cc (h) in subst (λ (r : PropertyForm × List Token). IsProperty d r.0 ts r.1) same (is_plain w)
 implication_by-sound d s ts us p w (Some q) l h =
     let a = bind-some (whole d q.1) (λ (p : SequenceForm × List Token). Some (implication s q.0 p.0, p.1)) p h in
     let same : (implication s q.0 a.0.0, a.0.1) ≡ p = cc (a.2) in
-    let x = lead-some (has_precedence 17) us q l in
-    subst (λ (r : PropertyForm × List Token). IsProperty d r.0 ts r.1) same (is_implication (eqb-true (precedence q.0) 17 x.passes) (subst (λ (vs : List Token). IsSequence d s ts vs) x.parts w) (whole-sound d q.1 a.0 a.1))
+    let x = pick-some implication_of us q l in
+    subst (λ (r : PropertyForm × List Token). IsProperty d r.0 ts r.1) same (is_implication x.picked (subst (λ (vs : List Token). IsSequence d s ts vs) x.parts w) (whole-sound d q.1 a.0 a.1))
 
 implication-sound : (d : ℕ) (s : SequenceForm) (ts us : List Token) (p : PropertyForm × List Token) → IsSequence d s ts us → implication_behind d s us ≡ Some p → IsProperty d p.0 ts p.1
 unfolding implication_behind
-implication-sound d s ts us p w h = implication_by-sound d s ts us p w (lead (has_precedence 17) us) refl h
+implication-sound d s ts us p w h = implication_by-sound d s ts us p w (pick implication_of us) refl h
 
 sequence_behind-sound : (d : ℕ) (s : SequenceForm) (ts us : List Token) (p : SequenceForm × List Token) → IsBody d s ts us → sequence_behind d s us ≡ Some p → IsSequence d p.0 ts p.1
 unfolding sequence_behind
@@ -180,8 +196,8 @@ regroup_property-sound d left right (plain s) ts vs p o c w h =
     let b = bind-some (sequence_behind (suc d) a.0.0 a.0.1) (λ (q : SequenceForm × List Token). implication_behind (suc d) q.0 q.1) p a.2 in
     let body_is = regroup-sound d left right s ts vs a.0 o c (property-is_plain w) a.1 in
     implication-sound (suc d) b.0.0 (left ∷ ts) b.0.1 p (sequence_behind-sound (suc d) a.0.0 (left ∷ ts) a.0.1 b.0 body_is b.1) b.2
-regroup_property-sound d left right (implication a t c') ts vs p o c w h =
-    let same : (implication a t c', vs) ≡ p = cc (h) in subst (λ (r : PropertyForm × List Token). IsProperty (suc d) r.0 (left ∷ ts) r.1) same (bracketed o c w)
+regroup_property-sound d left right (implication a i c') ts vs p o c w h =
+    let same : (implication a i c', vs) ≡ p = cc (h) in subst (λ (r : PropertyForm × List Token). IsProperty (suc d) r.0 (left ∷ ts) r.1) same (bracketed o c w)
 
 abbrev IsSoundInside : ℕ → Type 0
 IsSoundInside d = Reads (properties d) (λ p ts rest. (left right : Token) (q : PropertyForm × List Token) (vs : List Token) → terminal left ≡ OpenRound → terminal right ≡ CloseRound → rest ≡ right ∷ vs → regroup_property d p vs ≡ Some q → IsProperty d q.0 (left ∷ ts) q.1)

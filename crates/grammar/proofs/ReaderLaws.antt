@@ -76,6 +76,14 @@ pub pick-is : {A : Type 0} (f : Token → Option A) (a : A) (t : Token) (ts : Li
 unfolding pick
 pick-is f a t ts h = rw h refl
 
+pub pick-nil : {A : Type 0} (f : Token → Option A) → pick f [] ≡ None
+unfolding pick
+pick-nil f = refl
+
+pub pick-no : {A : Type 0} (f : Token → Option A) (t : Token) (ts : List Token) → f t ≡ None → pick f (t ∷ ts) ≡ None
+unfolding pick
+pick-no f t ts h = rw h refl
+
 pub record Picks {A : Type 0} (f : Token → Option A) (ts : List Token) (p : A × List Token) : Type 0 where
   pub token : Token
   pub parts : ts ≡ token ∷ p.1

@@ -16,9 +16,9 @@ use Rattle.grammar.specs.Expressions.{Spells}
 use Rattle.grammar.specs.Sequences.{bound, IsTimes, times, times_to, IsDelay, after, between, IsBody, is_boolean, in_brackets, IsRepetition, is_once, is_repeated, IsHead, is_prompt, is_late, AreSteps, no_steps, one_step, IsDelayed, is_head, is_delayed, IsDuring, is_cat, is_throughout, AreConjuncts, no_conjunct, one_conjunct, IsConjunction, is_during, is_all, AreAlternatives, no_alternative, one_alternative, IsSequence, is_conjunction, is_either}
 use Rattle.grammar.specs.Readers.{◌>>=◌, Reader, lead, expect, pick, optional, many, each}
 use Rattle.grammar.specs.ReadExpressions as expressions
-use Rattle.grammar.specs.ReadExpressions.{Inner as Inside, prefixed_with, readers, links, chain_of, behind, climb, choice_by, choice_with, expression, finish, expr_with}
+use Rattle.grammar.specs.ReadExpressions.{prefixed_with, readers, behind, climb, choice_with, expression, finish}
 use Rattle.grammar.specs.ReadSequences as reading
-use Rattle.grammar.specs.ReadSequences.{Inner, delay_by, delay, regroup, body_by, body_with, with_times, repeat_behind, repetition_with, late_part, steps_of, with_steps, delayed_behind, cat_behind, throughout_by, during_behind, during_by, during_with, others_of, with_others, conjunction_behind, conjunction_with, alternatives_behind, sides_behind, whole_with, sequences, sequence_behind, whole, implication_from, implication_behind, regroup_property, property_by, property_with, properties, property}
+use Rattle.grammar.specs.ReadSequences.{Inner, delay, regroup, body_with, repeat_behind, repetition_with, late_part, steps_of, delayed_behind, cat_behind, during_behind, during_with, others_of, conjunction_behind, conjunction_with, alternatives_behind, sides_behind, whole_with, sequences, sequence_behind, whole}
 use Rattle.grammar.proofs.TerminalLaws.{true-is}
 use Rattle.grammar.proofs.ReaderLaws.{bind-some, bind-assoc, lead-false, lead-nil, expect-some, expect-is, expect-not, expect-precedence, pick-is, optional-none, optional-is, many-none, many-more, each-none, precedence-Throughout, precedence-OpenRepeat, precedence-Delay, precedence-And, precedence-Or, precedence-CloseRound}
 use Rattle.grammar.proofs.Complete.{spells-read, spells-shorter, links-none}

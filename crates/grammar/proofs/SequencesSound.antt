@@ -14,7 +14,7 @@ use Rattle.grammar.specs.Readers.{◌>>=◌, expect, pick, optional, each}
 use Rattle.grammar.specs.ReadExpressions as expressions
 use Rattle.grammar.specs.ReadExpressions.{readers, expression, finish, prefixed_with, expr_with}
 use Rattle.grammar.specs.ReadSequences as reading
-use Rattle.grammar.specs.ReadSequences.{Inner, delay_by, delay, regroup, body_by, body_with, with_times, repeat_behind, repetition_with, late_part, steps_of, with_steps, delayed_behind, cat_behind, throughout_by, during_behind, during_by, during_with, others_of, with_others, conjunction_behind, conjunction_with, alternatives_behind, sides_behind, whole_with, sequences}
+use Rattle.grammar.specs.ReadSequences.{delay_by, delay, regroup, body_by, body_with, with_times, repeat_behind, repetition_with, late_part, steps_of, with_steps, delayed_behind, cat_behind, throughout_by, during_behind, during_by, during_with, others_of, with_others, conjunction_behind, conjunction_with, alternatives_behind, sides_behind, whole_with, sequences}
 use Rattle.grammar.proofs.TerminalLaws.{is-true}
 use Rattle.grammar.proofs.ReaderLaws.{Reads, bind-some, expect-is, expect-some, pick-some, IsOptional, absent, present, optional-sound, each-sound, precedence-CloseRound}
 use Rattle.grammar.proofs.Complete.{spells-read}

@@ -1,4 +1,4 @@
--- Left operators, and how loosely they join.
+-- Left operators, and how loosely they join; implications.
 use Rattle.std.specs.Prelude.{ℕ, Bool, false, ◌==◌, Option, Some, None}
 use Rattle.lexer.specs.declared.token.Symbol.{Symbol}
 use Rattle.lexer.specs.declared.token.Symbol.TheVariants as symbols
@@ -12,6 +12,8 @@ use Rattle.grammar.specs.declared.operator.Infix.TheVariants.{Add, Sub, ShiftLef
 use Rattle.grammar.specs.declared.operator.Infix.TheVariants.{Less, LessEqual, Greater}
 use Rattle.grammar.specs.declared.operator.Infix.TheVariants.{GreaterEqual, Equal, NotEqual, And}
 use Rattle.grammar.specs.declared.operator.Infix.TheVariants.{Xor, Xnor, Or, LogicalAnd, LogicalOr}
+use Rattle.grammar.specs.declared.operator.Implication.{Implication}
+use Rattle.grammar.specs.declared.operator.Implication.TheVariants as implications
 use Rattle.grammar.specs.Terminals.{terminal}
 
 abbrev pub infix_of_symbol : Symbol → Option Infix
@@ -72,3 +74,12 @@ is_of_level l (Some op) = infix_level op == l
 -- whether a token is a left operator of the level
 unfoldable pub is_infix : ℕ → Token → Bool
 is_infix l t = is_of_level l (infix_of t)
+
+abbrev pub implication_of_terminal : Terminal → Option Implication
+implication_of_terminal terminals.Overlapped = Some implications.Overlapped
+implication_of_terminal terminals.Following = Some implications.NonOverlapped
+implication_of_terminal _ = None
+
+-- the implication that a token is: |-> or |=> (IEEE 1800-2017, 16.12.7)
+unfoldable pub implication_of : Token → Option Implication
+implication_of t = implication_of_terminal (terminal t)

@@ -2,6 +2,7 @@
 use Rattle.std.specs.Prelude.{ℕ, zero, suc, List, [], ◌∷◌, Option, Some, None}
 use Rattle.lexer.specs.declared.token.Token.{Token}
 use Rattle.grammar.specs.declared.bound.Range.{Range}
+use Rattle.grammar.specs.declared.operator.Implication.{Implication}
 use Rattle.grammar.specs.declared.operator.Junction.{Junction}
 use Rattle.grammar.specs.declared.operator.Junction.TheVariants as junctions
 use Rattle.grammar.specs.declared.terminal.Terminal.TheVariants.{OpenRound, CloseRound, OpenSquare}
@@ -9,12 +10,12 @@ use Rattle.grammar.specs.declared.terminal.Terminal.TheVariants.{OpenRepeat, Clo
 use Rattle.grammar.specs.declared.terminal.Terminal.TheVariants.{Delay, Throughout, And, Or}
 use Rattle.grammar.specs.Terminals.{is}
 use Rattle.grammar.specs.Bounds.{bound_within}
-use Rattle.grammar.specs.Marks.{has_precedence}
+use Rattle.grammar.specs.Operators.{implication_of}
 use Rattle.grammar.specs.Trees.{Tree, SequenceForm, boolean, repeated, late, delayed, throughout}
 use Rattle.grammar.specs.Trees.{joined, Steps, no_step, step, Others, no_other, other}
 use Rattle.grammar.specs.Trees.{PropertyForm, plain, implication}
 use Rattle.grammar.specs.Sequences.{bound}
-use Rattle.grammar.specs.Readers.{◌>>=◌, Reader, refuse, lead, expect, pick, optional, each}
+use Rattle.grammar.specs.Readers.{◌>>=◌, Reader, refuse, expect, pick, optional, each}
 use Rattle.grammar.specs.ReadExpressions.{expression, finish}
 
 -- behind "[*": NUM [":" NUM] "]"
@@ -171,19 +172,20 @@ unfoldable pub sequence_behind : ℕ → SequenceForm → Reader SequenceForm
 sequence_behind d s ts =
     during_behind d (sequences d) s ts >>= λ p. sides_behind d (sequences d) p.0 p.1
 
-abbrev pub implication_from : ℕ → Option (Token × List Token) → SequenceForm → Reader PropertyForm
+abbrev pub implication_from : ℕ → Option (Implication × List Token) → SequenceForm
+    → Reader PropertyForm
 implication_from d None s ts = Some (plain s, ts)
-implication_from d (Some t) s ts = whole d t.1 >>= λ p. Some (implication s t.0 p.0, p.1)
+implication_from d (Some i) s ts = whole d i.1 >>= λ p. Some (implication s i.0 p.0, p.1)
 
 -- behind a seq: an implication and its right side, if one stands there
 unfoldable pub implication_behind : ℕ → SequenceForm → Reader PropertyForm
-implication_behind d s ts = implication_from d (lead (has_precedence 17) ts) s ts
+implication_behind d s ts = implication_from d (pick implication_of ts) s ts
 
 -- What stood in brackets: a seq may go on behind them.
 unfoldable pub regroup_property : ℕ → PropertyForm → Reader PropertyForm
 regroup_property d (plain s) ts =
     regroup d s ts >>= λ p. sequence_behind d p.0 p.1 >>= λ q. implication_behind d q.0 q.1
-regroup_property d (implication a t c) ts = Some (implication a t c, ts)
+regroup_property d (implication a i c) ts = Some (implication a i c, ts)
 
 abbrev pub property_by : ℕ → Reader PropertyForm → Option (Token × List Token) → Reader PropertyForm
 property_by d inner None ts = whole d ts >>= λ p. implication_behind d p.0 p.1

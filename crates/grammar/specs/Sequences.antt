@@ -4,13 +4,14 @@ use Rattle.std.specs.Prelude.{◌≡◌, ℕ, suc, List, ◌∷◌, Option, Some
 use Rattle.lexer.specs.declared.token.Token.{Token}
 use Rattle.grammar.specs.declared.bound.Bound.{Bound}
 use Rattle.grammar.specs.declared.bound.Range.{Range}
+use Rattle.grammar.specs.declared.operator.Implication.{Implication}
 use Rattle.grammar.specs.declared.operator.Junction.TheVariants as junctions
 use Rattle.grammar.specs.declared.terminal.Terminal.TheVariants.{OpenRound, CloseRound, OpenSquare}
 use Rattle.grammar.specs.declared.terminal.Terminal.TheVariants.{OpenRepeat, CloseSquare, Colon}
 use Rattle.grammar.specs.declared.terminal.Terminal.TheVariants.{Delay, Throughout, And, Or}
 use Rattle.grammar.specs.Terminals.{terminal}
 use Rattle.grammar.specs.Bounds.{bound_within}
-use Rattle.grammar.specs.Marks.{precedence}
+use Rattle.grammar.specs.Operators.{implication_of}
 use Rattle.grammar.specs.Trees.{Tree, SequenceForm, boolean, repeated, late, delayed, throughout}
 use Rattle.grammar.specs.Trees.{joined, Steps, no_step, step, Others, no_other, other}
 use Rattle.grammar.specs.Trees.{PropertyForm, plain, implication}
@@ -132,9 +133,10 @@ mutual
 pub data IsProperty : ℕ → PropertyForm → List Token → List Token → Type 0 where
   is_plain : {d : ℕ} {s : SequenceForm} {ts rest : List Token}
       → IsSequence d s ts rest → IsProperty d (plain s) ts rest
-  is_implication : {d : ℕ} {t : Token} {a c : SequenceForm} {ts us rest : List Token}
-      → precedence t ≡ 17 → IsSequence d a ts (t ∷ us) → IsSequence d c us rest
-      → IsProperty d (implication a t c) ts rest
+  is_implication : {d : ℕ} {t : Token} {i : Implication} {a c : SequenceForm}
+      {ts us rest : List Token}
+      → implication_of t ≡ Some i → IsSequence d a ts (t ∷ us) → IsSequence d c us rest
+      → IsProperty d (implication a i c) ts rest
   bracketed : {d : ℕ} {left right : Token} {p : PropertyForm} {ts rest : List Token}
       → terminal left ≡ OpenRound → terminal right ≡ CloseRound
       → IsProperty d p ts (right ∷ rest) → IsProperty (suc d) p (left ∷ ts) rest

@@ -6,6 +6,7 @@ use Rattle.grammar.specs.declared.bound.Bound.{Bound}
 use Rattle.grammar.specs.declared.bound.Range.{Range}
 use Rattle.grammar.specs.declared.bound.Select.{Select}
 use Rattle.grammar.specs.declared.mark.Function.{Function}
+use Rattle.grammar.specs.declared.operator.Implication.{Implication}
 use Rattle.grammar.specs.declared.operator.Infix.{Infix}
 use Rattle.grammar.specs.declared.operator.Junction.{Junction}
 use Rattle.grammar.specs.declared.operator.Prefix.{Prefix}
@@ -54,10 +55,10 @@ mutual
     no_other : Others
     other : SequenceForm → Others → Others
 
--- A sequence alone, or an implication with its token.
+-- A sequence alone, or an implication.
 pub data PropertyForm : Type 0 where
   plain : SequenceForm → PropertyForm
-  implication : SequenceForm → Token → SequenceForm → PropertyForm
+  implication : SequenceForm → Implication → SequenceForm → PropertyForm
 
 pub record CounterForm : Type 0 where
   pub name : Token

@@ -14,14 +14,15 @@
 //! let dot = is(Terminal::Dot, token);      // is_name and is_word ask for words
 //! let mark = mark_of(token);               // how it may begin a primary: Mark::Name, ..
 //! let operator = infix_of(token);          // the left operator that it is, or none
+//! let sign = implication_of(token);        // Implication::Overlapped for |->, or none
 //! let precedence = precedence_of(token);   // 1 for + and -, up to 9 for ||, 10 for ?, ..
 //! let ticks = bound_of(token, 1, 64);      // a plain decimal within bounds, or none
 //! let bit = index_of(token);               // any number
 //! ```
 //!
 //! The definitions: what a token is to the rules in `specs/Terminals.antt`, and numbers as bounds
-//! in `specs/Bounds.antt`; left operators with their levels in `specs/Operators.antt`; how a token
-//! may begin a primary, and how loosely it joins, in `specs/Marks.antt`; the trees in
+//! in `specs/Bounds.antt`; left operators with their levels, and implications, in `specs/Operators.antt`;
+//! how a token may begin a primary, and how loosely it joins, in `specs/Marks.antt`; the trees in
 //! `specs/Trees.antt`. The rules stand in `specs/Expressions.antt`, `specs/Sequences.antt` and
 //! `specs/Files.antt` (`IsFile`), the functions in `specs/ReadExpressions.antt`,
 //! `specs/ReadSequences.antt` and `specs/ReadFiles.antt`, with their common parts in
@@ -42,6 +43,6 @@ mod terminal;
 pub use bound::{Bound, Index, Range, Select, bound_of, index_of};
 pub use laws::grammar_law;
 pub use mark::{Function, Mark, mark_of};
-pub use operator::{Infix, Junction, Prefix, infix_of};
+pub use operator::{Implication, Infix, Junction, Prefix, implication_of, infix_of};
 pub use precedence::precedence_of;
 pub use terminal::{Terminal, is, is_name, is_word, terminal_of};

@@ -2,7 +2,7 @@
 
 ghost use Rattle.std.specs.Prelude.{◌≡◌};
 ghost use Rattle.grammar.specs.Operators.{infix_of_symbol, infix_of_kind, infix_of_terminal};
-ghost use Rattle.grammar.specs.Operators.{infix_of};
+ghost use Rattle.grammar.specs.Operators.{infix_of, implication_of_terminal, implication_of};
 
 use crate::terminal::{Terminal, terminal_of};
 use lexer::{Kind, Symbol, Token};
@@ -52,6 +52,15 @@ pub enum Infix {
 pub enum Junction {
     And,
     Or,
+}
+
+/// Where the consequent of an implication begins (IEEE 1800-2017, 16.12.7).
+#[derive(Clone, Copy, Debug, PartialEq, Eq)]
+pub enum Implication {
+    /// `|->`: at the last tick of the antecedent.
+    Overlapped,
+    /// `|=>`: at the tick behind it.
+    NonOverlapped,
 }
 
 impl Infix {
@@ -124,4 +133,22 @@ pub fn infix_of(token: Token) -> Option<Infix>
     ensures { result ≡ infix_of token.entry }
 {
     infix_of_terminal(terminal_of(token), token.kind)
+}
+
+fn implication_of_terminal(terminal: Terminal) -> Option<Implication>
+    ensures { result ≡ implication_of_terminal terminal }
+{
+    match terminal {
+        Terminal::Overlapped => Some(Implication::Overlapped),
+        Terminal::Following => Some(Implication::NonOverlapped),
+        _ => None,
+    }
+}
+
+/// The implication that a token is.
+#[tactic(auto, unfolding(crate::specs::Operators::implication_of))]
+pub fn implication_of(token: Token) -> Option<Implication>
+    ensures { result ≡ implication_of token.entry }
+{
+    implication_of_terminal(terminal_of(token))
 }

@@ -1,10 +1,11 @@
 -- Reading of properties, in the steps of the code.
-use Rattle.std.proofs.Common.{◌≡◌, ℕ, suc, ◌+◌, List, Option, Some, None, refl, ap, ◌∙◌, arith}
+use Rattle.std.proofs.Common.{◌≡◌, ℕ, suc, ◌+◌, List, [], ◌∷◌, Option, Some, None, option_map, refl, sym, ap, ◌∙◌, arith}
 use Rattle.lexer.specs.declared.token.Token.{Token}
+use Rattle.grammar.specs.declared.operator.Implication.{Implication}
 use Rattle.grammar.specs.declared.terminal.Terminal.TheVariants.{OpenRound, CloseRound}
-use Rattle.grammar.specs.Marks.{has_precedence}
+use Rattle.grammar.specs.Operators.{implication_of}
 use Rattle.grammar.specs.Trees.{SequenceForm, PropertyForm, plain, implication}
-use Rattle.grammar.specs.Readers.{◌>>=◌, Reader, refuse, lead, expect}
+use Rattle.grammar.specs.Readers.{◌>>=◌, Reader, refuse, expect, pick}
 use Rattle.grammar.specs.ReadSequences.{whole, regroup, sequence_behind, implication_behind, regroup_property, property_with, properties, property}
 use Rattle.parser_expressions.specs.declared.stop.Stop.{Stop}
 use Rattle.parser_expressions.specs.Views.{Fails}
@@ -38,17 +39,29 @@ behind-unclosed d o p vs h k = rw (h, k) refl
 behind-closed : (d : ℕ) (o : Option (PropertyForm × List Token)) (p : PropertyForm) (vs : List Token) (c : Token) (ws : List Token) → o ≡ Some (p, vs) → expect CloseRound vs ≡ Some (c, ws) → closed d o ≡ regroup_property d p ws
 behind-closed d o p vs c ws h k = rw (h, k) refl
 
-pub implication-absent : (d : ℕ) (s : SequenceForm) (ts : List Token) → lead (has_precedence 17) ts ≡ None → implication_behind d s ts ≡ Some (plain s, ts)
+pub sign-nil : (ts : List Token) → ts ≡ [] → pick implication_of ts ≡ None
+unfolding pick
+sign-nil ts e = rw e refl
+
+pub sign-no : (ts : List Token) (t : Token) (us : List Token) → ts ≡ t ∷ us → None ≡ implication_of t → pick implication_of ts ≡ None
+unfolding pick
+sign-no ts t us e h = ap (pick implication_of) e ∙ ap (λ (o : Option Implication). option_map (λ i. (i, us)) o) (sym h)
+
+pub sign-yes : (ts : List Token) (t : Token) (us : List Token) (i : Implication) → ts ≡ t ∷ us → Some i ≡ implication_of t → pick implication_of ts ≡ Some (i, us)
+unfolding pick
+sign-yes ts t us i e h = ap (pick implication_of) e ∙ ap (λ (o : Option Implication). option_map (λ i. (i, us)) o) (sym h)
+
+pub implication-absent : (d : ℕ) (s : SequenceForm) (ts : List Token) → pick implication_of ts ≡ None → implication_behind d s ts ≡ Some (plain s, ts)
 unfolding implication_behind
 implication-absent d s ts h = rw (h) refl
 
-pub implication-fails : (d : ℕ) (s : SequenceForm) (ts : List Token) (t : Token) (us : List Token) (x : Stop) → lead (has_precedence 17) ts ≡ Some (t, us) → Fails x (whole d us) → Fails x (implication_behind d s ts)
+pub implication-fails : (d : ℕ) (s : SequenceForm) (ts : List Token) (i : Implication) (us : List Token) (x : Stop) → pick implication_of ts ≡ Some (i, us) → Fails x (whole d us) → Fails x (implication_behind d s ts)
 unfolding implication_behind
-implication-fails d s ts t us x h f = failing x _ _ (λ none. rw (h, none) refl) f
+implication-fails d s ts i us x h f = failing x _ _ (λ none. rw (h, none) refl) f
 
-pub implication-ok : (d : ℕ) (s : SequenceForm) (ts : List Token) (t : Token) (us : List Token) (q : SequenceForm) (vs : List Token) → lead (has_precedence 17) ts ≡ Some (t, us) → whole d us ≡ Some (q, vs) → implication_behind d s ts ≡ Some (implication s t q, vs)
+pub implication-ok : (d : ℕ) (s : SequenceForm) (ts : List Token) (i : Implication) (us : List Token) (q : SequenceForm) (vs : List Token) → pick implication_of ts ≡ Some (i, us) → whole d us ≡ Some (q, vs) → implication_behind d s ts ≡ Some (implication s i q, vs)
 unfolding implication_behind
-implication-ok d s ts t us q vs h k = rw (h, k) refl
+implication-ok d s ts i us q vs h k = rw (h, k) refl
 
 pub regroup-fail1 : (d : ℕ) (s : SequenceForm) (ts : List Token) (x : Stop) → Fails x (regroup d s ts) → Fails x (regroup_property d (plain s) ts)
 unfolding regroup_property
@@ -62,9 +75,9 @@ pub regroup-tail : (d : ℕ) (s : SequenceForm) (ts : List Token) (b : SequenceF
 unfolding regroup_property
 regroup-tail d s ts b us q vs h k = rw (h, k) refl
 
-pub regroup-implication : (d : ℕ) (a : SequenceForm) (t : Token) (c : SequenceForm) (ts : List Token) → regroup_property d (implication a t c) ts ≡ Some (implication a t c, ts)
+pub regroup-implication : (d : ℕ) (a : SequenceForm) (i : Implication) (c : SequenceForm) (ts : List Token) → regroup_property d (implication a i c) ts ≡ Some (implication a i c, ts)
 unfolding regroup_property
-regroup-implication d a t c ts = refl
+regroup-implication d a i c ts = refl
 
 pub property-plain-fails : (d : ℕ) (ts : List Token) (x : Stop) → expect OpenRound ts ≡ None → Fails x (whole d ts) → Fails x (property d ts)
 unfolding property property_with
@@ -86,6 +99,8 @@ property-fail2 d ts o us k p vs x h depth h2 f = failing x _ _ (λ none. opened 
 
 pub property-tail : (d : ℕ) (ts : List Token) (o : Token) (us : List Token) (k : ℕ) (p : PropertyForm) (vs : List Token) (c : Token) (ws : List Token) → expect OpenRound ts ≡ Some (o, us) → d ≡ k + 1 → property k us ≡ Some (p, vs) → expect CloseRound vs ≡ Some (c, ws) → property d ts ≡ regroup_property d p ws
 property-tail d ts o us k p vs c ws h depth h2 h3 = opened d ts o us k h depth ∙ behind-closed d (property k us) p vs c ws h2 h3
+
+pub ruleset for_accept = (sign-nil, sign-no, sign-yes)
 
 pub ruleset for_implication = (implication-absent, implication-fails, implication-ok)
 

@@ -6,7 +6,7 @@ ghost use Rattle.parser.specs.declared.fault.ParseFault.TheVariants.{Memory};
 ghost use Rattle.parser_expressions.specs.Bytes.{IsByteIn};
 ghost use Rattle.parser.specs.Faults.{NamesStop, IsPlaced};
 
-use grammar::{Terminal, is, terminal_of};
+use grammar::{Terminal, implication_of, is, terminal_of};
 use lexer::Token;
 use parser_expressions::{Stop, byte_at, first, same};
 use std::alloc::{AllocError, AllocFailed};
@@ -40,14 +40,6 @@ fn is_foreign(token: Token) -> bool {
     )
 }
 
-/// Whether the token is an implication.
-fn is_implication(token: Token) -> bool {
-    matches!(
-        terminal_of(token),
-        Terminal::Overlapped | Terminal::Following
-    )
-}
-
 /// What stands before a token in its item.
 #[derive(Clone, Copy)]
 struct Before {
@@ -60,7 +52,7 @@ impl Before {
     fn behind(self, token: Token) -> Before {
         Before {
             nothing: false,
-            implication: self.implication || is_implication(token),
+            implication: self.implication || implication_of(token).is_some(),
         }
     }
 }
@@ -68,7 +60,7 @@ impl Before {
 /// Whether the profile leaves out what the token stands for behind those before it: `property`
 /// where an item begins, and a second implication, too.
 fn is_outside(token: Token, before: Before) -> bool {
-    if is_implication(token) {
+    if implication_of(token).is_some() {
         return before.implication;
     }
     if is(Terminal::Property, token) {

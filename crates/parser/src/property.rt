@@ -1,6 +1,9 @@
 //! Properties.
 
-ghost use Rattle.std.specs.Prelude.{◌≡◌, ◌<◌, ◌≤◌, ◌+◌, ℕ, length, IfOk};
+ghost use Rattle.std.specs.Prelude.{◌≡◌, ◌<◌, ◌≤◌, ◌+◌, ℕ, length, None, Some};
+ghost use Rattle.std.specs.Prelude.{MatchOption, IfSome, IfOk};
+ghost use Rattle.grammar.specs.Operators.{implication_of};
+ghost use Rattle.grammar.specs.Readers.{pick};
 ghost use Rattle.grammar.specs.ReadSequences.{implication_behind, regroup_property, property};
 ghost use Rattle.parser_expressions.specs.Views.{Gives};
 ghost use Rattle.parser_sequences.specs.Views.{sequence_of};
@@ -8,11 +11,27 @@ ghost use Rattle.parser.specs.Views.{property_of};
 
 use crate::read::read;
 use crate::tree::PropertyTree;
-use grammar::Terminal;
+use grammar::{Implication, Terminal, implication_of};
 use lexer::Token;
-use parser_expressions::{Read, accept, deeper, expect, operator};
+use parser_expressions::{Read, accept, deeper, expect, first};
 use parser_sequences::{SequenceTree, finish_sequence, read_sequence, regroup};
 use std::alloc::Global;
+
+/// The implication that stands first, if one does.
+#[tactic(auto, using(crate::proofs::PropertySteps::for_accept))]
+fn accept_implication<'t, 'a>(tokens: &'t [Token<'a>]) -> Option<(Implication, &'t [Token<'a>])>
+    ensures sign { MatchOption result (pick implication_of tokens.now
+        ≡ None) (λ r. pick implication_of tokens.now ≡ Some (r.0, r.1.now)) }
+    ensures shorter { IfSome result (λ r. length r.1.now < length tokens.now) }
+{
+    let Some((token, rest)) = first(tokens) else {
+        return None;
+    };
+    let Some(sign) = implication_of(token) else {
+        return None;
+    };
+    Some((sign, rest))
+}
 
 /// The property that begins with a sequence.
 #[tactic(auto, using(crate::proofs::PropertySteps::for_implication))]
@@ -26,7 +45,7 @@ fn read_implication<'t, 'a>(
         (implication_behind depth (sequence_of antecedent.entry.value) tokens.now) }
     ensures shorter { IfOk result (λ r. length r.1.now ≤ length tokens.now) }
 {
-    let Some((sign, right)) = operator(tokens, 17) else {
+    let Some((sign, right)) = accept_implication(tokens) else {
         return Ok((PropertyTree::Plain(antecedent), tokens));
     };
     let (consequent, rest) = read!(read_sequence(alloc, right, depth));

@@ -1,6 +1,6 @@
 //! The tree of a file. Brackets are not kept.
 
-use grammar::Bound;
+use grammar::{Bound, Implication};
 use lexer::Token;
 use parser_expressions::{ExprTree, Path};
 use parser_sequences::SequenceTree;
@@ -10,7 +10,7 @@ use parser_sequences::SequenceTree;
 pub enum PropertyTree<'a> {
     Plain(Box<SequenceTree<'a>>),
     /// Antecedent, `|->` or `|=>`, consequent.
-    Implication(Box<SequenceTree<'a>>, Token<'a>, Box<SequenceTree<'a>>),
+    Implication(Box<SequenceTree<'a>>, Implication, Box<SequenceTree<'a>>),
 }
 
 /// The two operands of a counter's clause: its condition, and the value.

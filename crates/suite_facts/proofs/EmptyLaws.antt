@@ -4,8 +4,7 @@ use Rattle.std.proofs.Common.{false, IsTrue, refl, sym, subst, arith}
 use Rattle.std.specs.Prelude.{nat_le}
 use Rattle.std.proofs.lemmas.Bool.{le-leb}
 use Rattle.grammar.specs.Trees as trees
-use Rattle.grammar.specs.Trees.{PropertyForm, plain, implication, ItemForm, counter, declaration}
-use Rattle.grammar.specs.Trees.{assertion}
+use Rattle.grammar.specs.Trees.{PropertyForm, plain, implication, ItemForm}
 use Rattle.expressions.specs.declared.expr.Expr.{Expr}
 use Rattle.expressions.specs.Terms.{Samples}
 use Rattle.assertions.specs.declared.sequence.Boolean.{Boolean}

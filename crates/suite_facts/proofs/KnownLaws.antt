@@ -15,13 +15,13 @@ use Rattle.assertions.specs.declared.sequence.Boolean.TheVariants.{One}
 use Rattle.assertions.specs.Written as written
 use Rattle.assertions.specs.Written.{Written}
 use Rattle.assertions.specs.Listed.{EachBoolean}
-use Rattle.types_sequences.specs.declared.implication.Implication.{Implication}
-use Rattle.types_sequences.specs.declared.implication.Implication.TheVariants.{Overlapped}
-use Rattle.types_sequences.specs.declared.implication.Implication.TheVariants.{NonOverlapped}
+use Rattle.grammar.specs.declared.operator.Implication.{Implication}
+use Rattle.grammar.specs.declared.operator.Implication.TheVariants.{Overlapped}
+use Rattle.grammar.specs.declared.operator.Implication.TheVariants.{NonOverlapped}
 use Rattle.types_sequences.specs.Drafts as drafts
-use Rattle.types_sequences.specs.Drafts.{Draft, IsIn, both_there, spelling_of, named_within, Spells}
+use Rattle.types_sequences.specs.Drafts.{Draft, both_there, spelling_of, named_within, Spells}
 use Rattle.types_expressions.specs.Scopes.{Scope, sequence_named}
-use Rattle.types_suites.specs.Texts.{declarations_of, implication_by}
+use Rattle.types_suites.specs.Texts.{declarations_of}
 use Rattle.types_suites.specs.Readings.{least_of, extra_of, IsAtom, ReadsBoolean, Reads, ReadsSteps}
 use Rattle.types_suites.specs.Readings.{joined_by, ReadsOthers, AllRead}
 use Rattle.types_suites.specs.Suites.{before_by, ReadsAntecedent, ReadsConsequent}
@@ -172,8 +172,7 @@ module _ (P : Boolean → Type 0) where
     pub antecedent_each : (x : PropertyForm) (d : Draft Boolean) → P One → OfProperty Q x →
         ReadsAntecedent s cs bs x d → EachDraft P d
     antecedent_each (plain y) d one q h = moved (drafts.boolean One) d h one
-    antecedent_each (implication a t c) d one q h =
-        let kind = implication_by t.kind in
+    antecedent_each (implication a kind c) d one q h =
         moved (before_by kind h.0) d h.2 (before_each kind h.0 one (reads_each a h.0 q.0 h.1))
 
     pub consequent_each : (x : PropertyForm) (d : Draft Boolean) → OfProperty Q x →

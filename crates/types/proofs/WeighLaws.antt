@@ -3,11 +3,11 @@ use Rattle.std.proofs.Common.{◌≡◌, ℕ, ◌+◌, ◌≤◌, min, List, [],
 use Rattle.grammar.specs.Trees as trees
 use Rattle.grammar.specs.Trees.{PropertyForm, plain, implication}
 use Rattle.expressions.specs.declared.expr.Expr.{Expr}
-use Rattle.types_sequences.specs.declared.implication.Implication.{Implication}
-use Rattle.types_sequences.specs.declared.implication.Implication.TheVariants.{Overlapped, NonOverlapped}
+use Rattle.grammar.specs.declared.operator.Implication.{Implication}
+use Rattle.grammar.specs.declared.operator.Implication.TheVariants.{Overlapped, NonOverlapped}
 use Rattle.assertions.specs.declared.sequence.Boolean.{Boolean}
 use Rattle.assertions.specs.declared.sequence.Boolean.TheVariants.{One}
-use Rattle.assertions.specs.Written.{Written, weight}
+use Rattle.assertions.specs.Written.{weight}
 use Rattle.assertions.specs.Written as written
 use Rattle.types_sequences.specs.declared.facts.Facts.{Facts}
 use Rattle.types_sequences.specs.declared.entry.Entry.{Entry}
@@ -19,7 +19,7 @@ use Rattle.types_expressions.specs.Scopes.{Scope}
 use Rattle.types.specs.declared.side.Side.{Side}
 use Rattle.types_suites.specs.declared.resolved.Resolved.{Resolved}
 use Rattle.types_suites.specs.Readings.{Dot, dot, outline}
-use Rattle.types_suites.specs.Texts.{implication_by, sequence_byte}
+use Rattle.types_suites.specs.Texts.{sequence_byte}
 use Rattle.types_suites.specs.Suites.{before_by, ReadsAntecedent, ReadsConsequent}
 use Rattle.types.specs.Faults as faults
 use Rattle.types.specs.Faults.{outline_before, antecedents_in, consequent_in, sides_of, consequents_of}
@@ -60,8 +60,7 @@ module _ (s : Scope) (cs : List (List ℕ)) (e : List Expr) (bodies : List (Draf
   antecedent_weighed : (p : PropertyForm) (d : Draft Boolean) (n : Entry) (at : Option ℕ) → ReadsAntecedent s cs e p d → HasEntry bodies d n → at ≡ antecedent_byte p →
       AreWeighed o (antecedents_in s p) (side_at n.facts at)
   antecedent_weighed (plain q) d n at h i is = subst (λ (z : Option ℕ). AreWeighed o [] (side_at n.facts z)) (sym is) tt
-  antecedent_weighed (implication a t c) d n at h i is =
-      let kind = implication_by t.kind in
+  antecedent_weighed (implication a kind c) d n at h i is =
       let x : faults.Side = record { outline = outline_before kind (outline s a); byte = sequence_byte a } in
       let out = ap dotted h.2 ∙ before_outline kind h.0 ∙ ap (outline_before kind) (reads_outline s cs e a h.0 h.1) in
       subst (λ (z : Option ℕ). AreWeighed o (x ∷ []) (side_at n.facts z)) (sym is) (weighed bodies o d n x (record { facts = n.facts; at = sequence_byte a }) same i out refl refl, tt)

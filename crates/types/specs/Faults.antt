@@ -9,7 +9,7 @@ use Rattle.types_sequences.specs.Implications.{rewritten_antecedent}
 use Rattle.types_expressions.specs.declared.own.Sought.TheVariants.{Unknown, Wide, OutOfRange}
 use Rattle.types_expressions.specs.Scopes.{Scope}
 use Rattle.types_expressions.specs.Faults.{file_faults}
-use Rattle.types_sequences.specs.declared.implication.Implication.{Implication}
+use Rattle.grammar.specs.declared.operator.Implication.{Implication}
 use Rattle.types.specs.declared.fault.TypeFault.{TypeFault}
 use Rattle.types.specs.declared.fault.TypeFault.TheVariants.{UnknownName, Duplicate, WiderThan128}
 use Rattle.types.specs.declared.fault.TypeFault.TheVariants.{SliceRange, Degenerate}
@@ -17,7 +17,7 @@ use Rattle.types.specs.declared.fault.TypeFault.TheVariants.{AdmitsEmpty as Empt
 use Rattle.types.specs.declared.fault.TypeFault.TheVariants.{CyclicSequence, TooWide, Memory}
 use Rattle.types_suites.specs.Readings.{Dot, dot, outline, outlines_of}
 use Rattle.types_suites.specs.Texts.{declarations_of, assertions_of, duplicates, other_clocks}
-use Rattle.types_suites.specs.Texts.{sequence_byte, implication_by}
+use Rattle.types_suites.specs.Texts.{sequence_byte}
 
 -- a text, item by item
 abbrev pub Text : Type 0
@@ -36,16 +36,16 @@ outline_before k d = rewritten_antecedent dot k d
 -- the antecedent that is written, if there is one
 abbrev pub antecedents_in : Scope → PropertyForm → List Side
 antecedents_in s (plain q) = []
-antecedents_in s (implication a t c) =
+antecedents_in s (implication a i c) =
     record {
-      outline = outline_before (implication_by t.kind) (outline s a);
+      outline = outline_before i (outline s a);
       byte = sequence_byte a;
     } ∷ []
 
 -- A plain sequence is a consequent alone.
 abbrev pub consequent_in : Scope → PropertyForm → Side
 consequent_in s (plain q) = record { outline = outline s q; byte = sequence_byte q }
-consequent_in s (implication a t c) = record { outline = outline s c; byte = sequence_byte c }
+consequent_in s (implication a i c) = record { outline = outline s c; byte = sequence_byte c }
 
 abbrev pub sides_of : Scope → List AssertionForm → List Side
 sides_of s [] = []

@@ -14,7 +14,7 @@ use Rattle.types_expressions.specs.Faults.{path_faults, wide_faults, faults, lin
 use Rattle.types.specs.declared.fault.TypeFault.{TypeFault}
 use Rattle.types.specs.declared.fault.TypeFault.TheVariants.{UnknownName, Duplicate, WiderThan128, SliceRange, Degenerate, AdmitsEmpty as Empty, OtherClock, CyclicSequence, TooWide, Memory}
 use Rattle.types_suites.specs.Readings.{Dot, dot, joined_by, outline, outline_steps, outline_others, outline_by, least_of, extra_of}
-use Rattle.types_suites.specs.Texts.{declarations_of, assertions_of, label_byte, assertions_after, name_made, names_from, repeated_names, duplicates, label_text, clocks_unlike, clock_of, other_clocks, tree_byte, sequence_byte, implication_by}
+use Rattle.types_suites.specs.Texts.{declarations_of, assertions_of, label_byte, assertions_after, name_made, names_from, repeated_names, duplicates, label_text, clocks_unlike, clock_of, other_clocks, tree_byte, sequence_byte}
 use Rattle.types_suites.specs.Readings.{outlines_of}
 use Rattle.types.specs.Faults.{Side, outline_before, antecedents_in, consequent_in, sides_of, consequents_of, CycleAt, SideAt, FaultStands}
 use Rattle.types_laws.proofs.MovedTrees.{moved, moved_option, moved_tree, moved_links, moved_parts, moved_sequence, moved_steps, moved_others, moved_property, moved_condition, moved_rule, moved_counter, moved_declaration, moved_assertion, moved_item}
@@ -236,10 +236,10 @@ module _ (lies : ℕ → ℕ × ℕ) where
     antecedents-moved : (p : PropertyForm) → antecedents_in s (moved_property lies p) ≡ antecedents_in s p
     unfolding side_by
     antecedents-moved (plain q) = refl
-    antecedents-moved (implication a t c) =
+    antecedents-moved (implication a i c) =
         ap (λ (x : Side). x ∷ [])
-        (side_same (outline_before (implication_by t.kind) (outline s (moved_sequence lies a))) (outline_before (implication_by t.kind) (outline s a)) (sequence_byte (moved_sequence lies a)) (sequence_byte a)
-        (ap (outline_before (implication_by t.kind)) (outline-moved a)) (sequence_byte-moved a))
+        (side_same (outline_before i (outline s (moved_sequence lies a))) (outline_before i (outline s a)) (sequence_byte (moved_sequence lies a)) (sequence_byte a)
+        (ap (outline_before i) (outline-moved a)) (sequence_byte-moved a))
 
     consequent-moved : (p : PropertyForm) → consequent_in s (moved_property lies p) ≡ consequent_in s p
     unfolding side_by

@@ -7,7 +7,7 @@ use Rattle.grammar.specs.declared.bound.Select.{Select}
 use Rattle.grammar.specs.declared.terminal.Terminal.{Terminal}
 use Rattle.grammar.specs.Terminals.{is_name, is_word}
 use Rattle.grammar.specs.Bounds.{index, bound_within}
-use Rattle.grammar.specs.Operators.{infix_of}
+use Rattle.grammar.specs.Operators.{infix_of, implication_of}
 use Rattle.grammar.specs.Marks.{mark, precedence}
 use Rattle.grammar.specs.Trees.{Tree, Links, Parts, SequenceForm, boolean, repeated, late, delayed, throughout, joined, Steps, Others, PropertyForm, CounterForm, DeclarationForm, AssertionForm, ItemForm, counter, declaration, assertion}
 use Rattle.grammar.specs.Expressions.{AreMembers, no_member, member, IsPath, name, IsSelected, whole, bit, bits, IsTicks, one_tick, some_ticks, Operand, is_number, is_path, is_concatenation, in_brackets, is_past, is_call, is_unary, is_tighter, is_chain, Follows, no_more, one_more, AreParts, no_parts, one_part, Spells, is_operand, is_choice}
@@ -132,7 +132,7 @@ module _ (lies : ℕ → ℕ × ℕ) where
     sequence-moved (is_either h s) = is_either (conjunction-moved h) (alternatives-moved s)
 
   property-moved : {d : ℕ} {p : PropertyForm} {ts rest : Tokens} → IsProperty d p ts rest → IsProperty d (moved_property lies p) (moved_all ts) (moved_all rest)
-  unfolding precedence
+  unfolding implication_of
   property-moved (is_plain s) = is_plain (sequence-moved s)
   property-moved (is_implication h a c) = is_implication h (sequence-moved a) (sequence-moved c)
   property-moved (bracketed a b p) = bracketed a b (property-moved p)

@@ -50,7 +50,7 @@ module _ (lies : ℕ → ℕ × ℕ) where
 
   abbrev pub moved_property : PropertyForm → PropertyForm
   moved_property (plain q) = plain (moved_sequence q)
-  moved_property (implication a t c) = implication (moved_sequence a) (moved t) (moved_sequence c)
+  moved_property (implication a i c) = implication (moved_sequence a) i (moved_sequence c)
 
   abbrev pub moved_condition : Option Tree → Option Tree
   moved_condition None = None

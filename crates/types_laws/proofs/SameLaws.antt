@@ -5,8 +5,8 @@ use Rattle.grammar.specs.Trees as trees
 use Rattle.grammar.specs.Trees.{Tree, PropertyForm, plain, implication, ItemForm}
 use Rattle.expressions.specs.declared.expr.Expr.{Expr}
 use Rattle.expressions.specs.Terms.{Samples}
-use Rattle.types_sequences.specs.declared.implication.Implication.{Implication}
-use Rattle.types_sequences.specs.declared.implication.Implication.TheVariants.{Overlapped, NonOverlapped}
+use Rattle.grammar.specs.declared.operator.Implication.{Implication}
+use Rattle.grammar.specs.declared.operator.Implication.TheVariants.{Overlapped, NonOverlapped}
 use Rattle.assertions.specs.declared.sequence.Boolean.{Boolean}
 use Rattle.assertions.specs.declared.sequence.Boolean.TheVariants.{One}
 use Rattle.assertions.specs.declared.assertion.Assertion.{Assertion}
@@ -20,7 +20,7 @@ use Rattle.types_sequences.specs.Drafts.{Draft}
 use Rattle.types_sequences.specs.Placed.{atom_true}
 use Rattle.types_expressions.specs.Scopes.{Scope}
 use Rattle.types_expressions.specs.Columns.{columns_of}
-use Rattle.types_suites.specs.Texts.{declarations_of, counters_of, assertions_of, implication_by}
+use Rattle.types_suites.specs.Texts.{declarations_of, counters_of, assertions_of}
 use Rattle.types_suites.specs.Suites.{AreSignals, before_by, ReadsAntecedent, ReadsConsequent, IsMeant, IsDisabling, IsAssertion, AreAssertions, IsSuite}
 use Rattle.types_laws.specs.Same.{AreAlike, SaySame}
 use Rattle.types_laws.proofs.AttemptLaws.{alike_turned, alike_on, SeenAlike, same_verdict, seen_turned}
@@ -58,9 +58,9 @@ module _ (s : Scope) (cs : List (List ℕ)) (ones others : List Expr) where
 
   antecedents_paired : (p : PropertyForm) (a b : Draft Boolean) → ReadsAntecedent s cs ones p a → ReadsAntecedent s cs others p b → IsPaired ones others a b
   antecedents_paired (plain q) a b h k = paired_by ones others a b (drafts.boolean One) (drafts.boolean One) h k one_paired
-  antecedents_paired (implication q t c) a b h k =
-      paired_by ones others a b (before_by (implication_by t.kind) h.0) (before_by (implication_by t.kind) k.0) h.2 k.2
-      (before_paired (implication_by t.kind) h.0 k.0 (reads_paired ones others s cs q h.0 k.0 h.1 k.1))
+  antecedents_paired (implication q i c) a b h k =
+      paired_by ones others a b (before_by i h.0) (before_by i k.0) h.2 k.2
+      (before_paired i h.0 k.0 (reads_paired ones others s cs q h.0 k.0 h.1 k.1))
 
   consequents_paired : (p : PropertyForm) (a b : Draft Boolean) → ReadsConsequent s cs ones p a → ReadsConsequent s cs others p b → IsPaired ones others a b
   consequents_paired (plain q) a b h k = reads_paired ones others s cs q a b h k

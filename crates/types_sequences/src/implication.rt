@@ -1,4 +1,4 @@
-//! The two implications.
+//! The antecedents of the two implications.
 
 ghost use Rattle.std.specs.Prelude.{◌≡◌, IfOk};
 ghost use Rattle.assertions.specs.declared.sequence.Boolean.TheVariants.{One};
@@ -6,16 +6,8 @@ ghost use Rattle.types_sequences.specs.Implications.{rewritten_antecedent};
 ghost use Rattle.types_sequences.specs.Views.{draft_of};
 
 use crate::draft::Draft;
+use grammar::Implication;
 use std::alloc::{AllocError, Global};
-
-/// Where the consequent of an implication begins (IEEE 1800-2017, 16.12.7).
-#[derive(Clone, Copy, PartialEq, Eq, Debug)]
-pub enum Implication {
-    /// `|->`: at the last tick of the antecedent.
-    Overlapped,
-    /// `|=>`: at the tick behind it.
-    NonOverlapped,
-}
 
 /// The antecedent of `|->` that says what this one says before the implication.
 pub fn rewrite_antecedent(

@@ -49,6 +49,6 @@ pub use declared::are_declared;
 pub use draft::Draft;
 pub use entry::Entry;
 pub use facts::Facts;
-pub use implication::{Implication, rewrite_antecedent};
+pub use implication::rewrite_antecedent;
 pub use places::{place_boolean, place_sequence};
 pub use table::{entry_of, resolve};

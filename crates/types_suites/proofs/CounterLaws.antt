@@ -2,7 +2,7 @@
 use Rattle.std.proofs.Common.{◌≡◌, ℕ, List, [], ◌∷◌, ◌++◌, Option, Some, sym, ap, ◌∙◌, subst, IsTrue}
 use Rattle.std.proofs.lemmas.List.{append-nil, append_assoc}
 use Rattle.grammar.specs.Trees as trees
-use Rattle.grammar.specs.Trees.{Tree, ItemForm, counter, declaration, assertion}
+use Rattle.grammar.specs.Trees.{Tree, ItemForm, counter}
 use Rattle.expressions.specs.declared.counter.Counter.{Counter}
 use Rattle.types_expressions.specs.declared.own.Sought.{Sought}
 use Rattle.types_expressions.specs.Scopes.{Scope}

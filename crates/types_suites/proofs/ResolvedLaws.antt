@@ -4,14 +4,13 @@ use Rattle.std.proofs.lemmas.List.{append-nil}
 use Rattle.grammar.specs.Trees as trees
 use Rattle.grammar.specs.Trees.{Tree, PropertyForm, plain, implication}
 use Rattle.expressions.specs.declared.expr.Expr.{Expr}
-use Rattle.types_sequences.specs.declared.implication.Implication.{Implication}
-use Rattle.types_sequences.specs.declared.implication.Implication.TheVariants.{Overlapped, NonOverlapped}
+use Rattle.grammar.specs.declared.operator.Implication.{Implication}
+use Rattle.grammar.specs.declared.operator.Implication.TheVariants.{Overlapped, NonOverlapped}
 use Rattle.assertions.specs.declared.sequence.Boolean.{Boolean}
 use Rattle.types_sequences.specs.Drafts.{Draft, IsIn, uses}
 use Rattle.types_expressions.specs.Scopes.{Scope, sequence_named}
 use Rattle.types_suites.specs.declared.resolved.Resolved.{Resolved}
 use Rattle.types_sequences.specs.Placed.{Extends}
-use Rattle.types_suites.specs.Texts.{implication_by}
 use Rattle.types_suites.specs.Suites.{before_by, ReadsAntecedent, ReadsConsequent}
 use Rattle.types_suites.specs.Resolved.{IsResolved, AreResolved}
 use Rattle.types_suites.proofs.OutlineLaws.{reads_below}
@@ -25,8 +24,8 @@ before_uses NonOverlapped r q i = subst (λ (ps : List ℕ). IsIn q ps) (append-
 module _ (s : Scope) (cs : List (List ℕ)) (e : List Expr) (n : ℕ) (below : (t : Tree) (p : ℕ) → sequence_named s t ≡ Some p → p < n) where
   pub antecedent_below : (p : PropertyForm) (d : Draft Boolean) → ReadsAntecedent s cs e p d → (q : ℕ) → IsIn q (uses d) → q < n
   antecedent_below (plain x) d h q i = let none = subst (λ (y : Draft Boolean). IsIn q (uses y)) h i in elim none [ ]
-  antecedent_below (implication a t c) d h q i =
-      reads_below s cs e n below a h.0 h.1 q (before_uses (implication_by t.kind) h.0 q (subst (λ (y : Draft Boolean). IsIn q (uses y)) h.2 i))
+  antecedent_below (implication a k c) d h q i =
+      reads_below s cs e n below a h.0 h.1 q (before_uses k h.0 q (subst (λ (y : Draft Boolean). IsIn q (uses y)) h.2 i))
 
   pub consequent_below : (p : PropertyForm) (d : Draft Boolean) → ReadsConsequent s cs e p d → (q : ℕ) → IsIn q (uses d) → q < n
   consequent_below (plain x) d h q i = reads_below s cs e n below x d h q i

@@ -15,11 +15,11 @@ use Rattle.types_suites.specs.Suites.{ReadsAntecedent, ReadsConsequent}
 -- where the antecedent begins, if one is written, and the consequent
 abbrev pub antecedent_byte : PropertyForm → Option ℕ
 antecedent_byte (plain q) = None
-antecedent_byte (implication a t c) = Some (sequence_byte a)
+antecedent_byte (implication a i c) = Some (sequence_byte a)
 
 abbrev pub consequent_byte : PropertyForm → ℕ
 consequent_byte (plain q) = sequence_byte q
-consequent_byte (implication a t c) = sequence_byte c
+consequent_byte (implication a i c) = sequence_byte c
 
 -- the place of the disabling expression, if there is one
 abbrev pub IsDisabledBy : Scope → List (List ℕ) → List Expr → Option Tree → Option ℕ → Type 0

@@ -1,5 +1,5 @@
 -- Assertions that are made of what is resolved.
-use Rattle.std.specs.Prelude.{◌≡◌, ◌⊎◌, ℕ, ◌≤◌, List, [], ◌∷◌, length, Option, Some, None}
+use Rattle.std.specs.Prelude.{◌≡◌, ◌⊎◌, ℕ, ◌≤◌, List, length, Option, Some}
 use Rattle.std.specs.List.{AllByRecursion}
 use Rattle.grammar.specs.Trees as trees
 use Rattle.expressions.specs.declared.expr.Expr.{Expr}

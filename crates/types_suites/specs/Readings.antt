@@ -1,6 +1,6 @@
 -- What the sequences of a text say: by their outlines, and with their expressions' meanings (IEEE
 -- 1800-2017, 16.7 to 16.9).
-use Rattle.std.specs.Prelude.{◌≡◌, ℕ, ◌-◌, List, [], ◌∷◌, map, Option, Some, None, slice_get}
+use Rattle.std.specs.Prelude.{◌≡◌, ℕ, ◌-◌, List, map, Option, Some, None, slice_get}
 use Rattle.std.specs.List.{AllZip}
 use Rattle.grammar.specs.declared.bound.Bound.{Bound}
 use Rattle.grammar.specs.declared.bound.Range.{Range}

@@ -1,5 +1,6 @@
 -- What the code keeps of an assertion once its names are resolved.
-use Rattle.std.specs.Prelude.{◌≡◌, ℕ, ◌+◌, List, [], ◌∷◌, map, Option, string_bytes}
+use Rattle.std.specs.Prelude.{◌≡◌, ℕ, List, map, Option, string_bytes}
+use Rattle.std.specs.List.{AllZip, enumerate_from}
 use Rattle.grammar.specs.Trees as trees
 use Rattle.expressions.specs.declared.expr.Expr.{Expr}
 use Rattle.assertions.specs.declared.sequence.Boolean.{Boolean}
@@ -38,9 +39,6 @@ pub record IsResolved (s : Scope) (columns : List (List ℕ)) (booleans : List E
 -- the same of several, in their order
 abbrev pub AreResolved : Scope → List (List ℕ) → List Expr → List (Draft Boolean) → ℕ
     → List trees.AssertionForm → List Resolved → Type 0
-AreResolved s columns booleans bodies before [] [] = Unit {0}
-AreResolved s columns booleans bodies before [] (m ∷ ms) = ⊥
-AreResolved s columns booleans bodies before (a ∷ more) [] = ⊥
-AreResolved s columns booleans bodies before (a ∷ more) (m ∷ ms) =
-    IsResolved s columns booleans bodies before a m
-    × AreResolved s columns booleans bodies (before + 1) more ms
+AreResolved s columns booleans bodies before forms made =
+    AllZip (λ a m. IsResolved s columns booleans bodies a.0 a.1 m)
+    (enumerate_from before forms) made

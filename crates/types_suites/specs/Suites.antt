@@ -1,14 +1,14 @@
 -- The suite of a text.
-use Rattle.std.specs.Prelude.{◌≡◌, ◌⊎◌, ℕ, ◌+◌, List, [], ◌∷◌, map, length, Option, Some, None}
+use Rattle.std.specs.Prelude.{◌≡◌, ◌⊎◌, ℕ, List, map, length, Option, Some, None}
 use Rattle.std.specs.Prelude.{string_bytes}
-use Rattle.std.specs.List.{AllZip}
+use Rattle.std.specs.List.{AllZip, enumerate_from}
 use Rattle.grammar.specs.Trees as trees
-use Rattle.grammar.specs.Trees.{Tree, SequenceForm, PropertyForm, plain, implication, ItemForm}
+use Rattle.grammar.specs.Trees.{Tree, PropertyForm, plain, implication, ItemForm}
 use Rattle.expressions.specs.declared.expr.Expr.{Expr}
 use Rattle.expressions.specs.declared.rule.Rule.{Rule}
 use Rattle.expressions.specs.declared.counter.Counter.{Counter}
 use Rattle.expressions.specs.Expressions.{term_of}
-use Rattle.types_sequences.specs.declared.implication.Implication.{Implication}
+use Rattle.grammar.specs.declared.operator.Implication.{Implication}
 use Rattle.assertions.specs.declared.sequence.Boolean.{Boolean}
 use Rattle.assertions.specs.declared.sequence.Boolean.TheVariants.{One, Listed}
 use Rattle.assertions.specs.declared.assertion.Assertion.{Assertion}
@@ -27,7 +27,7 @@ use Rattle.types_expressions.specs.Meanings.{Means}
 use Rattle.types_suites.specs.Options.{OptionZip}
 use Rattle.types_suites.specs.Readings.{IsAtom, Reads, AllRead}
 use Rattle.types_suites.specs.Texts.{declarations_of, counters_of, assertions_of, clock_of}
-use Rattle.types_suites.specs.Texts.{label_text, implication_by}
+use Rattle.types_suites.specs.Texts.{label_text}
 
 -- A signal that the text reads at the path, with its width.
 abbrev pub IsSignal : Scope → List ℕ → Signal → Type 0
@@ -64,13 +64,13 @@ before_by k d = rewritten_antecedent One k d
 abbrev pub ReadsAntecedent : Scope → List (List ℕ) → List Expr → PropertyForm → Draft Boolean
     → Type 0
 ReadsAntecedent s columns booleans (plain q) d = d ≡ drafts.boolean One
-ReadsAntecedent s columns booleans (implication a t c) d =
-    (r : Draft Boolean) × Reads s columns booleans a r × (d ≡ before_by (implication_by t.kind) r)
+ReadsAntecedent s columns booleans (implication a i c) d =
+    (r : Draft Boolean) × Reads s columns booleans a r × (d ≡ before_by i r)
 
 abbrev pub ReadsConsequent : Scope → List (List ℕ) → List Expr → PropertyForm → Draft Boolean
     → Type 0
 ReadsConsequent s columns booleans (plain q) d = Reads s columns booleans q d
-ReadsConsequent s columns booleans (implication a t c) d = Reads s columns booleans c d
+ReadsConsequent s columns booleans (implication a i c) d = Reads s columns booleans c d
 
 -- What a side says with the names written out, and that an assertion's sequence matches the same,
 -- by booleans of the assertion's list.
@@ -120,14 +120,12 @@ pub record IsAssertion (s : Scope) (columns : List (List ℕ)) (booleans : List 
       (p : ℕ) → IsIn p made.booleans.items →
       IsUsedPlace s columns booleans a.disable antecedent_meant.meant consequent_meant.meant p
 
+-- Several, in their order, before which so many stand.
 abbrev pub AreAssertions : Scope → List (List ℕ) → List Expr → List (Draft Boolean) → ℕ
     → List trees.AssertionForm → List Assertion → Type 0
-AreAssertions s columns booleans bodies before [] [] = Unit {0}
-AreAssertions s columns booleans bodies before [] (m ∷ ms) = ⊥
-AreAssertions s columns booleans bodies before (a ∷ more) [] = ⊥
-AreAssertions s columns booleans bodies before (a ∷ more) (m ∷ ms) =
-    IsAssertion s columns booleans bodies before a m
-    × AreAssertions s columns booleans bodies (before + 1) more ms
+AreAssertions s columns booleans bodies before forms made =
+    AllZip (λ a m. IsAssertion s columns booleans bodies a.0 a.1 m)
+    (enumerate_from before forms) made
 
 -- The suite says what the text says.
 pub record IsSuite (s : Scope) (items : List ItemForm) (suite : Suite) : Type 0 where

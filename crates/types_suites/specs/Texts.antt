@@ -4,16 +4,10 @@ use Rattle.std.specs.Prelude.{bytes_eq, if◌then◌else◌}
 use Rattle.std.specs.List.{list_any}
 use Rattle.std.specs.Fmt.{decimal}
 use Rattle.lexer.specs.declared.token.Token.{Token}
-use Rattle.lexer.specs.declared.token.Symbol.TheVariants as symbol
-use Rattle.lexer.specs.declared.token.Kind.{Kind}
-use Rattle.lexer.specs.declared.token.Kind.TheVariants as kinds
 use Rattle.grammar.specs.Trees.{Tree, number, path, concatenation, past, call, unary, chain, choice}
 use Rattle.grammar.specs.Trees.{SequenceForm, boolean, repeated, late, delayed, throughout, joined}
 use Rattle.grammar.specs.Trees.{CounterForm, DeclarationForm, AssertionForm, ItemForm}
 use Rattle.grammar.specs.Trees.{counter, declaration, assertion}
-use Rattle.types_sequences.specs.declared.implication.Implication.{Implication}
-use Rattle.types_sequences.specs.declared.implication.Implication.TheVariants.{Overlapped}
-use Rattle.types_sequences.specs.declared.implication.Implication.TheVariants.{NonOverlapped}
 use Rattle.types_expressions.specs.Scopes.{path_text, first_byte}
 
 -- the items of each kind, in the order of the text
@@ -111,8 +105,3 @@ sequence_byte (late t n q) = t.at
 sequence_byte (delayed q steps) = sequence_byte q
 sequence_byte (throughout e q) = tree_byte e
 sequence_byte (joined j q others) = sequence_byte q
-
--- |=> or |->, by its token
-abbrev pub implication_by : Kind → Implication
-implication_by (kinds.Symbol symbol.Following) = NonOverlapped
-implication_by _ = Overlapped

@@ -11,18 +11,16 @@ ghost use Rattle.types_expressions.specs.Faults.{property_faults, optional_fault
 ghost use Rattle.types_expressions.specs.Faults.{assertion_faults};
 ghost use Rattle.types_expressions.specs.Views.{scope_of, columns_in};
 ghost use Rattle.types_sequences.specs.Placed.{Extends};
-ghost use Rattle.types_suites.specs.Texts.{implication_by};
 ghost use Rattle.types_suites.specs.Suites.{ReadsAntecedent, ReadsConsequent};
 ghost use Rattle.types_suites.specs.Drawn.{antecedent_byte, consequent_byte, IsDisabledBy, IsDrawn};
 
 use crate::bytes::sequence_at;
 use crate::drafts::{atom, draft_of};
 use crate::label::label_string;
-use lexer::{Kind, Symbol, Token};
 use parser::{AssertionTree, ExprTree, PropertyTree};
 use std::alloc::{AllocError, Global};
 use types_expressions::{Scope, SignalPaths};
-use types_sequences::{Draft, Implication, rewrite_antecedent};
+use types_sequences::{Draft, rewrite_antecedent};
 
 /// An assertion with its sides as drafts: the antecedent of `|=>` as that of `|->`, and 1 where a
 /// sequence is asserted alone.
@@ -36,16 +34,6 @@ pub(crate) struct Drawn {
     pub consequent_at: usize,
     /// The place of the disabling expression.
     pub disabling: Option<usize>,
-}
-
-/// Which implication a token is.
-fn implication_of(token: Token) -> Implication
-    ensures { result ≡ implication_by token.entry.kind }
-{
-    match token.kind {
-        Kind::Symbol(Symbol::Following) => Implication::NonOverlapped,
-        _ => Implication::Overlapped,
-    }
 }
 
 /// Where an antecedent begins, if one is written.
@@ -86,9 +74,9 @@ fn antecedent_of(
 {
     match property {
         PropertyTree::Plain(_) => Ok(Box::new(alloc, Draft::One)?),
-        PropertyTree::Implication(antecedent, token, _) => {
+        PropertyTree::Implication(antecedent, implication, _) => {
             let draft = draft_of(alloc, scope, columns, antecedent, booleans)?;
-            rewrite_antecedent(alloc, draft, implication_of(*token))
+            rewrite_antecedent(alloc, draft, *implication)
         }
     }
 }
