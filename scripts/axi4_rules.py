@@ -257,6 +257,14 @@ def fault_files():
         yield f"#\n{GOOD}\n" + whole.replace(*broken[two])
 
 
+def worked_ports():
+    """Ports whose rules were counted by hand, 61, 65 and 64, and one with its fields in another order."""
+    yield GOOD.replace("port p", "port plain")
+    yield GOOD.replace("port p", "port single") + " mode=single"
+    yield GOOD.replace("port p", "port watched") + " wait=0 mode=single watch=3,5"
+    yield "port turned id=3 watch=5,0 case=upper reset=r clock=t.c prefix=u. addr=12 data=8"
+
+
 def write(path, text):
     os.makedirs(os.path.dirname(path), exist_ok=True)
     with open(path, "w", newline="") as it:
@@ -270,7 +278,7 @@ def main():
         print("\n".join(" ".join(line) for port in ports for line in rules(port)))
         return
     folder = sys.argv[1]
-    ports = "".join(line + "\n" for line in edge_ports())
+    ports = "".join(line + "\n" for line in itertools.chain(edge_ports(), worked_ports()))
     faults = list(fault_files())
     write(f"{folder}/data/ports.txt", ports)
     write(f"{folder}/data/faults.txt", "\x01".join(faults))

@@ -1,6 +1,22 @@
 //! Tests of what reads dumps and writes reports, from `signals` to `cycle_window` and `verdicts`:
 //! each public function once on its happy path, and devices that fail or keep bytes back. What
 //! whole dumps lead to is a table of the programs `oracle_*`.
+//!
+//! A device is a `Source` or a `Sink`. One that fails after so many bytes is `CutReader` or
+//! `CutWriter`, and `Counted` counts the calls that failed, so that a fault is seen to come from
+//! the device and not from what reads it.
+//!
+//! ```text
+//! let mut sink = Counted::new(CutWriter::new(rt.alloc(), 7)?);     // fails at its 8th byte
+//! assert!(rt; write_all(&mut sink, b"seventeen letters") == Err(WriteFailed));
+//! assert!(rt; sink.failed_calls() == 1);
+//! ```
+//!
+//! `rt test` in this crate proves the tests and runs them. The definitions that the contracts cite
+//! stand in the crates that are tested: of values and devices in `signals`, of dumps in
+//! `vcd_reader`, of ticks in `cycle_window`, of lines in `verdicts`, each in its `specs/`.
+//!
+//! Not promised: that each fault of a dump occurs here; this crate has no public functions.
 #![tactic(auto)]
 
 #[cfg(test)]

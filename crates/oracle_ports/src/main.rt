@@ -5,8 +5,6 @@
 #![tactic(auto)]
 
 mod count;
-#[cfg(test)]
-mod tests;
 
 use anyhow::Result;
 use axi4_rules::{Mode, Port, read_ports, rules};

@@ -1,5 +1,20 @@
 //! Tests of what reads a text, from `lexer` to `types`: each public function once on its happy
 //! path, and tables of tokens. What whole texts lead to is a table of the programs `oracle_*`.
+//!
+//! The tables go through each symbol, word and number on its own, and through each symbol beside
+//! each other one, where the longest spelling counts (IEEE 1800-2017, 5.5).
+//!
+//! ```text
+//! let tokens = lex(rt.alloc(), "a |=> b")?;
+//! assert!(rt; tokens[1].kind == Kind::Symbol(Symbol::Following));
+//! assert!(rt; terminal_of(tokens[1]) == Terminal::Following);
+//! ```
+//!
+//! `rt test` in this crate proves the tests and runs them. The definitions that the contracts cite
+//! stand in the crates that are tested: of tokens in `lexer`, of trees in `grammar`, of names and
+//! widths in `types_expressions`, of suites in `types_suites`, each in its `specs/`.
+//!
+//! Not promised: that each fault of a text occurs here; this crate has no public functions.
 #![tactic(auto)]
 
 #[cfg(test)]

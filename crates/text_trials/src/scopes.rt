@@ -20,23 +20,33 @@ fn dump(alloc: Global) -> Result<Names, AllocError> {
     Ok(names)
 }
 
-/// The faults of a file: an unknown name, a wide concatenation, a select out of range.
-fn faults_of(alloc: Global, file: &File) -> Result<[Option<usize>; 3], AllocError> {
+/// The faults of items: an unknown name, a wide concatenation, a select out of range.
+fn faults_of(
+    alloc: Global,
+    scope: &Scope,
+    items: &[ItemTree],
+) -> Result<[Option<usize>; 3], AllocError> {
+    let unknown = first_fault(alloc, scope, Sought::Unknown, items)?;
+    let wide = first_fault(alloc, scope, Sought::Wide, items)?;
+    let outside = first_fault(alloc, scope, Sought::OutOfRange, items)?;
+    Ok([unknown, wide, outside])
+}
+
+/// The faults of a file.
+fn faults_of_file(alloc: Global, file: &File) -> Result<[Option<usize>; 3], AllocError> {
     let names = dump(alloc)?;
     let scope = Scope::of(alloc, Paths::Listed(&names), &file.items)?;
-    let unknown = first_fault(alloc, &scope, Sought::Unknown, &file.items)?;
-    let wide = first_fault(alloc, &scope, Sought::Wide, &file.items)?;
-    let outside = first_fault(alloc, &scope, Sought::OutOfRange, &file.items)?;
-    Ok([unknown, wide, outside])
+    faults_of(alloc, &scope, &file.items)
 }
 
 /// Whether a text has these faults.
 fn has_faults(alloc: Global, text: &str, wanted: [Option<usize>; 3]) -> Result<bool, Fail> {
     let tokens = lex(alloc, text)?;
-    match parse(alloc, tokens.as_slice()) {
-        Ok(file) => Ok(faults_of(alloc, &file)? == wanted),
-        Err(_) => Ok(false),
-    }
+    let found = match parse(alloc, tokens.as_slice()) {
+        Ok(file) => faults_of_file(alloc, &file),
+        Err(_) => return Ok(false),
+    };
+    Ok(found? == wanted)
 }
 
 /// The text's own names come before the dump's, and the first of two that are the same counts.
@@ -76,18 +86,24 @@ fn first_boolean<'t, 'a>(file: &'t File<'a>) -> Option<&'t ExprTree<'a>> {
     }
 }
 
-/// Whether the sequence that is asserted last is named so, and has this place.
-fn is_named(alloc: Global, text: &str, place: Option<usize>) -> Result<bool, Fail> {
+/// Whether the boolean that is asserted last names the sequence of this place.
+fn names_sequence(alloc: Global, file: &File, place: Option<usize>) -> Result<bool, AllocError> {
     let names = dump(alloc)?;
-    let tokens = lex(alloc, text)?;
-    let Ok(file) = parse(alloc, tokens.as_slice()) else {
-        return Ok(false);
-    };
     let scope = Scope::of(alloc, Paths::Listed(&names), &file.items)?;
-    match first_boolean(&file) {
-        Some(expr) => Ok(scope.sequence_named(expr) == place),
-        None => Ok(false),
-    }
+    Ok(match first_boolean(file) {
+        Some(expr) => scope.sequence_named(expr) == place,
+        None => false,
+    })
+}
+
+/// Whether the sequence that a text asserts last is named so, and has this place.
+fn is_named(alloc: Global, text: &str, place: Option<usize>) -> Result<bool, Fail> {
+    let tokens = lex(alloc, text)?;
+    let named = match parse(alloc, tokens.as_slice()) {
+        Ok(file) => names_sequence(alloc, &file, place),
+        Err(_) => return Ok(false),
+    };
+    Ok(named?)
 }
 
 #[test]
@@ -117,20 +133,26 @@ fn are_in_order(found: &SignalPaths) -> bool {
         && found.path(1) == "top.v"
 }
 
+/// Whether these are the columns of a file.
+fn has_columns(alloc: Global, file: &File) -> Result<bool, AllocError> {
+    let names = dump(alloc)?;
+    let scope = Scope::of(alloc, Paths::Listed(&names), &file.items)?;
+    let found = columns_of(alloc, &scope, &file.items)?;
+    Ok(are_in_order(&found))
+}
+
 #[test]
 fn columns_in_order(rt: HostRuntime) -> Result<(), Fail> {
     let alloc = rt.alloc();
     let text = "counter w [3] add(v == 1, w); \
         assert property (@(posedge c) disable iff (top.v == 0) a ##1 v[1] |-> q); \
         sequence q; a endsequence";
-    let names = dump(alloc)?;
     let tokens = lex(alloc, text)?;
-    let Ok(file) = parse(alloc, tokens.as_slice()) else {
-        return Err(Fail::from("it is refused"));
+    let found = match parse(alloc, tokens.as_slice()) {
+        Ok(file) => has_columns(alloc, &file),
+        Err(_) => return Err(Fail::from("it is refused")),
     };
-    let scope = Scope::of(alloc, Paths::Listed(&names), &file.items)?;
-    let found = columns_of(alloc, &scope, &file.items)?;
-    assert!(rt; are_in_order(&found));
+    assert!(rt; found?);
     Ok(())
 }
 

@@ -5,27 +5,48 @@ use grammar::{
     infix_of, is, is_name, is_word, mark_of, precedence_of, terminal_of,
 };
 use lexer::{Base, Kind, Number, Token, lex};
+use std::alloc::Global;
 use std::test::Fail;
 
+/// The first token of a text.
+fn first_token<'a>(alloc: Global, text: &'a str) -> Result<Token<'a>, Fail> {
+    let tokens = lex(alloc, text)?;
+    match tokens.first() {
+        Some(token) => Ok(*token),
+        None => Err(Fail::from("there is no token")),
+    }
+}
+
 #[test]
-fn numbers(rt: HostRuntime) -> Result<(), Fail> {
-    let tokens = lex(rt.alloc(), "127 128 0 8'd5 'd5 width")?;
-    assert!(rt; tokens.len() == 7);
-    assert!(rt; bound_of(tokens[0], 0, 127) == Some(Bound { value: 127, at: 0 }));
-    assert!(rt; bound_of(tokens[1], 0, 127).is_none());
-    assert!(rt; bound_of(tokens[1], 1, 128) == Some(Bound { value: 128, at: 4 }));
-    assert!(rt; bound_of(tokens[2], 0, 127) == Some(Bound { value: 0, at: 8 }));
-    assert!(rt; bound_of(tokens[2], 1, 128).is_none());
-    assert!(rt; bound_of(tokens[3], 0, 127).is_none());
-    assert!(rt; bound_of(tokens[4], 0, 127).is_none());
-    assert!(rt; bound_of(tokens[5], 0, 127).is_none());
-    assert!(rt; bound_of(tokens[6], 0, 127).is_none());
-    let tokens = lex(rt.alloc(), "31 8'h1F bit")?;
-    assert!(rt; tokens.len() == 4);
-    assert!(rt; index_of(tokens[0]) == Some(Index { value: 31, at: 0 }));
-    assert!(rt; index_of(tokens[1]) == Some(Index { value: 31, at: 3 }));
-    assert!(rt; index_of(tokens[2]).is_none());
-    assert!(rt; index_of(tokens[3]).is_none());
+fn bounds(rt: HostRuntime) -> Result<(), Fail> {
+    for (text, least, most, expected) in [
+        ("127", 0, 127, Some(Bound { value: 127, at: 0 })),
+        ("128", 0, 127, None),
+        ("    128", 1, 128, Some(Bound { value: 128, at: 4 })),
+        ("        0", 0, 127, Some(Bound { value: 0, at: 8 })),
+        ("0", 1, 128, None),
+        ("8'd5", 0, 127, None),
+        ("'d5", 0, 127, None),
+        ("width", 0, 127, None),
+        ("", 0, 127, None),
+    ] {
+        let token = first_token(rt.alloc(), text)?;
+        assert!(rt; bound_of(token, least, most) == expected, "{text}");
+    }
+    Ok(())
+}
+
+#[test]
+fn indices(rt: HostRuntime) -> Result<(), Fail> {
+    for (text, expected) in [
+        ("31", Some(Index { value: 31, at: 0 })),
+        ("   8'h1F", Some(Index { value: 31, at: 3 })),
+        ("bit", None),
+        ("", None),
+    ] {
+        let token = first_token(rt.alloc(), text)?;
+        assert!(rt; index_of(token) == expected, "{text}");
+    }
     Ok(())
 }
 
@@ -58,9 +79,8 @@ fn precedence(rt: HostRuntime) -> Result<(), Fail> {
         ("ready", 100),
         ("", 100),
     ] {
-        let tokens = lex(rt.alloc(), text)?;
-        assert!(rt; tokens.len() > 0, "{text}");
-        assert!(rt; precedence_of(tokens[0]) == expected, "{text}");
+        let token = first_token(rt.alloc(), text)?;
+        assert!(rt; precedence_of(token) == expected, "{text}");
     }
     Ok(())
 }
@@ -97,9 +117,8 @@ fn marks(rt: HostRuntime) -> Result<(), Fail> {
         ("until", Mark::Other),
         ("", Mark::Other),
     ] {
-        let tokens = lex(rt.alloc(), text)?;
-        assert!(rt; tokens.len() > 0, "{text}");
-        assert!(rt; mark_of(tokens[0]) == expected, "{text}");
+        let token = first_token(rt.alloc(), text)?;
+        assert!(rt; mark_of(token) == expected, "{text}");
     }
     Ok(())
 }
@@ -120,9 +139,8 @@ fn left_operators(rt: HostRuntime) -> Result<(), Fail> {
         ("or", None),
         ("", None),
     ] {
-        let tokens = lex(rt.alloc(), text)?;
-        assert!(rt; tokens.len() > 0, "{text}");
-        assert!(rt; infix_of(tokens[0]) == expected, "{text}");
+        let token = first_token(rt.alloc(), text)?;
+        assert!(rt; infix_of(token) == expected, "{text}");
     }
     Ok(())
 }
@@ -161,11 +179,9 @@ fn terminals(rt: HostRuntime) -> Result<(), Fail> {
         ("#", Terminal::Operator),
         ("", Terminal::End),
     ] {
-        let tokens = lex(rt.alloc(), text)?;
-        assert!(rt; tokens.len() > 0, "{text}");
-        assert!(rt; terminal_of(tokens[0]) == expected, "{text}");
-        assert!(rt; is(expected, tokens[0]), "{text}");
-        assert!(rt; !is(Terminal::Comma, tokens[0]), "{text}");
+        let token = first_token(rt.alloc(), text)?;
+        assert!(rt; terminal_of(token) == expected, "{text}");
+        assert!(rt; is(expected, token) && !is(Terminal::Comma, token), "{text}");
     }
     Ok(())
 }
@@ -180,42 +196,52 @@ fn are_words(tokens: &[Token], names: bool) -> bool {
     true
 }
 
+/// Whether a text has so many tokens, the end among them, and the others are such words.
+fn has_words(alloc: Global, text: &str, names: bool, count: usize) -> Result<bool, Fail> {
+    let tokens = lex(alloc, text)?;
+    Ok(tokens.len() == count && are_words(&tokens, names))
+}
+
 /// The words of a counter are names, so that `counter` before `:` may be a label. Behind a dot each
 /// word is one.
 #[test]
 fn words(rt: HostRuntime) -> Result<(), Fail> {
-    let names = lex(rt.alloc(), "counter clear load add sub ready Or")?;
-    assert!(rt; names.len() == 8);
-    assert!(rt; are_words(&names, true));
-    let kept = lex(
-        rt.alloc(),
-        "sequence endsequence assert assume property posedge disable iff or and throughout",
-    )?;
-    assert!(rt; kept.len() == 12);
-    assert!(rt; are_words(&kept, false));
-    let none = lex(rt.alloc(), "$past 7 .")?;
-    assert!(rt; none.len() == 4);
-    for token in &none {
-        assert!(rt; !is_name(*token) && !is_word(*token));
+    let names = "counter clear load add sub ready Or";
+    let kept = "sequence endsequence assert assume property posedge disable iff or and throughout";
+    assert!(rt; has_words(rt.alloc(), names, true, 8)?);
+    assert!(rt; has_words(rt.alloc(), kept, false, 12)?);
+    for text in ["$past", "7", ".", ""] {
+        let token = first_token(rt.alloc(), text)?;
+        assert!(rt; !is_name(token) && !is_word(token), "{text}");
     }
     Ok(())
+}
+
+/// Whether each token but the end is a word of a construct that the language leaves out.
+fn are_foreign(tokens: &[Token]) -> bool {
+    for token in tokens {
+        let foreign = terminal_of(*token) == Terminal::ForeignWord;
+        if foreign != (token.kind == Kind::Word) {
+            return false;
+        }
+    }
+    true
+}
+
+/// Whether a text has so many tokens, the end among them, and the others are left out.
+fn has_foreign(alloc: Global, text: &str, count: usize) -> Result<bool, Fail> {
+    let tokens = lex(alloc, text)?;
+    Ok(tokens.len() == count && are_foreign(&tokens))
 }
 
 /// The words of constructs that the language leaves out: no names, but words.
 #[test]
 fn foreign_words(rt: HostRuntime) -> Result<(), Fail> {
-    let tokens = lex(
-        rt.alloc(),
-        "intersect within first_match strong weak not if else case always nexttime eventually \
-         until s_always s_nexttime s_eventually s_until s_until_with until_with implies \
-         accept_on reject_on cover restrict default clocking negedge edge local",
-    )?;
-    assert!(rt; tokens.len() == 30);
-    assert!(rt; are_words(&tokens, false));
-    for token in &tokens {
-        let foreign = terminal_of(*token) == Terminal::ForeignWord;
-        assert!(rt; foreign == (token.kind == Kind::Word));
-    }
+    let text = "intersect within first_match strong weak not if else case always nexttime \
+        eventually until s_always s_nexttime s_eventually s_until s_until_with until_with implies \
+        accept_on reject_on cover restrict default clocking negedge edge local";
+    assert!(rt; has_words(rt.alloc(), text, false, 30)?);
+    assert!(rt; has_foreign(rt.alloc(), text, 30)?);
     grammar_law();
     Ok(())
 }

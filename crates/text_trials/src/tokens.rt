@@ -1,23 +1,44 @@
 //! Texts and their tokens.
 
-use lexer::{Kind, LexFault, Symbol, Token, cut_law, lex};
+use lexer::{Kind, LexFault, Number, Symbol, Token, cut_law, lex};
 use std::alloc::Global;
 use std::test::Fail;
+
+/// Whether these are the tokens of `req |-> ##12 ack_1`, with comments between.
+fn are_cut(tokens: &[Token]) -> bool {
+    tokens.len() == 6
+        && tokens[1].text == "|->"
+        && tokens[1].kind == Kind::Symbol(Symbol::Overlapped)
+        && tokens[4].at == 21
+        && tokens[5].at == 33
+        && tokens[5].kind == Kind::End
+}
+
+/// Whether the end is all that there is, at this byte.
+fn is_end_alone(tokens: &[Token], at: usize) -> bool {
+    tokens.len() == 1 && tokens[0].at == at
+}
 
 #[test]
 fn cuts_a_text(rt: HostRuntime) -> Result<(), Fail> {
     let tokens = lex(rt.alloc(), "req |->/* no */ ##12 ack_1 // end")?;
-    assert!(rt; tokens.len() == 6);
-    assert!(rt; tokens[1].text == "|->");
-    assert!(rt; tokens[1].kind == Kind::Symbol(Symbol::Overlapped));
-    assert!(rt; tokens[4].at == 21);
-    assert!(rt; tokens[5].at == 33);
-    assert!(rt; tokens[5].kind == Kind::End);
+    assert!(rt; are_cut(&tokens));
     let gaps = lex(rt.alloc(), "// nothing\n/* more *///")?;
-    assert!(rt; gaps.len() == 1);
-    assert!(rt; gaps[0].at == 23);
+    assert!(rt; is_end_alone(&gaps, 23));
     cut_law();
     Ok(())
+}
+
+/// The number that a text is, if it is one alone.
+fn number_of(alloc: Global, text: &str) -> Result<Option<Number>, Fail> {
+    let tokens = lex(alloc, text)?;
+    if tokens.len() != 2 {
+        return Ok(None);
+    }
+    Ok(match tokens[0].kind {
+        Kind::Number(number) => Some(number),
+        _ => None,
+    })
 }
 
 #[test]
@@ -35,15 +56,8 @@ fn sized_literals(rt: HostRuntime) -> Result<(), Fail> {
         ),
         ("4294967295", None, 4_294_967_295),
     ] {
-        let tokens = lex(rt.alloc(), text)?;
-        assert!(rt; tokens.len() == 2);
-        match tokens[0].kind {
-            Kind::Number(number) => {
-                assert!(rt; number.value == value, "{text}");
-                assert!(rt; number.size == size, "{text}");
-            }
-            _ => assert!(rt; false, "{text}"),
-        }
+        let number = number_of(rt.alloc(), text)?.ok_or("it is no number")?;
+        assert!(rt; number.value == value && number.size == size, "{text}");
     }
     Ok(())
 }
