@@ -1,8 +1,8 @@
 //! Each function at the tokens of a text, against the grammar.
 
 use grammar::{
-    Bound, Function, Index, Infix, Mark, Prefix, Terminal, bound_of, grammar_law, index_of,
-    infix_of, is, is_name, is_word, mark_of, precedence_of, terminal_of,
+    Bound, Function, Implication, Index, Infix, Mark, Prefix, Terminal, bound_of, grammar_law,
+    implication_of, index_of, infix_of, is, is_name, is_word, mark_of, precedence_of, terminal_of,
 };
 use lexer::{Base, Kind, Number, Token, lex};
 use std::alloc::Global;
@@ -141,6 +141,21 @@ fn left_operators(rt: HostRuntime) -> Result<(), Fail> {
     ] {
         let token = first_token(rt.alloc(), text)?;
         assert!(rt; infix_of(token) == expected, "{text}");
+    }
+    Ok(())
+}
+
+#[test]
+fn implications(rt: HostRuntime) -> Result<(), Fail> {
+    for (text, expected) in [
+        ("|->", Some(Implication::Overlapped)),
+        ("|=>", Some(Implication::NonOverlapped)),
+        ("|", None),
+        ("or", None),
+        ("", None),
+    ] {
+        let token = first_token(rt.alloc(), text)?;
+        assert!(rt; implication_of(token) == expected, "{text}");
     }
     Ok(())
 }
