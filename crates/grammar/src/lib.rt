@@ -21,13 +21,13 @@
 //! ```
 //!
 //! The definitions: what a token is to the rules in `specs/Terminals.antt`, and numbers as bounds
-//! in `specs/Bounds.antt`; left operators with their levels, and implications, in `specs/Operators.antt`;
-//! how a token may begin a primary, and how loosely it joins, in `specs/Marks.antt`; the trees in
-//! `specs/Trees.antt`. The rules stand in `specs/Expressions.antt`, `specs/Sequences.antt` and
-//! `specs/Files.antt` (`IsFile`), the functions in `specs/ReadExpressions.antt`,
-//! `specs/ReadSequences.antt` and `specs/ReadFiles.antt`, with their common parts in
-//! `specs/Readers.antt`; what the law says stands in `specs/Laws.antt`. Of IEEE 1800-2017 the rules
-//! have a part of clauses 11 and 16.7 to 16.12 and of annexes A.8 and F.
+//! in `specs/Bounds.antt`; left operators with their levels, and implications, in
+//! `specs/Operators.antt`; how a token may begin a primary, and how loosely it joins, in
+//! `specs/Marks.antt`; the trees in `specs/Trees.antt`. The rules: `specs/Expressions.antt`,
+//! `specs/Sequences.antt` and `specs/Files.antt` (`IsFile`); the functions:
+//! `specs/ReadExpressions.antt`, `specs/ReadSequences.antt` and `specs/ReadFiles.antt`, with their
+//! common parts in `specs/Readers.antt`; what the law says stands in `specs/Laws.antt`. Of IEEE
+//! 1800-2017 the rules have a part of clauses 11 and 16.7 to 16.12 and of annexes A.8 and F.
 //!
 //! Not promised: that a file which tokens spell means anything; names, widths and types are looked
 //! at by `types`. Nor does the grammar say at which token those that spell no file go wrong.
