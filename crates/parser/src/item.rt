@@ -11,21 +11,24 @@ ghost use Rattle.grammar.specs.ReadFiles.{one_operand, two_operands, counter_hea
 ghost use Rattle.grammar.specs.ReadFiles.{again_of, skip, ending_of, declaration_item};
 ghost use Rattle.grammar.specs.ReadFiles.{opening_words, clock_words, disable_reader, property_end};
 ghost use Rattle.grammar.specs.ReadFiles.{assertion_item, label_reader, declaration_reader, item};
-ghost use Rattle.parser_expressions.specs.Views.{path_of, boxed_of, Gives};
-ghost use Rattle.parser.specs.Views.{pair_of, property_of, counter_of, declaration_of};
-ghost use Rattle.parser.specs.Views.{assertion_of, item_of};
+ghost use Rattle.text_trees.specs.Views.{path_of, boxed_of};
+ghost use Rattle.parser_expressions.specs.Views.{Gives};
+ghost use Rattle.text_trees.specs.Views.{pair_of, property_of, counter_of, declaration_of};
+ghost use Rattle.text_trees.specs.Views.{assertion_of, item_of};
 
 use crate::property::read_property;
 use crate::read::read;
-use crate::tree::{AssertionTree, CounterTree, DeclarationTree, ItemTree, Operands, PropertyTree};
 use grammar::{Bound, Terminal, is_word};
 use lexer::Token;
 use parser_expressions::{
-    ExprTree, Path, Read, Stop, accept, accept_name, expect, expect_bound, expect_name,
-    expect_verb, first, read_expression, read_path, same,
+    Read, Stop, accept, accept_name, expect, expect_bound, expect_name, expect_verb, first,
+    read_expression, read_path, same,
 };
 use parser_sequences::read_sequence;
 use std::alloc::Global;
+use text_trees::{
+    AssertionTree, CounterTree, DeclarationTree, ExprTree, ItemTree, Operands, Path, PropertyTree,
+};
 
 /// How many brackets and unfinished operators may be open at once.
 const MOST_OPEN: usize = 64;

@@ -7,11 +7,12 @@
 //!
 //! The grammar stands in `grammar/specs/Files.antt` (`IsFile`: the tokens before the end spell the
 //! items, one of which is an assertion), and the functions that read by it in
-//! `grammar/specs/ReadFiles.antt`; `specs/Views.antt` says how a tree stands for the grammar's, and
-//! `specs/Faults.antt` what a refusal says: no items spell the tokens, unless memory ran out.
+//! `grammar/specs/ReadFiles.antt`; `text_trees` has the trees, and says how one stands for the
+//! grammar's, and `specs/Faults.antt` what a refusal says: no items spell the tokens, unless memory
+//! ran out.
 //!
-//! Expressions are read by `parser_expressions`, and sequences by `parser_sequences`; their trees
-//! can be imported from here, too.
+//! Expressions are read by `parser_expressions`, and sequences by `parser_sequences`; the trees can
+//! be imported from here, too.
 //!
 //! Not promised: which of the faults comes, and at which of the tokens; the tests of
 //! `oracle_texts` show it.
@@ -22,13 +23,11 @@ mod file;
 mod item;
 mod property;
 mod read;
-mod tree;
 
 pub use fault::ParseFault;
 pub use file::parse;
 pub use grammar::{Bound, Function, Index, Range, Select};
-pub use parser_expressions::{ExprTree, Path};
-pub use parser_sequences::SequenceTree;
-pub use tree::{
-    AssertionTree, CounterTree, DeclarationTree, File, ItemTree, Operands, PropertyTree,
+pub use text_trees::{
+    AssertionTree, CounterTree, DeclarationTree, ExprTree, File, ItemTree, Operands, Path,
+    PropertyTree, SequenceTree,
 };

@@ -6,16 +6,15 @@ ghost use Rattle.grammar.specs.Operators.{implication_of};
 ghost use Rattle.grammar.specs.Readers.{pick};
 ghost use Rattle.grammar.specs.ReadSequences.{implication_behind, regroup_property, property};
 ghost use Rattle.parser_expressions.specs.Views.{Gives};
-ghost use Rattle.parser_sequences.specs.Views.{sequence_of};
-ghost use Rattle.parser.specs.Views.{property_of};
+ghost use Rattle.text_trees.specs.Views.{sequence_of, property_of};
 
 use crate::read::read;
-use crate::tree::PropertyTree;
 use grammar::{Implication, Terminal, implication_of};
 use lexer::Token;
 use parser_expressions::{Read, accept, deeper, expect, first};
-use parser_sequences::{SequenceTree, finish_sequence, read_sequence, regroup};
+use parser_sequences::{finish_sequence, read_sequence, regroup};
 use std::alloc::Global;
+use text_trees::{PropertyTree, SequenceTree};
 
 /// The implication that stands first, if one does.
 #[tactic(auto, using(crate::proofs::PropertySteps::for_accept))]

@@ -11,7 +11,8 @@ ghost use Rattle.grammar.specs.ReadExpressions.{members, select, readers, path_w
 ghost use Rattle.grammar.specs.ReadExpressions.{bracket_reader, concatenation_reader, past_reader};
 ghost use Rattle.grammar.specs.ReadExpressions.{call_reader, prefix_reader, unary_reader, links};
 ghost use Rattle.grammar.specs.ReadExpressions.{climb, operand, prefixed_with, finish, expression};
-ghost use Rattle.parser_expressions.specs.Views.{path_of, tree_of, link_of, Gives};
+ghost use Rattle.text_trees.specs.Views.{path_of, tree_of, link_of};
+ghost use Rattle.parser_expressions.specs.Views.{Gives};
 
 use crate::node::{
     call, choice, concatenation, number, past, push_link, push_part, unary, with_links,
@@ -21,10 +22,10 @@ use crate::read::{
     left_operator, operator, read, same,
 };
 use crate::stop::Stop;
-use crate::tree::{ExprTree, Path};
 use grammar::{Bound, Function, Index, Infix, Mark, Prefix, Select, Terminal, mark_of};
 use lexer::Token;
 use std::alloc::Global;
+use text_trees::{ExprTree, Path};
 
 /// The words of a path behind its first.
 fn read_members<'t, 'a>(alloc: Global, tokens: &'t [Token<'a>]) -> Read<'t, 'a, Vec<Token<'a>>>

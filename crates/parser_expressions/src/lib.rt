@@ -8,8 +8,9 @@
 //! ```
 //!
 //! The grammar stands in `grammar/specs/Expressions.antt`, and the functions that read by it in
-//! `grammar/specs/ReadExpressions.antt`; `specs/Views.antt` says how a tree stands for the
-//! grammar's, and what it is that a reader gives what the function reads (`Gives`).
+//! `grammar/specs/ReadExpressions.antt`; `text_trees` has the trees, and says how one stands for the
+//! grammar's; `specs/Views.antt` says what it is that a reader gives what the function reads
+//! (`Gives`).
 //!
 //! The depth is how many more brackets and unfinished operators may open, from 0 to 64.
 //!
@@ -21,7 +22,6 @@ mod expression;
 mod node;
 mod read;
 mod stop;
-mod tree;
 
 pub use expression::{finish_expression, read_expression, read_path};
 pub use read::{
@@ -29,4 +29,3 @@ pub use read::{
     first, operator, same,
 };
 pub use stop::Stop;
-pub use tree::{ExprTree, Path};

@@ -4,14 +4,15 @@ ghost use Rattle.std.specs.Prelude.{◌≡◌, ◌≤◌, ◌++◌, [], ◌∷�
 ghost use Rattle.parser_expressions.specs.declared.stop.Stop.TheVariants.{Memory};
 ghost use Rattle.grammar.specs.Trees as trees;
 ghost use Rattle.grammar.specs.ReadExpressions.{parts_of, chain_of};
-ghost use Rattle.parser_expressions.specs.Views.{tree_of, link_of, Gives, read_as};
+ghost use Rattle.text_trees.specs.Views.{tree_of, link_of};
+ghost use Rattle.parser_expressions.specs.Views.{Gives, read_as};
 
 use crate::read::Read;
 use crate::stop::Stop;
-use crate::tree::ExprTree;
 use grammar::{Bound, Function, Infix, Prefix};
 use lexer::{Number, Token};
 use std::alloc::Global;
+use text_trees::ExprTree;
 
 /// A number.
 #[tactic(auto, using(crate::proofs::TreeLaws::tree_rules))]

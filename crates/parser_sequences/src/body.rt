@@ -8,16 +8,17 @@ ghost use Rattle.grammar.specs.Trees.{boolean};
 ghost use Rattle.grammar.specs.Trees as trees;
 ghost use Rattle.grammar.specs.Readers.{expect};
 ghost use Rattle.grammar.specs.ReadSequences.{with_times, with_steps, with_others};
-ghost use Rattle.parser_expressions.specs.Views.{tree_of, Gives, read_as};
-ghost use Rattle.parser_sequences.specs.Views.{sequence_of, delay_step_of};
+ghost use Rattle.text_trees.specs.Views.{tree_of};
+ghost use Rattle.parser_expressions.specs.Views.{Gives, read_as};
+ghost use Rattle.text_trees.specs.Views.{sequence_of, delay_step_of};
 ghost use Rattle.grammar.specs.Sequences.{IsNoExpression};
 ghost use Rattle.parser_sequences.specs.Bodies.{HasNoThroughout};
 
-use crate::tree::SequenceTree;
 use grammar::{Junction, Range, Terminal};
 use lexer::Token;
-use parser_expressions::{ExprTree, Read, Stop, accept};
+use parser_expressions::{Read, Stop, accept};
 use std::alloc::Global;
+use text_trees::{ExprTree, SequenceTree};
 
 /// Whether a sequence is an expression.
 fn is_expression(sequence: &SequenceTree) -> bool

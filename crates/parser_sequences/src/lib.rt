@@ -12,7 +12,7 @@
 //! from what stood in brackets, which a property, too, may begin with.
 //!
 //! The grammar stands in `grammar/specs/Sequences.antt`, and the functions that read by it in
-//! `grammar/specs/ReadSequences.antt`; `specs/Views.antt` says how a tree stands for the
+//! `grammar/specs/ReadSequences.antt`; `text_trees` has the trees, and says how one stands for the
 //! grammar's. What it is that a reader gives what the function reads (`Gives`) is a definition of
 //! `parser_expressions`.
 //!
@@ -26,7 +26,5 @@ mod body;
 mod count;
 mod read;
 mod sequence;
-mod tree;
 
 pub use sequence::{finish_sequence, read_sequence, regroup};
-pub use tree::SequenceTree;

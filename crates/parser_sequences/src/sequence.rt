@@ -7,7 +7,7 @@ ghost use Rattle.grammar.specs.ReadSequences.{throughout_reader, conjunction_beh
 ghost use Rattle.grammar.specs.ReadSequences.{conjunction_with, alternatives_behind};
 ghost use Rattle.grammar.specs.ReadSequences.{sequence_behind, whole};
 ghost use Rattle.parser_expressions.specs.Views.{Gives};
-ghost use Rattle.parser_sequences.specs.Views.{sequence_of, boxed_step_of};
+ghost use Rattle.text_trees.specs.Views.{sequence_of, boxed_step_of};
 
 use crate::body::{
     into_expression, late, plain, push_sequence, push_step, throughout, throughout_side,
@@ -15,13 +15,13 @@ use crate::body::{
 };
 use crate::count::{read_counts, read_delay};
 use crate::read::read;
-use crate::tree::SequenceTree;
 use grammar::{Junction, Range, Terminal};
 use lexer::Token;
 use parser_expressions::{
     Read, Stop, accept, deeper, expect, finish_expression, read_expression, same,
 };
 use std::alloc::Global;
+use text_trees::SequenceTree;
 
 /// What goes on behind brackets.
 #[tactic(auto, using(crate::proofs::Steps::for_regroup))]

@@ -1,14 +1,13 @@
 //! Clocks.
 
 ghost use Rattle.std.specs.Prelude.{◌≡◌, map, IfOk, string_bytes};
-ghost use Rattle.parser_expressions.specs.Views.{path_of};
-ghost use Rattle.parser.specs.Views.{item_of};
+ghost use Rattle.text_trees.specs.Views.{path_of, item_of};
 ghost use Rattle.types_expressions.specs.Faults.{least};
 ghost use Rattle.types_expressions.specs.Scopes.{first_byte};
 ghost use Rattle.types_suites.specs.Texts.{assertions_of, clocks_unlike, clock_of};
 
-use parser::{ItemTree, Path};
 use std::alloc::{AllocError, Global};
+use text_trees::{ItemTree, Path};
 use types_expressions::{earlier, path_string};
 
 /// The path of the first assertion's clock, and no text where there is no assertion.

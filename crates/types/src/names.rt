@@ -2,13 +2,13 @@
 
 ghost use Rattle.std.specs.Prelude.{◌≡◌, ◌<◌, ◌++◌, ◌+◌, map, IfOk, OnOk, string_bytes, option_map};
 ghost use Rattle.std.specs.Prelude.{codes};
-ghost use Rattle.parser.specs.Views.{assertion_of, item_of};
+ghost use Rattle.text_trees.specs.Views.{assertion_of, item_of};
 ghost use Rattle.types_expressions.specs.Faults.{least};
 ghost use Rattle.types_suites.specs.Texts.{label_byte, name_made, assertions_after, duplicates};
 
 use indexmap::IndexSet;
-use parser::{AssertionTree, ItemTree};
 use std::alloc::{AllocError, Global};
+use text_trees::{AssertionTree, ItemTree};
 use types_expressions::earlier;
 use types_suites::label_string;
 

@@ -1,7 +1,7 @@
 //! Faults in their order.
 
 ghost use Rattle.std.specs.Prelude.{◌≡◌, ◌<◌, ℕ, true, false, map, length, IfOk, IfErr};
-ghost use Rattle.parser.specs.Views.{item_of};
+ghost use Rattle.text_trees.specs.Views.{item_of};
 ghost use Rattle.types_expressions.specs.Views.{scope_of};
 ghost use Rattle.types_suites.specs.Texts.{assertions_of, clock_of};
 ghost use Rattle.types_suites.specs.Readings.{Where, outlines_of};
@@ -18,8 +18,8 @@ use crate::cycles::{first_cycle, has_all};
 use crate::fault::TypeFault;
 use crate::names::first_duplicate;
 use crate::side::{Side, first_degenerate, first_empty, first_wide};
-use parser::ItemTree;
 use std::alloc::Global;
+use text_trees::ItemTree;
 use types_expressions::{Scope, Sought, first_fault};
 use types_sequences::{Draft, Entry};
 

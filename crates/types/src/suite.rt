@@ -3,7 +3,7 @@
 ghost use Rattle.std.specs.Prelude.{◌≡◌, ◌<◌, ℕ, [], true, map, length, Some, string_bytes, IfOk};
 ghost use Rattle.std.specs.Prelude.{IfErr, OnOk, IsTrue};
 ghost use Rattle.grammar.specs.Trees.{Tree};
-ghost use Rattle.parser.specs.Views.{item_of, items_of};
+ghost use Rattle.text_trees.specs.Views.{item_of, items_of};
 ghost use Rattle.types_sequences.specs.Entries.{has_entry};
 ghost use Rattle.types_expressions.specs.declared.own.Sought.{Sought};
 ghost use Rattle.types_expressions.specs.Scopes.{sequence_named, scope_for};
@@ -25,8 +25,8 @@ use crate::fault::TypeFault;
 use crate::sides::{all_consequents, all_sides};
 use crate::stages::{check_cycles, check_expressions, check_sides};
 use assertions::Suite;
-use parser::{File, ItemTree};
 use std::alloc::Global;
+use text_trees::{File, ItemTree};
 use types_expressions::{Paths, Scope, SignalPaths, columns_of};
 use types_sequences::{Entry, resolve};
 use types_suites::{

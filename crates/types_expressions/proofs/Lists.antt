@@ -7,10 +7,9 @@ use Rattle.grammar.specs.Trees as trees
 use Rattle.grammar.specs.Trees.{Links, end, link, Parts, no_part, part, Steps, no_step, step, Others, no_other, other}
 use Rattle.grammar.specs.ReadExpressions.{links_of, parts_of}
 use Rattle.grammar.specs.ReadSequences.{steps_of, others_of}
-use Rattle.parser_expressions.specs.declared.tree.ExprTree.{ExprTree}
-use Rattle.parser_sequences.specs.declared.tree.SequenceTree.{SequenceTree}
-use Rattle.parser_expressions.specs.Views.{tree_of, link_of}
-use Rattle.parser_sequences.specs.Views.{sequence_of, delay_step_of}
+use Rattle.text_trees.specs.declared.expression.ExprTree.{ExprTree}
+use Rattle.text_trees.specs.declared.sequence.SequenceTree.{SequenceTree}
+use Rattle.text_trees.specs.Views.{tree_of, link_of, sequence_of, delay_step_of}
 
 -- the element at a place, and those behind it
 pub at : {A : Type 0} (B : Type 0) (f : A → B) (xs : List A) (i : ℕ) (x : A) → i < length xs → x ≡ get_or xs i x → map f (drop i xs) ≡ f x ∷ map f (drop (i + 1) xs)

@@ -12,15 +12,14 @@ use Rattle.grammar.specs.declared.operator.Prefix.{Prefix}
 use Rattle.grammar.specs.Trees as trees
 use Rattle.grammar.specs.ReadExpressions.{links_of, parts_of}
 use Rattle.grammar.specs.ReadSequences.{steps_of, others_of}
-use Rattle.parser_expressions.specs.declared.tree.Path.{Path}
-use Rattle.parser_expressions.specs.declared.tree.ExprTree.{ExprTree}
-use Rattle.parser_expressions.specs.declared.tree.ExprTree as expr
-use Rattle.parser_sequences.specs.declared.tree.SequenceTree.{SequenceTree}
-use Rattle.parser_sequences.specs.declared.tree.SequenceTree as seq
-use Rattle.parser_expressions.specs.Views.{path_of, tree_of, link_of}
-use Rattle.parser_sequences.specs.Views.{sequence_of, delay_step_of}
-use Rattle.parser_expressions.proofs.TreeLaws.{tree-Number, tree-Path, tree-Concatenation, tree-Past, tree-Call, tree-Unary, tree-Chain, tree-Choice}
-use Rattle.parser_sequences.proofs.TreeLaws.{seq-Boolean, seq-Repeated, seq-Late, seq-Delayed, seq-Throughout, seq-Joined}
+use Rattle.text_trees.specs.declared.expression.Path.{Path}
+use Rattle.text_trees.specs.declared.expression.ExprTree.{ExprTree}
+use Rattle.text_trees.specs.declared.expression.ExprTree as expr
+use Rattle.text_trees.specs.declared.sequence.SequenceTree.{SequenceTree}
+use Rattle.text_trees.specs.declared.sequence.SequenceTree as seq
+use Rattle.text_trees.specs.Views.{path_of, tree_of, link_of, sequence_of, delay_step_of}
+use Rattle.text_trees.proofs.TreeLaws.{tree-Number, tree-Path, tree-Concatenation, tree-Past, tree-Call, tree-Unary, tree-Chain, tree-Choice}
+use Rattle.text_trees.proofs.TreeLaws.{seq-Boolean, seq-Repeated, seq-Late, seq-Delayed, seq-Throughout, seq-Joined}
 
 pub is-Number : (x : ExprTree) (n : Number) (t : Token) → x ≡ expr.Number n t → tree_of x ≡ trees.number n t
 is-Number x n t is = ap tree_of is ∙ tree-Number n t

@@ -11,8 +11,8 @@ use Rattle.grammar.specs.declared.operator.Infix.{Infix}
 use Rattle.grammar.specs.declared.operator.Prefix.{Prefix}
 use Rattle.grammar.specs.Trees.{Tree, number, path, concatenation, past, call, unary, chain, choice, Links, end, link, Parts, no_part, part}
 use Rattle.grammar.specs.ReadExpressions.{parts_of}
-use Rattle.parser_expressions.specs.declared.tree.ExprTree.{ExprTree}
-use Rattle.parser_expressions.specs.Views.{tree_of}
+use Rattle.text_trees.specs.declared.expression.ExprTree.{ExprTree}
+use Rattle.text_trees.specs.Views.{tree_of}
 use Rattle.signals.specs.declared.bits.Bits.{Bits}
 use Rattle.expressions.specs.Terms as terms
 use Rattle.expressions.specs.Terms.{Term, width_of}

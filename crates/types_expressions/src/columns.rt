@@ -1,14 +1,14 @@
 //! The signals that a text reads.
 
 ghost use Rattle.std.specs.Prelude.{◌≡◌, ◌<◌, ◌==◌, map, length, IfOk, OnOk, Some, slice_get};
-ghost use Rattle.parser.specs.Views.{item_of};
+ghost use Rattle.text_trees.specs.Views.{item_of};
 ghost use Rattle.types_expressions.specs.Views.{scope_of};
 
 use crate::listing::list_item;
 use crate::scope::Scope;
 use indexmap::IndexSet;
-use parser::ItemTree;
 use std::alloc::{AllocError, Global};
+use text_trees::ItemTree;
 
 /// Paths of signals, each once. A path's place among them is its column.
 #[derive(Drop)]

@@ -2,7 +2,7 @@
 
 ghost use Rattle.std.specs.Prelude.{◌≡◌, ◌≤◌, ◌∷◌, map, min, IfOk, ℕ, Option};
 ghost use Rattle.grammar.specs.ReadExpressions.{links_of, parts_of};
-ghost use Rattle.parser_expressions.specs.Views.{path_of, tree_of, link_of};
+ghost use Rattle.text_trees.specs.Views.{path_of, tree_of, link_of};
 ghost use Rattle.types_expressions.specs.Scopes.{bits_of, meaning};
 ghost use Rattle.types_expressions.specs.Widths.{binary_width, unary_width, path_width_by};
 ghost use Rattle.types_expressions.specs.Widths.{path_width, own_width, chain_width, parts_width};
@@ -17,8 +17,8 @@ use crate::operator::{Binary, Unary, binary_of, unary_of};
 use crate::own::Sought;
 use crate::scope::{Scope, bits_of};
 use grammar::{Infix, Select};
-use parser::{ExprTree, Path};
 use std::alloc::{AllocError, Global};
+use text_trees::{ExprTree, Path};
 
 /// What is seen of an expression: its own width, held at 129, and the first fault of the kind that
 /// is sought.

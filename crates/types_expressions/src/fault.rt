@@ -1,8 +1,8 @@
 //! Faults of items.
 
 ghost use Rattle.std.specs.Prelude.{◌≡◌, map, IfOk, option_map};
-ghost use Rattle.parser_expressions.specs.Views.{tree_of, boxed_of};
-ghost use Rattle.parser.specs.Views.{pair_of, counter_of, assertion_of, item_of};
+ghost use Rattle.text_trees.specs.Views.{tree_of, boxed_of};
+ghost use Rattle.text_trees.specs.Views.{pair_of, counter_of, assertion_of, item_of};
 ghost use Rattle.types_expressions.specs.Faults.{optional_faults, clause_faults, counter_faults};
 ghost use Rattle.types_expressions.specs.Faults.{assertion_faults, item_faults, file_faults};
 ghost use Rattle.types_expressions.specs.Faults.{earlier, least};
@@ -13,8 +13,8 @@ use crate::least::earlier;
 use crate::own::Sought;
 use crate::scope::Scope;
 use crate::sequence::{property_fault, sequence_fault};
-use parser::{AssertionTree, CounterTree, ExprTree, ItemTree, Operands};
 use std::alloc::{AllocError, Global};
+use text_trees::{AssertionTree, CounterTree, ExprTree, ItemTree, Operands};
 
 /// The first fault of an expression that may be left out.
 fn optional_fault(

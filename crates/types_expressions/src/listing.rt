@@ -3,9 +3,9 @@
 ghost use Rattle.std.specs.Prelude.{◌≡◌, map, OnOk, option_map};
 ghost use Rattle.grammar.specs.ReadExpressions.{links_of, parts_of};
 ghost use Rattle.grammar.specs.ReadSequences.{steps_of, others_of};
-ghost use Rattle.parser_expressions.specs.Views.{path_of, tree_of, link_of, boxed_of};
-ghost use Rattle.parser_sequences.specs.Views.{sequence_of, delay_step_of};
-ghost use Rattle.parser.specs.Views.{property_of, pair_of, counter_of, assertion_of, item_of};
+ghost use Rattle.text_trees.specs.Views.{path_of, tree_of, link_of, boxed_of};
+ghost use Rattle.text_trees.specs.Views.{sequence_of, delay_step_of};
+ghost use Rattle.text_trees.specs.Views.{property_of, pair_of, counter_of, assertion_of, item_of};
 ghost use Rattle.types_expressions.specs.Scopes.{path_text, meaning};
 ghost use Rattle.types_expressions.specs.Columns.{path_signals, with_paths, columns_with};
 ghost use Rattle.types_expressions.specs.Columns.{link_signals, part_signals, sequence_listed};
@@ -19,10 +19,10 @@ use crate::own::Meaning;
 use crate::path::path_string;
 use crate::scope::Scope;
 use grammar::{Infix, Range};
-use parser::{
+use std::alloc::{AllocError, Global};
+use text_trees::{
     AssertionTree, CounterTree, ExprTree, ItemTree, Operands, Path, PropertyTree, SequenceTree,
 };
-use std::alloc::{AllocError, Global};
 
 /// Lists a text that is a path, if it stands for a signal.
 fn list_text(

@@ -3,11 +3,11 @@
 ghost use Rattle.std.specs.Prelude.{◌≡◌, ◌++◌, ◌∷◌, OnOk, IfOk, string_bytes, codes};
 ghost use Rattle.std.specs.List.{flat_map};
 ghost use Rattle.types_expressions.specs.Scopes.{path_text, first_byte};
-ghost use Rattle.parser_expressions.specs.Views.{path_of};
+ghost use Rattle.text_trees.specs.Views.{path_of};
 
 use lexer::Token;
-use parser::Path;
 use std::alloc::{AllocError, Global};
+use text_trees::Path;
 
 /// Adds a dot and a word.
 fn push_word(text: &mut String, word: &str) -> Result<(), AllocError>

@@ -1,8 +1,7 @@
 //! What names stand for in a text over a dump.
 
 ghost use Rattle.std.specs.Prelude.{◌≡◌, map, option_map, IfOk, OnOk, IsTrue};
-ghost use Rattle.parser_expressions.specs.Views.{path_of, tree_of};
-ghost use Rattle.parser.specs.Views.{item_of};
+ghost use Rattle.text_trees.specs.Views.{path_of, tree_of, item_of};
 ghost use Rattle.types_expressions.specs.Scopes.{look_up, owns, is_narrow, bits_of, meaning};
 ghost use Rattle.types_expressions.specs.Scopes.{meaning_by, scope_for, sequence_named};
 ghost use Rattle.types_expressions.specs.Scopes.{meaning_place};
@@ -15,8 +14,8 @@ use crate::path::path_string;
 use crate::paths::Paths;
 use crate::width::Width;
 use indexmap::IndexMap;
-use parser::{ExprTree, ItemTree, Path};
 use std::alloc::{AllocError, Global};
+use text_trees::{ExprTree, ItemTree, Path};
 
 /// The names of a text and the paths of a dump. The text's own names come before the dump's paths,
 /// and with a name declared twice the first declaration counts.

@@ -2,9 +2,7 @@
 
 ghost use Rattle.std.specs.Prelude.{◌≡◌, map, IfOk};
 ghost use Rattle.grammar.specs.ReadSequences.{steps_of, others_of};
-ghost use Rattle.parser_expressions.specs.Views.{tree_of};
-ghost use Rattle.parser_sequences.specs.Views.{sequence_of, delay_step_of};
-ghost use Rattle.parser.specs.Views.{property_of};
+ghost use Rattle.text_trees.specs.Views.{tree_of, sequence_of, delay_step_of, property_of};
 ghost use Rattle.types_expressions.specs.Faults.{boolean_faults, sequence_faults, step_faults};
 ghost use Rattle.types_expressions.specs.Faults.{other_faults, property_faults, earlier, least};
 ghost use Rattle.types_expressions.specs.Views.{scope_of};
@@ -14,8 +12,8 @@ use crate::least::earlier;
 use crate::own::Sought;
 use crate::scope::Scope;
 use grammar::Range;
-use parser::{ExprTree, PropertyTree, SequenceTree};
 use std::alloc::{AllocError, Global};
+use text_trees::{ExprTree, PropertyTree, SequenceTree};
 
 /// The first fault of a boolean of a sequence, which may be the name of a named sequence.
 fn boolean_fault(

@@ -2,7 +2,7 @@
 
 ghost use Rattle.std.specs.Prelude.{◌≡◌, ◌≤◌, [], map, IfOk, IsTrue, is_some};
 ghost use Rattle.grammar.specs.ReadExpressions.{links_of, parts_of};
-ghost use Rattle.parser_expressions.specs.Views.{path_of, tree_of, link_of};
+ghost use Rattle.text_trees.specs.Views.{path_of, tree_of, link_of};
 ghost use Rattle.expressions.specs.declared.name.Origin.TheVariants.{Signal};
 ghost use Rattle.expressions.specs.Terms.{width_of};
 ghost use Rattle.expressions.specs.Expressions.{term_of};
@@ -27,8 +27,8 @@ use crate::path::path_string;
 use crate::scope::Scope;
 use expressions::{Name, Origin, Slice};
 use grammar::{Bound, Infix, Select};
-use parser::{ExprTree, Path};
 use std::alloc::{AllocError, Global};
+use text_trees::{ExprTree, Path};
 
 /// An operator with its operands.
 fn combine(

@@ -1,7 +1,7 @@
 //! The named sequences of a text.
 
 ghost use Rattle.std.specs.Prelude.{◌≡◌, [], map, length, IfOk, OnOk, IsTrue};
-ghost use Rattle.parser.specs.Views.{item_of};
+ghost use Rattle.text_trees.specs.Views.{item_of};
 ghost use Rattle.types_sequences.specs.Views.{draft_of};
 ghost use Rattle.types_expressions.specs.declared.own.Sought.{Sought};
 ghost use Rattle.types_expressions.specs.Faults.{file_faults};
@@ -12,8 +12,8 @@ ghost use Rattle.types_suites.specs.Readings.{AllRead};
 ghost use Rattle.types_suites.specs.Texts.{declarations_of};
 
 use crate::drafts::draft_of;
-use parser::ItemTree;
 use std::alloc::{AllocError, Global};
+use text_trees::ItemTree;
 use types_expressions::{Scope, SignalPaths};
 use types_sequences::Draft;
 

@@ -1,8 +1,7 @@
 //! Counters of the text with their expressions typed.
 
 ghost use Rattle.std.specs.Prelude.{◌≡◌, ◌≤◌, [], map, option_map, IfOk, IsTrue};
-ghost use Rattle.parser_expressions.specs.Views.{boxed_of};
-ghost use Rattle.parser.specs.Views.{pair_of, counter_of, item_of};
+ghost use Rattle.text_trees.specs.Views.{boxed_of, pair_of, counter_of, item_of};
 ghost use Rattle.types_expressions.specs.declared.own.Sought.{Sought};
 ghost use Rattle.types_expressions.specs.Scopes.{width_in};
 ghost use Rattle.types_expressions.specs.Faults.{optional_faults, clause_faults, counter_faults};
@@ -14,8 +13,8 @@ ghost use Rattle.types_suites.specs.Texts.{counters_of};
 ghost use Rattle.types_suites.specs.Suites.{IsCondition, IsRule, IsCounter, AreCounters};
 
 use expressions::Rule;
-use parser::{CounterTree, ExprTree, ItemTree, Operands};
 use std::alloc::{AllocError, Global};
+use text_trees::{CounterTree, ExprTree, ItemTree, Operands};
 use types_expressions::{Scope, SignalPaths, typed_expression};
 
 /// The clauses of a counter that have two operands.

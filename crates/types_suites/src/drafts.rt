@@ -2,8 +2,7 @@
 
 ghost use Rattle.std.specs.Prelude.{◌≡◌, [], map, length, IfOk, OnOk, IsTrue};
 ghost use Rattle.grammar.specs.ReadSequences.{steps_of, others_of};
-ghost use Rattle.parser_expressions.specs.Views.{tree_of};
-ghost use Rattle.parser_sequences.specs.Views.{sequence_of, delay_step_of};
+ghost use Rattle.text_trees.specs.Views.{tree_of, sequence_of, delay_step_of};
 ghost use Rattle.assertions.specs.declared.sequence.Boolean.TheVariants.{Listed};
 ghost use Rattle.types_sequences.specs.Drafts.{name, delay, lead, repeat, throughout};
 ghost use Rattle.types_sequences.specs.Views.{draft_of};
@@ -19,8 +18,8 @@ ghost use Rattle.types_suites.specs.Readings.{joined_by, ReadsSteps, ReadsOthers
 ghost use Rattle.types_sequences.specs.Placed.{Extends};
 
 use grammar::{Junction, Range};
-use parser::{ExprTree, SequenceTree};
 use std::alloc::{AllocError, Global};
+use text_trees::{ExprTree, SequenceTree};
 use types_expressions::{Scope, SignalPaths, typed_expression};
 use types_sequences::Draft;
 

@@ -1,8 +1,7 @@
 //! Assertions with their sides as drafts.
 
 ghost use Rattle.std.specs.Prelude.{◌≡◌, ◌<◌, [], IfOk, OnOk, IsTrue, option_map};
-ghost use Rattle.parser_expressions.specs.Views.{boxed_of};
-ghost use Rattle.parser.specs.Views.{property_of, assertion_of};
+ghost use Rattle.text_trees.specs.Views.{boxed_of, property_of, assertion_of};
 ghost use Rattle.types_sequences.specs.Views.{draft_of};
 ghost use Rattle.types_expressions.specs.declared.own.Sought.{Sought};
 ghost use Rattle.types_expressions.specs.Columns.{all_listed, property_signals, optional_signals};
@@ -17,8 +16,8 @@ ghost use Rattle.types_suites.specs.Drawn.{antecedent_byte, consequent_byte, IsD
 use crate::bytes::sequence_at;
 use crate::drafts::{atom, draft_of};
 use crate::label::label_string;
-use parser::{AssertionTree, ExprTree, PropertyTree};
 use std::alloc::{AllocError, Global};
+use text_trees::{AssertionTree, ExprTree, PropertyTree};
 use types_expressions::{Scope, SignalPaths};
 use types_sequences::{Draft, rewrite_antecedent};
 

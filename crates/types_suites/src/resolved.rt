@@ -2,7 +2,7 @@
 
 ghost use Rattle.std.specs.Prelude.{◌≡◌, ◌<◌, ℕ, [], true, map, length, Some, IfOk, OnOk, IsTrue};
 ghost use Rattle.grammar.specs.Trees.{Tree};
-ghost use Rattle.parser.specs.Views.{assertion_of, item_of};
+ghost use Rattle.text_trees.specs.Views.{assertion_of, item_of};
 ghost use Rattle.types_sequences.specs.Drafts.{IsIn, uses};
 ghost use Rattle.types_sequences.specs.Entries.{Bodies, HasEntry, IsTable, has_entry};
 ghost use Rattle.types_sequences.specs.Views.{draft_of};
@@ -16,8 +16,8 @@ ghost use Rattle.types_suites.specs.Texts.{assertions_of};
 ghost use Rattle.types_suites.specs.Resolved.{IsResolved, AreResolved};
 
 use crate::drawn::drawn_of;
-use parser::{AssertionTree, ItemTree};
 use std::alloc::{AllocError, Global};
+use text_trees::{AssertionTree, ItemTree};
 use types_expressions::{Scope, SignalPaths};
 use types_sequences::{Draft, Entry, entry_of};
 

@@ -1,4 +1,4 @@
-use Rattle.parser.specs.Views.{items_of}
+use Rattle.text_trees.specs.Views.{items_of}
 use Rattle.cli.specs.Reported.{SaysSuite}
 use Rattle.cli.specs.Builds.{IsSpelledProgram, WhyNoProgram, IsBuilt, WhyNotBuilt}
 use Rattle.cli.proofs.ProgramLaws.{all_fit}

@@ -1,5 +1,5 @@
 use Rattle.std.proofs.Common.{List, ℕ, refl, string_bytes}
-use Rattle.parser.specs.Views.{items_of}
+use Rattle.text_trees.specs.Views.{items_of}
 use Rattle.vcd_reader.specs.Variables.{Declared, variable_named}
 use Rattle.vcd_reader.specs.Held.{variables_of}
 use Rattle.cycle_window.specs.Bound.{IsClock, IsClockFault}

@@ -1,4 +1,4 @@
-use Rattle.parser.specs.Views.{items_of}
+use Rattle.text_trees.specs.Views.{items_of}
 use Rattle.vcd_reader.specs.Held.{variables_of}
 use Rattle.cli.specs.Faults.{window_fault}
 use Rattle.cli.specs.Reported.{SaysSuite}

@@ -7,9 +7,10 @@ use Rattle.grammar.specs.Readers.{Reader, lead}
 use Rattle.grammar.specs.declared.terminal.Terminal.TheVariants.{Comma}
 use Rattle.grammar.specs.Trees.{Tree}
 use Rattle.grammar.specs.ReadExpressions.{links, link_reader, operand, expression}
-use Rattle.parser_expressions.specs.declared.tree.ExprTree.{ExprTree}
+use Rattle.text_trees.specs.declared.expression.ExprTree.{ExprTree}
 use Rattle.parser_expressions.specs.declared.stop.Stop.{Stop}
-use Rattle.parser_expressions.specs.Views.{tree_of, link_of, Fails}
+use Rattle.text_trees.specs.Views.{tree_of, link_of}
+use Rattle.parser_expressions.specs.Views.{Fails}
 use Rattle.parser_expressions.proofs.Steps.{failing, gives-as, prefixed-number, prefixed-other}
 use Rattle.parser_expressions.proofs.LoopLaws.{Turns, turns-init, turns-stop, turns-fail, turns-next, expect-lead, map-push}
 use Rattle.parser_expressions.proofs.expression.+expressions.Goals as goal

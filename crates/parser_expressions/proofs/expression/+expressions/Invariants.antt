@@ -3,7 +3,7 @@ use Rattle.grammar.specs.declared.terminal.Terminal.TheVariants.{Comma}
 use Rattle.grammar.specs.Terminals.{is}
 use Rattle.grammar.specs.Operators.{is_infix}
 use Rattle.grammar.specs.ReadExpressions.{link_reader, operand, expression}
-use Rattle.parser_expressions.specs.Views.{tree_of, link_of}
+use Rattle.text_trees.specs.Views.{tree_of, link_of}
 use Rattle.parser_expressions.proofs.LoopLaws.{Turns}
 use Rattle.parser_expressions.proofs.expression.+expressions.Given as goal
 

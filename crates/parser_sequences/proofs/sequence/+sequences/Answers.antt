@@ -4,8 +4,8 @@ use Rattle.grammar.specs.Terminals.{is}
 use Rattle.grammar.specs.declared.terminal.Terminal.TheVariants.{Delay, And, Or}
 use Rattle.grammar.specs.declared.bound.Range.{Range}
 use Rattle.grammar.specs.ReadSequences.{sequences, late_part, during_with, conjunction_with}
-use Rattle.parser_sequences.specs.declared.tree.SequenceTree.{SequenceTree}
-use Rattle.parser_sequences.specs.Views.{sequence_of, delay_step_of}
+use Rattle.text_trees.specs.declared.sequence.SequenceTree.{SequenceTree}
+use Rattle.text_trees.specs.Views.{sequence_of, delay_step_of}
 use Rattle.parser_expressions.proofs.Steps.{gives-as}
 use Rattle.parser_sequences.proofs.Steps.{delayed-fails, delayed-ok, conjunction-fails, conjunction-ok, with-during, with-fails, alternatives-fails, alternatives-ok, behind-ok}
 use Rattle.parser_expressions.proofs.LoopLaws.{Turns, turns-init, turns-stop, turns-fail, turns-next, expect-lead, map-push}

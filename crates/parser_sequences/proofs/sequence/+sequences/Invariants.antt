@@ -2,7 +2,7 @@ use Rattle.std.proofs.Common.{◌+◌, ◌*◌, ◌≤◌, map, length}
 use Rattle.grammar.specs.declared.terminal.Terminal.TheVariants.{Delay, And, Or}
 use Rattle.grammar.specs.Terminals.{is}
 use Rattle.grammar.specs.ReadSequences.{late_part, sequences, during_with, conjunction_with}
-use Rattle.parser_sequences.specs.Views.{sequence_of, delay_step_of}
+use Rattle.text_trees.specs.Views.{sequence_of, delay_step_of}
 use Rattle.parser_expressions.proofs.LoopLaws.{Turns}
 use Rattle.parser_sequences.proofs.sequence.+sequences.Given as goal
 

@@ -1,6 +1,6 @@
 use Rattle.std.proofs.Common.{◌≡◌, List, sym, ap, ◌∙◌, map, subst}
 use Rattle.grammar.specs.Trees.{ItemForm}
-use Rattle.parser.specs.Views.{item_of, items_of}
+use Rattle.text_trees.specs.Views.{item_of, items_of}
 use Rattle.types_expressions.specs.Scopes.{Scope, scope_for, sequence_named}
 use Rattle.types_expressions.specs.Views.{scope_of, widths_in}
 use Rattle.types.specs.Faults.{IsFaultless}

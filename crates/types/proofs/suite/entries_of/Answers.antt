@@ -1,7 +1,7 @@
 use Rattle.std.proofs.Common.{length, map, sym, ap, ◌∙◌}
 use Rattle.std.proofs.lemmas.List.{length-map}
 use Rattle.grammar.specs.Trees.{DeclarationForm}
-use Rattle.parser.specs.Views.{item_of}
+use Rattle.text_trees.specs.Views.{item_of}
 use Rattle.types_sequences.specs.Views.{draft_of}
 use Rattle.types_expressions.specs.Views.{scope_of, columns_in}
 use Rattle.types_suites.specs.Texts.{declarations_of}

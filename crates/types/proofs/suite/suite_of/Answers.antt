@@ -1,5 +1,5 @@
 use Rattle.std.proofs.Common.{ℕ, List, length, map, ap, arith, subst}
-use Rattle.parser.specs.Views.{item_of}
+use Rattle.text_trees.specs.Views.{item_of}
 use Rattle.types_expressions.specs.Views.{scope_of, columns_in}
 use Rattle.types_expressions.proofs.ColumnLaws.{columns-all}
 use Rattle.types_suites.specs.Readings.{AllRead}

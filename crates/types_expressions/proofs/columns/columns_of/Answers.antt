@@ -1,6 +1,6 @@
 use Rattle.std.proofs.Common.{◌+◌, map, drop, ap}
 use Rattle.grammar.specs.Trees as trees
-use Rattle.parser.specs.Views.{item_of}
+use Rattle.text_trees.specs.Views.{item_of}
 use Rattle.types_expressions.specs.Columns.{file_signals, item_signals}
 use Rattle.types_expressions.specs.Views.{scope_of, columns_in}
 use Rattle.types_expressions.proofs.Lists.{at}

@@ -1,5 +1,5 @@
 use Rattle.std.proofs.Common.{◌≡◌, map, drop}
-use Rattle.parser.specs.Views.{item_of}
+use Rattle.text_trees.specs.Views.{item_of}
 use Rattle.types_expressions.specs.Columns.{with_paths, file_signals, columns_of}
 use Rattle.types_expressions.specs.Views.{scope_of, columns_in}
 use Rattle.types_expressions.proofs.columns.columns_of.Given as goal

@@ -1,6 +1,6 @@
 use Rattle.std.proofs.Common.{◌+◌, map, drop, arith}
 use Rattle.grammar.specs.ReadExpressions.{links_of, parts_of}
-use Rattle.parser_expressions.specs.Views.{tree_of, link_of}
+use Rattle.text_trees.specs.Views.{tree_of, link_of}
 use Rattle.types_expressions.specs.Views.{scope_of}
 use Rattle.types_expressions.proofs.Lists.{links-at, parts-at, when_ok}
 use Rattle.types_expressions.proofs.TreeSteps.{is-Concatenation, is-Chain, is-Choice}

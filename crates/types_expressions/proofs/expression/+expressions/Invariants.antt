@@ -1,6 +1,6 @@
 use Rattle.std.proofs.Common.{◌≡◌, ◌≤◌, map, drop, min}
 use Rattle.grammar.specs.ReadExpressions.{links_of, parts_of}
-use Rattle.parser_expressions.specs.Views.{tree_of, link_of}
+use Rattle.text_trees.specs.Views.{tree_of, link_of}
 use Rattle.types_expressions.specs.Widths.{chain_width, parts_width}
 use Rattle.types_expressions.specs.Faults.{link_faults, part_faults, earlier, least}
 use Rattle.types_expressions.specs.Views.{scope_of}

@@ -1,5 +1,5 @@
 use Rattle.std.proofs.Common.{◌≡◌, map, drop}
-use Rattle.parser.specs.Views.{item_of}
+use Rattle.text_trees.specs.Views.{item_of}
 use Rattle.types_expressions.specs.Faults.{file_faults, earlier, least}
 use Rattle.types_expressions.specs.Views.{scope_of}
 use Rattle.types_expressions.proofs.fault.first_fault.Given as goal

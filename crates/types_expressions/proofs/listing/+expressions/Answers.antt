@@ -1,5 +1,5 @@
 use Rattle.std.proofs.Common.{refl}
-use Rattle.parser_expressions.specs.Views.{tree_of}
+use Rattle.text_trees.specs.Views.{tree_of}
 use Rattle.types_expressions.specs.Columns.{signals}
 use Rattle.types_expressions.specs.Views.{scope_of, columns_in}
 use Rattle.types_expressions.proofs.Lists.{links-at, parts-at, when_ok}

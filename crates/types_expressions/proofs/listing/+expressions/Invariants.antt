@@ -1,6 +1,6 @@
 use Rattle.std.proofs.Common.{◌≡◌, map, drop}
 use Rattle.grammar.specs.ReadExpressions.{links_of, parts_of}
-use Rattle.parser_expressions.specs.Views.{tree_of, link_of}
+use Rattle.text_trees.specs.Views.{tree_of, link_of}
 use Rattle.types_expressions.specs.Columns.{with_paths, link_signals, part_signals}
 use Rattle.types_expressions.specs.Views.{scope_of, columns_in}
 use Rattle.types_expressions.proofs.listing.+expressions.Given as goal

@@ -1,6 +1,6 @@
 use Rattle.std.proofs.Common.{◌≡◌, map, drop}
 use Rattle.grammar.specs.ReadSequences.{steps_of, others_of}
-use Rattle.parser_sequences.specs.Views.{sequence_of, delay_step_of}
+use Rattle.text_trees.specs.Views.{sequence_of, delay_step_of}
 use Rattle.types_expressions.specs.Columns.{with_paths, step_signals, other_signals}
 use Rattle.types_expressions.specs.Views.{scope_of, columns_in}
 use Rattle.types_expressions.proofs.listing.+sequences.Given as goal

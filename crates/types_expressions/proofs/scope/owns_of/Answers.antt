@@ -1,7 +1,7 @@
 use Rattle.std.proofs.Common.{◌≡◌, ◌+◌, ℕ, List, ◌∷◌, map, drop, sym, ap, ◌∙◌, arith}
 use Rattle.grammar.specs.Trees as trees
-use Rattle.parser.specs.declared.tree.ItemTree.{ItemTree}
-use Rattle.parser.specs.Views.{item_of}
+use Rattle.text_trees.specs.declared.item.ItemTree.{ItemTree}
+use Rattle.text_trees.specs.Views.{item_of}
 use Rattle.types_expressions.specs.declared.own.Own.TheVariants.{Counter, Sequence}
 use Rattle.types_expressions.specs.Scopes.{look_up, owns, owns_from}
 use Rattle.types_expressions.specs.Views.{entries_in}

@@ -1,5 +1,5 @@
 use Rattle.std.proofs.Common.{◌≡◌, ◌≤◌, ℕ, List, map, drop}
-use Rattle.parser.specs.Views.{item_of}
+use Rattle.text_trees.specs.Views.{item_of}
 use Rattle.types_expressions.specs.Scopes.{look_up, owns, owns_from}
 use Rattle.types_expressions.specs.Views.{entries_in}
 use Rattle.types_expressions.proofs.EntryLaws.{first_of}

@@ -1,5 +1,5 @@
 use Rattle.std.proofs.Common.{ap, ◌∙◌}
-use Rattle.parser_sequences.specs.Views.{sequence_of}
+use Rattle.text_trees.specs.Views.{sequence_of}
 use Rattle.types_expressions.specs.Faults.{earlier}
 use Rattle.types_expressions.specs.Views.{scope_of}
 use Rattle.types_expressions.proofs.Lists.{steps-at, others-at, when_ok}

@@ -1,6 +1,6 @@
 use Rattle.std.proofs.Common.{◌≡◌, ◌≤◌, [], map, drop, IsTrue}
 use Rattle.grammar.specs.ReadExpressions.{links_of, parts_of}
-use Rattle.parser_expressions.specs.Views.{tree_of, link_of}
+use Rattle.text_trees.specs.Views.{tree_of, link_of}
 use Rattle.expressions.specs.Terms.{Term, width_of}
 use Rattle.expressions.specs.Expressions.{term_of}
 use Rattle.types_expressions.specs.declared.own.Sought.{Sought}

@@ -1,4 +1,4 @@
-use Rattle.parser_expressions.specs.Views.{path_of}
+use Rattle.text_trees.specs.Views.{path_of}
 use Rattle.types_expressions.specs.declared.own.Sought.TheVariants.{Unknown, OutOfRange}
 use Rattle.types_expressions.specs.Scopes.{path_text, first_byte, meaning, bits_of}
 use Rattle.types_expressions.specs.Columns.{column_of}

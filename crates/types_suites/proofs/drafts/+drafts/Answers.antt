@@ -1,6 +1,6 @@
 use Rattle.std.proofs.Common.{rules, refl, ap}
-use Rattle.parser_sequences.specs.declared.tree.SequenceTree.TheViews.{the_lemmas}
-use Rattle.parser_sequences.specs.Views.{sequence_of}
+use Rattle.text_trees.specs.declared.sequence.SequenceTree.TheViews.{the_lemmas}
+use Rattle.text_trees.specs.Views.{sequence_of}
 use Rattle.assertions.specs.declared.sequence.Boolean.TheVariants.{Listed}
 use Rattle.types_sequences.specs.Views.{draft_of}
 use Rattle.types_expressions.specs.Views.{scope_of, columns_in}

@@ -1,5 +1,5 @@
 use Rattle.std.proofs.Common.{arith}
-use Rattle.parser_expressions.specs.Views.{tree_of}
+use Rattle.text_trees.specs.Views.{tree_of}
 use Rattle.types_expressions.specs.Views.{scope_of, columns_in}
 use Rattle.types_suites.proofs.ReadingLaws.{new_atom}
 use Rattle.types_suites.proofs.drafts.atom.Goals as goal

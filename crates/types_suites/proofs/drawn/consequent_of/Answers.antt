@@ -1,4 +1,4 @@
-use Rattle.parser_sequences.specs.Views.{sequence_of}
+use Rattle.text_trees.specs.Views.{sequence_of}
 use Rattle.types_expressions.specs.Views.{scope_of, columns_in}
 use Rattle.types_expressions.specs.Faults.{sequence_faults}
 use Rattle.types_expressions.specs.Columns.{sequence_signals}

@@ -1,6 +1,5 @@
 use Rattle.std.specs.Prelude.{option_map}
-use Rattle.parser_expressions.specs.Views.{boxed_of}
-use Rattle.parser.specs.Views.{property_of}
+use Rattle.text_trees.specs.Views.{boxed_of, property_of}
 use Rattle.types_sequences.specs.Views.{draft_of}
 use Rattle.types_expressions.specs.Views.{scope_of, columns_in}
 use Rattle.types_expressions.specs.Faults.{optional_faults, property_faults}

@@ -1,9 +1,9 @@
 //! The tree of a file. Brackets are not kept.
 
+use crate::expression::{ExprTree, Path};
+use crate::sequence::SequenceTree;
 use grammar::{Bound, Implication};
 use lexer::Token;
-use parser_expressions::{ExprTree, Path};
-use parser_sequences::SequenceTree;
 
 /// A property (IEEE 1800-2017, 16.12).
 #[derive(Drop)]
