@@ -7,6 +7,7 @@
 //! holds lines, counts and bytes in place of those (`src/told.rt`).
 //!
 //! ```text
+//! // as the words of a command are told in `src/words.rt`
 //! let line = told(rt.alloc(), "svamon check --vcd a.vcd --sva a.sva --window 7")?;
 //! assert!(rt; line.as_str() == "check a.vcd a.sva none 7");
 //! ```

@@ -4,7 +4,7 @@
 //! let totals = check_one(alloc, &mut dump, text, 1024, &mut out)?;  // the report
 //! let totals = judge_one(alloc, &mut dump, text, &mut out)?;        // the same, by the slow judge
 //! let bytes = build_one(alloc, &mut dump, text, "grant")?;          // an assertion's program
-//! verify_code(alloc, bytes, &mut out)?;                             // the limits of a program
+//! verify_code(alloc, bytes.as_slice(), &mut out)?;                  // the limits of a program
 //! let line = fault_line(alloc, &fault)?;                            // `svamon: V3 TimeBack 7`
 //! let number = status(&outcome);                                    // what a shell sees
 //! ```

@@ -10,7 +10,8 @@
 //! ```text
 //! let job = Job::new(alloc, programs, dump, "top.clk")?;
 //! let lines = job_lines(alloc, &job, 1024)?;    // a line for each program, in source order
-//! let report = report_run(alloc, dump, verified, 1024)?;    // of one program
+//! // or, of one program:
+//! let report = report_run(alloc, dump, verified, 1024)?;
 //! ```
 //!
 //! The faults of lines are C3 of the size and want of memory; there is one worker, so U1 never

@@ -1,6 +1,6 @@
 //! Tests of what reads dumps and writes reports, from `signals` to `cycle_window` and `verdicts`:
-//! each public function once on its happy path, and devices that fail or keep bytes back. What
-//! whole dumps lead to is a table of the programs `oracle_*`.
+//! happy paths that no table of a program `oracle_*` reaches by itself, and devices that fail or
+//! keep bytes back.
 //!
 //! A device is a `Source` or a `Sink`. One that fails after so many bytes is `CutReader` or
 //! `CutWriter`, and `Counted` counts the calls that failed, so that a fault is seen to come from

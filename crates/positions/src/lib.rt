@@ -2,7 +2,9 @@
 //!
 //! ```text
 //! // `a ##1 b`, where a and b are the first and the second of the assertion's list
-//! let sequence = Sequence::Delay(boolean(0)?, 1, 1, boolean(1)?);
+//! let a = Box::new(alloc, Sequence::Boolean(Boolean::Listed(0)))?;
+//! let b = Box::new(alloc, Sequence::Boolean(Boolean::Listed(1)))?;
+//! let sequence = Sequence::Delay(a, 1, 1, b);
 //! let section = positions_of(alloc, &sequence)?;
 //! // position 0: where atom 0 is 1, enter position 1; position 1: where atom 1 is 1, accept
 //! ```

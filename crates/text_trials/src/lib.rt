@@ -1,5 +1,5 @@
-//! Tests of what reads a text, from `lexer` to `types`: each public function once on its happy
-//! path, and tables of tokens. What whole texts lead to is a table of the programs `oracle_*`.
+//! Tests of what reads a text, from `lexer` to `types`, on happy paths: what no table of a program
+//! `oracle_*` reaches by itself, and tables of tokens.
 //!
 //! The tables go through each symbol, word and number on its own, and through each symbol beside
 //! each other one, where the longest spelling counts (IEEE 1800-2017, 5.5).

@@ -1,7 +1,6 @@
-//! Tests of what expressions, sequences and programs are made of, from `expressions` to `bytecode`:
-//! each public function once on its happy path. Those of texts stand in `text_trials`, those of
-//! devices and dumps in `dump_trials`; what texts, dumps and programs lead to is a table of the
-//! programs `oracle_*`.
+//! Tests of what expressions, sequences and programs are made of, from `expressions` to `bytecode`,
+//! on happy paths: what no table of a program `oracle_*` reaches by itself. Those of texts stand in
+//! `text_trials`, those of devices and dumps in `dump_trials`.
 //!
 //! They stand above those crates, so that the gate proves each of them once, and not once more
 //! beside its tests; and they are several crates, since one process that goes through the tests of
