@@ -196,7 +196,10 @@ fn terminals(rt: HostRuntime) -> Result<(), Fail> {
     ] {
         let token = first_token(rt.alloc(), text)?;
         assert!(rt; terminal_of(token) == expected, "{text}");
-        assert!(rt; is(expected, token) && !is(Terminal::Comma, token), "{text}");
+        assert!(rt;
+            is(expected, token) && !is(Terminal::Comma, token),
+            "{text}"
+        );
     }
     Ok(())
 }
