@@ -6,7 +6,7 @@ ghost use Rattle.types_expressions.specs.Scopes.{is_fit};
 use crate::own::Own;
 
 /// What a name of the text's own stands for; a counter has 1 to 128 bits.
-#[derive(Clone, Copy, PartialEq, Eq, Debug)]
+#[derive(Clone, Copy)]
 pub struct OwnName {
     pub own: Own,
     pub ghost fits: { IsTrue (is_fit own) },

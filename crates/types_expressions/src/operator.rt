@@ -7,7 +7,7 @@ use expressions::{Arithmetic, Change, Comparison, Connective, Reduction, Shift};
 use grammar::{Function, Infix, Prefix};
 
 /// An operator of two operands.
-#[derive(Clone, Copy, PartialEq, Eq, Debug)]
+#[derive(Clone, Copy)]
 pub enum Binary {
     Arithmetic(Arithmetic),
     Shift(Shift),
@@ -16,14 +16,14 @@ pub enum Binary {
 }
 
 /// An operator of one operand.
-#[derive(Clone, Copy, PartialEq, Eq, Debug)]
+#[derive(Clone, Copy)]
 pub enum Unary {
     Complement,
     Reduce(Reduction),
 }
 
 /// A function of one operand.
-#[derive(Clone, Copy, PartialEq, Eq, Debug)]
+#[derive(Clone, Copy)]
 pub enum Call {
     Change(Change),
     Reduce(Reduction),

@@ -1,7 +1,7 @@
 //! What names stand for.
 
 /// What a name that the text declares stands for. Places count from 0.
-#[derive(Clone, Copy, PartialEq, Eq, Debug)]
+#[derive(Clone, Copy)]
 pub enum Own {
     /// A counter: its place among the counters of the text, and its width.
     Counter(usize, u8),
@@ -10,7 +10,7 @@ pub enum Own {
 }
 
 /// What a path stands for.
-#[derive(Clone, Copy, PartialEq, Eq, Debug)]
+#[derive(Clone, Copy)]
 pub enum Meaning {
     /// A path of the dump, with its width.
     Signal(u8),
