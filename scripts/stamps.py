@@ -1,7 +1,7 @@
 """Stamps that say that a crate's must-fail edits were tried (crates/NAME/must-fail/TRIED.md).
 
-`scripts/stamps.py NAME ..` writes those of crates whose edits a green run of `make test` tried, on this very text: the
-run says so in its first lines, and whoever calls this has seen it.
+`scripts/stamps.py NAME ..` writes those of crates whose edits a green run of `make test` tried, on this very text, or
+one of `rt ci NAME ..` over a copy of the tree: whoever calls this has seen it.
 """
 import hashlib
 import os
