@@ -1,18 +1,19 @@
-//! Tests of what reads a text, from `lexer` to `types`, on happy paths: what no table of a program
-//! `oracle_*` reaches by itself, and tables of tokens.
+//! Tests of what reads a text, from `parser` to `types`, on happy paths: what no table of a program
+//! `oracle_*` reaches by itself. What tokens are is tried in `token_trials`.
 //!
-//! The tables go through each symbol, word and number on its own, and through each symbol beside
-//! each other one, where the longest spelling counts (IEEE 1800-2017, 5.5).
+//! A text is cut and read, and then looked at: which items a file has, which fault of names and
+//! widths stands where, what a name stands for, which columns a text reads, and what its suite has.
 //!
 //! ```text
-//! let tokens = lex(rt.alloc(), "a |=> b")?;
-//! assert!(rt; tokens[1].kind == Kind::Symbol(Symbol::Following));
-//! assert!(rt; terminal_of(tokens[1]) == Terminal::Following);
+//! let tokens = lex(rt.alloc(), "counter n [2]; assert property (@(posedge c) n[2]);")?;
+//! let file = parse(rt.alloc(), tokens.as_slice())?;
+//! let scope = Scope::of(rt.alloc(), Paths::Listed(&names), &file.items)?;
+//! let fault = first_fault(rt.alloc(), &scope, Sought::OutOfRange, &file.items)?;
 //! ```
 //!
 //! `rt test` in this crate proves the tests and runs them. The definitions that the contracts cite
-//! stand in the crates that are tested: of tokens in `lexer`, of trees in `grammar`, of names and
-//! widths in `types_expressions`, of suites in `types_suites`, each in its `specs/`.
+//! stand in the crates that are tested: of trees in `grammar`, of names and widths in
+//! `types_expressions`, of suites in `types_suites`, each in its `specs/`.
 //!
 //! Not promised: that each fault of a text occurs here; this crate has no public functions.
 #![tactic(auto)]
@@ -22,8 +23,4 @@ mod scopes;
 #[cfg(test)]
 mod suites;
 #[cfg(test)]
-mod terminals;
-#[cfg(test)]
 mod texts;
-#[cfg(test)]
-mod tokens;
