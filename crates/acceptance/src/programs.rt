@@ -1,7 +1,7 @@
 //! Programs from bytes: their limits, and each refusal with its line.
 
+use crate::outcome::told;
 use crate::reports::has_line;
-use crate::told::told;
 use cli::{Fault, verify_code};
 use cli_runs::run_code;
 use signals::{Counted, CutWriter};

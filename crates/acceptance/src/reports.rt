@@ -1,7 +1,7 @@
 //! Devices that fail, the size of a window, and the lines of those faults that no small dump or
 //! text brings. What reports say of dumps and texts is the table of `oracle_reports`.
 
-use crate::told::{Answer, told};
+use crate::outcome::{Answer, told};
 use cli::{Fault, WordsFault, check_one, judge_one, status};
 use cycle_window::WindowFault;
 use parser::ParseFault;

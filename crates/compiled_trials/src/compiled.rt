@@ -1,6 +1,6 @@
 //! Compiled assertions: refusals at their borders, and programs that are built and run.
 
-use crate::told::told;
+use acceptance::told;
 use bytecode::decode;
 use cli::{build_one, check_one};
 use cli_runs::run_code;
