@@ -2,13 +2,13 @@
 //! built and run, and monitors through windows of all sizes.
 //!
 //! The borders are those of a program: 128 booleans, 4,096 instructions, 256 slots, names of 65,535
-//! bytes, and 4,096 programs of a job. What is built is run over the same dump, and tells the report
-//! that `check` tells.
+//! bytes, and 4,096 programs of a job. What is built is run over the same dump, and tells what
+//! `check` tells.
 //!
 //! ```text
 //! let bytes = build_one(rt.alloc(), &mut dump, text, "r")?;
-//! let answer = told(rt.alloc(), run_code(rt.alloc(), &mut dump, bytes.as_slice(), 1024, &mut out))?;
-//! assert!(rt; answer.totals == Some([0, 0, 1, 0, 0]));
+//! let answer = run_code(rt.alloc(), &mut dump, bytes.as_slice(), 1024, &mut out);
+//! assert!(rt; told(rt.alloc(), answer)?.totals == Some([0, 0, 1, 0, 0]));
 //! ```
 //!
 //! `rt test` in this crate proves the tests and runs them. The definitions that the contracts cite
