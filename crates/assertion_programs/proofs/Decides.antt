@@ -1,5 +1,6 @@
 -- The program of an assertion decides as the assertion means.
-use Rattle.std.proofs.Common.{◌≡◌, ◌∙◌, ℕ, ◌<◌, Bool, true, false, List, length, map, Option, Some, None, slice_get, refl, ap, sym, subst, inl, inr}
+use Rattle.std.proofs.Common.{◌≡◌, ◌∙◌, ℕ, ◌<◌, Bool, true, false, List, length, map, Option, Some, None, slice_get}
+use Rattle.std.proofs.Common.{refl, ap, sym, subst, inl, inr}
 use Rattle.std.specs.Option.{option_map}
 use Rattle.std.specs.Prelude.{unwrap_or, string_bytes}
 use Rattle.std.proofs.Math.Path.{fun_ext}
@@ -55,7 +56,8 @@ occurs-listed n (or r s) b h o = elim o [ inl x ↦ occurs-listed n r b h.0 x | 
 occurs-listed n (and r s) b h o = elim o [ inl x ↦ occurs-listed n r b h.0 x | inr y ↦ occurs-listed n s b h.1 y ]
 occurs-listed n (throughout c r) b h o = elim o [ inl x ↦ same-listed n b c h.0 x | inr y ↦ occurs-listed n r b h.1 y ]
 
-module _ (suite : Suite) (a : Assertion) (p : ProgramData) (of : IsProgramOf suite a p) (rows : List (List ℕ)) (fit : AreRowsOf suite rows) where
+module _ (suite : Suite) (a : Assertion) (p : ProgramData) (of : IsProgramOf suite a p) (rows : List (List ℕ))
+    (fit : AreRowsOf suite rows) where
   abbrev pub value : Boolean → ℕ → Bool
   value = value_in suite.booleans.items a.booleans.items (made.t suite a p of rows fit)
 
@@ -69,8 +71,10 @@ module _ (suite : Suite) (a : Assertion) (p : ProgramData) (of : IsProgramOf sui
   atom-at : (k i : ℕ) → i < length a.booleans.items → slice_get (atoms k) i ≡ Some (value (Listed i) k)
   atom-at k i below =
       let found = slice_get-get_or a.booleans.items i 0 below in
-      slice_get-map (λ place. is_true_at (made.t suite a p of rows fit) (slice_get suite.booleans.items place) k) a.booleans.items i
-      ∙ ap (option_map (λ place. is_true_at (made.t suite a p of rows fit) (slice_get suite.booleans.items place) k)) found
+      slice_get-map (λ place. is_true_at (made.t suite a p of rows fit) (slice_get suite.booleans.items place) k)
+      a.booleans.items i
+      ∙ ap (option_map (λ place. is_true_at (made.t suite a p of rows fit) (slice_get suite.booleans.items place) k))
+      found
       ∙ ap (λ o. Some (is_true_at (made.t suite a p of rows fit) (expression_at suite.booleans.items o) k)) (sym found)
 
   told-at : (k : ℕ) (b : Boolean) → IsListed (length a.booleans.items) b → told (atom_of b) (atoms k) ≡ value b k
@@ -81,12 +85,15 @@ module _ (suite : Suite) (a : Assertion) (p : ProgramData) (of : IsProgramOf sui
       s ≡ section_for atom_of One w → Follows value (kernel One w) (automaton_of s atoms)
   follows w s ordered listed is =
       subst (λ x. Follows value (kernel One w) (automaton_of x atoms)) (sym is)
-      (law-section_follows atom_of One atoms value w ordered (λ k b occurs. told-at k b (occurs-listed (length a.booleans.items) w b listed occurs)))
+      (law-section_follows atom_of One atoms value w ordered
+      (λ k b occurs. told-at k b (occurs-listed (length a.booleans.items) w b listed occurs)))
 
   pub watches : Watches p atoms value (shape a.antecedent) (shape a.consequent)
   watches = record {
-    antecedent = follows (written_form a.antecedent) p.antecedent a.antecedent_ordered of.antecedent_listed of.antecedent;
-    consequent = follows (written_form a.consequent) p.consequent a.consequent_ordered of.consequent_listed of.consequent;
+    antecedent =
+        follows (written_form a.antecedent) p.antecedent a.antecedent_ordered of.antecedent_listed of.antecedent;
+    consequent =
+        follows (written_form a.consequent) p.consequent a.consequent_ordered of.consequent_listed of.consequent;
   }
 
   pub fills : Fills value (shape a.consequent)
@@ -95,24 +102,32 @@ module _ (suite : Suite) (a : Assertion) (p : ProgramData) (of : IsProgramOf sui
       (Matches-empty Boolean value One (written_form a.consequent) e a.consequent_ordered m))
 
   disabled-at : (d : Option Boolean) → IsListedOption (length a.booleans.items) d → (k : ℕ) →
-      unwrap_or (disabling (disabling_atom d) (atoms k)) false ≡ off_in suite.booleans.items a.booleans.items (made.t suite a p of rows fit) d k
+      unwrap_or (disabling (disabling_atom d) (atoms k)) false ≡ off_in suite.booleans.items a.booleans.items
+      (made.t suite a p of rows fit) d k
   disabled-at None h k = refl
   disabled-at (Some One) h k = absurd h
   disabled-at (Some (Listed i)) h k = ap (λ o. unwrap_or o false) (atom-at k i h)
 
   pub same-off : off ≡ (monitor_of p atoms).off
-  same-off = fun_ext (λ k. sym (ap (λ d. unwrap_or (disabling d (atoms k)) false) of.disable ∙ disabled-at a.disabling of.disabling_listed k))
+  same-off =
+      fun_ext
+      (λ k. sym (ap (λ d. unwrap_or (disabling d (atoms k)) false) of.disable
+      ∙ disabled-at a.disabling of.disabling_listed k))
 
   decides : IsAccepted p → (verdicts : List Verdict) → AreVerdictsOver suite rows a verdicts →
       IsLineOver p (map (picked of.layout.signals) rows) (line_data_of (string_bytes a.name) verdicts)
   decides accepted verdicts judged =
-      let long : length rows ≡ length (map (picked of.layout.signals) rows) = sym (length-map rows (picked of.layout.signals)) in
+      let long : length rows ≡ length (map (picked of.layout.signals) rows) =
+      sym (length-map rows (picked of.layout.signals)) in
       subst (λ n. IsLineOver p (map (picked of.layout.signals) rows) (line_data_of n verdicts)) of.name
-      (by-meaning p (map (picked of.layout.signals) rows) (made.counters suite a p of rows fit) atoms value (shape a.antecedent) (shape a.consequent) verdicts accepted
-      (subst (λ n. SamplesAs p (made.signals suite a p of rows fit) (made.counters suite a p of rows fit) atoms n) long (made.samples suite a p of rows fit accepted))
+      (by-meaning p (map (picked of.layout.signals) rows) (made.counters suite a p of rows fit) atoms value
+      (shape a.antecedent) (shape a.consequent) verdicts accepted
+      (subst (λ n. SamplesAs p (made.signals suite a p of rows fit) (made.counters suite a p of rows fit) atoms n) long
+      (made.samples suite a p of rows fit accepted))
       watches fills
       (subst (λ n. AreVerdicts value (monitor_of p atoms).off (shape a.antecedent) (shape a.consequent) n verdicts) long
-      (subst (λ o. AreVerdicts value o (shape a.antecedent) (shape a.consequent) (length rows) verdicts) same-off judged)))
+      (subst (λ o. AreVerdicts value o (shape a.antecedent) (shape a.consequent) (length rows) verdicts) same-off
+      judged)))
 
 pub programs-decide : ProgramsDecide
 programs-decide suite a p accepted of rows fit verdicts judged = decides suite a p of rows fit accepted verdicts judged

@@ -1,20 +1,27 @@
 -- Sample code looks at no more rows than the declared history has.
-use Rattle.std.proofs.Common.{◌≡◌, ◌∙◌, ℕ, zero, suc, ◌≤◌, ◌==◌, Bool, true, false, List, [], ◌∷◌, length, map, Option, Some, None, slice_get, refl, ap, arith}
+use Rattle.std.proofs.Common.{◌≡◌, ◌∙◌, ℕ, zero, suc, ◌≤◌, ◌==◌, Bool, true, false, List, [], ◌∷◌, length, map, Option}
+use Rattle.std.proofs.Common.{Some, None, slice_get, refl, ap, arith}
 use Rattle.std.specs.Prelude.{nat_le, slice_index, if◌then◌else◌}
 use Rattle.std.proofs.lemmas.Bool.{leb-true}
 use Rattle.std.proofs.Math.Path.{fun_ext}
 use Rattle.bytecode.specs.declared.limits.Limits.{Limits}
 use Rattle.bytecode.specs.declared.sample_instr.SampleInstr.{SampleInstr}
-use Rattle.bytecode.specs.declared.sample_instr.SampleInstr.TheVariants.{Push, Load, Past, Join, Compare, Shift, Not, Reduce, Concat, Zext, Slice, Mux, Jump, JumpIfZero, SetAtom, Store, Halt}
-use Rattle.bytecode.specs.Instructions.{FrameData, Effect, leaves, too_few, misfit, is_there, sample_flow, sample_effect}
+use Rattle.bytecode.specs.declared.sample_instr.SampleInstr.TheVariants.{Push, Load, Past, Join, Compare, Shift, Not}
+use Rattle.bytecode.specs.declared.sample_instr.SampleInstr.TheVariants.{Reduce, Concat, Zext, Slice, Mux, Jump}
+use Rattle.bytecode.specs.declared.sample_instr.SampleInstr.TheVariants.{JumpIfZero, SetAtom, Store, Halt}
+use Rattle.bytecode.specs.Instructions.{FrameData, Effect, leaves, too_few, misfit, is_there, sample_flow}
+use Rattle.bytecode.specs.Instructions.{sample_effect}
 use Rattle.checked_machine.specs.Outcomes.{Ran, trapped, bad_operand, past_history}
-use Rattle.checked_machine.specs.Samples.{Operand, operand, width_of, Made, results, making, top, follow, reaches, met, obey_sample, run_sample}
+use Rattle.checked_machine.specs.Samples.{Operand, operand, width_of, Made, results, making, top, follow, reaches, met}
+use Rattle.checked_machine.specs.Samples.{obey_sample, run_sample}
 
-module _ (f : FrameData) (d : Limits) (one two : ℕ → ℕ → ℕ) (agree : (back slot : ℕ) → back ≤ d.history → one back slot ≡ two back slot) where
+module _ (f : FrameData) (d : Limits) (one two : ℕ → ℕ → ℕ) (agree : (back slot : ℕ) → back ≤ d.history
+    → one back slot ≡ two back slot) where
   same-results : (i : SampleInstr) (xs : List Operand) → reaches d i ≡ true → results f one i xs ≡ results f two i xs
   same-results (Push w v) xs h = refl
   same-results (Load slot) xs h = ap (λ v. operand (slice_index f.slots slot) v ∷ xs) (agree 0 slot (omega arith))
-  same-results (Past slot k) xs h = ap (λ v. operand (slice_index f.slots slot) v ∷ xs) (agree k slot (leb-true k d.history h))
+  same-results (Past slot k) xs h =
+      ap (λ v. operand (slice_index f.slots slot) v ∷ xs) (agree k slot (leb-true k d.history h))
   same-results (Join op) [] h = refl
   same-results (Join op) (y ∷ []) h = refl
   same-results (Join op) (y ∷ x ∷ xs) h = refl
@@ -52,24 +59,29 @@ module _ (f : FrameData) (d : Limits) (one two : ℕ → ℕ → ℕ) (agree : (
   same-if true x y z h = h refl
   same-if false x y z h = refl
 
-  same-met : (i : SampleInstr) (pc : ℕ) (xs : List Operand) (made : Made) (go : ℕ → List Operand → Made → Ran Made) (left : ℕ) (inside : Bool) (e : Effect) →
+  same-met : (i : SampleInstr) (pc : ℕ) (xs : List Operand) (made : Made) (go : ℕ → List Operand → Made → Ran Made)
+      (left : ℕ) (inside : Bool) (e : Effect) →
       met f d one i pc xs made go left inside e ≡ met f d two i pc xs made go left inside e
   same-met i pc xs made go left false e = refl
   same-met i pc xs made go left true too_few = refl
   same-met i pc xs made go left true misfit = refl
   same-met i pc xs made go left true (leaves ws) =
       same-if (nat_le (length ws) d.stack)
-      (if reaches d i then follow (sample_flow i) pc (top xs == 0) (results f one i xs) (making i xs made) go left else trapped past_history)
-      (if reaches d i then follow (sample_flow i) pc (top xs == 0) (results f two i xs) (making i xs made) go left else trapped past_history)
+      (if reaches d i then follow (sample_flow i) pc (top xs == 0) (results f one i xs) (making i xs made) go left else
+      trapped past_history)
+      (if reaches d i then follow (sample_flow i) pc (top xs == 0) (results f two i xs) (making i xs made) go left else
+      trapped past_history)
       (trapped bad_operand)
       (λ fits.
       same-if (reaches d i)
       (follow (sample_flow i) pc (top xs == 0) (results f one i xs) (making i xs made) go left)
       (follow (sample_flow i) pc (top xs == 0) (results f two i xs) (making i xs made) go left)
       (trapped past_history)
-      (λ near. ap (λ ys. follow (sample_flow i) pc (top xs == 0) ys (making i xs made) go left) (same-results i xs near)))
+      (λ near. ap (λ ys. follow (sample_flow i) pc (top xs == 0) ys (making i xs made) go left)
+      (same-results i xs near)))
 
-  same-obey : (pc : ℕ) (xs : List Operand) (made : Made) (go other : ℕ → List Operand → Made → Ran Made) (left : ℕ) (i : Option SampleInstr) → go ≡ other →
+  same-obey : (pc : ℕ) (xs : List Operand) (made : Made) (go other : ℕ → List Operand → Made → Ran Made) (left : ℕ)
+      (i : Option SampleInstr) → go ≡ other →
       obey_sample f d one pc xs made go left i ≡ obey_sample f d two pc xs made other left i
   same-obey pc xs made go other left None same = refl
   same-obey pc xs made go other left (Some i) same =

@@ -1,5 +1,6 @@
 -- What is marked.
-use Rattle.std.proofs.Common.{◌≡◌, ◌<◌, ℕ, zero, suc, unwrap_or, false, true, Bool, List, [], ◌∷◌, length, slice_get, get_or, set, Some, arith, inl, inr, sym, ap, subst, ◌∙◌, refl}
+use Rattle.std.proofs.Common.{◌≡◌, ◌<◌, ℕ, zero, suc, unwrap_or, false, true, Bool, List, [], ◌∷◌, length, slice_get}
+use Rattle.std.proofs.Common.{get_or, set, Some, arith, inl, inr, sym, ap, subst, ◌∙◌, refl}
 use Rattle.std.specs.Prelude.{◌⊎◌}
 use Rattle.std.proofs.lemmas.Bool.{cases_eq, false≢true}
 use Rattle.std.proofs.lemmas.List.{get_or-set_same, get_or-set_other, length-set}
@@ -28,13 +29,16 @@ mark-length : (test : Bool) (marks : List Bool) (p : ℕ) → length (mark_if te
 mark-length true marks p = length-set marks p true
 mark-length false marks p = refl
 
-all-length : (origin : Origin) (marks : List Bool) (names : List Name) → length (mark_all origin marks names) ≡ length marks
+all-length : (origin : Origin) (marks : List Bool) (names : List Name) → length (mark_all origin marks names)
+    ≡ length marks
 all-length origin marks [] = refl
 all-length origin marks (n ∷ names) =
-    all-length origin (mark_if (same_origin n.origin origin) marks n.place) names ∙ mark-length (same_origin n.origin origin) marks n.place
+    all-length origin (mark_if (same_origin n.origin origin) marks n.place) names
+    ∙ mark-length (same_origin n.origin origin) marks n.place
 
 -- a mark stays, and what is new is the name's
-mark-kept : (test : Bool) (marks : List Bool) (p place : ℕ) → place < length marks → has_mark marks place ≡ true → has_mark (mark_if test marks p) place ≡ true
+mark-kept : (test : Bool) (marks : List Bool) (p place : ℕ) → place < length marks → has_mark marks place ≡ true
+    → has_mark (mark_if test marks p) place ≡ true
 mark-kept false marks p place below h = h
 mark-kept true marks p place below h = elim (cases_eq place p) [
   | inl same ↦ subst (λ q. has_mark (set marks q true) place ≡ true) same (get_or-set_same marks place true false below)
@@ -50,7 +54,8 @@ mark-new true marks p place h = elim (cases_eq place p) [
 ]
 
 -- the first of names, and those behind it
-behind : (n : Name) (names : List Name) (origin : Origin) (place : ℕ) → IsAmong origin names place → IsAmong origin (n ∷ names) place
+behind : (n : Name) (names : List Name) (origin : Origin) (place : ℕ) → IsAmong origin names place
+    → IsAmong origin (n ∷ names) place
 behind n names origin place a = record {
   name = a.name;
   among = Contains-append_right (n ∷ []) names a.name a.among;
@@ -58,48 +63,56 @@ behind n names origin place a = record {
   place_is = a.place_is;
 }
 
-all-marked : (origin : Origin) (marks : List Bool) (names : List Name) (place : ℕ) → place < length marks → has_mark marks place ≡ true →
+all-marked : (origin : Origin) (marks : List Bool) (names : List Name) (place : ℕ) → place < length marks
+    → has_mark marks place ≡ true →
     has_mark (mark_all origin marks names) place ≡ true
 all-marked origin marks [] place below h = h
 all-marked origin marks (n ∷ names) place below h =
     let test = same_origin n.origin origin in
-    all-marked origin (mark_if test marks n.place) names place (omega (arith, below, mark-length test marks n.place)) (mark-kept test marks n.place place below h)
+    all-marked origin (mark_if test marks n.place) names place (omega (arith, below, mark-length test marks n.place))
+    (mark-kept test marks n.place place below h)
 
-found-marked : (origin : Origin) (marks : List Bool) (names : List Name) (place k : ℕ) (name : Name) → place < length marks → slice_get names k ≡ Some name →
+found-marked : (origin : Origin) (marks : List Bool) (names : List Name) (place k : ℕ) (name : Name)
+    → place < length marks → slice_get names k ≡ Some name →
     name.origin ≡ origin → name.place ≡ place → has_mark (mark_all origin marks names) place ≡ true
 found-marked origin marks [] place k name below is o p = absurd (omega (arith, slice_get_within [] k name is))
 found-marked origin marks (n ∷ names) place zero name below is o p =
     let one : n ≡ name = ap (λ x. unwrap_or x n) is in
     let test = same_origin n.origin origin in
-    let on : test ≡ true = subst (λ x. same_origin x origin ≡ true) (sym (ap (λ (x : Name). x.origin) one ∙ o)) (one-same origin) in
+    let on : test ≡ true =
+    subst (λ x. same_origin x origin ≡ true) (sym (ap (λ (x : Name). x.origin) one ∙ o)) (one-same origin) in
     let here : n.place ≡ place = ap (λ (x : Name). x.place) one ∙ p in
     all-marked origin (mark_if test marks n.place) names place (omega (arith, below, mark-length test marks n.place))
     (subst (λ b. has_mark (mark_if b marks n.place) place ≡ true) (sym on)
     (subst (λ q. has_mark (set marks q true) place ≡ true) (sym here) (get_or-set_same marks place true false below)))
 found-marked origin marks (n ∷ names) place (suc k) name below is o p =
     let test = same_origin n.origin origin in
-    found-marked origin (mark_if test marks n.place) names place k name (omega (arith, below, mark-length test marks n.place)) is o p
+    found-marked origin (mark_if test marks n.place) names place k name
+    (omega (arith, below, mark-length test marks n.place)) is o p
 
-marked-found : (origin : Origin) (marks : List Bool) (names : List Name) (place : ℕ) → has_mark (mark_all origin marks names) place ≡ true →
+marked-found : (origin : Origin) (marks : List Bool) (names : List Name) (place : ℕ)
+    → has_mark (mark_all origin marks names) place ≡ true →
     (has_mark marks place ≡ true) ⊎ IsAmong origin names place
 marked-found origin marks [] place h = inl h
-marked-found origin marks (n ∷ names) place h = elim (marked-found origin (mark_if (same_origin n.origin origin) marks n.place) names place h) [
-  | inl before ↦
-      elim (mark-new (same_origin n.origin origin) marks n.place place before) [
-        | inl old ↦ inl old
-        | inr here ↦ inr (record {
-          name = n;
-          among = Contains-append_left (n ∷ []) names n (0, omega arith, refl);
-          origin_is = same-one n.origin origin here.0;
-          place_is = here.1;
-        })
-      ]
-  | inr more ↦ inr (behind n names origin place more)
-]
+marked-found origin marks (n ∷ names) place h =
+    elim (marked-found origin (mark_if (same_origin n.origin origin) marks n.place) names place h) [
+      | inl before ↦
+          elim (mark-new (same_origin n.origin origin) marks n.place place before) [
+            | inl old ↦ inl old
+            | inr here ↦ inr (record {
+              name = n;
+              among = Contains-append_left (n ∷ []) names n (0, omega arith, refl);
+              origin_is = same-one n.origin origin here.0;
+              place_is = here.1;
+            })
+          ]
+      | inr more ↦ inr (behind n names origin place more)
+    ]
 
 -- the marks of all names, from none
 pub all-marks : (origin : Origin) (names : List Name) (count : ℕ) (start marks : List Bool) → length start ≡ count →
-    ((place : ℕ) → place < count → slice_get start place ≡ Some false) → marks ≡ mark_all origin start names → AreMarks origin names count marks
+    ((place : ℕ) → place < count → slice_get start place ≡ Some false) → marks ≡ mark_all origin start names
+    → AreMarks origin names count marks
 all-marks origin names count start marks long none is = subst (AreMarks origin names count) (sym is) (record {
   long = all-length origin start names ∙ long;
   each = λ place below. (to place below, from place below);

@@ -1,8 +1,10 @@
 -- What stands while counters are looked at, one after another.
-use Rattle.std.proofs.Common.{◌≡◌, ◌<◌, ◌≤◌, ℕ, ◌+◌, false, true, not, Bool, List, [], ◌++◌, length, slice_get, get_or, set, Some, unwrap_or, arith, inl, inr, sym, ap, subst, ◌∙◌, refl}
+use Rattle.std.proofs.Common.{◌≡◌, ◌<◌, ◌≤◌, ℕ, ◌+◌, false, true, not, Bool, List, [], ◌++◌, length, slice_get, get_or}
+use Rattle.std.proofs.Common.{set, Some, unwrap_or, arith, inl, inr, sym, ap, subst, ◌∙◌, refl}
 use Rattle.std.specs.Prelude.{◌↔◌, Contains, sum_by}
 use Rattle.std.proofs.lemmas.Bool.{cases_lt, cases_eq, false≢true, true≢false}
-use Rattle.std.proofs.lemmas.List.{append-nil, get_or_past, get_or-set_same, get_or-set_other, get_or_append_left, length-set, length-append}
+use Rattle.std.proofs.lemmas.List.{append-nil, get_or_past, get_or-set_same, get_or-set_other, get_or_append_left}
+use Rattle.std.proofs.lemmas.List.{length-set, length-append}
 use Rattle.std.proofs.lemmas.List.Sums.{sum_by-set}
 use Rattle.std.proofs.lemmas.List.Elements.{Contains-append_left, Contains-append_right, Contains-append_cases}
 use Rattle.std.proofs.lemmas.Option.{slice_get_past, slice_get-get_or, slice_get_read, get_or_from_slice_get}
@@ -17,12 +19,14 @@ use Rattle.assertion_reads.specs.Scans.{NoneFrom, IsNext}
 use Rattle.assertion_reads.proofs.ScanLaws.{NoneTo}
 
 -- These names were found, and the clauses of the counters that are done were looked at; no name before a place waits.
-pub record Expands (first : List Name) (counters : List Counter) (names : List Name) (done : List Bool) (from : ℕ) : Type 0 where
+pub record Expands (first : List Name) (counters : List Counter) (names : List Name) (done : List Bool) (from : ℕ) :
+    Type 0 where
   pub long : length done ≡ length counters
   pub within : from ≤ length names
   pub sound : (name : Name) → Contains names name → IsRead first counters name
   pub begun : (name : Name) → Contains first name → Contains names name
-  pub looked : (p : ℕ) → p < length done → get_or done p true ≡ true → (name : Name) → Contains (names_of (slice_get counters p)) name → Contains names name
+  pub looked : (p : ℕ) → p < length done → get_or done p true ≡ true → (name : Name)
+      → Contains (names_of (slice_get counters p)) name → Contains names name
   pub before : NoneTo done 0 from names
 
 -- a counter that is not done counts one
@@ -90,21 +94,25 @@ waiting-less done p FromCounter place h =
       | inr other ↦ ap not (get_or-set_other done p place true true other) ∙ h
     ]
 
-done-waits-not : (done : List Bool) (p : ℕ) (origin : Origin) (place : ℕ) → place ≡ p → is_waiting (set done p true) origin place ≡ false
+done-waits-not : (done : List Bool) (p : ℕ) (origin : Origin) (place : ℕ) → place ≡ p
+    → is_waiting (set done p true) origin place ≡ false
 done-waits-not done p Signal place same = refl
 done-waits-not done p FromCounter place same = waiting-set done p place same
 
 -- what stands at a place of a longer list
-kept-place : (names more : List Name) (k : ℕ) (other : Name) → k < length names → slice_get (names ++ more) k ≡ Some other → slice_get names k ≡ Some other
+kept-place : (names more : List Name) (k : ℕ) (other : Name) → k < length names → slice_get (names ++ more) k
+    ≡ Some other → slice_get names k ≡ Some other
 kept-place names more k other inside is =
     slice_get-get_or names k other inside
-    ∙ ap (λ n. Some n) (sym (get_or_append_left names more other k inside) ∙ get_or_from_slice_get (names ++ more) k other other is)
+    ∙ ap (λ n. Some n) (sym (get_or_append_left names more other k inside)
+    ∙ get_or_from_slice_get (names ++ more) k other other is)
 
 some-one : (a b : Name) → Some a ≡ Some b → a ≡ b
 some-one a b e = ap (λ o. unwrap_or o a) e
 
 -- one counter more
-pub goes-on : (first : List Name) (counters : List Counter) (names : List Name) (done : List Bool) (from at : ℕ) (name : Name) (new : List Name) →
+pub goes-on : (first : List Name) (counters : List Counter) (names : List Name) (done : List Bool) (from at : ℕ)
+    (name : Name) (new : List Name) →
     Expands first counters names done from → (next : IsNext done from names at) → slice_get names at ≡ Some name →
     new ≡ names ++ names_of (slice_get counters name.place) →
     Expands first counters new (set done name.place true) (at + 1)
@@ -136,7 +144,8 @@ goes-on first counters names done from at name new old next here is =
       | inr added ↦ through read todo.counter added
     ]
 
-    looked : (p : ℕ) → p < length (set done name.place true) → get_or (set done name.place true) p true ≡ true → (n : Name) →
+    looked : (p : ℕ) → p < length (set done name.place true) → get_or (set done name.place true) p true ≡ true
+        → (n : Name) →
         Contains (names_of (slice_get counters p)) n → Contains (names ++ more) n
     looked p below on n h = elim (cases_eq p name.place) [
       | inl same ↦
@@ -144,7 +153,8 @@ goes-on first counters names done from at name new old next here is =
           (subst (λ q. Contains (names_of (slice_get counters q)) n) same h)
       | inr other ↦
           Contains-append_left names more n
-          (old.looked p (omega (arith, below, length-set done name.place true)) (sym (get_or-set_other done name.place p true true other) ∙ on) n h)
+          (old.looked p (omega (arith, below, length-set done name.place true))
+          (sym (get_or-set_other done name.place p true true other) ∙ on) n h)
     ]
 
     before : NoneTo (set done name.place true) 0 (at + 1) (names ++ more)
@@ -157,13 +167,15 @@ goes-on first counters names done from at name new old next here is =
                 | inl lt ↦ waiting-less done name.place other.origin other.place (next.none k other ge lt held)
                 | inr last ↦
                     let same : k ≡ at = omega (arith, last, below) in
-                    let one : name ≡ other = some-one name other (sym here ∙ ap (λ j. slice_get names j) (sym same) ∙ held) in
+                    let one : name ≡ other =
+                    some-one name other (sym here ∙ ap (λ j. slice_get names j) (sym same) ∙ held) in
                     done-waits-not done name.place other.origin other.place (ap (λ (n : Name). n.place) (sym one))
               ]
         ]
 
 -- fewer are to do
-pub fewer-to-do : (done : List Bool) (p : ℕ) → p < length done → get_or done p true ≡ false → left_to_do (set done p true) < left_to_do done
+pub fewer-to-do : (done : List Bool) (p : ℕ) → p < length done → get_or done p true ≡ false
+    → left_to_do (set done p true) < left_to_do done
 fewer-to-do done p below fresh =
     let sum = sum_by-set to_do done p true true below in
     omega (arith, sum, ap to_do fresh)
@@ -176,7 +188,8 @@ not-false true h = refl
 not-false false h = absurd (true≢false h)
 
 -- all are done
-pub ends : (first : List Name) (counters : List Counter) (names : List Name) (done : List Bool) (from : ℕ) → Expands first counters names done from →
+pub ends : (first : List Name) (counters : List Counter) (names : List Name) (done : List Bool) (from : ℕ)
+    → Expands first counters names done from →
     NoneFrom done from names → (name : Name) → Contains names name ↔ IsRead first counters name
 ends first counters names done from old none name = (old.sound name, all name)
   where
@@ -188,12 +201,19 @@ ends first counters names done from old none name = (old.sound name, all name)
           | inr ge ↦ none h.0 n ge here
         ]
 
-    closed : (n other : Name) → Contains names n → n.origin ≡ FromCounter → Contains (names_of (slice_get counters n.place)) other → Contains names other
+    closed : (n other : Name) → Contains names n → n.origin ≡ FromCounter
+        → Contains (names_of (slice_get counters n.place)) other → Contains names other
     closed n other h origin more =
-        let on = not-false (get_or done n.place true) (subst (λ o. is_waiting done o n.place ≡ false) origin (quiet n h)) in
+        let on =
+        not-false (get_or done n.place true) (subst (λ o. is_waiting done o n.place ≡ false) origin (quiet n h))
+        in
         elim (cases_lt n.place (length done)) [
           | inl lt ↦ old.looked n.place lt on other more
-          | inr ge ↦ absurd (no-one other (subst (λ o. Contains (names_of o) other) (slice_get_past counters n.place (omega (arith, ge, old.long))) more))
+          | inr ge ↦
+              absurd
+              (no-one other
+              (subst (λ o. Contains (names_of o) other)
+              (slice_get_past counters n.place (omega (arith, ge, old.long))) more))
         ]
 
     all : (n : Name) → IsRead first counters n → Contains names n
@@ -201,15 +221,18 @@ ends first counters names done from old none name = (old.sound name, all name)
     all n (through {counter} read origin h) = closed counter n (all counter read) origin h
 
 -- the name at the place that was found
-pub found-here : (names : List Name) (done : List Bool) (from at : ℕ) (name : Name) → IsNext done from names at → name ≡ get_or names at name →
+pub found-here : (names : List Name) (done : List Bool) (from at : ℕ) (name : Name) → IsNext done from names at
+    → name ≡ get_or names at name →
     slice_get names at ≡ Some name
 found-here names done from at name next is = slice_get_read names (length names) at name refl next.inside is
 
-pub found-to-do : (names : List Name) (done : List Bool) (from at : ℕ) (name : Name) → IsNext done from names at → name ≡ get_or names at name →
+pub found-to-do : (names : List Name) (done : List Bool) (from at : ℕ) (name : Name) → IsNext done from names at
+    → name ≡ get_or names at name →
     IsToDo done name
 found-to-do names done from at name next is =
     waits-to-do done name
-    (subst (λ n. waits done n ≡ true) (some-one next.name name (sym next.is ∙ found-here names done from at name next is)) next.waiting)
+    (subst (λ n. waits done n ≡ true)
+    (some-one next.name name (sym next.is ∙ found-here names done from at name next is)) next.waiting)
 
 -- no names behind names, where no counter is there
 pub not-there : (counters : List Counter) (place : ℕ) → length counters ≤ place → (names : List Name) →

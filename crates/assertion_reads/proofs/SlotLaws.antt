@@ -1,5 +1,6 @@
 -- The slots of marked places.
-use Rattle.std.proofs.Common.{◌≡◌, ◌∙◌, ℕ, zero, suc, ◌+◌, ◌-◌, ◌≤◌, Bool, true, false, List, [], ◌∷◌, length, slice_get, Some, refl, ap, sym, subst, arith, unwrap_or, IsTrue}
+use Rattle.std.proofs.Common.{◌≡◌, ◌∙◌, ℕ, zero, suc, ◌+◌, ◌-◌, ◌≤◌, Bool, true, false, List, [], ◌∷◌, length}
+use Rattle.std.proofs.Common.{slice_get, Some, refl, ap, sym, subst, arith, unwrap_or, IsTrue}
 use Rattle.std.proofs.lemmas.Bool.{false≢true}
 use Rattle.std.proofs.lemmas.Option.{slice_get_within}
 use Rattle.assertion_reads.specs.Marks.{places_from, slots_from}
@@ -13,7 +14,8 @@ pub record IsPlaceAt (first place : ℕ) (marks : List Bool) (i found : ℕ) : T
 some-one : (a b : ℕ) → Some a ≡ Some b → a ≡ b
 some-one a b e = ap (λ o. unwrap_or o a) e
 
-pub place-at : (first place : ℕ) (marks : List Bool) (i found : ℕ) → slice_get (places_from place marks) i ≡ Some found → IsPlaceAt first place marks i found
+pub place-at : (first place : ℕ) (marks : List Bool) (i found : ℕ) → slice_get (places_from place marks) i ≡ Some found
+    → IsPlaceAt first place marks i found
 place-at first place [] i found is = absurd (omega (arith, slice_get_within [] i found is))
 place-at first place (true ∷ marks) zero found is =
     let here : place ≡ found = some-one place found is in
@@ -47,7 +49,8 @@ pub marked-at : (place : ℕ) (marks : List Bool) (k : ℕ) → slice_get marks 
     (i : ℕ) × (slice_get (places_from place marks) i ≡ Some (place + k))
 marked-at place [] k is = absurd (omega (arith, slice_get_within [] k true is))
 marked-at place (true ∷ marks) zero is = let e : place ≡ place + 0 = omega arith in (0, ap (λ p. Some p) e)
-marked-at place (false ∷ marks) zero is = absurd (subst (λ o. IsTrue (unwrap_or o false) → ⊥) is (λ h. false≢true h) refl)
+marked-at place (false ∷ marks) zero is =
+    absurd (subst (λ o. IsTrue (unwrap_or o false) → ⊥) is (λ h. false≢true h) refl)
 marked-at place (true ∷ marks) (suc k) is =
     let more = marked-at (place + 1) marks k is in
     let e : place + 1 + k ≡ place + suc k = omega arith in

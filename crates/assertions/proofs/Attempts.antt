@@ -1,11 +1,13 @@
 -- The tests on attempts and the statements about them say the same.
 use Rattle.std.proofs.Common.{◌≡◌, inl, inr, ℕ, ◌+◌, Bool, true, false, not, ◌&&◌, ◌||◌, Some, refl, ap, ◌∙◌, arith}
 use Rattle.std.specs.Prelude.{IsTrue}
-use Rattle.std.proofs.lemmas.Bool.{or_cases, or_left, or_right, and_parts, and_from, both_ways, not-true, not_from_false, false_from_ne_true, cases_Bool}
+use Rattle.std.proofs.lemmas.Bool.{or_cases, or_left, or_right, and_parts, and_from, both_ways, not-true}
+use Rattle.std.proofs.lemmas.Bool.{not_from_false, false_from_ne_true, cases_Bool}
 use Rattle.assertions.specs.declared.decision.Decision.{Decision}
 use Rattle.assertions.specs.declared.decision.Decision.TheVariants.{Held, Vacuously, Failed}
 use Rattle.assertions.specs.Segments.{Seq, sat, is_match, longest}
-use Rattle.assertions.specs.Attempts.{IsEnd, IsKept, IsBroken, IsOver, IsDecided, has_end, is_kept, is_possible, goes_on, is_failed, all_kept, decide, decision}
+use Rattle.assertions.specs.Attempts.{IsEnd, IsKept, IsBroken, IsOver, IsDecided, has_end, is_kept, is_possible}
+use Rattle.assertions.specs.Attempts.{goes_on, is_failed, all_kept, decide, decision}
 use Rattle.assertions.proofs.Quantifiers.{some_in-found, some_in-true, each_in-at, each_in-true}
 use Rattle.assertions.proofs.Segments.{Matches-forward, Matches-longest, is_match-Matches, Matches-is_match}
 
@@ -38,24 +40,31 @@ module _ (B : Type 0) (value : B → ℕ → Bool) (r s : Seq B) (n : ℕ) where
 
   IsKept-is_kept : (e : ℕ) → IsKept value s n e → IsTrue (is_kept value s n e)
   IsKept-is_kept e h =
-      some_in-true e (n + 1) (λ j. is_match (sat value n) s e j) h.0 (Matches-forward B (sat value n) s e h.0 h.2) (omega (arith, h.1)) (Matches-is_match B (sat value n) s e h.0 h.2)
+      some_in-true e (n + 1) (λ j. is_match (sat value n) s e j) h.0 (Matches-forward B (sat value n) s e h.0 h.2)
+      (omega (arith, h.1)) (Matches-is_match B (sat value n) s e h.0 h.2)
 
   impossible-IsBroken : (e : ℕ) → is_possible value s n e ≡ false → IsBroken value s n e
   impossible-IsBroken e h j m =
-      let t = some_in-true e (e + longest s + 1) (λ j. is_match (sat value n) s e j) j (Matches-forward B (sat value n) s e j m) (omega (arith, Matches-longest B (sat value n) s e j m)) (Matches-is_match B (sat value n) s e j m) in
+      let t =
+      some_in-true e (e + longest s + 1) (λ j. is_match (sat value n) s e j) j
+      (Matches-forward B (sat value n) s e j m) (omega (arith, Matches-longest B (sat value n) s e j m))
+      (Matches-is_match B (sat value n) s e j m) in
       both_ways _ h t
 
   IsBroken-impossible : (e : ℕ) → IsBroken value s n e → is_possible value s n e ≡ false
   IsBroken-impossible e h =
-      false_from_ne_true _ (λ t. let f = some_in-found e (e + longest s + 1) (λ j. is_match (sat value n) s e j) t in h f.0 (is_match-Matches B (sat value n) s e f.0 f.3))
+      false_from_ne_true _ (λ t. let f = some_in-found e (e + longest s + 1) (λ j. is_match (sat value n) s e j) t in
+      h f.0 (is_match-Matches B (sat value n) s e f.0 f.3))
 
   not_on-IsOver : (c : ℕ) → goes_on value r n c ≡ false → IsOver value r n c
   not_on-IsOver c h j above m =
-      both_ways _ h (some_in-true (n + 1) (c + longest r + 1) (λ j. is_match (sat value n) r c j) j (omega arith) (omega (arith, Matches-longest B (sat value n) r c j m)) (Matches-is_match B (sat value n) r c j m))
+      both_ways _ h (some_in-true (n + 1) (c + longest r + 1) (λ j. is_match (sat value n) r c j) j (omega arith)
+      (omega (arith, Matches-longest B (sat value n) r c j m)) (Matches-is_match B (sat value n) r c j m))
 
   IsOver-not_on : (c : ℕ) → IsOver value r n c → goes_on value r n c ≡ false
   IsOver-not_on c h =
-      false_from_ne_true _ (λ t. let f = some_in-found (n + 1) (c + longest r + 1) (λ j. is_match (sat value n) r c j) t in h f.0 (omega (arith, f.1)) (is_match-Matches B (sat value n) r c f.0 f.3))
+      false_from_ne_true _ (λ t. let f = some_in-found (n + 1) (c + longest r + 1) (λ j. is_match (sat value n) r c j) t
+      in h f.0 (omega (arith, f.1)) (is_match-Matches B (sat value n) r c f.0 f.3))
 
   has_end-IsEnd : (c : ℕ) → IsTrue (has_end value r n c) → (e : ℕ) × IsEnd value r n c e
   has_end-IsEnd c h =
@@ -64,7 +73,8 @@ module _ (B : Type 0) (value : B → ℕ → Bool) (r s : Seq B) (n : ℕ) where
 
   IsEnd-has_end : (c e : ℕ) → IsEnd value r n c e → IsTrue (has_end value r n c)
   IsEnd-has_end c e h =
-      some_in-true c n (λ e. is_match (sat value n) r c (e + 1)) e h.0 h.1 (Matches-is_match B (sat value n) r c (e + 1) h.2)
+      some_in-true c n (λ e. is_match (sat value n) r c (e + 1)) e h.0 h.1
+      (Matches-is_match B (sat value n) r c (e + 1) h.2)
 
   is_failed-Failed : (c : ℕ) → IsTrue (is_failed value r s n c) → IsDecided value r s n c Failed
   is_failed-Failed c h =
@@ -75,7 +85,8 @@ module _ (B : Type 0) (value : B → ℕ → Bool) (r s : Seq B) (n : ℕ) where
   Failed-is_failed : (c : ℕ) → IsDecided value r s n c Failed → IsTrue (is_failed value r s n c)
   Failed-is_failed c h =
       some_in-true c n (λ e. is_match (sat value n) r c (e + 1) && not (is_possible value s n e)) h.0 h.1.0 h.1.1
-      (and_from _ _ (Matches-is_match B (sat value n) r c (h.0 + 1) h.1.2) (not_from_false _ (IsBroken-impossible h.0 h.2)))
+      (and_from _ _ (Matches-is_match B (sat value n) r c (h.0 + 1) h.1.2)
+      (not_from_false _ (IsBroken-impossible h.0 h.2)))
 
   all_kept-each : (c : ℕ) → IsTrue (all_kept value r s n c) → (e : ℕ) → IsEnd value r n c e → IsKept value s n e
   all_kept-each c h e end =
@@ -89,7 +100,8 @@ module _ (B : Type 0) (value : B → ℕ → Bool) (r s : Seq B) (n : ℕ) where
   each-all_kept c h =
       each_in-true c n (λ e. not (is_match (sat value n) r c (e + 1)) || is_kept value s n e) (λ e from below.
       elim (cases_Bool (is_match (sat value n) r c (e + 1))) [
-        | inl on ↦ or_right (not (is_match (sat value n) r c (e + 1))) (is_kept value s n e) (IsKept-is_kept e (h e (from, below, is_match-Matches B (sat value n) r c (e + 1) on)))
+        | inl on ↦ or_right (not (is_match (sat value n) r c (e + 1))) (is_kept value s n e)
+            (IsKept-is_kept e (h e (from, below, is_match-Matches B (sat value n) r c (e + 1) on)))
         | inr off ↦ or_left (not (is_match (sat value n) r c (e + 1))) (is_kept value s n e) (not_from_false _ off)
       ])
 
@@ -109,7 +121,8 @@ module _ (B : Type 0) (value : B → ℕ → Bool) (r s : Seq B) (n : ℕ) where
   unfolding decision
   IsDecided-decision c Failed h = rw (Failed-is_failed c h)
   IsDecided-decision c Held h =
-      let f : is_failed value r s n c ≡ false = false_from_ne_true _ (λ t. let x = is_failed-Failed c t in let k = h.1 x.0 x.1 in x.2 k.0 k.2) in
+      let f : is_failed value r s n c ≡ false =
+      false_from_ne_true _ (λ t. let x = is_failed-Failed c t in let k = h.1 x.0 x.1 in x.2 k.0 k.2) in
       let g : goes_on value r n c ≡ false = IsOver-not_on c h.2 in
       let e : has_end value r n c ≡ true = IsEnd-has_end c h.0.0 h.0.1 in
       let k : all_kept value r s n c ≡ true = each-all_kept c h.1 in
@@ -118,7 +131,8 @@ module _ (B : Type 0) (value : B → ℕ → Bool) (r s : Seq B) (n : ℕ) where
       ∙ ap (λ e. decide false false e (all_kept value r s n c)) e
       ∙ ap (λ k. decide false false true k) k
   IsDecided-decision c Vacuously h =
-      let f : is_failed value r s n c ≡ false = false_from_ne_true _ (λ t. let x = is_failed-Failed c t in h.0 x.0 x.1) in
+      let f : is_failed value r s n c ≡ false =
+      false_from_ne_true _ (λ t. let x = is_failed-Failed c t in h.0 x.0 x.1) in
       let g : goes_on value r n c ≡ false = IsOver-not_on c h.1 in
       let e : has_end value r n c ≡ false = false_from_ne_true _ (λ t. let x = has_end-IsEnd c t in h.0 x.0 x.1) in
       ap (λ f. decide f (goes_on value r n c) (has_end value r n c) (all_kept value r s n c)) f

@@ -7,14 +7,17 @@ use Rattle.assertions.specs.Written.{one_of, ticks, after, later}
 
 module _ (B : Type 0) (holds : B → ℕ → Bool) where
   -- a range is one of its numbers
-  pub one_of-found : (form : ℕ → Seq B) (first more i j : ℕ) → Matches holds (one_of first more form) i j → (k : ℕ) × (first ≤ k) × (k ≤ first + more) × Matches holds (form k) i j
+  pub one_of-found : (form : ℕ → Seq B) (first more i j : ℕ) → Matches holds (one_of first more form) i j → (k : ℕ)
+      × (first ≤ k) × (k ≤ first + more) × Matches holds (form k) i j
   one_of-found form first zero i j h = (first, omega arith, omega arith, h)
   one_of-found form first (suc more) i j h = elim h [
     | inl here ↦ (first, omega arith, omega arith, here)
-    | inr there ↦ let f = one_of-found form (first + 1) more i j there in (f.0, omega (arith, f.1), omega (arith, f.2), f.3)
+    | inr there ↦ let f =
+        one_of-found form (first + 1) more i j there in (f.0, omega (arith, f.1), omega (arith, f.2), f.3)
   ]
 
-  pub one_of-matches : (form : ℕ → Seq B) (first more i j k : ℕ) → first ≤ k → k ≤ first + more → Matches holds (form k) i j → Matches holds (one_of first more form) i j
+  pub one_of-matches : (form : ℕ → Seq B) (first more i j k : ℕ) → first ≤ k → k ≤ first + more
+      → Matches holds (form k) i j → Matches holds (one_of first more form) i j
   one_of-matches form first zero i j k from within h =
       let e : k ≡ first = omega arith in subst (λ n. Matches holds (form n) i j) e h
   one_of-matches form first (suc more) i j k from within h = elim (cases_eq first k) [
@@ -38,7 +41,8 @@ module _ (B : Type 0) (holds : B → ℕ → Bool) where
   ticks-matches b t n i = (n, omega arith, omega arith, ticks-chain b t n i)
 
   -- r ##n s for n of 1 or more: between the end of r and the beginning of s lie n - 1 ticks
-  pub after-found : (b : B) (r s : Seq B) (n i j : ℕ) → 1 ≤ n → Matches holds (after b r s n) i j → (m : ℕ) × Matches holds r i m × Matches holds s (m + (n - 1)) j
+  pub after-found : (b : B) (r s : Seq B) (n i j : ℕ) → 1 ≤ n → Matches holds (after b r s n) i j → (m : ℕ)
+      × Matches holds r i m × Matches holds s (m + (n - 1)) j
   after-found b r s zero i j some h = absurd (omega arith)
   after-found b r s (suc zero) i j some h =
       let e : h.0 ≡ h.0 + (1 - 1) = omega arith in
@@ -47,7 +51,8 @@ module _ (B : Type 0) (holds : B → ℕ → Bool) where
       let e : h.0 ≡ h.1.0 + (suc (suc n) - 1) = omega (arith, ticks-found b (n + 1) h.1.0 h.0 h.1.2) in
       (h.1.0, h.1.1, subst (λ m. Matches holds s m j) e h.2)
 
-  pub after-matches : (b : B) → ((k : ℕ) → IsTrue (holds b k)) → (r s : Seq B) (n i m j : ℕ) → 1 ≤ n → Matches holds r i m → Matches holds s (m + (n - 1)) j → Matches holds (after b r s n) i j
+  pub after-matches : (b : B) → ((k : ℕ) → IsTrue (holds b k)) → (r s : Seq B) (n i m j : ℕ) → 1 ≤ n
+      → Matches holds r i m → Matches holds s (m + (n - 1)) j → Matches holds (after b r s n) i j
   after-matches b t r s zero i m j some front rest = absurd (omega arith)
   after-matches b t r s (suc zero) i m j some front rest =
       let e : m + (1 - 1) ≡ m = omega arith in
@@ -63,6 +68,7 @@ module _ (B : Type 0) (holds : B → ℕ → Bool) where
       let e : h.0 ≡ i + suc n = omega (arith, ticks-found b (suc n) i h.0 h.1) in
       subst (λ m. Matches holds s m j) e h.2
 
-  pub later-matches : (b : B) → ((k : ℕ) → IsTrue (holds b k)) → (s : Seq B) (n i j : ℕ) → Matches holds s (i + n) j → Matches holds (later b s n) i j
+  pub later-matches : (b : B) → ((k : ℕ) → IsTrue (holds b k)) → (s : Seq B) (n i j : ℕ) → Matches holds s (i + n) j
+      → Matches holds (later b s n) i j
   later-matches b t s zero i j h = let e : i + 0 ≡ i = omega arith in subst (λ m. Matches holds s m j) e h
   later-matches b t s (suc n) i j h = (i + suc n, ticks-matches b t (suc n) i, h)

@@ -2,9 +2,11 @@
 use Rattle.std.proofs.Common.{ℕ, zero, suc, ◌+◌, ◌-◌, ◌*◌, ◌≤◌, max, arith}
 use Rattle.std.proofs.Math.Nat.{mul-le-mul_left}
 use Rattle.assertions.specs.Segments.{Seq, longest}
-use Rattle.assertions.specs.Written.{Written, boolean, delay, lead, repeat, or, and, throughout, weight, one_of, after, later, kernel, IsOrdered}
+use Rattle.assertions.specs.Written.{Written, boolean, delay, lead, repeat, or, and, throughout, weight, one_of, after}
+use Rattle.assertions.specs.Written.{later, kernel, IsOrdered}
 
-one_of_le : (B : Type 0) (first more bound : ℕ) (form : ℕ → Seq B) → ((k : ℕ) → k ≤ first + more → longest (form k) ≤ bound) → longest (one_of first more form) ≤ bound
+one_of_le : (B : Type 0) (first more bound : ℕ) (form : ℕ → Seq B)
+    → ((k : ℕ) → k ≤ first + more → longest (form k) ≤ bound) → longest (one_of first more form) ≤ bound
 one_of_le B first zero bound form h = h first (omega arith)
 one_of_le B first (suc more) bound form h =
     omega (arith, h first (omega arith), one_of_le B (first + 1) more bound form (λ k le. h k (omega arith)))
@@ -25,7 +27,14 @@ pub weight_covers : (B : Type 0) (b : B) (r : Written B) → IsOrdered r → lon
 weight_covers B b (boolean c) h = omega arith
 weight_covers B b (delay r least most s) h =
     one_of_le B least (most - least) (weight r + weight s + most) (after b (kernel b r) (kernel b s))
-    (λ k le. omega (arith, h.0, le, after_le B b (kernel b r) (kernel b s) k, weight_covers B b r h.1, weight_covers B b s h.2))
+    (λ k le. omega (
+      arith,
+      h.0,
+      le,
+      after_le B b (kernel b r) (kernel b s) k,
+      weight_covers B b r h.1,
+      weight_covers B b s h.2,
+    ))
 weight_covers B b (lead least most s) h =
     one_of_le B least (most - least) (weight s + most) (later b (kernel b s))
     (λ k le. omega (arith, h.0, le, later_le B b (kernel b s) k, weight_covers B b s h.1))

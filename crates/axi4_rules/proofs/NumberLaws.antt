@@ -1,5 +1,6 @@
 -- Numbers, digit by digit.
-use Rattle.std.proofs.Common.{◌≡◌, ℕ, ◌+◌, ◌-◌, ◌*◌, ◌<◌, ◌≤◌, min, true, false, List, [], ◌∷◌, length, get_or, drop, Some, None, refl, sym, ap, ◌∙◌, arith}
+use Rattle.std.proofs.Common.{◌≡◌, ℕ, ◌+◌, ◌-◌, ◌*◌, ◌<◌, ◌≤◌, min, true, false, List, [], ◌∷◌, length, get_or, drop}
+use Rattle.std.proofs.Common.{Some, None, refl, sym, ap, ◌∙◌, arith}
 use Rattle.std.specs.Prelude.{◌==◌}
 use Rattle.std.specs.Char.{is_ascii_digit}
 use Rattle.std.specs.List.{list_all}
@@ -21,7 +22,8 @@ decimal_from-cut n (d ∷ ds) =
     ∙ ap (λ m. min 65536 (decimal_from m ds)) (omega arith)
     ∙ decimal_from-cut (10 * n + (d - 48)) ds
 
-pub decimal_from-next : (n : ℕ) (ds : List ℕ) (i d : ℕ) → i < length ds → decimal_from n (drop i ds) ≡ decimal_from (10 * n + (get_or ds i d - 48)) (drop (i + 1) ds)
+pub decimal_from-next : (n : ℕ) (ds : List ℕ) (i d : ℕ) → i < length ds → decimal_from n (drop i ds)
+    ≡ decimal_from (10 * n + (get_or ds i d - 48)) (drop (i + 1) ds)
 unfolding decimal_from
 decimal_from-next n ds i d below = rw (drop-next ds i d below) refl
 
@@ -34,12 +36,14 @@ unfolding number
 not_digits [] h = absurd (true≢false h)
 not_digits (d ∷ ds) h = rw (ne_eqb (length (d ∷ ds)) 0 (λ e. absurd (omega arith)), h) refl
 
-pub is_number : (ds : List ℕ) (n : ℕ) → 0 < length ds → list_all is_ascii_digit ds ≡ true → min 65536 (decimal_from 0 ds) ≡ n → number ds ≡ Some n
+pub is_number : (ds : List ℕ) (n : ℕ) → 0 < length ds → list_all is_ascii_digit ds ≡ true
+    → min 65536 (decimal_from 0 ds) ≡ n → number ds ≡ Some n
 unfolding number
 is_number [] n some all h = absurd (omega arith)
 is_number (d ∷ ds) n some all h = rw (ne_eqb (length (d ∷ ds)) 0 (λ e. absurd (omega arith)), all, h) refl
 
-pub digit_more : (ds : List ℕ) (n i m o : ℕ) → i < length ds → o ≡ get_or ds i 0 - 48 → m ≡ min (10 * n + o) 65536 → min 65536 (decimal_from n (drop i ds)) ≡ min 65536 (decimal_from m (drop (i + 1) ds))
+pub digit_more : (ds : List ℕ) (n i m o : ℕ) → i < length ds → o ≡ get_or ds i 0 - 48 → m ≡ min (10 * n + o) 65536
+    → min 65536 (decimal_from n (drop i ds)) ≡ min 65536 (decimal_from m (drop (i + 1) ds))
 digit_more ds n i m o below ones is =
     ap (min 65536) (decimal_from-next n ds i 0 below ∙ ap (λ k. decimal_from (10 * n + k) (drop (i + 1) ds)) (sym ones))
     ∙ sym (decimal_from-cut (10 * n + o) (drop (i + 1) ds))

@@ -26,8 +26,10 @@ EachIn-none P q h = absurd (omega (arith, bit_at-zero q, h))
 -- where it accepts, A holds.
 abbrev pub Allows : ℕ → ℕ → (ℕ → ℕ) → (ℕ → Type 0) → Type 0 → ℕ → ℕ → BlockInstr → Type 0
 Allows atoms positions cost P A end pc (Unless atom target) =
-    (atom < atoms) × (pc < target) × (target < end) × (pc + 1 < end) × (cost (pc + 1) + 1 ≤ cost pc) × (cost target + 1 ≤ cost pc)
-Allows atoms positions cost P A end pc (Enter q) = (q < positions) × P q × (pc + 1 < end) × (cost (pc + 1) + 1 ≤ cost pc)
+    (atom < atoms) × (pc < target) × (target < end) × (pc + 1 < end) × (cost (pc + 1) + 1 ≤ cost pc)
+    × (cost target + 1 ≤ cost pc)
+Allows atoms positions cost P A end pc (Enter q) =
+    (q < positions) × P q × (pc + 1 < end) × (cost (pc + 1) + 1 ≤ cost pc)
 Allows atoms positions cost P A end pc Accept = A × (pc + 1 < end) × (cost (pc + 1) + 1 ≤ cost pc)
 Allows atoms positions cost P A end pc Stop = 1 ≤ cost pc
 
@@ -39,54 +41,79 @@ pub record Leaves (P : ℕ → Type 0) (A : Type 0) (v : Visit) : Type 0 where
 abbrev pub Within : (ℕ → Type 0) → Type 0 → ℕ → ℕ → Visit → ℕ → Type 0
 Within P A left cost w rest = Leaves P A w × (left ≤ rest + cost)
 
-module _ (block : List BlockInstr) (base positions : ℕ) (atoms : List Bool) (cost : ℕ → ℕ) (P : ℕ → Type 0) (A : Type 0) where
-  Allows-cost : (end pc : ℕ) (i : BlockInstr) → Allows (length atoms) positions cost P A end pc i → 1 ≤ cost pc
-  Allows-cost end pc (Unless atom target) h = omega (arith, h.4)
-  Allows-cost end pc (Enter q) h = omega (arith, h.3)
-  Allows-cost end pc Accept h = omega (arith, h.2)
-  Allows-cost end pc Stop h = h
+module _ (block : List BlockInstr) (base positions : ℕ) (atoms : List Bool) (cost : ℕ → ℕ) (P : ℕ → Type 0) (A : Type 0)
+  where
+    Allows-cost : (end pc : ℕ) (i : BlockInstr) → Allows (length atoms) positions cost P A end pc i → 1 ≤ cost pc
+    Allows-cost end pc (Unless atom target) h = omega (arith, h.4)
+    Allows-cost end pc (Enter q) h = omega (arith, h.3)
+    Allows-cost end pc Accept h = omega (arith, h.2)
+    Allows-cost end pc Stop h = h
 
-  -- going on from another instruction of the block
-  abbrev Goes : ℕ → (ℕ → Visit → Ran Visit) → Type 0
-  Goes left go = (pc : ℕ) (v : Visit) → Leaves P A v → base ≤ pc → pc < base + length block → cost pc ≤ left → Meets (Within P A left (cost pc)) (go pc v)
+    -- going on from another instruction of the block
+    abbrev Goes : ℕ → (ℕ → Visit → Ran Visit) → Type 0
+    Goes left go =
+        (pc : ℕ) (v : Visit) → Leaves P A v → base ≤ pc → pc < base + length block → cost pc ≤ left
+        → Meets (Within P A left (cost pc)) (go pc v)
 
-  go-meets : (left : ℕ) (go : ℕ → Visit → Ran Visit) → Goes left go → (from pc : ℕ) (v : Visit) → Leaves P A v → base ≤ pc → pc < base + length block → cost pc + 1 ≤ cost from → cost from ≤ suc left → Meets (Within P A (suc left) (cost from)) (go pc v)
-  go-meets left go goes from pc v leaves low high less fits =
-      Meets-weaker (Within P A left (cost pc)) (Within P A (suc left) (cost from)) (go pc v) (λ w rest h. (h.0, omega (arith, h.1)))
-      (goes pc v leaves low high (omega arith))
+    go-meets : (left : ℕ) (go : ℕ → Visit → Ran Visit) → Goes left go → (from pc : ℕ) (v : Visit) → Leaves P A v
+        → base ≤ pc → pc < base + length block → cost pc + 1 ≤ cost from → cost from ≤ suc left
+        → Meets (Within P A (suc left) (cost from)) (go pc v)
+    go-meets left go goes from pc v leaves low high less fits =
+        Meets-weaker (Within P A left (cost pc)) (Within P A (suc left) (cost from)) (go pc v)
+        (λ w rest h. (h.0, omega (arith, h.1)))
+        (goes pc v leaves low high (omega arith))
 
-  branch-meets : (left : ℕ) (go : ℕ → Visit → Ran Visit) → Goes left go → (pc target : ℕ) (v : Visit) (b : Bool) → Leaves P A v → base ≤ pc → pc < target → target < base + length block → pc + 1 < base + length block → cost (pc + 1) + 1 ≤ cost pc → cost target + 1 ≤ cost pc → cost pc ≤ suc left → Meets (Within P A (suc left) (cost pc)) (branch (Some b) (pc + 1) target v go)
-  branch-meets left go goes pc target v true leaves low up high next less_next less_target fits =
-      go-meets left go goes pc (pc + 1) v leaves (omega arith) next less_next fits
-  branch-meets left go goes pc target v false leaves low up high next less_next less_target fits =
-      go-meets left go goes pc target v leaves (omega arith) high less_target fits
+    branch-meets : (left : ℕ) (go : ℕ → Visit → Ran Visit) → Goes left go → (pc target : ℕ) (v : Visit) (b : Bool)
+        → Leaves P A v → base ≤ pc → pc < target → target < base + length block → pc + 1 < base + length block
+        → cost (pc + 1) + 1 ≤ cost pc → cost target + 1 ≤ cost pc → cost pc ≤ suc left
+        → Meets (Within P A (suc left) (cost pc)) (branch (Some b) (pc + 1) target v go)
+    branch-meets left go goes pc target v true leaves low up high next less_next less_target fits =
+        go-meets left go goes pc (pc + 1) v leaves (omega arith) next less_next fits
+    branch-meets left go goes pc target v false leaves low up high next less_next less_target fits =
+        go-meets left go goes pc target v leaves (omega arith) high less_target fits
 
-  obey-meets : (left : ℕ) (go : ℕ → Visit → Ran Visit) → Goes left go → (pc : ℕ) (v : Visit) (i : BlockInstr) → Leaves P A v → base ≤ pc → Allows (length atoms) positions cost P A (base + length block) pc i → cost pc ≤ suc left → Meets (Within P A (suc left) (cost pc)) (obey positions atoms pc v go left (Some i))
-  obey-meets left go goes pc v (Unless atom target) leaves low allows fits =
-      subst (λ o. Meets (Within P A (suc left) (cost pc)) (branch o (pc + 1) target v go)) (sym (slice_get-get_or atoms atom true allows.0))
-      (branch-meets left go goes pc target v _ leaves low allows.1 allows.2 allows.3 allows.4 allows.5 fits)
-  obey-meets left go goes pc v (Enter q) leaves low allows fits =
-      rw (lt-ltb q positions allows.0)
-      (go-meets left go goes pc (pc + 1) (record { entered = bit_or v.entered (2 ^ q); accepted = v.accepted }) (record { entered = EachIn-or P v.entered q leaves.entered allows.1; accepted = leaves.accepted }) (omega arith) allows.2 allows.3 fits)
-  obey-meets left go goes pc v Accept leaves low allows fits =
-      go-meets left go goes pc (pc + 1) (record { entered = v.entered; accepted = true }) (record { entered = leaves.entered; accepted = λ h. allows.0 }) (omega arith) allows.1 allows.2 fits
-  obey-meets left go goes pc v Stop leaves low allows fits = (leaves, omega (arith, allows))
+    obey-meets : (left : ℕ) (go : ℕ → Visit → Ran Visit) → Goes left go → (pc : ℕ) (v : Visit) (i : BlockInstr)
+        → Leaves P A v → base ≤ pc → Allows (length atoms) positions cost P A (base + length block) pc i
+        → cost pc ≤ suc left → Meets (Within P A (suc left) (cost pc)) (obey positions atoms pc v go left (Some i))
+    obey-meets left go goes pc v (Unless atom target) leaves low allows fits =
+        subst (λ o. Meets (Within P A (suc left) (cost pc)) (branch o (pc + 1) target v go))
+        (sym (slice_get-get_or atoms atom true allows.0))
+        (branch-meets left go goes pc target v _ leaves low allows.1 allows.2 allows.3 allows.4 allows.5 fits)
+    obey-meets left go goes pc v (Enter q) leaves low allows fits =
+        rw (lt-ltb q positions allows.0)
+        (go-meets left go goes pc (pc + 1) (record { entered = bit_or v.entered (2 ^ q); accepted = v.accepted })
+        (record { entered = EachIn-or P v.entered q leaves.entered allows.1; accepted = leaves.accepted })
+        (omega arith) allows.2 allows.3 fits)
+    obey-meets left go goes pc v Accept leaves low allows fits =
+        go-meets left go goes pc (pc + 1) (record { entered = v.entered; accepted = true })
+        (record { entered = leaves.entered; accepted = λ h. allows.0 }) (omega arith) allows.1 allows.2 fits
+    obey-meets left go goes pc v Stop leaves low allows fits = (leaves, omega (arith, allows))
 
-  -- the instruction at a place of the block
-  fetched : (pc : ℕ) → base ≤ pc → pc < base + length block → (i : BlockInstr) × (slice_get block (pc - base) ≡ Some i) × (fetch block base pc ≡ Some i)
-  fetched pc low high =
-      let e = slice_get-get_or block (pc - base) Stop (omega arith) in
-      (_, e, rw (le-ltb pc base low) e)
+    -- the instruction at a place of the block
+    fetched : (pc : ℕ) → base ≤ pc → pc < base + length block → (i : BlockInstr)
+        × (slice_get block (pc - base) ≡ Some i)
+        × (fetch block base pc ≡ Some i)
+    fetched pc low high =
+        let e = slice_get-get_or block (pc - base) Stop (omega arith) in
+        (_, e, rw (le-ltb pc base low) e)
 
-  pub run-meets : ((k : ℕ) (i : BlockInstr) → slice_get block k ≡ Some i → Allows (length atoms) positions cost P A (base + length block) (base + k) i) → (left pc : ℕ) (v : Visit) → Leaves P A v → base ≤ pc → pc < base + length block → cost pc ≤ left → Meets (Within P A left (cost pc)) (run block base positions atoms left pc v)
-  run-meets allows zero pc v leaves low high fits =
-      let f = fetched pc low high in
-      let same : base + (pc - base) ≡ pc = omega arith in
-      let a = subst (λ n. Allows (length atoms) positions cost P A (base + length block) n f.0) same (allows (pc - base) f.0 f.1) in
-      absurd (omega (arith, Allows-cost (base + length block) pc f.0 a))
-  run-meets allows (suc left) pc v leaves low high fits =
-      let f = fetched pc low high in
-      let same : base + (pc - base) ≡ pc = omega arith in
-      let a = subst (λ n. Allows (length atoms) positions cost P A (base + length block) n f.0) same (allows (pc - base) f.0 f.1) in
-      subst (λ o. Meets (Within P A (suc left) (cost pc)) (obey positions atoms pc v (run block base positions atoms left) left o)) (sym f.2)
-      (obey-meets left (run block base positions atoms left) (run-meets allows left) pc v f.0 leaves low a fits)
+    pub run-meets : ((k : ℕ) (i : BlockInstr) → slice_get block k ≡ Some i
+        → Allows (length atoms) positions cost P A (base + length block) (base + k) i) → (left pc : ℕ) (v : Visit)
+        → Leaves P A v → base ≤ pc → pc < base + length block → cost pc ≤ left
+        → Meets (Within P A left (cost pc)) (run block base positions atoms left pc v)
+    run-meets allows zero pc v leaves low high fits =
+        let f = fetched pc low high in
+        let same : base + (pc - base) ≡ pc = omega arith in
+        let a =
+        subst (λ n. Allows (length atoms) positions cost P A (base + length block) n f.0) same
+        (allows (pc - base) f.0 f.1) in
+        absurd (omega (arith, Allows-cost (base + length block) pc f.0 a))
+    run-meets allows (suc left) pc v leaves low high fits =
+        let f = fetched pc low high in
+        let same : base + (pc - base) ≡ pc = omega arith in
+        let a =
+        subst (λ n. Allows (length atoms) positions cost P A (base + length block) n f.0) same
+        (allows (pc - base) f.0 f.1) in
+        subst (λ o. Meets (Within P A (suc left) (cost pc))
+        (obey positions atoms pc v (run block base positions atoms left) left o)) (sym f.2)
+        (obey-meets left (run block base positions atoms left) (run-meets allows left) pc v f.0 leaves low a fits)

@@ -16,7 +16,8 @@ IsFine atoms positions p end pc Stop = Unit {0}
 
 -- the block of position p, which begins at base
 pub record IsBlock (atoms positions p base : ℕ) (block : List BlockInstr) : Type 0 where
-  pub each : (k : ℕ) (i : BlockInstr) → slice_get block k ≡ Some i → IsFine atoms positions p (base + length block) (base + k) i
+  pub each : (k : ℕ) (i : BlockInstr) → slice_get block k ≡ Some i
+      → IsFine atoms positions p (base + length block) (base + k) i
   pub stops : slice_get block (length block - 1) ≡ Some Stop
 
 -- the blocks from position p on

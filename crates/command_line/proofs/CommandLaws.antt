@@ -1,5 +1,6 @@
 -- The subcommand that words name.
-use Rattle.std.proofs.Common.{◌≡◌, ◌∙◌, refl, sym, ap, ap₂, Bool, true, false, not, List, Option, Some, None, option_map}
+use Rattle.std.proofs.Common.{◌≡◌, ◌∙◌, refl, sym, ap, ap₂, Bool, true, false, not, List, Option, Some, None}
+use Rattle.std.proofs.Common.{option_map}
 use Rattle.std.specs.Prelude.{unwrap_or}
 use Rattle.std.proofs.lemmas.Option.{none-some}
 use Rattle.clap.proofs.WalkLemmas.{both}
@@ -21,7 +22,8 @@ one_more old sub new a s adds before is plain =
     adds.shape (not-is _ (both _ _ (both _ _ (both _ _ sub_plain).1).1).0)
     ∙ ap₂ with_subcommand before (ap (λ (x : App). x.top) is)
 
-map_map : {A B C : Type 0} (f : A → B) (g : B → C) (o : Option A) → option_map g (option_map f o) ≡ option_map (λ a. g (f a)) o
+map_map : {A B C : Type 0} (f : A → B) (g : B → C) (o : Option A) → option_map g (option_map f o)
+    ≡ option_map (λ a. g (f a)) o
 map_map f g None = refl
 map_map f g (Some a) = refl
 
@@ -29,11 +31,14 @@ pair_of : (o : Option (Text × List Row)) (n : Text) (rs : List Row)
     → option_map (λ p. p.0) o ≡ Some n → option_map (λ p. p.1) o ≡ Some rs → o ≡ Some (n, rs)
 pair_of None n rs e f = absurd (none-some _ e)
 pair_of (Some p) n rs e f =
-    ap₂ (λ (a : Text) (b : List Row). Some (a, b)) (ap (λ (o : Option Text). unwrap_or o n) e) (ap (λ (o : Option (List Row)). unwrap_or o rs) f)
+    ap₂ (λ (a : Text) (b : List Row). Some (a, b)) (ap (λ (o : Option Text). unwrap_or o n) e)
+    (ap (λ (o : Option (List Row)). unwrap_or o rs) f)
 
 -- the words ask for the request that the rows of the entered command give
-pub asked : (a : App) (words : List Text) (m : ArgMatches) (n : Text) (rs : List Row) → HasMatchesOf a words m → a ≡ svamon_app
-    → subcommand_name_of m ≡ Some n → option_map (λ p. p.1) (subcommand_rows_of m) ≡ Some rs → (r : Request) → IsRequest n rs r → IsAsked words r
+pub asked : (a : App) (words : List Text) (m : ArgMatches) (n : Text) (rs : List Row) → HasMatchesOf a words m
+    → a ≡ svamon_app
+    → subcommand_name_of m ≡ Some n → option_map (λ p. p.1) (subcommand_rows_of m) ≡ Some rs → (r : Request)
+    → IsRequest n rs r → IsAsked words r
 asked a words m n rs has is name rows r said = record {
   rows = rs;
   named =

@@ -9,4 +9,5 @@ pub window_read : (o : Option Text) (rows : List Row) (size : ℕ) → one_of (c
     → (o ≡ None → Some size ≡ None) → ((t : Text) → o ≡ Some t → ParsesUnsigned {E = Unit {0}} 64 10 t (Ok size))
     → 1 ≤ size → size ≤ 65536 → IsWindow rows size
 window_read None rows size e none some least most = absurd (none-some _ (sym (none refl)))
-window_read (Some t) rows size e none some least most = record { text = t; given = e; digits = some t refl; least = least; most = most }
+window_read (Some t) rows size e none some least most =
+    record { text = t; given = e; digits = some t refl; least = least; most = most }

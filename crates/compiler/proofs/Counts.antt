@@ -25,7 +25,8 @@ use Rattle.compiler.proofs.Places.{places-long}
 use Rattle.compiler.proofs.Known as known
 use Rattle.compiler.proofs.Formed as made
 
-pub marked-count : (marks : List Bool) (places : List ℕ) → places ≡ places_from 0 marks → count_by is_marked marks ≡ length places
+pub marked-count : (marks : List Bool) (places : List ℕ) → places ≡ places_from 0 marks → count_by is_marked marks
+    ≡ length places
 marked-count marks places is = sym (places-long 0 marks) ∙ sym (ap length is)
 
 -- the slots by their places
@@ -37,9 +38,11 @@ slots-same t signals counters s c = fun_ext (λ o. fun_ext (λ p. at o p))
     at Signal p = ap (λ xs. unwrap_or (slice_get xs p) 0) s
     at Counter p = ap (λ xs. unwrap_or (slice_get xs p) 0) c
 
-module _ (suite : Suite) (a : Assertion) (fit : IsFit suite a) (signals counters : List Bool) (reading : IsReading suite a signals counters)
+module _ (suite : Suite) (a : Assertion) (fit : IsFit suite a) (signals counters : List Bool)
+    (reading : IsReading suite a signals counters)
     (bs : List Expr) (at_s : List ℕ) (cs : List Counting) (ps : List ℕ)
-    (e1 : bs ≡ suite.booleans.items) (e2 : at_s ≡ a.booleans.items) (e3 : cs ≡ suite.counters.items) (e4 : ps ≡ places_from 0 counters) where
+    (e1 : bs ≡ suite.booleans.items) (e2 : at_s ≡ a.booleans.items) (e3 : cs ≡ suite.counters.items)
+    (e4 : ps ≡ places_from 0 counters) where
   terms-same : terms_at bs at_s ≡ boolean_terms suite a
   terms-same = ap (λ b. terms_at b at_s) e1 ∙ ap (λ x. terms_at suite.booleans.items x) e2
 
@@ -55,7 +58,8 @@ module _ (suite : Suite) (a : Assertion) (fit : IsFit suite a) (signals counters
       ap (λ t. sample_reach t (held_at cs ps)) terms ∙ ap (λ h. sample_reach es h) held-same in
       omega (arith, same, bounded.reach)
 
-  pub code-same : (at : Slots) → at ≡ slots_over signals counters → sample_code at (terms_at bs at_s) (held_at cs ps) ≡ code_over suite a signals counters
+  pub code-same : (at : Slots) → at ≡ slots_over signals counters → sample_code at (terms_at bs at_s) (held_at cs ps)
+      ≡ code_over suite a signals counters
   code-same at is =
       ap (λ x. sample_code x (terms_at bs at_s) (held_at cs ps)) is
       ∙ ap (λ t. sample_code (slots_over signals counters) t (held_at cs ps)) terms-same

@@ -9,14 +9,16 @@ use Rattle.compiler.specs.Readings.{slot_count}
 use Rattle.compiler.specs.Faults.{StandsOver, rank}
 
 module _ (suite : Suite) (a : Assertion) (signals counters : List Bool) where
-  pub slots-first : length a.booleans.items ≤ 127 → (other : CompileFault) → rank other < 2 → StandsOver suite a signals counters other → ⊥
+  pub slots-first : length a.booleans.items ≤ 127 → (other : CompileFault) → rank other < 2
+      → StandsOver suite a signals counters other → ⊥
   slots-first few TooManyAtoms lt h = omega (arith, few, h)
   slots-first few TooManySlots lt h = omega (arith, lt)
   slots-first few TextTooLong lt h = omega (arith, lt)
   slots-first few CodeTooLong lt h = omega (arith, lt)
   slots-first few Memory lt h = omega (arith, lt)
 
-  pub texts-first : length a.booleans.items ≤ 127 → slot_count signals counters ≤ 256 → (other : CompileFault) → rank other < 3 →
+  pub texts-first : length a.booleans.items ≤ 127 → slot_count signals counters ≤ 256 → (other : CompileFault)
+      → rank other < 3 →
       StandsOver suite a signals counters other → ⊥
   texts-first few slots TooManyAtoms lt h = omega (arith, few, h)
   texts-first few slots TooManySlots lt h = omega (arith, slots, h)

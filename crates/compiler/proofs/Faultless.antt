@@ -14,10 +14,13 @@ use Rattle.compiler.specs.Parts.{AreParts}
 module _ (suite : Suite) (a : Assertion) (signals counters : List Bool) (p : ProgramData) where
   short : AreParts suite a signals counters p → HasLongCode suite a signals counters → ⊥
   short parts (inl long) = omega (arith, long, parts.short_sample, ap length parts.sample)
-  short parts (inr (inl long)) = omega (arith, long, parts.short_antecedent, ap (λ (s : SectionData). size_of s.blocks) parts.antecedent)
-  short parts (inr (inr long)) = omega (arith, long, parts.short_consequent, ap (λ (s : SectionData). size_of s.blocks) parts.consequent)
+  short parts (inr (inl long)) =
+      omega (arith, long, parts.short_antecedent, ap (λ (s : SectionData). size_of s.blocks) parts.antecedent)
+  short parts (inr (inr long)) =
+      omega (arith, long, parts.short_consequent, ap (λ (s : SectionData). size_of s.blocks) parts.consequent)
 
-  none : AreCounted suite a signals counters → AreParts suite a signals counters p → (fault : CompileFault) → rank fault < rank Memory →
+  none : AreCounted suite a signals counters → AreParts suite a signals counters p → (fault : CompileFault)
+      → rank fault < rank Memory →
       StandsOver suite a signals counters fault → ⊥
   none counted parts TooManyAtoms lt h = omega (arith, counted.atoms, h)
   none counted parts TooManySlots lt h = omega (arith, counted.slots, h)
@@ -25,5 +28,7 @@ module _ (suite : Suite) (a : Assertion) (signals counters : List Bool) (p : Pro
   none counted parts CodeTooLong lt h = short parts h
   none counted parts Memory lt h = omega (arith, lt)
 
-  pub faultless : IsReading suite a signals counters → AreCounted suite a signals counters → AreParts suite a signals counters p → IsFaultless suite a
-  faultless reading counted parts = record { signals = signals; counters = counters; reading = reading; none = none counted parts }
+  pub faultless : IsReading suite a signals counters → AreCounted suite a signals counters
+      → AreParts suite a signals counters p → IsFaultless suite a
+  faultless reading counted parts =
+      record { signals = signals; counters = counters; reading = reading; none = none counted parts }

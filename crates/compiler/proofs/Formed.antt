@@ -23,7 +23,8 @@ use Rattle.bytecode.specs.Instructions.{frame_of, sample_flow, block_flow}
 use Rattle.inference.specs.Sections.{IsSection, size_of}
 use Rattle.inference.specs.Typing.{longest_list}
 use Rattle.verifier.specs.Limits.{path_of, paths_from, longest_path, path_sum}
-use Rattle.verifier.specs.Programs.{IsAtom, IsWellFormed, HasRoom, IsAccepted, least_limits, least_attempts, least_obligations, least_stack}
+use Rattle.verifier.specs.Programs.{IsAtom, IsWellFormed, HasRoom, IsAccepted, least_limits, least_attempts}
+use Rattle.verifier.specs.Programs.{least_obligations, least_stack}
 use Rattle.verifier.proofs.ProgramLaws.{longest_is_least}
 use Rattle.verifier.proofs.ShortLaws.{accepted}
 use Rattle.visits.proofs.LifeLaws.{start_life-most}
@@ -47,7 +48,8 @@ use Rattle.compiler.proofs.Places.{places-long, all-held, held-widths}
 use Rattle.compiler.proofs.Known as known
 
 -- A longest path is no longer than the code.
-path-short : (pc : ℕ) (flow : Flow) (later : List ℕ) (n : ℕ) → ((j : ℕ) → slice_index later j ≤ n) → path_of pc flow later ≤ 1 + n
+path-short : (pc : ℕ) (flow : Flow) (later : List ℕ) (n : ℕ) → ((j : ℕ) → slice_index later j ≤ n)
+    → path_of pc flow later ≤ 1 + n
 path-short pc Stops later n each = omega arith
 path-short pc GoesOn later n each = omega (arith, each 0)
 path-short pc (Jumps target) later n each = omega (arith, each (target - (pc + 1)))
@@ -70,7 +72,8 @@ sum-short base (b ∷ bs) =
     omega (arith, here, long, sum-short (base + length b) bs)
 
 -- lives are no longer than the positions are many
-budget-modest : (path attempts obligations sum_a sum_c : ℕ) → path ≤ 4096 → attempts ≤ 1024 → obligations ≤ 1024 → sum_a ≤ 4096 → sum_c ≤ 4096 →
+budget-modest : (path attempts obligations sum_a sum_c : ℕ) → path ≤ 4096 → attempts ≤ 1024 → obligations ≤ 1024
+    → sum_a ≤ 4096 → sum_c ≤ 4096 →
     path + attempts * (2 + sum_a) + obligations * (1 + sum_c) ≤ 16777216
 budget-modest path attempts obligations sum_a sum_c p a o x y =
     let first : attempts * (2 + sum_a) ≤ 1024 * (2 + sum_a) = mul-le-mul_right (2 + sum_a) a in
@@ -88,7 +91,8 @@ there-listed n (Listed i) h = h
 there-same : (n : ℕ) (b c : Boolean) → IsListed n c → c ≡ b → IsThere n (atom_of b)
 there-same n b c h is = subst (λ d. IsThere n (atom_of d)) is (there-listed n c h)
 
-occurs-there : (n : ℕ) (w : Written Boolean) (b : Boolean) → EachBoolean (IsListed n) w → Occurs One b w → IsThere n (atom_of b)
+occurs-there : (n : ℕ) (w : Written Boolean) (b : Boolean) → EachBoolean (IsListed n) w → Occurs One b w
+    → IsThere n (atom_of b)
 occurs-there n (boolean c) b h o = there-same n b c h o
 occurs-there n (delay r least most s) b h o =
     elim o [
@@ -107,7 +111,8 @@ disabling-there n None h = tt
 disabling-there n (Some One) h = absurd h
 disabling-there n (Some (Listed i)) h = h
 
-module _ (suite : Suite) (a : Assertion) (fit : IsFit suite a) (signals counters : List Bool) (reading : IsReading suite a signals counters) where
+module _ (suite : Suite) (a : Assertion) (fit : IsFit suite a) (signals counters : List Bool)
+    (reading : IsReading suite a signals counters) where
   abbrev es : List Term
   es = map term_of (known.found suite a fit signals counters reading).booleans
 
@@ -122,7 +127,9 @@ module _ (suite : Suite) (a : Assertion) (fit : IsFit suite a) (signals counters
         name = parts.name;
         clock = parts.clock;
         layout = known.layout suite a fit signals counters reading;
-        slots = subst (AllZip (IsSlotOf suite) (places_from 0 signals)) (sym parts.signals_are) (known.slots suite a fit signals counters reading);
+        slots =
+            subst (AllZip (IsSlotOf suite) (places_from 0 signals)) (sym parts.signals_are)
+            (known.slots suite a fit signals counters reading);
         held = all-held suite.counters.items (places_from 0 counters) below;
         widths = parts.counters_are ∙ held-widths suite.counters.items (places_from 0 counters) below;
         booleans = found.booleans;
@@ -149,21 +156,27 @@ module _ (suite : Suite) (a : Assertion) (fit : IsFit suite a) (signals counters
       (all-more (IsKnown suite) (λ e. depth e ≤ 64) (program_terms es hs) (λ e k. k.shallow) all)
       (all-more (IsKnown suite) (Each IsShortPast) (program_terms es hs) (λ e k. k.near) all)
 
-  pub frame-of : (p : ProgramData) → AreParts suite a signals counters p → IsFrame (frame_of p) (slots_over signals counters) es hs
+  pub frame-of : (p : ProgramData) → AreParts suite a signals counters p
+      → IsFrame (frame_of p) (slots_over signals counters) es hs
   frame-of p parts = frames.frame suite a p (program-of p parts)
 
-  typed-of : (p : ProgramData) → AreParts suite a signals counters p → IsTypedWithin (frame_of p) p.sample (sample_need es hs) (sample_reach es hs)
+  typed-of : (p : ProgramData) → AreParts suite a signals counters p
+      → IsTypedWithin (frame_of p) p.sample (sample_need es hs) (sample_reach es hs)
   typed-of p parts =
-      subst (λ code. IsTypedWithin (frame_of p) code (sample_need es hs) (sample_reach es hs)) (sym (program-of p parts).sample)
+      subst (λ code. IsTypedWithin (frame_of p) code (sample_need es hs) (sample_reach es hs))
+      (sym (program-of p parts).sample)
       (samples-are-typed (frame_of p) (slots_over signals counters) es hs (frame-of p parts))
 
-  module _ (p : ProgramData) (parts : AreParts suite a signals counters p) (counted : AreCounted suite a signals counters) where
-    section-of : (number : ℕ) (s : SectionData) (w : Written Boolean) → s ≡ section_for atom_of One w → EachBoolean (IsListed (length a.booleans.items)) w →
+  module _ (p : ProgramData) (parts : AreParts suite a signals counters p)
+      (counted : AreCounted suite a signals counters) where
+    section-of : (number : ℕ) (s : SectionData) (w : Written Boolean) → s ≡ section_for atom_of One w
+        → EachBoolean (IsListed (length a.booleans.items)) w →
         IsSection number p.header.atoms s
     section-of number s w is listed =
         subst (λ n. IsSection number n s) (sym parts.atoms)
         (subst (λ x. IsSection number (length a.booleans.items) x) (sym is)
-        (law-section_is_well_formed number (length a.booleans.items) atom_of One w (λ b o. occurs-there (length a.booleans.items) w b listed o)))
+        (law-section_is_well_formed number (length a.booleans.items) atom_of One w
+        (λ b o. occurs-there (length a.booleans.items) w b listed o)))
 
     pub formed : IsWellFormed p
     formed =
@@ -171,7 +184,8 @@ module _ (suite : Suite) (a : Assertion) (fit : IsFit suite a) (signals counters
         record {
           disable =
               subst (λ o. IsAtom o p.header.atoms) (sym parts.disable)
-              (subst (λ n. IsAtom (disabling_atom a.disabling) n) (sym parts.atoms) (disabling-there (length a.booleans.items) a.disabling fit.placed.disabling));
+              (subst (λ n. IsAtom (disabling_atom a.disabling) n) (sym parts.atoms)
+              (disabling-there (length a.booleans.items) a.disabling fit.placed.disabling));
           table = typed.table;
           sample = typed.typed;
           short = typed.short (omega (arith, bounded.need));
@@ -179,7 +193,8 @@ module _ (suite : Suite) (a : Assertion) (fit : IsFit suite a) (signals counters
           consequent = section-of 3 p.consequent (written_form a.consequent) parts.consequent fit.placed.consequent;
         }
 
-    few-blocks : (s : SectionData) (w : Written Boolean) → s ≡ section_for atom_of One w → IsOrdered w → weight w ≤ 127 → length s.blocks ≤ 127
+    few-blocks : (s : SectionData) (w : Written Boolean) → s ≡ section_for atom_of One w → IsOrdered w → weight w ≤ 127
+        → length s.blocks ≤ 127
     few-blocks s w is ordered bound =
         let long : length s.blocks ≡ length (section_for atom_of One w).blocks = ap (λ x. length (x.blocks)) is in
         omega (arith, long, law-section_is_small atom_of One w ordered, bound)
@@ -187,11 +202,14 @@ module _ (suite : Suite) (a : Assertion) (fit : IsFit suite a) (signals counters
     few-slots : length (frame_of p).slots ≤ 256
     few-slots =
         let first : length (map (λ s. s.width) p.signals ++ p.counters) ≡ length p.signals + length p.counters =
-        length-append (map (λ s. s.width) p.signals) p.counters ∙ ap (λ n. n + length p.counters) (length-map p.signals (λ s. s.width)) in
+        length-append (map (λ s. s.width) p.signals) p.counters
+        ∙ ap (λ n. n + length p.counters) (length-map p.signals (λ s. s.width)) in
         let long_s : length p.signals ≡ count_by is_marked signals =
-        ap length parts.signals_are ∙ length-map (places_from 0 signals) (slot_at suite.names.items) ∙ places-long 0 signals in
+        ap length parts.signals_are ∙ length-map (places_from 0 signals) (slot_at suite.names.items)
+        ∙ places-long 0 signals in
         let long_c : length p.counters ≡ count_by is_marked counters =
-        ap length parts.counters_are ∙ length-map (places_from 0 counters) (width_at suite.counters.items) ∙ places-long 0 counters in
+        ap length parts.counters_are ∙ length-map (places_from 0 counters) (width_at suite.counters.items)
+        ∙ places-long 0 counters in
         omega (arith, first, long_s, long_c, counted.slots)
 
     pub roomy : HasRoom p
@@ -206,9 +224,13 @@ module _ (suite : Suite) (a : Assertion) (fit : IsFit suite a) (signals counters
           atoms = omega (arith, parts.atoms, counted.atoms);
           slots = few-slots;
           sample = parts.short_sample;
-          antecedent_positions = few-blocks p.antecedent (written_form a.antecedent) parts.antecedent a.antecedent_ordered a.antecedent_bound;
+          antecedent_positions =
+              few-blocks p.antecedent (written_form a.antecedent) parts.antecedent a.antecedent_ordered
+              a.antecedent_bound;
           antecedent_code = parts.short_antecedent;
-          consequent_positions = few-blocks p.consequent (written_form a.consequent) parts.consequent a.consequent_ordered a.consequent_bound;
+          consequent_positions =
+              few-blocks p.consequent (written_form a.consequent) parts.consequent a.consequent_ordered
+              a.consequent_bound;
           consequent_code = parts.short_consequent;
         }
 
@@ -272,7 +294,8 @@ accepted-least p formed room modest =
     })
 
 -- limits change nothing of what a program is of
-pub declares : (suite : Suite) (a : Assertion) (p : ProgramData) (l : Limits) → IsProgramOf suite a p → IsProgramOf suite a (with_limits p l)
+pub declares : (suite : Suite) (a : Assertion) (p : ProgramData) (l : Limits) → IsProgramOf suite a p
+    → IsProgramOf suite a (with_limits p l)
 declares suite a p l of = record {
   name = of.name;
   clock = of.clock;

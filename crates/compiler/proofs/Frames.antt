@@ -4,7 +4,8 @@ use Rattle.std.proofs.lemmas.List.{length-map}
 use Rattle.expressions.specs.declared.name.Origin.{Origin}
 use Rattle.expressions.specs.declared.name.Origin.TheVariants.{Signal, Counter}
 use Rattle.expressions.specs.declared.name.Name.{Name}
-use Rattle.expressions.specs.Terms.{Term, constant, named, slice, group, concat, inverse, reduce, combine, shift, compare, connect, choose, past, change}
+use Rattle.expressions.specs.Terms.{Term, constant, named, slice, group, concat, inverse, reduce, combine, shift}
+use Rattle.expressions.specs.Terms.{compare, connect, choose, past, change}
 use Rattle.expressions.specs.Expressions.{term_of}
 use Rattle.assertions.specs.declared.signal.Signal.{Signal as Watched}
 use Rattle.assertions.specs.declared.assertion.Assertion.{Assertion}
@@ -30,7 +31,8 @@ each-more P Q go (combine op a b) h = (go (combine op a b) h.0, each-more P Q go
 each-more P Q go (shift op a b) h = (go (shift op a b) h.0, each-more P Q go a h.1, each-more P Q go b h.2)
 each-more P Q go (compare op a b) h = (go (compare op a b) h.0, each-more P Q go a h.1, each-more P Q go b h.2)
 each-more P Q go (connect op a b) h = (go (connect op a b) h.0, each-more P Q go a h.1, each-more P Q go b h.2)
-each-more P Q go (choose c a b) h = (go (choose c a b) h.0, each-more P Q go c h.1, each-more P Q go a h.2, each-more P Q go b h.3)
+each-more P Q go (choose c a b) h =
+    (go (choose c a b) h.0, each-more P Q go c h.1, each-more P Q go a h.2, each-more P Q go b h.3)
 each-more P Q go (past e ticks) h = (go (past e ticks) h.0, each-more P Q go e h.1)
 each-more P Q go (change op e) h = (go (change op e) h.0, each-more P Q go e h.1)
 
@@ -58,7 +60,8 @@ module _ (suite : Suite) (a : Assertion) (p : ProgramData) (of : IsProgramOf sui
   signals-long : length p.signals ≡ length of.layout.signals
   signals-long = zip-long (IsSlotOf suite) of.layout.signals p.signals of.slots
 
-  placed-at : (o : Origin) (place width : ℕ) → HoldsAt suite of.layout o place width → slice_get (frame_of p).slots (of.at o place) ≡ Some width
+  placed-at : (o : Origin) (place width : ℕ) → HoldsAt suite of.layout o place width
+      → slice_get (frame_of p).slots (of.at o place) ≡ Some width
   placed-at Signal place width h =
       let found = zip-at (IsSlotOf suite) of.layout.signals p.signals of.slots h.slot place h.held in
       let same = some-one found.2.signal h.signal (sym found.2.is ∙ h.is) in
@@ -70,22 +73,31 @@ module _ (suite : Suite) (a : Assertion) (p : ProgramData) (of : IsProgramOf sui
       ∙ ap (λ s. slice_get (frame_of p).slots s) (of.laid.counters h.slot h.counter h.held)
       ∙ ap (λ n. slice_get (frame_of p).slots (1 + (n + h.slot))) (sym signals-long)
       ∙ ap (λ ws. slice_get (1 ∷ (widths ++ ws)) (1 + (length p.signals + h.slot))) of.widths
-      ∙ counter-slot (λ (g : Held). g.counter.width) p.signals (λ (s : SlotData). s.width) of.layout.counters h.slot h.counter h.held
+      ∙ counter-slot (λ (g : Held). g.counter.width) p.signals (λ (s : SlotData). s.width) of.layout.counters h.slot
+      h.counter h.held
       ∙ ap (λ w. Some w) h.wide
 
   pub frame : IsFrame (frame_of p) of.at (map term_of of.booleans) of.layout.counters
   frame = record {
     one = refl;
-    slots = all-more (Each (IsSampled suite of.layout)) (Each (HasSlot (frame_of p) of.at)) (program_terms (map term_of of.booleans) of.layout.counters)
+    slots =
+        all-more (Each (IsSampled suite of.layout)) (Each (HasSlot (frame_of p) of.at))
+        (program_terms (map term_of of.booleans) of.layout.counters)
         (each-more (IsSampled suite of.layout) (HasSlot (frame_of p) of.at) (λ e s.
-        of-name-more (HoldsName suite of.layout) (λ name. slice_get (frame_of p).slots (slot_of of.at name) ≡ Some name.width)
+        of-name-more (HoldsName suite of.layout) (λ name. slice_get (frame_of p).slots (slot_of of.at name)
+        ≡ Some name.width)
         (λ name h. placed-at name.origin name.place name.width h) e s.name))
         of.sampled;
-    narrow = all-more (Each (IsSampled suite of.layout)) (Each IsNarrow) (program_terms (map term_of of.booleans) of.layout.counters)
+    narrow =
+        all-more (Each (IsSampled suite of.layout)) (Each IsNarrow)
+        (program_terms (map term_of of.booleans) of.layout.counters)
         (each-more (IsSampled suite of.layout) IsNarrow (λ e s. s.narrow))
         of.sampled;
-    held = all-by-places (λ (h : Held). slice_get (frame_of p).slots (held_slot of.at h) ≡ Some h.counter.width) of.layout.counters (λ i h is.
-        placed-at Counter h.place h.counter.width (record { slot = i; counter = h; held = is; is = refl; wide = refl }));
+    held =
+        all-by-places (λ (h : Held). slice_get (frame_of p).slots (held_slot of.at h) ≡ Some h.counter.width)
+        of.layout.counters (λ i h is.
+        placed-at Counter h.place h.counter.width
+        (record { slot = i; counter = h; held = is; is = refl; wide = refl }));
     atoms = of.atoms ∙ sym (length-map of.booleans term_of);
     counters = of.widths;
   }

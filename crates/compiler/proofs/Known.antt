@@ -26,7 +26,8 @@ use Rattle.compiler.specs.Conditions.{IsAt, IsNamed, IsKnown, IsKnownAt, CountsB
 use Rattle.compiler.specs.Readings.{IsReading, counters_read, first_counter, slots_over}
 use Rattle.compiler.specs.Parts.{slot_found, slot_at}
 use Rattle.compiler.proofs.Names.{Within, AllWithin, further, each-name, each-both, name-both, counter-within}
-use Rattle.compiler.proofs.Places.{AreBelow, all-below, stands-at, place-of, places-long, slot-at, zip-made, all-held, held-at, place-held}
+use Rattle.compiler.proofs.Places.{AreBelow, all-below, stands-at, place-of, places-long, slot-at, zip-made, all-held}
+use Rattle.compiler.proofs.Places.{held-at, place-held}
 
 -- the expressions at an assertion's places, all of them known, and what they name
 pub record AreFound (suite : Suite) (places : List ℕ) : Type 0 where
@@ -35,13 +36,16 @@ pub record AreFound (suite : Suite) (places : List ℕ) : Type 0 where
   pub terms : terms_at suite.booleans.items places ≡ map term_of booleans
   pub long : length places ≡ length booleans
   pub known : AllByRecursion (IsKnown suite) (map term_of booleans)
-  pub within : AllWithin (flat_map (λ place. expression_names (slice_get suite.booleans.items place)) places) (map term_of booleans)
+  pub within : AllWithin (flat_map (λ place. expression_names (slice_get suite.booleans.items place)) places)
+      (map term_of booleans)
 
-append : {A : Type 0} (P : A → Type 0) (xs ys : List A) → AllByRecursion P xs → AllByRecursion P ys → AllByRecursion P (xs ++ ys)
+append : {A : Type 0} (P : A → Type 0) (xs ys : List A) → AllByRecursion P xs → AllByRecursion P ys
+    → AllByRecursion P (xs ++ ys)
 append P [] ys g h = h
 append P (x ∷ xs) ys g h = (g.0, append P xs ys g.1 h)
 
-flat : {A B : Type 0} (P : B → Type 0) (f : A → List B) (xs : List A) → AllByRecursion (λ x. AllByRecursion P (f x)) xs → AllByRecursion P (flat_map f xs)
+flat : {A B : Type 0} (P : B → Type 0) (f : A → List B) (xs : List A) → AllByRecursion (λ x. AllByRecursion P (f x)) xs
+    → AllByRecursion P (flat_map f xs)
 flat P f [] h = tt
 flat P f (x ∷ xs) h = append P (f x) (flat_map f xs) h.0 (flat P f xs h.1)
 
@@ -65,13 +69,15 @@ module _ (suite : Suite) where
         long = ap suc rest.long;
         known = (here.known, rest.known);
         within = (
-          λ n c. Contains-append_left (names_at p) (flat_map names_at ps) n (subst (λ o. Contains (expression_names o) n) (sym here.found) c),
+          λ n c. Contains-append_left (names_at p) (flat_map names_at ps) n
+              (subst (λ o. Contains (expression_names o) n) (sym here.found) c),
           further (flat_map names_at ps) (names_at p ++ flat_map names_at ps) (map term_of rest.booleans)
               (λ n c. Contains-append_right (names_at p) (flat_map names_at ps) n c) rest.within,
         );
       }
 
-module _ (suite : Suite) (a : Assertion) (fit : IsFit suite a) (signals counters : List Bool) (reading : IsReading suite a signals counters) where
+module _ (suite : Suite) (a : Assertion) (fit : IsFit suite a) (signals counters : List Bool)
+    (reading : IsReading suite a signals counters) where
   abbrev pub layout : Layout
   layout = record { signals = places_from 0 signals; counters = counters_read suite counters }
 
@@ -84,13 +90,17 @@ module _ (suite : Suite) (a : Assertion) (fit : IsFit suite a) (signals counters
   pub counters-below : AreBelow (length suite.counters.items) (places_from 0 counters)
   counters-below = all-below (length suite.counters.items) counters reading.counters_are.long
 
-  holds : (o : Origin) (place width : ℕ) → IsAt suite o place width → IsAmong o reading.names place → HoldsAt suite layout o place width
+  holds : (o : Origin) (place width : ℕ) → IsAt suite o place width → IsAmong o reading.names place
+      → HoldsAt suite layout o place width
   holds Signal place width at among =
-      let marked = (reading.signals_are.each place (slice_get_within suite.names.items place at.signal at.found)).1 among in
+      let marked =
+      (reading.signals_are.each place (slice_get_within suite.names.items place at.signal at.found)).1 among in
       let i = place-of signals place marked in
       record { slot = i.0; held = i.1; signal = at.signal; is = at.found; wide = at.wide }
   holds Counter place width at among =
-      let marked = (reading.counters_are.each place (slice_get_within suite.counters.items place at.counter at.found)).1 among in
+      let marked =
+      (reading.counters_are.each place (slice_get_within suite.counters.items place at.counter at.found)).1 among
+      in
       let i = place-of counters place marked in
       record {
         slot = i.0;
@@ -101,36 +111,47 @@ module _ (suite : Suite) (a : Assertion) (fit : IsFit suite a) (signals counters
       }
 
   holds-name : (n : Name) → Contains reading.names n → IsNamed suite n → HoldsName suite layout n
-  holds-name n c named = holds n.origin n.place n.width named (record { name = n; among = c; origin_is = refl; place_is = refl })
+  holds-name n c named =
+      holds n.origin n.place n.width named (record { name = n; among = c; origin_is = refl; place_is = refl })
 
   sampled : (e : Term) → IsKnown suite e → Within (names_in e) reading.names → Each (IsSampled suite layout) e
   sampled e known within =
-      each-both (OfName (HoldsName suite layout)) (λ part. width_of part ≤ 128) (IsSampled suite layout) (λ x p q. record { name = p; narrow = q }) e
+      each-both (OfName (HoldsName suite layout)) (λ part. width_of part ≤ 128) (IsSampled suite layout)
+      (λ x p q. record { name = p; narrow = q }) e
       (each-both (OfName (Contains reading.names)) (OfName (IsNamed suite)) (OfName (HoldsName suite layout))
       (λ x p q. name-both (Contains reading.names) (IsNamed suite) (HoldsName suite layout) holds-name x p q) e
       (each-name (Contains reading.names) e within) known.names)
       known.narrow
 
-  all-sampled : (es : List Term) → AllByRecursion (IsKnown suite) es → AllWithin reading.names es → AllByRecursion (Each (IsSampled suite layout)) es
+  all-sampled : (es : List Term) → AllByRecursion (IsKnown suite) es → AllWithin reading.names es
+      → AllByRecursion (Each (IsSampled suite layout)) es
   all-sampled [] known within = tt
   all-sampled (e ∷ es) known within = (sampled e known.0 within.0, all-sampled es known.1 within.1)
 
   -- what a counter that is held counts by
-  counter-there : (i : ℕ) (h : Held) → slice_get (counters_read suite counters) i ≡ Some h → slice_get suite.counters.items h.place ≡ Some h.counter
+  counter-there : (i : ℕ) (h : Held) → slice_get (counters_read suite counters) i ≡ Some h
+      → slice_get suite.counters.items h.place ≡ Some h.counter
   counter-there i h at =
       all-at (λ (g : Held). slice_get suite.counters.items g.place ≡ Some g.counter) (counters_read suite counters)
       (all-held suite.counters.items (places_from 0 counters) counters-below) i h at
 
-  counter-known : (i : ℕ) (h : Held) → slice_get (counters_read suite counters) i ≡ Some h → AllByRecursion (IsKnown suite) (counter_terms h.counter)
-  counter-known i h at = all-at (CountsByKnown suite) suite.counters.items fit.sound.counters h.place h.counter (counter-there i h at)
+  counter-known : (i : ℕ) (h : Held) → slice_get (counters_read suite counters) i ≡ Some h
+      → AllByRecursion (IsKnown suite) (counter_terms h.counter)
+  counter-known i h at =
+      all-at (CountsByKnown suite) suite.counters.items fit.sound.counters h.place h.counter (counter-there i h at)
 
-  counter-read : (i : ℕ) (h : Held) → slice_get (counters_read suite counters) i ≡ Some h → AllWithin reading.names (counter_terms h.counter)
+  counter-read : (i : ℕ) (h : Held) → slice_get (counters_read suite counters) i ≡ Some h
+      → AllWithin reading.names (counter_terms h.counter)
   counter-read i h at =
       let there = counter-there i h at in
-      let placed = place-at 0 0 counters i h.place (place-held suite.counters.items (places_from 0 counters) counters-below i h at) in
+      let placed =
+      place-at 0 0 counters i h.place
+      (place-held suite.counters.items (places_from 0 counters) counters-below i h at) in
       let e : h.place - 0 ≡ h.place = omega arith in
       let marked = subst (λ k. slice_get counters k ≡ Some true) e placed.marked in
-      let among = (reading.counters_are.each h.place (slice_get_within suite.counters.items h.place h.counter there)).0 marked in
+      let among =
+      (reading.counters_are.each h.place (slice_get_within suite.counters.items h.place h.counter there)).0 marked
+      in
       let is_read = (reading.read among.name).0 among.among in
       further (counter_names h.counter) reading.names (counter_terms h.counter)
       (λ n c. (reading.read n).1 (through is_read among.origin_is
@@ -138,21 +159,30 @@ module _ (suite : Suite) (a : Assertion) (fit : IsFit suite a) (signals counters
       (subst (λ o. Contains (names_of o) n) (sym there) c))))
       (counter-within h.counter)
 
-  pub all-known : AllByRecursion (IsKnown suite) (program_terms (map term_of found.booleans) (counters_read suite counters))
+  pub all-known : AllByRecursion (IsKnown suite)
+      (program_terms (map term_of found.booleans) (counters_read suite counters))
   all-known =
-      append (IsKnown suite) (map term_of found.booleans) (flat_map (λ h. counter_terms h.counter) (counters_read suite counters)) found.known
+      append (IsKnown suite) (map term_of found.booleans)
+      (flat_map (λ h. counter_terms h.counter) (counters_read suite counters)) found.known
       (flat (IsKnown suite) (λ (h : Held). counter_terms h.counter) (counters_read suite counters)
-      (all-by-places (λ (h : Held). AllByRecursion (IsKnown suite) (counter_terms h.counter)) (counters_read suite counters) counter-known))
+      (all-by-places (λ (h : Held). AllByRecursion (IsKnown suite) (counter_terms h.counter))
+      (counters_read suite counters) counter-known))
 
   all-within : AllWithin reading.names (program_terms (map term_of found.booleans) (counters_read suite counters))
   all-within =
-      append (λ e. Within (names_in e) reading.names) (map term_of found.booleans) (flat_map (λ h. counter_terms h.counter) (counters_read suite counters))
-      (further (boolean_names suite a) reading.names (map term_of found.booleans) (λ n c. (reading.read n).1 (at_once c)) found.within)
-      (flat (λ e. Within (names_in e) reading.names) (λ (h : Held). counter_terms h.counter) (counters_read suite counters)
-      (all-by-places (λ (h : Held). AllWithin reading.names (counter_terms h.counter)) (counters_read suite counters) counter-read))
+      append (λ e. Within (names_in e) reading.names) (map term_of found.booleans)
+      (flat_map (λ h. counter_terms h.counter) (counters_read suite counters))
+      (further (boolean_names suite a) reading.names (map term_of found.booleans)
+      (λ n c. (reading.read n).1 (at_once c)) found.within)
+      (flat (λ e. Within (names_in e) reading.names) (λ (h : Held). counter_terms h.counter)
+      (counters_read suite counters)
+      (all-by-places (λ (h : Held). AllWithin reading.names (counter_terms h.counter)) (counters_read suite counters)
+      counter-read))
 
-  pub program-sampled : AllByRecursion (Each (IsSampled suite layout)) (program_terms (map term_of found.booleans) (counters_read suite counters))
-  program-sampled = all-sampled (program_terms (map term_of found.booleans) (counters_read suite counters)) all-known all-within
+  pub program-sampled : AllByRecursion (Each (IsSampled suite layout))
+      (program_terms (map term_of found.booleans) (counters_read suite counters))
+  program-sampled =
+      all-sampled (program_terms (map term_of found.booleans) (counters_read suite counters)) all-known all-within
 
   -- the slots of signals
   slot-one : (place : ℕ) → place < length suite.names.items → IsSlotOf suite place (slot_at suite.names.items place)
@@ -166,7 +196,9 @@ module _ (suite : Suite) (a : Assertion) (fit : IsFit suite a) (signals counters
       }
 
   pub slots : AllZip (IsSlotOf suite) (places_from 0 signals) (map (slot_at suite.names.items) (places_from 0 signals))
-  slots = zip-made (IsSlotOf suite) (slot_at suite.names.items) (length suite.names.items) (places_from 0 signals) slot-one signals-below
+  slots =
+      zip-made (IsSlotOf suite) (slot_at suite.names.items) (length suite.names.items) (places_from 0 signals)
+      slot-one signals-below
 
   pub laid : IsLaidOut layout (slots_over signals counters)
   laid = record {
@@ -174,5 +206,6 @@ module _ (suite : Suite) (a : Assertion) (fit : IsFit suite a) (signals counters
     counters = λ i h at.
         let long : length (places_from 0 signals) ≡ count_by is_marked signals = places-long 0 signals in
         let sum : first_counter signals + i ≡ 1 + (length (places_from 0 signals) + i) = omega (arith, long) in
-        slot-at (first_counter signals) counters i h.place (place-held suite.counters.items (places_from 0 counters) counters-below i h at) ∙ sum;
+        slot-at (first_counter signals) counters i h.place
+        (place-held suite.counters.items (places_from 0 counters) counters-below i h at) ∙ sum;
   }

@@ -5,7 +5,8 @@ use Rattle.std.proofs.Math.Seq.{take-suc}
 use Rattle.std.proofs.lemmas.List.{map-append, take_all}
 
 module _ {A : Type 0} (f : ℕ → A) (places : List ℕ) where
-  pub made-more : (n : ℕ) (old new : List A) (one : A) → n < length places → old ≡ map f (take n places) → one ≡ f (slice_index places n) →
+  pub made-more : (n : ℕ) (old new : List A) (one : A) → n < length places → old ≡ map f (take n places)
+      → one ≡ f (slice_index places n) →
       new ≡ old ++ one ∷ [] → new ≡ map f (take (n + 1) places)
   made-more n old new one below so_far here is =
       is ∙ ap (λ l. l ++ one ∷ []) so_far ∙ ap (λ r. map f (take n places) ++ r ∷ []) here

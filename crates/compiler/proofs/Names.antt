@@ -142,9 +142,15 @@ counter-within c =
     let m1 = n1 ++ m2 in
     let all = n0 ++ m1 in
     let w0 = further n0 all (clear_terms c.clear) (left-within n0 m1) (clear-within c.clear) in
-    let w1 = further n1 all (rule_terms c.load) (λ n k. right-within n0 m1 n (left-within n1 m2 n k)) (rule-within c.load) in
-    let w2 = further n2 all (rule_terms c.add) (λ n k. right-within n0 m1 n (right-within n1 m2 n (left-within n2 n3 n k))) (rule-within c.add) in
-    let w3 = further n3 all (rule_terms c.sub) (λ n k. right-within n0 m1 n (right-within n1 m2 n (right-within n2 n3 n k))) (rule-within c.sub) in
+    let w1 =
+    further n1 all (rule_terms c.load) (λ n k. right-within n0 m1 n (left-within n1 m2 n k)) (rule-within c.load)
+    in
+    let w2 =
+    further n2 all (rule_terms c.add) (λ n k. right-within n0 m1 n (right-within n1 m2 n (left-within n2 n3 n k)))
+    (rule-within c.add) in
+    let w3 =
+    further n3 all (rule_terms c.sub)
+    (λ n k. right-within n0 m1 n (right-within n1 m2 n (right-within n2 n3 n k))) (rule-within c.sub) in
     joined all (clear_terms c.clear ++ rule_terms c.load ++ rule_terms c.add) (rule_terms c.sub)
     (joined all (clear_terms c.clear ++ rule_terms c.load) (rule_terms c.add)
     (joined all (clear_terms c.clear) (rule_terms c.load) w0 w1) w2) w3

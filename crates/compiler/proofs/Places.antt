@@ -23,13 +23,18 @@ below-more m n (p ∷ ps) le h = (omega (arith, h.0, le), below-more m n ps le h
 
 pub places-below : (place : ℕ) (marks : List Bool) → AreBelow (place + length marks) (places_from place marks)
 places-below place [] = tt
-places-below place (true ∷ marks) =
-    (omega arith, below-more (place + 1 + length marks) (place + suc (length marks)) (places_from (place + 1) marks) (omega arith) (places-below (place + 1) marks))
+places-below place (true ∷ marks) = (
+  omega arith,
+  below-more (place + 1 + length marks) (place + suc (length marks)) (places_from (place + 1) marks)
+      (omega arith) (places-below (place + 1) marks),
+)
 places-below place (false ∷ marks) =
-    below-more (place + 1 + length marks) (place + suc (length marks)) (places_from (place + 1) marks) (omega arith) (places-below (place + 1) marks)
+    below-more (place + 1 + length marks) (place + suc (length marks)) (places_from (place + 1) marks) (omega arith)
+    (places-below (place + 1) marks)
 
 pub all-below : (n : ℕ) (marks : List Bool) → length marks ≡ n → AreBelow n (places_from 0 marks)
-all-below n marks long = below-more (0 + length marks) n (places_from 0 marks) (omega (arith, long)) (places-below 0 marks)
+all-below n marks long =
+    below-more (0 + length marks) n (places_from 0 marks) (omega (arith, long)) (places-below 0 marks)
 
 -- the same by places
 pub below-each : (n : ℕ) (places : List ℕ) → AreBelow n places → All (λ p. p < n) places
@@ -40,10 +45,12 @@ below-each n (p ∷ ps) h (suc k) d lt = below-each n ps h.1 k d (omega (arith, 
 pub places-long : (place : ℕ) (marks : List Bool) → length (places_from place marks) ≡ count_by is_marked marks
 places-long place [] = refl
 places-long place (true ∷ marks) =
-    let count : count_by is_marked (true ∷ marks) ≡ 1 + count_by is_marked marks = sum_by-cons (λ x. cond (is_marked x) 1 0) true marks in
+    let count : count_by is_marked (true ∷ marks) ≡ 1 + count_by is_marked marks =
+    sum_by-cons (λ x. cond (is_marked x) 1 0) true marks in
     omega (arith, places-long (place + 1) marks, count)
 places-long place (false ∷ marks) =
-    let count : count_by is_marked (false ∷ marks) ≡ 0 + count_by is_marked marks = sum_by-cons (λ x. cond (is_marked x) 1 0) false marks in
+    let count : count_by is_marked (false ∷ marks) ≡ 0 + count_by is_marked marks =
+    sum_by-cons (λ x. cond (is_marked x) 1 0) false marks in
     omega (arith, places-long (place + 1) marks, count)
 
 -- the slot of a marked place
@@ -113,12 +120,14 @@ module _ (all : List Counter) where
       let d = stands-at all q below.0 in
       ap (λ hs. slice_get hs (suc i)) (found-there q ps d.0 d.1) ∙ held-at ps below.1 i p c at is
 
-  pub place-held : (ps : List ℕ) → AreBelow (length all) ps → (i : ℕ) (h : Held) → slice_get (held_at all ps) i ≡ Some h →
+  pub place-held : (ps : List ℕ) → AreBelow (length all) ps → (i : ℕ) (h : Held) → slice_get (held_at all ps) i ≡ Some h
+      →
       slice_get ps i ≡ Some h.place
   place-held [] below i h at = absurd (omega (arith, slice_get_within [] i h at))
   place-held (q ∷ ps) below zero h at =
       let d = stands-at all q below.0 in
-      ap (λ (g : Held). Some g.place) (some-one (held-one q d.0) h (sym (ap (λ hs. slice_get hs 0) (found-there q ps d.0 d.1)) ∙ at))
+      ap (λ (g : Held). Some g.place)
+      (some-one (held-one q d.0) h (sym (ap (λ hs. slice_get hs 0) (found-there q ps d.0 d.1)) ∙ at))
   place-held (q ∷ ps) below (suc i) h at =
       let d = stands-at all q below.0 in
       place-held ps below.1 i h (sym (ap (λ hs. slice_get hs (suc i)) (found-there q ps d.0 d.1)) ∙ at)

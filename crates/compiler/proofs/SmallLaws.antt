@@ -1,5 +1,6 @@
 -- The code of small assertions is short.
-use Rattle.std.proofs.Common.{◌≡◌, ◌∙◌, ℕ, zero, suc, ◌+◌, ◌*◌, ◌-◌, ◌<◌, ◌≤◌, Bool, true, false, List, [], ◌∷◌, length, Some, None, Option, slice_get}
+use Rattle.std.proofs.Common.{◌≡◌, ◌∙◌, ℕ, zero, suc, ◌+◌, ◌*◌, ◌-◌, ◌<◌, ◌≤◌, Bool, true, false, List, [], ◌∷◌, length}
+use Rattle.std.proofs.Common.{Some, None, Option, slice_get}
 use Rattle.std.proofs.Common.{refl, ap, sym, subst, arith, inl, inr}
 use Rattle.std.specs.Prelude.{sum_by, Contains, IsTrue}
 use Rattle.std.proofs.lemmas.Bool.{false≢true}
@@ -55,7 +56,8 @@ terms-few : (all : List Expr) (places : List ℕ) → length (terms_at all place
 terms-few all [] = omega arith
 terms-few all (p ∷ ps) = found (slice_get all p) (terms-few all ps)
   where
-    found : (o : Option Expr) → length (terms_at all ps) ≤ length ps → length (term_found o (terms_at all ps)) ≤ suc (length ps)
+    found : (o : Option Expr) → length (terms_at all ps) ≤ length ps
+        → length (term_found o (terms_at all ps)) ≤ suc (length ps)
     found None few = omega (arith, few)
     found (Some e) few = omega (arith, few)
 
@@ -68,23 +70,29 @@ small-side w ordered small =
     let more : n * (booleans w + 2) ≤ n * 35 = mul-le-mul_left n (omega (arith, small.few)) in
     omega (arith, size, square, more, small.light)
 
-module _ (suite : Suite) (a : Assertion) (signals counters : List Bool) (reading : IsReading suite a signals counters) (small : IsSmall suite a) where
+module _ (suite : Suite) (a : Assertion) (signals counters : List Bool) (reading : IsReading suite a signals counters)
+    (small : IsSmall suite a) where
   unread : (i p : ℕ) → slice_get (places_from 0 counters) i ≡ Some p → ⊥
   unread i p at =
       let placed = place-at 0 0 counters i p at in
       let e : p - 0 ≡ p = omega arith in
       let marked = subst (λ k. slice_get counters k ≡ Some true) e placed.marked in
-      let below : p < length suite.counters.items = omega (arith, slice_get_within counters p true marked, reading.counters_are.long) in
+      let below : p < length suite.counters.items =
+      omega (arith, slice_get_within counters p true marked, reading.counters_are.long) in
       let among = (reading.counters_are.each p below).0 marked in
       let is_read = (reading.read among.name).0 among.among in
-      false≢true (ap is_signal (sym among.origin_is ∙ reads-signals (boolean_names suite a) suite.counters.items small.signals among.name is_read))
+      false≢true
+      (ap is_signal
+      (sym among.origin_is ∙ reads-signals (boolean_names suite a) suite.counters.items small.signals among.name
+      is_read))
 
   no-counters : counters_read suite counters ≡ []
   no-counters = ap (held_at suite.counters.items) (no-place counters unread)
 
   short-code : length (code_over suite a signals counters) ≤ 4096
   short-code =
-      let same : length (code_over suite a signals counters) ≡ length (sample_code (slots_over signals counters) (boolean_terms suite a) []) =
+      let same : length (code_over suite a signals counters)
+      ≡ length (sample_code (slots_over signals counters) (boolean_terms suite a) []) =
       ap (λ hs. length (sample_code (slots_over signals counters) (boolean_terms suite a) hs)) no-counters in
       omega (
         arith,
@@ -96,7 +104,8 @@ module _ (suite : Suite) (a : Assertion) (signals counters : List Bool) (reading
       )
 
 pub small-have-code : SmallHaveCode
-small-have-code suite a signals counters reading small (inl code) = omega (arith, code, short-code suite a signals counters reading small)
+small-have-code suite a signals counters reading small (inl code) =
+    omega (arith, code, short-code suite a signals counters reading small)
 small-have-code suite a signals counters reading small (inr (inl side)) =
     omega (arith, side, small-side (written_form a.antecedent) a.antecedent_ordered small.antecedent)
 small-have-code suite a signals counters reading small (inr (inr side)) =

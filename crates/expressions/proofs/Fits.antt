@@ -15,11 +15,14 @@ use Rattle.expressions.specs.declared.operator.Comparison.TheVariants.{Equal, Di
 use Rattle.expressions.specs.declared.operator.Connective.{Connective}
 use Rattle.expressions.specs.declared.operator.Connective.TheVariants.{Both, Either}
 use Rattle.expressions.specs.declared.operator.Reduction.{Reduction}
-use Rattle.expressions.specs.declared.operator.Reduction.TheVariants.{Zero, NonZero, AllOnes, NotAllOnes, Odd, Even, OneHot, OneHotOrZero}
+use Rattle.expressions.specs.declared.operator.Reduction.TheVariants.{Zero, NonZero, AllOnes, NotAllOnes, Odd, Even}
+use Rattle.expressions.specs.declared.operator.Reduction.TheVariants.{OneHot, OneHotOrZero}
 use Rattle.expressions.specs.declared.operator.Change.{Change}
 use Rattle.expressions.specs.declared.operator.Change.TheVariants.{Rose, Fell, Stable, Changed}
-use Rattle.expressions.specs.Operators.{complement, arithmetic, shift_value, comparison_value, connective_value, reduction_value, change_of}
-use Rattle.expressions.specs.Terms.{constant, named, slice, group, concat, inverse, reduce, combine, shift, compare, connect, choose, past, change, width_of, sample_at, name_at, value_of}
+use Rattle.expressions.specs.Operators.{complement, arithmetic, shift_value, comparison_value, connective_value}
+use Rattle.expressions.specs.Operators.{reduction_value, change_of}
+use Rattle.expressions.specs.Terms.{constant, named, slice, group, concat, inverse, reduce, combine, shift, compare}
+use Rattle.expressions.specs.Terms.{connect, choose, past, change, width_of, sample_at, name_at, value_of}
 use Rattle.expressions.specs.Laws.{ValuesFit}
 
 bit_small : (b : Bool) → one_if b ≤ 1
@@ -77,8 +80,11 @@ change_small Changed now before = bit_small (not (now == before))
 
 pub value_fits : ValuesFit
 value_fits t (constant bits) k w le = fits_wider bits.value bits.width w le bits.fits
-value_fits t (named name) k w le = fits_wider _ name.width w le (cut_fits (sample_at t name.origin name.place k) name.width)
-value_fits t (slice part) k w le = fits_wider _ (part.high - part.low + 1) w le (cut_fits (name_at t part.name k / 2 ^ part.low) (part.high - part.low + 1))
+value_fits t (named name) k w le =
+    fits_wider _ name.width w le (cut_fits (sample_at t name.origin name.place k) name.width)
+value_fits t (slice part) k w le =
+    fits_wider _ (part.high - part.low + 1) w le
+    (cut_fits (name_at t part.name k / 2 ^ part.low) (part.high - part.low + 1))
 value_fits t (group e) k w le = fits_wider _ (width_of e) w le (value_fits t e k (width_of e) (omega arith))
 value_fits t (concat a b) k w le =
     fits_wider _ (width_of a + width_of b) w le
@@ -87,11 +93,16 @@ value_fits t (concat a b) k w le =
 value_fits t (inverse e) k w le = complement_fits w (value_of t e k w)
 value_fits t (reduce op e) k w le = one_fits _ w (reduced_small op (width_of e) (value_of t e k (width_of e))) le
 value_fits t (combine op a b) k w le =
-    arithmetic_fits op w (value_of t a k w) (value_of t b k w) (value_fits t a k w (omega arith)) (value_fits t b k w (omega arith))
-value_fits t (shift op a b) k w le = shifted_fits op w (value_of t a k w) (value_of t b k (width_of b)) (value_fits t a k w le)
+    arithmetic_fits op w (value_of t a k w) (value_of t b k w) (value_fits t a k w (omega arith))
+    (value_fits t b k w (omega arith))
+value_fits t (shift op a b) k w le =
+    shifted_fits op w (value_of t a k w) (value_of t b k (width_of b)) (value_fits t a k w le)
 value_fits t (compare op a b) k w le =
-    one_fits _ w (compared_small op (value_of t a k (max (width_of a) (width_of b))) (value_of t b k (max (width_of a) (width_of b)))) le
-value_fits t (connect op a b) k w le = one_fits _ w (connected_small op (value_of t a k (width_of a)) (value_of t b k (width_of b))) le
+    one_fits _ w
+    (compared_small op (value_of t a k (max (width_of a) (width_of b)))
+    (value_of t b k (max (width_of a) (width_of b)))) le
+value_fits t (connect op a b) k w le =
+    one_fits _ w (connected_small op (value_of t a k (width_of a)) (value_of t b k (width_of b))) le
 value_fits t (choose c a b) k w le =
     cond_both (value_of t c k (width_of c) == 0) (value_of t b k w) (value_of t a k w) (λ (n : ℕ). n < 2 ^ w)
     (λ _. value_fits t b k w (omega arith)) (λ _. value_fits t a k w (omega arith))
@@ -99,4 +110,6 @@ value_fits t (past e ticks) k w le =
     cond_both (nat_le ticks k) (value_of t e (k - ticks) (width_of e)) 0 (λ (n : ℕ). n < 2 ^ w)
     (λ _. fits_wider _ (width_of e) w le (value_fits t e (k - ticks) (width_of e) (omega arith))) (λ _. pow_pos w)
 value_fits t (change op e) k w le =
-    one_fits _ w (change_small op (value_of t e k (width_of e)) (if nat_le 1 k then value_of t e (k - 1) (width_of e) else 0)) le
+    one_fits _ w
+    (change_small op (value_of t e k (width_of e)) (if nat_le 1 k then value_of t e (k - 1) (width_of e) else 0))
+    le

@@ -23,4 +23,5 @@ concats_keep_parts t a b k w =
 
 pub long_shifts : LongShiftsGiveZero
 long_shifts t Left a b k w narrow long = shl_far (value_of t a k w) (value_of t b k (width_of b)) w long
-long_shifts t Right a b k w narrow long = shr_far (value_of t a k w) (value_of t b k (width_of b)) w (value_fits t a k w narrow) long
+long_shifts t Right a b k w narrow long =
+    shr_far (value_of t a k w) (value_of t b k (width_of b)) w (value_fits t a k w narrow) long

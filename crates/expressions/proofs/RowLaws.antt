@@ -1,5 +1,6 @@
 -- A table of counters grows by the next row.
-use Rattle.std.proofs.Common.{◌≡◌, inl, inr, ℕ, zero, suc, ◌+◌, ◌≤◌, List, [], ◌∷◌, ◌++◌, length, get_or, refl, sym, ap, ◌∙◌, arith}
+use Rattle.std.proofs.Common.{◌≡◌, inl, inr, ℕ, zero, suc, ◌+◌, ◌≤◌, List, [], ◌∷◌, ◌++◌, length, get_or, refl, sym, ap}
+use Rattle.std.proofs.Common.{◌∙◌, arith}
 use Rattle.std.specs.Prelude.{slice_get, slice_index_or}
 use Rattle.std.proofs.Math.ListN.{get_or-append}
 use Rattle.std.proofs.lemmas.Bool.{cases_lt}
@@ -23,14 +24,18 @@ get_or_past (y ∷ ys) d (suc i) h = get_or_past ys d i (omega arith)
 
 pub table_grows : (signals : List (List ℕ)) (all : List Counter) (table : List (List ℕ)) (row : List ℕ) (tick : ℕ) →
     length table ≡ tick + 1 →
-    AgreeTo tick (record { signal_at = column signals; counter_at = column table }) (counter_samples (column signals) all) →
-    ((i : ℕ) → slice_index_or row i 0 ≡ next_of (record { signal_at = column signals; counter_at = column table }) (slice_get all i) (cell table tick i) tick) →
-    AgreeTo (tick + 1) (record { signal_at = column signals; counter_at = column (table ++ row ∷ []) }) (counter_samples (column signals) all)
+    AgreeTo tick (record { signal_at = column signals; counter_at = column table })
+    (counter_samples (column signals) all) →
+    ((i : ℕ) → slice_index_or row i 0 ≡ next_of (record { signal_at = column signals; counter_at = column table })
+    (slice_get all i) (cell table tick i) tick) →
+    AgreeTo (tick + 1) (record { signal_at = column signals; counter_at = column (table ++ row ∷ []) })
+    (counter_samples (column signals) all)
 table_grows signals all table row tick long held next = record {
   signals = λ place k le. refl;
   counters = λ i k le.
       elim (cases_lt k (tick + 1)) [
-        | inl old ↦ ap (λ r. slice_index_or r i 0) (get_or-append table (row ∷ []) [] k (omega arith)) ∙ held.counters i k (omega arith)
+        | inl old ↦ ap (λ r. slice_index_or r i 0) (get_or-append table (row ∷ []) [] k (omega arith))
+            ∙ held.counters i k (omega arith)
         | inr new ↦
             let last : k ≡ tick + 1 = omega arith in
             let s = column signals in

@@ -1,23 +1,35 @@
 -- What is read as a file is spelled by it.
-use Rattle.std.proofs.Common.{◌≡◌, ℕ, Bool, true, false, cond, ◌&&◌, ◌||◌, List, [], ◌∷◌, Option, Some, None, refl, sym, ap, ◌∙◌, subst, inl, inr}
+use Rattle.std.proofs.Common.{◌≡◌, ℕ, Bool, true, false, cond, ◌&&◌, ◌||◌, List, [], ◌∷◌, Option, Some, None, refl, sym}
+use Rattle.std.proofs.Common.{ap, ◌∙◌, subst, inl, inr}
 use Rattle.std.specs.Str.{bytes_eq}
 use Rattle.lexer.specs.declared.token.Token.{Token}
 use Rattle.grammar.specs.declared.bound.Bound.{Bound}
 use Rattle.grammar.specs.declared.terminal.Terminal.{Terminal}
 use Rattle.grammar.specs.declared.terminal.Terminal.TheVariants as word
-use Rattle.grammar.specs.declared.terminal.Terminal.TheVariants.{OpenRound, CloseRound, OpenSquare, CloseSquare, Comma, Semicolon, Colon, AtSign, Posedge, Disable, Iff, EndSequence, End}
+use Rattle.grammar.specs.declared.terminal.Terminal.TheVariants.{OpenRound, CloseRound, OpenSquare, CloseSquare, Comma}
+use Rattle.grammar.specs.declared.terminal.Terminal.TheVariants.{Semicolon, Colon, AtSign, Posedge, Disable, Iff}
+use Rattle.grammar.specs.declared.terminal.Terminal.TheVariants.{EndSequence, End}
 use Rattle.grammar.specs.Terminals.{terminal, is, is_name, is_word}
 use Rattle.grammar.specs.Bounds.{bound_within}
 use Rattle.grammar.specs.Trees.{Tree, SequenceForm, PropertyForm, ItemForm, counter, declaration, assertion}
 use Rattle.grammar.specs.Expressions.{IsPath, Spells}
 use Rattle.grammar.specs.Sequences.{IsSequence, IsProperty}
-use Rattle.grammar.specs.Files.{most_open, in_one, in_two, IsClear, no_clear, clear, IsClause, no_clause, clause, is_counter, IsClosing, no_closing, closing, IsEnding, ending, with_semicolon, is_declaration, is_verb, IsDisable, no_disable, disable, IsLabel, no_label, label, is_assertion, SpellsItem, a_counter, a_declaration, an_assertion, AreItems, no_item, one_item, HasAssertion, IsFile}
+use Rattle.grammar.specs.Files.{most_open, in_one, in_two, IsClear, no_clear, clear, IsClause, no_clause, clause}
+use Rattle.grammar.specs.Files.{is_counter, IsClosing, no_closing, closing, IsEnding, ending, with_semicolon}
+use Rattle.grammar.specs.Files.{is_declaration, is_verb, IsDisable, no_disable, disable, IsLabel, no_label, label}
+use Rattle.grammar.specs.Files.{is_assertion, SpellsItem, a_counter, a_declaration, an_assertion, AreItems, no_item}
+use Rattle.grammar.specs.Files.{one_item, HasAssertion, IsFile}
 use Rattle.grammar.specs.Readers.{◌>>=◌, lead, expect, pick, optional}
 use Rattle.grammar.specs.ReadExpressions.{name_of, path_words, expression}
 use Rattle.grammar.specs.ReadSequences.{whole, property}
-use Rattle.grammar.specs.ReadFiles.{one_operand, two_operands, counter_head, counter_form, counter_item, again_of, skip_by, skip, ending_of, declaration_item, is_verb_token, opening_words, clock_words, disable_reader, property_end, assertion_form, assertion_item, labelled_by, label_reader, declared_by, declaration_reader, counted_by, item_by, item, asserts, is_more, items}
+use Rattle.grammar.specs.ReadFiles.{one_operand, two_operands, counter_head, counter_form, counter_item, again_of}
+use Rattle.grammar.specs.ReadFiles.{skip_by, skip, ending_of, declaration_item, is_verb_token, opening_words}
+use Rattle.grammar.specs.ReadFiles.{clock_words, disable_reader, property_end, assertion_form, assertion_item}
+use Rattle.grammar.specs.ReadFiles.{labelled_by, label_reader, declared_by, declaration_reader, counted_by, item_by}
+use Rattle.grammar.specs.ReadFiles.{item, asserts, is_more, items}
 use Rattle.grammar.proofs.TerminalLaws.{is-true}
-use Rattle.grammar.proofs.ReaderLaws.{Reads, bind-some, lead-some, expect-some, pick-some, IsOptional, absent, present, optional-sound, each-sound}
+use Rattle.grammar.proofs.ReaderLaws.{Reads, bind-some, lead-some, expect-some, pick-some, IsOptional, absent, present}
+use Rattle.grammar.proofs.ReaderLaws.{optional-sound, each-sound}
 use Rattle.grammar.proofs.Sound.{path-sound, name-some}
 use Rattle.grammar.proofs.SequencesSound.{expression-sound}
 use Rattle.grammar.proofs.PropertyLaws.{whole-sound, property-sound}
@@ -35,14 +47,26 @@ record One (d : ℕ) (e : Tree) (ts rest : List Token) : Type 0 where
 one-sound : (d : ℕ) → Reads (one_operand d) (λ e ts rest. One d e ts rest)
 unfolding one_operand
 one-sound d ts p h =
-    let o = bind-some (expect OpenRound ts) (λ (o : Token × List Token). expression d o.1 >>= λ p. expect CloseRound p.1 >>= λ r. Some (p.0, r.1)) p h in
-    let a = bind-some (expression d o.0.1) (λ (p : Tree × List Token). expect CloseRound p.1 >>= λ r. Some (p.0, r.1)) p o.2 in
+    let o =
+    bind-some (expect OpenRound ts) (λ (o : Token × List Token). expression d o.1 >>= λ p. expect CloseRound p.1
+    >>= λ r. Some (p.0, r.1)) p h in
+    let a =
+    bind-some (expression d o.0.1) (λ (p : Tree × List Token). expect CloseRound p.1 >>= λ r. Some (p.0, r.1)) p
+    o.2 in
     let c = bind-some (expect CloseRound a.0.1) (λ (r : Token × List Token). Some (a.0.0, r.1)) p a.2 in
     let same : (a.0.0, c.0.1) ≡ p = cc (c.2) in
     let x = expect-some OpenRound ts o.0 o.1 in
     let z = expect-some CloseRound a.0.1 c.0 c.1 in
     subst (λ (r : Tree × List Token). One d r.0 ts r.1) same
-    (record { left = o.0.0; right = c.0.0; inside = o.0.1; parts = x.parts; opens = x.marked; spelled = subst (λ (us : List Token). Spells d a.0.0 o.0.1 us) z.parts (expression-sound d o.0.1 a.0 a.1); closes = z.marked })
+    (record {
+      left = o.0.0;
+      right = c.0.0;
+      inside = o.0.1;
+      parts = x.parts;
+      opens = x.marked;
+      spelled = subst (λ (us : List Token). Spells d a.0.0 o.0.1 us) z.parts (expression-sound d o.0.1 a.0 a.1);
+      closes = z.marked;
+    })
 
 -- "(" expr "," expr ")"
 record Two (v : Tree × Tree) (ts rest : List Token) : Type 0 where
@@ -61,10 +85,18 @@ record Two (v : Tree × Tree) (ts rest : List Token) : Type 0 where
 two-sound : Reads two_operands (λ v ts rest. Two v ts rest)
 unfolding two_operands
 two-sound ts p h =
-    let o = bind-some (expect OpenRound ts) (λ (o : Token × List Token). expression in_one o.1 >>= λ p. expect Comma p.1 >>= λ m. expression in_one m.1 >>= λ q. expect CloseRound q.1 >>= λ r. Some ((p.0, q.0), r.1)) p h in
-    let a = bind-some (expression in_one o.0.1) (λ (p : Tree × List Token). expect Comma p.1 >>= λ m. expression in_one m.1 >>= λ q. expect CloseRound q.1 >>= λ r. Some ((p.0, q.0), r.1)) p o.2 in
-    let m = bind-some (expect Comma a.0.1) (λ (m : Token × List Token). expression in_one m.1 >>= λ q. expect CloseRound q.1 >>= λ r. Some ((a.0.0, q.0), r.1)) p a.2 in
-    let b = bind-some (expression in_one m.0.1) (λ (q : Tree × List Token). expect CloseRound q.1 >>= λ r. Some ((a.0.0, q.0), r.1)) p m.2 in
+    let o =
+    bind-some (expect OpenRound ts) (λ (o : Token × List Token). expression in_one o.1 >>= λ p. expect Comma p.1
+    >>= λ m. expression in_one m.1 >>= λ q. expect CloseRound q.1 >>= λ r. Some ((p.0, q.0), r.1)) p h in
+    let a =
+    bind-some (expression in_one o.0.1) (λ (p : Tree × List Token). expect Comma p.1
+    >>= λ m. expression in_one m.1 >>= λ q. expect CloseRound q.1 >>= λ r. Some ((p.0, q.0), r.1)) p o.2 in
+    let m =
+    bind-some (expect Comma a.0.1) (λ (m : Token × List Token). expression in_one m.1
+    >>= λ q. expect CloseRound q.1 >>= λ r. Some ((a.0.0, q.0), r.1)) p a.2 in
+    let b =
+    bind-some (expression in_one m.0.1) (λ (q : Tree × List Token). expect CloseRound q.1
+    >>= λ r. Some ((a.0.0, q.0), r.1)) p m.2 in
     let c = bind-some (expect CloseRound b.0.1) (λ (r : Token × List Token). Some ((a.0.0, b.0.0), r.1)) p b.2 in
     let same : ((a.0.0, b.0.0), c.0.1) ≡ p = cc (c.2) in
     let x = expect-some OpenRound ts o.0 o.1 in
@@ -80,29 +112,44 @@ two-sound ts p h =
       opens = x.marked;
       first = subst (λ (us : List Token). Spells in_one a.0.0 o.0.1 us) y.parts (expression-sound in_one o.0.1 a.0 a.1);
       divides = y.marked;
-      second = subst (λ (us : List Token). Spells in_one b.0.0 m.0.1 us) z.parts (expression-sound in_one m.0.1 b.0 b.1);
+      second =
+          subst (λ (us : List Token). Spells in_one b.0.0 m.0.1 us) z.parts (expression-sound in_one m.0.1 b.0 b.1);
       closes = z.marked;
     })
 
-clear_at : (w : Token) (e : Tree) (ts us rest : List Token) → ts ≡ w ∷ us → terminal w ≡ word.Clear → One in_one e us rest → IsClear (Some e) ts rest
-clear_at w e ts us rest p k o = subst (λ (xs : List Token). IsClear (Some e) xs rest) (sym (p ∙ ap (λ (xs : List Token). w ∷ xs) o.parts)) (clear k o.opens o.spelled o.closes)
+clear_at : (w : Token) (e : Tree) (ts us rest : List Token) → ts ≡ w ∷ us → terminal w ≡ word.Clear
+    → One in_one e us rest → IsClear (Some e) ts rest
+clear_at w e ts us rest p k o =
+    subst (λ (xs : List Token). IsClear (Some e) xs rest) (sym (p ∙ ap (λ (xs : List Token). w ∷ xs) o.parts))
+    (clear k o.opens o.spelled o.closes)
 
-clear-sound : (ts : List Token) (o : Option Tree) (rest : List Token) → IsOptional word.Clear (one_operand in_one) ts o rest → IsClear o ts rest
+clear-sound : (ts : List Token) (o : Option Tree) (rest : List Token)
+    → IsOptional word.Clear (one_operand in_one) ts o rest → IsClear o ts rest
 clear-sound ts _ _ absent = no_clear
-clear-sound ts _ rest (present {t = t} {us = us} {a = e} p k r) = clear_at t e ts us rest p k (one-sound in_one us (e, rest) r)
+clear-sound ts _ rest (present {t = t} {us = us} {a = e} p k r) =
+    clear_at t e ts us rest p k (one-sound in_one us (e, rest) r)
 
-clause_at : (v : Terminal) (w : Token) (e : Tree × Tree) (ts us rest : List Token) → ts ≡ w ∷ us → terminal w ≡ v → Two e us rest → IsClause v (Some e) ts rest
-clause_at v w e ts us rest p k o = subst (λ (xs : List Token). IsClause v (Some e) xs rest) (sym (p ∙ ap (λ (xs : List Token). w ∷ xs) o.parts)) (clause k o.opens o.first o.divides o.second o.closes)
+clause_at : (v : Terminal) (w : Token) (e : Tree × Tree) (ts us rest : List Token) → ts ≡ w ∷ us → terminal w ≡ v
+    → Two e us rest → IsClause v (Some e) ts rest
+clause_at v w e ts us rest p k o =
+    subst (λ (xs : List Token). IsClause v (Some e) xs rest) (sym (p ∙ ap (λ (xs : List Token). w ∷ xs) o.parts))
+    (clause k o.opens o.first o.divides o.second o.closes)
 
-clause-sound : (v : Terminal) (ts : List Token) (o : Option (Tree × Tree)) (rest : List Token) → IsOptional v two_operands ts o rest → IsClause v o ts rest
+clause-sound : (v : Terminal) (ts : List Token) (o : Option (Tree × Tree)) (rest : List Token)
+    → IsOptional v two_operands ts o rest → IsClause v o ts rest
 clause-sound v ts _ _ absent = no_clause
-clause-sound v ts _ rest (present {t = t} {us = us} {a = e} p k r) = clause_at v t e ts us rest p k (two-sound us (e, rest) r)
+clause-sound v ts _ rest (present {t = t} {us = us} {a = e} p k r) =
+    clause_at v t e ts us rest p k (two-sound us (e, rest) r)
 
-disable_at : (w i : Token) (e : Tree) (ts us vs rest : List Token) → ts ≡ w ∷ us → terminal w ≡ Disable → us ≡ i ∷ vs → terminal i ≡ Iff → One in_two e vs rest → IsDisable (Some e) ts rest
+disable_at : (w i : Token) (e : Tree) (ts us vs rest : List Token) → ts ≡ w ∷ us → terminal w ≡ Disable → us ≡ i ∷ vs
+    → terminal i ≡ Iff → One in_two e vs rest → IsDisable (Some e) ts rest
 disable_at w i e ts us vs rest p k q l o =
-    subst (λ (xs : List Token). IsDisable (Some e) xs rest) (sym (p ∙ ap (λ (xs : List Token). w ∷ xs) (q ∙ ap (λ (xs : List Token). i ∷ xs) o.parts))) (disable k l o.opens o.spelled o.closes)
+    subst (λ (xs : List Token). IsDisable (Some e) xs rest)
+    (sym (p ∙ ap (λ (xs : List Token). w ∷ xs) (q ∙ ap (λ (xs : List Token). i ∷ xs) o.parts)))
+    (disable k l o.opens o.spelled o.closes)
 
-disable-sound : (ts : List Token) (o : Option Tree) (rest : List Token) → IsOptional Disable disable_reader ts o rest → IsDisable o ts rest
+disable-sound : (ts : List Token) (o : Option Tree) (rest : List Token) → IsOptional Disable disable_reader ts o rest
+    → IsDisable o ts rest
 unfolding disable_reader
 disable-sound ts _ _ absent = no_disable
 disable-sound ts _ rest (present {t = t} {us = us} {a = e} p k r) =
@@ -121,13 +168,18 @@ record CounterHead (name : Token) (width : Bound) (ts rest : List Token) : Type 
   wide : bound_within 1 128 n ≡ Some width
   closes : terminal right ≡ CloseSquare
 
-head_at : (t name left n right : Token) (width : Bound) (ts us vs ws rest : List Token) → ts ≡ t ∷ us → is_name t ≡ true → t ≡ name → us ≡ left ∷ vs → terminal left ≡ OpenSquare → vs ≡ n ∷ ws → bound_within 1 128 n ≡ Some width → ws ≡ right ∷ rest → terminal right ≡ CloseSquare
+head_at : (t name left n right : Token) (width : Bound) (ts us vs ws rest : List Token) → ts ≡ t ∷ us → is_name t ≡ true
+    → t ≡ name → us ≡ left ∷ vs → terminal left ≡ OpenSquare → vs ≡ n ∷ ws → bound_within 1 128 n ≡ Some width
+    → ws ≡ right ∷ rest → terminal right ≡ CloseSquare
     → CounterHead name width ts rest
 head_at t name left n right width ts us vs ws rest a b c e f g h i j = record {
   left = left;
   n = n;
   right = right;
-  parts = a ∙ ap (λ (x : Token). x ∷ us) c ∙ ap (λ (xs : List Token). name ∷ xs) (e ∙ ap (λ (xs : List Token). left ∷ xs) (g ∙ ap (λ (xs : List Token). n ∷ xs) i));
+  parts =
+      a ∙ ap (λ (x : Token). x ∷ us) c
+      ∙ ap (λ (xs : List Token). name ∷ xs)
+      (e ∙ ap (λ (xs : List Token). left ∷ xs) (g ∙ ap (λ (xs : List Token). n ∷ xs) i));
   named = subst (λ (x : Token). is_name x ≡ true) c b;
   opens = f;
   wide = h;
@@ -137,9 +189,15 @@ head_at t name left n right width ts us vs ws rest a b c e f g h i j = record {
 head-sound : Reads counter_head (λ v ts rest. CounterHead v.0 v.1 ts rest)
 unfolding counter_head
 head-sound ts p h =
-    let a = bind-some (pick name_of ts) (λ (n : Token × List Token). expect OpenSquare n.1 >>= λ o. pick (bound_within 1 128) o.1 >>= λ w. expect CloseSquare w.1 >>= λ r. Some ((n.0, w.0), r.1)) p h in
-    let o = bind-some (expect OpenSquare a.0.1) (λ (o : Token × List Token). pick (bound_within 1 128) o.1 >>= λ w. expect CloseSquare w.1 >>= λ r. Some ((a.0.0, w.0), r.1)) p a.2 in
-    let w = bind-some (pick (bound_within 1 128) o.0.1) (λ (w : Bound × List Token). expect CloseSquare w.1 >>= λ r. Some ((a.0.0, w.0), r.1)) p o.2 in
+    let a =
+    bind-some (pick name_of ts) (λ (n : Token × List Token). expect OpenSquare n.1
+    >>= λ o. pick (bound_within 1 128) o.1 >>= λ w. expect CloseSquare w.1 >>= λ r. Some ((n.0, w.0), r.1)) p h in
+    let o =
+    bind-some (expect OpenSquare a.0.1) (λ (o : Token × List Token). pick (bound_within 1 128) o.1
+    >>= λ w. expect CloseSquare w.1 >>= λ r. Some ((a.0.0, w.0), r.1)) p a.2 in
+    let w =
+    bind-some (pick (bound_within 1 128) o.0.1) (λ (w : Bound × List Token). expect CloseSquare w.1
+    >>= λ r. Some ((a.0.0, w.0), r.1)) p o.2 in
     let c = bind-some (expect CloseSquare w.0.1) (λ (r : Token × List Token). Some ((a.0.0, w.0.0), r.1)) p w.2 in
     let same : ((a.0.0, w.0.0), c.0.1) ≡ p = cc (c.2) in
     let x = pick-some name_of ts a.0 a.1 in
@@ -147,33 +205,65 @@ head-sound ts p h =
     let y = expect-some OpenSquare a.0.1 o.0 o.1 in
     let v = pick-some (bound_within 1 128) o.0.1 w.0 w.1 in
     let z = expect-some CloseSquare w.0.1 c.0 c.1 in
-    subst (λ (r : (Token × Bound) × List Token). CounterHead r.0.0 r.0.1 ts r.1) same (head_at x.token a.0.0 o.0.0 v.token c.0.0 w.0.0 ts a.0.1 o.0.1 w.0.1 c.0.1 x.parts n.0 n.1 y.parts y.marked v.parts v.picked z.parts z.marked)
+    subst (λ (r : (Token × Bound) × List Token). CounterHead r.0.0 r.0.1 ts r.1) same
+    (head_at x.token a.0.0 o.0.0 v.token c.0.0 w.0.0 ts a.0.1 o.0.1 w.0.1 c.0.1 x.parts n.0 n.1 y.parts y.marked
+    v.parts v.picked z.parts z.marked)
 
-counter_at : (w name : Token) (width : Bound) (a : Option Tree) (b c e : Option (Tree × Tree)) (semicolon : Token) (ts us vs ws xs ys rest : List Token) → terminal w ≡ word.Counter → CounterHead name width ts us → IsClear a us vs → IsClause word.Load b vs ws → IsClause word.Add c ws xs
-    → IsClause word.Sub e xs ys → ys ≡ semicolon ∷ rest → terminal semicolon ≡ Semicolon → SpellsItem (counter_form name width a b c e) (w ∷ ts) rest
+counter_at : (w name : Token) (width : Bound) (a : Option Tree) (b c e : Option (Tree × Tree)) (semicolon : Token)
+    (ts us vs ws xs ys rest : List Token) → terminal w ≡ word.Counter → CounterHead name width ts us → IsClear a us vs
+    → IsClause word.Load b vs ws → IsClause word.Add c ws xs
+    → IsClause word.Sub e xs ys → ys ≡ semicolon ∷ rest → terminal semicolon ≡ Semicolon
+    → SpellsItem (counter_form name width a b c e) (w ∷ ts) rest
 counter_at w name width a b c e semicolon ts us vs ws xs ys rest k h x y z v p s =
-    subst (λ (zs : List Token). SpellsItem (counter_form name width a b c e) (w ∷ zs) rest) (sym h.parts) (a_counter (is_counter k h.named h.opens h.wide h.closes x y z (subst (λ (zs : List Token). IsClause word.Sub e xs zs) p v) s))
+    subst (λ (zs : List Token). SpellsItem (counter_form name width a b c e) (w ∷ zs) rest) (sym h.parts)
+    (a_counter
+    (is_counter k h.named h.opens h.wide h.closes x y z
+    (subst (λ (zs : List Token). IsClause word.Sub e xs zs) p v) s))
 
-counter-sound : (w : Token) (ts : List Token) (p : ItemForm × List Token) → terminal w ≡ word.Counter → counter_item ts ≡ Some p → SpellsItem p.0 (w ∷ ts) p.1
+counter-sound : (w : Token) (ts : List Token) (p : ItemForm × List Token) → terminal w ≡ word.Counter
+    → counter_item ts ≡ Some p → SpellsItem p.0 (w ∷ ts) p.1
 unfolding counter_item
 counter-sound w ts p k h =
-    let n = bind-some (counter_head ts) (λ (h : (Token × Bound) × List Token). optional word.Clear (one_operand in_one) h.1 >>= λ a. optional word.Load two_operands a.1 >>= λ b. optional word.Add two_operands b.1 >>= λ c. optional word.Sub two_operands c.1
+    let n =
+    bind-some (counter_head ts)
+    (λ (h : (Token × Bound) × List Token). optional word.Clear (one_operand in_one) h.1
+    >>= λ a. optional word.Load two_operands a.1 >>= λ b. optional word.Add two_operands b.1
+    >>= λ c. optional word.Sub two_operands c.1
     >>= λ d. expect Semicolon d.1 >>= λ r. Some (counter_form h.0.0 h.0.1 a.0 b.0 c.0 d.0, r.1)) p h in
-    let a = bind-some (optional word.Clear (one_operand in_one) n.0.1) (λ (a : Option Tree × List Token). optional word.Load two_operands a.1 >>= λ b. optional word.Add two_operands b.1 >>= λ c. optional word.Sub two_operands c.1
+    let a =
+    bind-some (optional word.Clear (one_operand in_one) n.0.1)
+    (λ (a : Option Tree × List Token). optional word.Load two_operands a.1
+    >>= λ b. optional word.Add two_operands b.1 >>= λ c. optional word.Sub two_operands c.1
     >>= λ d. expect Semicolon d.1 >>= λ r. Some (counter_form n.0.0.0 n.0.0.1 a.0 b.0 c.0 d.0, r.1)) p n.2 in
-    let b = bind-some (optional word.Load two_operands a.0.1) (λ (b : Option (Tree × Tree) × List Token). optional word.Add two_operands b.1 >>= λ c. optional word.Sub two_operands c.1 >>= λ d. expect Semicolon d.1 >>= λ r. Some (counter_form n.0.0.0 n.0.0.1 a.0.0 b.0 c.0 d.0, r.1)) p a.2 in
-    let c = bind-some (optional word.Add two_operands b.0.1) (λ (c : Option (Tree × Tree) × List Token). optional word.Sub two_operands c.1 >>= λ d. expect Semicolon d.1 >>= λ r. Some (counter_form n.0.0.0 n.0.0.1 a.0.0 b.0.0 c.0 d.0, r.1)) p b.2 in
-    let e = bind-some (optional word.Sub two_operands c.0.1) (λ (d : Option (Tree × Tree) × List Token). expect Semicolon d.1 >>= λ r. Some (counter_form n.0.0.0 n.0.0.1 a.0.0 b.0.0 c.0.0 d.0, r.1)) p c.2 in
-    let s = bind-some (expect Semicolon e.0.1) (λ (r : Token × List Token). Some (counter_form n.0.0.0 n.0.0.1 a.0.0 b.0.0 c.0.0 e.0.0, r.1)) p e.2 in
+    let b =
+    bind-some (optional word.Load two_operands a.0.1)
+    (λ (b : Option (Tree × Tree) × List Token). optional word.Add two_operands b.1
+    >>= λ c. optional word.Sub two_operands c.1 >>= λ d. expect Semicolon d.1
+    >>= λ r. Some (counter_form n.0.0.0 n.0.0.1 a.0.0 b.0 c.0 d.0, r.1)) p a.2 in
+    let c =
+    bind-some (optional word.Add two_operands b.0.1)
+    (λ (c : Option (Tree × Tree) × List Token). optional word.Sub two_operands c.1 >>= λ d. expect Semicolon d.1
+    >>= λ r. Some (counter_form n.0.0.0 n.0.0.1 a.0.0 b.0.0 c.0 d.0, r.1)) p b.2 in
+    let e =
+    bind-some (optional word.Sub two_operands c.0.1)
+    (λ (d : Option (Tree × Tree) × List Token). expect Semicolon d.1
+    >>= λ r. Some (counter_form n.0.0.0 n.0.0.1 a.0.0 b.0.0 c.0.0 d.0, r.1)) p c.2 in
+    let s =
+    bind-some (expect Semicolon e.0.1)
+    (λ (r : Token × List Token). Some (counter_form n.0.0.0 n.0.0.1 a.0.0 b.0.0 c.0.0 e.0.0, r.1)) p e.2 in
     let same : (counter_form n.0.0.0 n.0.0.1 a.0.0 b.0.0 c.0.0 e.0.0, s.0.1) ≡ p = cc (s.2) in
     let z = expect-some Semicolon e.0.1 s.0 s.1 in
     subst (λ (r : ItemForm × List Token). SpellsItem r.0 (w ∷ ts) r.1) same
-    (counter_at w n.0.0.0 n.0.0.1 a.0.0 b.0.0 c.0.0 e.0.0 s.0.0 ts n.0.1 a.0.1 b.0.1 c.0.1 e.0.1 s.0.1 k (head-sound ts n.0 n.1) (clear-sound n.0.1 a.0.0 a.0.1 (optional-sound word.Clear (one_operand in_one) n.0.1 a.0 a.1))
-    (clause-sound word.Load a.0.1 b.0.0 b.0.1 (optional-sound word.Load two_operands a.0.1 b.0 b.1)) (clause-sound word.Add b.0.1 c.0.0 c.0.1 (optional-sound word.Add two_operands b.0.1 c.0 c.1))
+    (counter_at w n.0.0.0 n.0.0.1 a.0.0 b.0.0 c.0.0 e.0.0 s.0.0 ts n.0.1 a.0.1 b.0.1 c.0.1 e.0.1 s.0.1 k
+    (head-sound ts n.0 n.1)
+    (clear-sound n.0.1 a.0.0 a.0.1 (optional-sound word.Clear (one_operand in_one) n.0.1 a.0 a.1))
+    (clause-sound word.Load a.0.1 b.0.0 b.0.1 (optional-sound word.Load two_operands a.0.1 b.0 b.1))
+    (clause-sound word.Add b.0.1 c.0.0 c.0.1 (optional-sound word.Add two_operands b.0.1 c.0 c.1))
     (clause-sound word.Sub c.0.1 e.0.0 e.0.1 (optional-sound word.Sub two_operands c.0.1 e.0 e.1)) z.parts z.marked)
 
 -- named sequences
-again-some : (name t a : Token) → again_of name t ≡ Some a → (is_word t ≡ true) × (bytes_eq t.text.now name.text.now ≡ true)
+again-some : (name t a : Token) → again_of name t ≡ Some a → (is_word t ≡ true)
+    × (bytes_eq t.text.now name.text.now ≡ true)
 unfolding again_of
 again-some name t a h = by_tests (is_word t) (bytes_eq t.text.now name.text.now) h
   where
@@ -182,51 +272,78 @@ again-some name t a h = by_tests (is_word t) (bytes_eq t.text.now name.text.now)
     by_tests true false k = absurd cc
     by_tests false y k = absurd cc
 
-closing_at : (name t again : Token) (ts us rest : List Token) → ts ≡ t ∷ us → terminal t ≡ Colon → us ≡ again ∷ rest → is_word again ≡ true → bytes_eq again.text.now name.text.now ≡ true → IsClosing name ts rest
+closing_at : (name t again : Token) (ts us rest : List Token) → ts ≡ t ∷ us → terminal t ≡ Colon → us ≡ again ∷ rest
+    → is_word again ≡ true → bytes_eq again.text.now name.text.now ≡ true → IsClosing name ts rest
 closing_at name t again ts us rest p k q w e = rw (p, q) (closing k w e)
 
-closing-sound : (name : Token) (ts : List Token) (o : Option Token) (rest : List Token) → IsOptional Colon (pick (again_of name)) ts o rest → IsClosing name ts rest
+closing-sound : (name : Token) (ts : List Token) (o : Option Token) (rest : List Token)
+    → IsOptional Colon (pick (again_of name)) ts o rest → IsClosing name ts rest
 closing-sound name ts _ _ absent = no_closing
 closing-sound name ts _ rest (present {t = t} {us = us} {a = a} p k r) =
     let x = pick-some (again_of name) us (a, rest) r in
     let w = again-some name x.token a x.picked in
     closing_at name t x.token ts us rest p k x.parts w.0 w.1
 
-ending_at : (name e : Token) (us vs rest : List Token) → us ≡ e ∷ vs → terminal e ≡ EndSequence → IsClosing name vs rest → (ts : List Token) (o : Option (Token × List Token)) → expect Semicolon ts ≡ o → skip_by o ts ≡ us → IsEnding name ts rest
-ending_at name e us vs rest p k c ts None l same = subst (λ (xs : List Token). IsEnding name xs rest) (sym (same ∙ p)) (ending k c)
+ending_at : (name e : Token) (us vs rest : List Token) → us ≡ e ∷ vs → terminal e ≡ EndSequence → IsClosing name vs rest
+    → (ts : List Token) (o : Option (Token × List Token)) → expect Semicolon ts ≡ o → skip_by o ts ≡ us
+    → IsEnding name ts rest
+ending_at name e us vs rest p k c ts None l same =
+    subst (λ (xs : List Token). IsEnding name xs rest) (sym (same ∙ p)) (ending k c)
 ending_at name e us vs rest p k c ts (Some q) l same =
     let x = expect-some Semicolon ts q l in
-    subst (λ (xs : List Token). IsEnding name xs rest) (sym (x.parts ∙ ap (λ (xs : List Token). q.0 ∷ xs) (same ∙ p))) (with_semicolon x.marked k c)
+    subst (λ (xs : List Token). IsEnding name xs rest) (sym (x.parts ∙ ap (λ (xs : List Token). q.0 ∷ xs) (same ∙ p)))
+    (with_semicolon x.marked k c)
 
 ending-sound : (name : Token) (ts rest : List Token) → ending_of name ts ≡ Some rest → IsEnding name ts rest
 unfolding ending_of skip
 ending-sound name ts rest h =
-    let e = bind-some (expect EndSequence (skip Semicolon ts)) (λ (e : Token × List Token). optional Colon (pick (again_of name)) e.1 >>= λ q. Some q.1) rest h in
-    let q = bind-some (optional Colon (pick (again_of name)) e.0.1) (λ (q : Option Token × List Token). Some q.1) rest e.2 in
+    let e =
+    bind-some (expect EndSequence (skip Semicolon ts))
+    (λ (e : Token × List Token). optional Colon (pick (again_of name)) e.1 >>= λ q. Some q.1) rest h in
+    let q =
+    bind-some (optional Colon (pick (again_of name)) e.0.1) (λ (q : Option Token × List Token). Some q.1) rest e.2
+    in
     let same : q.0.1 ≡ rest = cc (q.2) in
     let x = expect-some EndSequence (skip Semicolon ts) e.0 e.1 in
-    ending_at name e.0.0 (skip Semicolon ts) e.0.1 rest x.parts x.marked (subst (λ (xs : List Token). IsClosing name e.0.1 xs) same (closing-sound name e.0.1 q.0.0 q.0.1 (optional-sound Colon (pick (again_of name)) e.0.1 q.0 q.1))) ts (expect Semicolon ts) refl refl
+    ending_at name e.0.0 (skip Semicolon ts) e.0.1 rest x.parts x.marked
+    (subst (λ (xs : List Token). IsClosing name e.0.1 xs) same
+    (closing-sound name e.0.1 q.0.0 q.0.1 (optional-sound Colon (pick (again_of name)) e.0.1 q.0 q.1))) ts
+    (expect Semicolon ts) refl refl
 
-declaration_at : (w t name semicolon : Token) (body : SequenceForm) (ts us vs ws rest : List Token) → terminal w ≡ word.Sequence → ts ≡ t ∷ us → is_name t ≡ true → t ≡ name → us ≡ semicolon ∷ vs → terminal semicolon ≡ Semicolon → IsSequence most_open body vs ws → IsEnding name ws rest
+declaration_at : (w t name semicolon : Token) (body : SequenceForm) (ts us vs ws rest : List Token)
+    → terminal w ≡ word.Sequence → ts ≡ t ∷ us → is_name t ≡ true → t ≡ name → us ≡ semicolon ∷ vs
+    → terminal semicolon ≡ Semicolon → IsSequence most_open body vs ws → IsEnding name ws rest
     → SpellsItem (declaration (record { name = name; body = body })) (w ∷ ts) rest
 declaration_at w t name semicolon body ts us vs ws rest k a b c e s x y =
-    subst (λ (xs : List Token). SpellsItem (declaration (record { name = name; body = body })) (w ∷ xs) rest) (sym (a ∙ ap (λ (n : Token). n ∷ us) c ∙ ap (λ (xs : List Token). name ∷ xs) e))
+    subst (λ (xs : List Token). SpellsItem (declaration (record { name = name; body = body })) (w ∷ xs) rest)
+    (sym (a ∙ ap (λ (n : Token). n ∷ us) c ∙ ap (λ (xs : List Token). name ∷ xs) e))
     (a_declaration (is_declaration k (subst (λ (n : Token). is_name n ≡ true) c b) s x y))
 
-declaration-sound : (w : Token) (ts : List Token) (p : ItemForm × List Token) → terminal w ≡ word.Sequence → declaration_item ts ≡ Some p → SpellsItem p.0 (w ∷ ts) p.1
+declaration-sound : (w : Token) (ts : List Token) (p : ItemForm × List Token) → terminal w ≡ word.Sequence
+    → declaration_item ts ≡ Some p → SpellsItem p.0 (w ∷ ts) p.1
 unfolding declaration_item
 declaration-sound w ts p k h =
-    let n = bind-some (pick name_of ts) (λ (n : Token × List Token). expect Semicolon n.1 >>= λ o. whole most_open o.1 >>= λ p. ending_of n.0 p.1 >>= λ rest. Some (declaration (record { name = n.0; body = p.0 }), rest)) p h in
-    let s = bind-some (expect Semicolon n.0.1) (λ (o : Token × List Token). whole most_open o.1 >>= λ p. ending_of n.0.0 p.1 >>= λ rest. Some (declaration (record { name = n.0.0; body = p.0 }), rest)) p n.2 in
-    let b = bind-some (whole most_open s.0.1) (λ (p : SequenceForm × List Token). ending_of n.0.0 p.1 >>= λ rest. Some (declaration (record { name = n.0.0; body = p.0 }), rest)) p s.2 in
-    let e = bind-some (ending_of n.0.0 b.0.1) (λ (rest : List Token). Some (declaration (record { name = n.0.0; body = b.0.0 }), rest)) p b.2 in
+    let n =
+    bind-some (pick name_of ts) (λ (n : Token × List Token). expect Semicolon n.1 >>= λ o. whole most_open o.1
+    >>= λ p. ending_of n.0 p.1 >>= λ rest. Some (declaration (record { name = n.0; body = p.0 }), rest)) p h in
+    let s =
+    bind-some (expect Semicolon n.0.1) (λ (o : Token × List Token). whole most_open o.1
+    >>= λ p. ending_of n.0.0 p.1 >>= λ rest. Some (declaration (record { name = n.0.0; body = p.0 }), rest)) p n.2
+    in
+    let b =
+    bind-some (whole most_open s.0.1) (λ (p : SequenceForm × List Token). ending_of n.0.0 p.1
+    >>= λ rest. Some (declaration (record { name = n.0.0; body = p.0 }), rest)) p s.2 in
+    let e =
+    bind-some (ending_of n.0.0 b.0.1)
+    (λ (rest : List Token). Some (declaration (record { name = n.0.0; body = b.0.0 }), rest)) p b.2 in
     let i : ItemForm = declaration (record { name = n.0.0; body = b.0.0 }) in
     let same : (i, e.0) ≡ p = cc (e.2) in
     let x = pick-some name_of ts n.0 n.1 in
     let v = name-some x.token n.0.0 x.picked in
     let y = expect-some Semicolon n.0.1 s.0 s.1 in
     subst (λ (r : ItemForm × List Token). SpellsItem r.0 (w ∷ ts) r.1) same
-    (declaration_at w x.token n.0.0 s.0.0 b.0.0 ts n.0.1 s.0.1 b.0.1 e.0 k x.parts v.0 v.1 y.parts y.marked (whole-sound most_open s.0.1 b.0 b.1) (ending-sound n.0.0 b.0.1 e.0 e.1))
+    (declaration_at w x.token n.0.0 s.0.0 b.0.0 ts n.0.1 s.0.1 b.0.1 e.0 k x.parts v.0 v.1 y.parts y.marked
+    (whole-sound most_open s.0.1 b.0 b.1) (ending-sound n.0.0 b.0.1 e.0 e.1))
 
 -- assertions
 verb-some : (t : Token) → is_verb_token t ≡ true → is_verb (terminal t)
@@ -254,10 +371,18 @@ record Clock (clock : List Token) (ts rest : List Token) : Type 0 where
 clock-sound : Reads clock_words (λ c ts rest. Clock c ts rest)
 unfolding clock_words
 clock-sound ts p h =
-    let a = bind-some (expect AtSign ts) (λ (a : Token × List Token). expect OpenRound a.1 >>= λ b. expect Posedge b.1 >>= λ c. path_words c.1 >>= λ p. expect CloseRound p.1 >>= λ r. Some (p.0, r.1)) p h in
-    let b = bind-some (expect OpenRound a.0.1) (λ (b : Token × List Token). expect Posedge b.1 >>= λ c. path_words c.1 >>= λ p. expect CloseRound p.1 >>= λ r. Some (p.0, r.1)) p a.2 in
-    let c = bind-some (expect Posedge b.0.1) (λ (c : Token × List Token). path_words c.1 >>= λ p. expect CloseRound p.1 >>= λ r. Some (p.0, r.1)) p b.2 in
-    let e = bind-some (path_words c.0.1) (λ (p : List Token × List Token). expect CloseRound p.1 >>= λ r. Some (p.0, r.1)) p c.2 in
+    let a =
+    bind-some (expect AtSign ts) (λ (a : Token × List Token). expect OpenRound a.1 >>= λ b. expect Posedge b.1
+    >>= λ c. path_words c.1 >>= λ p. expect CloseRound p.1 >>= λ r. Some (p.0, r.1)) p h in
+    let b =
+    bind-some (expect OpenRound a.0.1) (λ (b : Token × List Token). expect Posedge b.1 >>= λ c. path_words c.1
+    >>= λ p. expect CloseRound p.1 >>= λ r. Some (p.0, r.1)) p a.2 in
+    let c =
+    bind-some (expect Posedge b.0.1) (λ (c : Token × List Token). path_words c.1 >>= λ p. expect CloseRound p.1
+    >>= λ r. Some (p.0, r.1)) p b.2 in
+    let e =
+    bind-some (path_words c.0.1) (λ (p : List Token × List Token). expect CloseRound p.1 >>= λ r. Some (p.0, r.1))
+    p c.2 in
     let f = bind-some (expect CloseRound e.0.1) (λ (r : Token × List Token). Some (e.0.0, r.1)) p e.2 in
     let same : (e.0.0, f.0.1) ≡ p = cc (f.2) in
     let u = expect-some AtSign ts a.0 a.1 in
@@ -288,14 +413,26 @@ record PropertyEnd (p : PropertyForm) (ts rest : List Token) : Type 0 where
 property_end-sound : Reads property_end (λ p ts rest. PropertyEnd p ts rest)
 unfolding property_end
 property_end-sound ts p h =
-    let a = bind-some (property in_one ts) (λ (p : PropertyForm × List Token). expect CloseRound p.1 >>= λ a. expect Semicolon a.1 >>= λ r. Some (p.0, r.1)) p h in
-    let b = bind-some (expect CloseRound a.0.1) (λ (b : Token × List Token). expect Semicolon b.1 >>= λ r. Some (a.0.0, r.1)) p a.2 in
+    let a =
+    bind-some (property in_one ts) (λ (p : PropertyForm × List Token). expect CloseRound p.1
+    >>= λ a. expect Semicolon a.1 >>= λ r. Some (p.0, r.1)) p h in
+    let b =
+    bind-some (expect CloseRound a.0.1) (λ (b : Token × List Token). expect Semicolon b.1
+    >>= λ r. Some (a.0.0, r.1)) p a.2 in
     let c = bind-some (expect Semicolon b.0.1) (λ (r : Token × List Token). Some (a.0.0, r.1)) p b.2 in
     let same : (a.0.0, c.0.1) ≡ p = cc (c.2) in
     let x = expect-some CloseRound a.0.1 b.0 b.1 in
     let y = expect-some Semicolon b.0.1 c.0 c.1 in
     subst (λ (r : PropertyForm × List Token). PropertyEnd r.0 ts r.1) same
-    (record { last = b.0.0; semicolon = c.0.0; spelled = subst (λ (xs : List Token). IsProperty in_one a.0.0 ts xs) (x.parts ∙ ap (λ (xs : List Token). b.0.0 ∷ xs) y.parts) (property-sound in_one ts a.0 a.1); closes = x.marked; ends = y.marked })
+    (record {
+      last = b.0.0;
+      semicolon = c.0.0;
+      spelled = subst (λ (xs : List Token). IsProperty in_one a.0.0 ts xs)
+          (x.parts ∙ ap (λ (xs : List Token). b.0.0 ∷ xs) y.parts) (property-sound in_one ts a.0 a.1);
+      closes =
+          x.marked;
+      ends = y.marked;
+    })
 
 record Opens (ts rest : List Token) : Type 0 where
   word_property : Token
@@ -307,36 +444,69 @@ record Opens (ts rest : List Token) : Type 0 where
 opening-sound : (ts rest : List Token) → opening_words ts ≡ Some rest → Opens ts rest
 unfolding opening_words
 opening-sound ts rest h =
-    let a = bind-some (expect word.Property ts) (λ (a : Token × List Token). expect OpenRound a.1 >>= λ b. Some b.1) rest h in
+    let a =
+    bind-some (expect word.Property ts) (λ (a : Token × List Token). expect OpenRound a.1 >>= λ b. Some b.1) rest
+    h in
     let b = bind-some (expect OpenRound a.0.1) (λ (b : Token × List Token). Some b.1) rest a.2 in
     let same : b.0.1 ≡ rest = cc (b.2) in
     let x = expect-some word.Property ts a.0 a.1 in
     let y = expect-some OpenRound a.0.1 b.0 b.1 in
-    subst (λ (xs : List Token). Opens ts xs) same (record { word_property = a.0.0; left = b.0.0; parts = x.parts ∙ ap (λ (xs : List Token). a.0.0 ∷ xs) y.parts; is_property = x.marked; is_left = y.marked })
+    subst (λ (xs : List Token). Opens ts xs) same
+    (record {
+      word_property = a.0.0;
+      left = b.0.0;
+      parts = x.parts ∙ ap (λ (xs : List Token). a.0.0 ∷ xs) y.parts;
+      is_property = x.marked;
+      is_left = y.marked;
+    })
 
-assertion_at : (l : Option Token) (verb : Token) (clock : List Token) (off : Option Tree) (p : PropertyForm) (start ts us vs ws xs rest : List Token) → IsLabel l start ts → ts ≡ verb ∷ us → is_verb (terminal verb) → Opens us vs → Clock clock vs ws → IsDisable off ws xs → PropertyEnd p xs rest
+assertion_at : (l : Option Token) (verb : Token) (clock : List Token) (off : Option Tree) (p : PropertyForm)
+    (start ts us vs ws xs rest : List Token) → IsLabel l start ts → ts ≡ verb ∷ us → is_verb (terminal verb)
+    → Opens us vs → Clock clock vs ws → IsDisable off ws xs → PropertyEnd p xs rest
     → SpellsItem (assertion_form l verb clock off p) start rest
 assertion_at l verb clock off p start ts us vs ws xs rest named e v o c i j =
-    an_assertion (is_assertion (subst (λ (ys : List Token). IsLabel l start ys) (e ∙ ap (λ (ys : List Token). verb ∷ ys) (o.parts ∙ ap (λ (ys : List Token). o.word_property ∷ o.left ∷ ys) c.parts)) named) v o.is_property o.is_left c.is_at c.is_round c.is_posedge c.spelled c.closes i j.spelled j.closes j.ends)
+    an_assertion
+    (is_assertion
+    (subst (λ (ys : List Token). IsLabel l start ys)
+    (e ∙ ap (λ (ys : List Token). verb ∷ ys)
+    (o.parts ∙ ap (λ (ys : List Token). o.word_property ∷ o.left ∷ ys) c.parts)) named) v o.is_property o.is_left
+    c.is_at c.is_round c.is_posedge c.spelled c.closes i j.spelled j.closes j.ends)
 
-assertion-sound : (l : Option Token) (start ts : List Token) (p : ItemForm × List Token) → IsLabel l start ts → assertion_item l ts ≡ Some p → SpellsItem p.0 start p.1
+assertion-sound : (l : Option Token) (start ts : List Token) (p : ItemForm × List Token) → IsLabel l start ts
+    → assertion_item l ts ≡ Some p → SpellsItem p.0 start p.1
 unfolding assertion_item
 assertion-sound l start ts p named h =
-    let v = bind-some (lead is_verb_token ts) (λ (v : Token × List Token). opening_words v.1 >>= λ us. clock_words us >>= λ c. optional Disable disable_reader c.1 >>= λ d. property_end d.1 >>= λ p. Some (assertion_form l v.0 c.0 d.0 p.0, p.1)) p h in
-    let o = bind-some (opening_words v.0.1) (λ (us : List Token). clock_words us >>= λ c. optional Disable disable_reader c.1 >>= λ d. property_end d.1 >>= λ p. Some (assertion_form l v.0.0 c.0 d.0 p.0, p.1)) p v.2 in
-    let c = bind-some (clock_words o.0) (λ (c : List Token × List Token). optional Disable disable_reader c.1 >>= λ d. property_end d.1 >>= λ p. Some (assertion_form l v.0.0 c.0 d.0 p.0, p.1)) p o.2 in
-    let e = bind-some (optional Disable disable_reader c.0.1) (λ (d : Option Tree × List Token). property_end d.1 >>= λ p. Some (assertion_form l v.0.0 c.0.0 d.0 p.0, p.1)) p c.2 in
-    let q = bind-some (property_end e.0.1) (λ (p : PropertyForm × List Token). Some (assertion_form l v.0.0 c.0.0 e.0.0 p.0, p.1)) p e.2 in
+    let v =
+    bind-some (lead is_verb_token ts) (λ (v : Token × List Token). opening_words v.1 >>= λ us. clock_words us
+    >>= λ c. optional Disable disable_reader c.1 >>= λ d. property_end d.1
+    >>= λ p. Some (assertion_form l v.0 c.0 d.0 p.0, p.1)) p h in
+    let o =
+    bind-some (opening_words v.0.1) (λ (us : List Token). clock_words us
+    >>= λ c. optional Disable disable_reader c.1 >>= λ d. property_end d.1
+    >>= λ p. Some (assertion_form l v.0.0 c.0 d.0 p.0, p.1)) p v.2 in
+    let c =
+    bind-some (clock_words o.0) (λ (c : List Token × List Token). optional Disable disable_reader c.1
+    >>= λ d. property_end d.1 >>= λ p. Some (assertion_form l v.0.0 c.0 d.0 p.0, p.1)) p o.2 in
+    let e =
+    bind-some (optional Disable disable_reader c.0.1) (λ (d : Option Tree × List Token). property_end d.1
+    >>= λ p. Some (assertion_form l v.0.0 c.0.0 d.0 p.0, p.1)) p c.2 in
+    let q =
+    bind-some (property_end e.0.1)
+    (λ (p : PropertyForm × List Token). Some (assertion_form l v.0.0 c.0.0 e.0.0 p.0, p.1)) p e.2 in
     let same : (assertion_form l v.0.0 c.0.0 e.0.0 q.0.0, q.0.1) ≡ p = cc (q.2) in
     let x = lead-some is_verb_token ts v.0 v.1 in
     subst (λ (r : ItemForm × List Token). SpellsItem r.0 start r.1) same
-    (assertion_at l v.0.0 c.0.0 e.0.0 q.0.0 start ts v.0.1 o.0 c.0.1 e.0.1 q.0.1 named x.parts (verb-some v.0.0 x.passes) (opening-sound v.0.1 o.0 o.1) (clock-sound o.0 c.0 c.1) (disable-sound c.0.1 e.0.0 e.0.1 (optional-sound Disable disable_reader c.0.1 e.0 e.1))
+    (assertion_at l v.0.0 c.0.0 e.0.0 q.0.0 start ts v.0.1 o.0 c.0.1 e.0.1 q.0.1 named x.parts
+    (verb-some v.0.0 x.passes) (opening-sound v.0.1 o.0 o.1) (clock-sound o.0 c.0 c.1)
+    (disable-sound c.0.1 e.0.0 e.0.1 (optional-sound Disable disable_reader c.0.1 e.0 e.1))
     (property_end-sound e.0.1 q.0 q.1))
 
-label_at : (name colon : Token) (ts us vs : List Token) → ts ≡ name ∷ us → is_name name ≡ true → us ≡ colon ∷ vs → terminal colon ≡ Colon → IsLabel (Some name) ts vs
+label_at : (name colon : Token) (ts us vs : List Token) → ts ≡ name ∷ us → is_name name ≡ true → us ≡ colon ∷ vs
+    → terminal colon ≡ Colon → IsLabel (Some name) ts vs
 label_at name colon ts us vs a b c e = rw (a, c) (label b e)
 
-labelled_by-sound : (ts : List Token) (p : ItemForm × List Token) (o : Option (Token × List Token)) → lead is_name ts ≡ o → labelled_by o ts ≡ Some p → SpellsItem p.0 ts p.1
+labelled_by-sound : (ts : List Token) (p : ItemForm × List Token) (o : Option (Token × List Token))
+    → lead is_name ts ≡ o → labelled_by o ts ≡ Some p → SpellsItem p.0 ts p.1
 labelled_by-sound ts p None l h = assertion-sound None ts ts p no_label h
 labelled_by-sound ts p (Some q) l h =
     let c = bind-some (expect Colon q.1) (λ (r : Token × List Token). assertion_item (Some q.0) r.1) p h in
@@ -348,21 +518,29 @@ labelled-sound : (ts : List Token) (p : ItemForm × List Token) → label_reader
 unfolding label_reader
 labelled-sound ts p h = labelled_by-sound ts p (lead is_name ts) refl h
 
-declared_by-sound : (ts : List Token) (p : ItemForm × List Token) (o : Option (Token × List Token)) → expect word.Sequence ts ≡ o → declared_by o ts ≡ Some p → SpellsItem p.0 ts p.1
+declared_by-sound : (ts : List Token) (p : ItemForm × List Token) (o : Option (Token × List Token))
+    → expect word.Sequence ts ≡ o → declared_by o ts ≡ Some p → SpellsItem p.0 ts p.1
 declared_by-sound ts p None l h = labelled-sound ts p h
-declared_by-sound ts p (Some q) l h = let x = expect-some word.Sequence ts q l in subst (λ (xs : List Token). SpellsItem p.0 xs p.1) (sym x.parts) (declaration-sound q.0 q.1 p x.marked h)
+declared_by-sound ts p (Some q) l h =
+    let x = expect-some word.Sequence ts q l in subst (λ (xs : List Token). SpellsItem p.0 xs p.1) (sym x.parts)
+    (declaration-sound q.0 q.1 p x.marked h)
 
 declared-sound : (ts : List Token) (p : ItemForm × List Token) → declaration_reader ts ≡ Some p → SpellsItem p.0 ts p.1
 unfolding declaration_reader
 declared-sound ts p h = declared_by-sound ts p (expect word.Sequence ts) refl h
 
-counted_by-sound : (w : Token) (ts us : List Token) (p : ItemForm × List Token) → ts ≡ w ∷ us → terminal w ≡ word.Counter → (o : Option (Token × List Token)) → counted_by o us ts ≡ Some p → SpellsItem p.0 ts p.1
+counted_by-sound : (w : Token) (ts us : List Token) (p : ItemForm × List Token) → ts ≡ w ∷ us
+    → terminal w ≡ word.Counter → (o : Option (Token × List Token)) → counted_by o us ts ≡ Some p
+    → SpellsItem p.0 ts p.1
 counted_by-sound w ts us p e k (Some c) h = declared-sound ts p h
-counted_by-sound w ts us p e k None h = subst (λ (xs : List Token). SpellsItem p.0 xs p.1) (sym e) (counter-sound w us p k h)
+counted_by-sound w ts us p e k None h =
+    subst (λ (xs : List Token). SpellsItem p.0 xs p.1) (sym e) (counter-sound w us p k h)
 
-item_by-sound : (ts : List Token) (p : ItemForm × List Token) (o : Option (Token × List Token)) → expect word.Counter ts ≡ o → item_by o ts ≡ Some p → SpellsItem p.0 ts p.1
+item_by-sound : (ts : List Token) (p : ItemForm × List Token) (o : Option (Token × List Token)) → expect word.Counter ts
+    ≡ o → item_by o ts ≡ Some p → SpellsItem p.0 ts p.1
 item_by-sound ts p None l h = declared-sound ts p h
-item_by-sound ts p (Some q) l h = let x = expect-some word.Counter ts q l in counted_by-sound q.0 ts q.1 p x.parts x.marked (expect Colon q.1) h
+item_by-sound ts p (Some q) l h =
+    let x = expect-some word.Counter ts q l in counted_by-sound q.0 ts q.1 p x.parts x.marked (expect Colon q.1) h
 
 item-sound : Reads item (λ i ts rest. SpellsItem i ts rest)
 unfolding item
@@ -381,5 +559,7 @@ asserts-has (counter c ∷ more) h = asserts-has more h
 asserts-has (declaration s ∷ more) h = asserts-has more h
 asserts-has (assertion a ∷ more) h = tt
 
-pub file-found : (xs : List ItemForm) (tokens : List Token) (last : Token) → items tokens ≡ Some (xs, last ∷ []) → terminal last ≡ End → asserts xs ≡ true → IsFile xs tokens
-file-found xs tokens last h e a = record { last = last; ends = e; spelled = items-sound tokens (xs, last ∷ []) h; asserts = asserts-has xs a }
+pub file-found : (xs : List ItemForm) (tokens : List Token) (last : Token) → items tokens ≡ Some (xs, last ∷ [])
+    → terminal last ≡ End → asserts xs ≡ true → IsFile xs tokens
+file-found xs tokens last h e a =
+    record { last = last; ends = e; spelled = items-sound tokens (xs, last ∷ []) h; asserts = asserts-has xs a }

@@ -1,5 +1,6 @@
 -- Properties are read as what spells them, both ways.
-use Rattle.std.proofs.Common.{◌≡◌, ℕ, zero, suc, ◌<◌, List, [], ◌∷◌, Option, Some, None, refl, sym, ap, ◌∙◌, subst, arith}
+use Rattle.std.proofs.Common.{◌≡◌, ℕ, zero, suc, ◌<◌, List, [], ◌∷◌, Option, Some, None, refl, sym, ap, ◌∙◌, subst}
+use Rattle.std.proofs.Common.{arith}
 use Rattle.lexer.specs.declared.token.Token.{Token}
 use Rattle.lexer.specs.declared.token.Kind.{Kind}
 use Rattle.grammar.specs.declared.operator.Implication.{Implication}
@@ -8,19 +9,26 @@ use Rattle.grammar.specs.declared.terminal.Terminal.TheVariants.{OpenRound, Clos
 use Rattle.grammar.specs.Terminals.{terminal}
 use Rattle.grammar.specs.Marks.{precedence_of_terminal, precedence, next_precedence}
 use Rattle.grammar.specs.Operators.{implication_of_terminal, implication_of}
-use Rattle.grammar.specs.Trees.{Tree, SequenceForm, boolean, repeated, late, delayed, throughout, joined, PropertyForm, plain, implication}
-use Rattle.grammar.specs.Sequences.{IsBody, is_boolean, in_brackets, is_once, is_prompt, is_head, is_cat, is_during, IsSequence, is_conjunction, IsProperty, is_plain, is_implication, bracketed}
+use Rattle.grammar.specs.Trees.{Tree, SequenceForm, boolean, repeated, late, delayed, throughout, joined, PropertyForm}
+use Rattle.grammar.specs.Trees.{plain, implication}
+use Rattle.grammar.specs.Sequences.{IsBody, is_boolean, in_brackets, is_once, is_prompt, is_head, is_cat, is_during}
+use Rattle.grammar.specs.Sequences.{IsSequence, is_conjunction, IsProperty, is_plain, is_implication, bracketed}
 use Rattle.grammar.specs.Expressions as expressions
 use Rattle.grammar.specs.Expressions.{is_operand, is_tighter}
 use Rattle.grammar.specs.Readers.{◌>>=◌, expect, pick}
-use Rattle.grammar.specs.ReadSequences.{regroup, body_with, during_behind, during_with, sides_behind, whole_with, sequences, sequence_behind, whole, implication_from, implication_behind, regroup_property, property_by, property_with, properties, property}
-use Rattle.grammar.proofs.ReaderLaws.{Reads, bind-some, pick-nil, pick-no, pick-is, pick-some, expect-is, expect-not, expect-some, precedence-CloseRound}
+use Rattle.grammar.specs.ReadSequences.{regroup, body_with, during_behind, during_with, sides_behind, whole_with}
+use Rattle.grammar.specs.ReadSequences.{sequences, sequence_behind, whole, implication_from, implication_behind}
+use Rattle.grammar.specs.ReadSequences.{regroup_property, property_by, property_with, properties, property}
+use Rattle.grammar.proofs.ReaderLaws.{Reads, bind-some, pick-nil, pick-no, pick-is, pick-some, expect-is, expect-not}
+use Rattle.grammar.proofs.ReaderLaws.{expect-some, precedence-CloseRound}
 use Rattle.grammar.proofs.Sound.{opening-mark}
 use Rattle.grammar.proofs.SequencesComplete.{body, during, sequence-none, regroup-none, sequence-read}
-use Rattle.grammar.proofs.SequencesSound.{sequence-is_boolean, regroup-sound, behind-sound, sides-sound, is_sound_below, sequence-sound}
+use Rattle.grammar.proofs.SequencesSound.{sequence-is_boolean, regroup-sound, behind-sound, sides-sound, is_sound_below}
+use Rattle.grammar.proofs.SequencesSound.{sequence-sound}
 
 -- implications
-implication-level : (w : Terminal) (k : Kind) (i : Implication) → implication_of_terminal w ≡ Some i → precedence_of_terminal w k ≡ 17
+implication-level : (w : Terminal) (k : Kind) (i : Implication) → implication_of_terminal w ≡ Some i
+    → precedence_of_terminal w k ≡ 17
 implication-level Overlapped k i h = refl
 implication-level Following k i h = refl
 implication-level _ k i h = absurd cc
@@ -33,7 +41,8 @@ no_implication : (t : Token) (o : Option Implication) → implication_of t ≡ o
 no_implication t None e h = refl
 no_implication t (Some i) e h = absurd (h (implication-precedence t i e))
 
-implication-none : (d : ℕ) (s : SequenceForm) (ts : List Token) → (next_precedence ts ≡ 17 → ⊥) → implication_behind d s ts ≡ Some (plain s, ts)
+implication-none : (d : ℕ) (s : SequenceForm) (ts : List Token) → (next_precedence ts ≡ 17 → ⊥)
+    → implication_behind d s ts ≡ Some (plain s, ts)
 unfolding implication_behind
 implication-none d s ts h = rw (no_sign ts h) refl
   where
@@ -41,7 +50,9 @@ implication-none d s ts h = rw (no_sign ts h) refl
     no_sign [] k = pick-nil implication_of
     no_sign (u ∷ us) k = pick-no implication_of u us (no_implication u (implication_of u) refl k)
 
-implication-some : (d : ℕ) (i : Implication) (a c : SequenceForm) (t : Token) (us rest : List Token) → implication_of t ≡ Some i → whole d us ≡ Some (c, rest) → implication_behind d a (t ∷ us) ≡ Some (implication a i c, rest)
+implication-some : (d : ℕ) (i : Implication) (a c : SequenceForm) (t : Token) (us rest : List Token)
+    → implication_of t ≡ Some i → whole d us ≡ Some (c, rest) → implication_behind d a (t ∷ us)
+    ≡ Some (implication a i c, rest)
 unfolding implication_behind
 implication-some d i a c t us rest h k = rw (pick-is implication_of i t us h, k) refl
 
@@ -57,23 +68,33 @@ record Grouped (d : ℕ) (s : SequenceForm) (ts rest : List Token) : Type 0 wher
   regroups : regroup d inside after ≡ Some (first, middle)
   goes_on : sequence_behind d first middle ≡ Some (s, rest)
 
-during-opens : (d : ℕ) (t : Token) (ts : List Token) → terminal t ≡ OpenRound → during d (t ∷ ts) ≡ (body d (t ∷ ts) >>= λ p. during_behind d (sequences d) p.0 p.1)
+during-opens : (d : ℕ) (t : Token) (ts : List Token) → terminal t ≡ OpenRound
+    → during d (t ∷ ts) ≡ (body d (t ∷ ts) >>= λ p. during_behind d (sequences d) p.0 p.1)
 unfolding during_with
 during-opens d t ts o = rw (expect-not Delay t ts (λ e. absurd cc)) refl
 
-body-opens : (d : ℕ) (t : Token) (ts : List Token) → terminal t ≡ OpenRound → body d (t ∷ ts) ≡ ((sequences d).whole ts >>= λ p. expect CloseRound p.1 >>= λ r. regroup d p.0 r.1)
+body-opens : (d : ℕ) (t : Token) (ts : List Token) → terminal t ≡ OpenRound
+    → body d (t ∷ ts) ≡ ((sequences d).whole ts >>= λ p. expect CloseRound p.1 >>= λ r. regroup d p.0 r.1)
 unfolding body_with
 body-opens d t ts o = rw (expect-is OpenRound t ts o) refl
 
-grouped : (d : ℕ) (t : Token) (ts : List Token) (s : SequenceForm) (rest : List Token) → terminal t ≡ OpenRound → whole d (t ∷ ts) ≡ Some (s, rest) → Grouped d s ts rest
+grouped : (d : ℕ) (t : Token) (ts : List Token) (s : SequenceForm) (rest : List Token) → terminal t ≡ OpenRound
+    → whole d (t ∷ ts) ≡ Some (s, rest) → Grouped d s ts rest
 unfolding whole whole_with sequence_behind
 grouped d t ts s rest o h =
     let first = (sequences d).whole ts in
-    let a = bind-some (during d (t ∷ ts)) (λ (p : SequenceForm × List Token). sides_behind d (sequences d) p.0 p.1) (s, rest) h in
-    let b : (body d (t ∷ ts) >>= λ p. during_behind d (sequences d) p.0 p.1) ≡ Some a.0 = sym (during-opens d t ts o) ∙ a.1 in
-    let c = bind-some (body d (t ∷ ts)) (λ (p : SequenceForm × List Token). during_behind d (sequences d) p.0 p.1) a.0 b in
-    let e : (first >>= λ p. expect CloseRound p.1 >>= λ r. regroup d p.0 r.1) ≡ Some c.0 = sym (body-opens d t ts o) ∙ c.1 in
-    let f = bind-some first (λ (p : SequenceForm × List Token). expect CloseRound p.1 >>= λ r. regroup d p.0 r.1) c.0 e in
+    let a =
+    bind-some (during d (t ∷ ts)) (λ (p : SequenceForm × List Token). sides_behind d (sequences d) p.0 p.1)
+    (s, rest) h in
+    let b : (body d (t ∷ ts) >>= λ p. during_behind d (sequences d) p.0 p.1) ≡ Some a.0 =
+    sym (during-opens d t ts o) ∙ a.1 in
+    let c =
+    bind-some (body d (t ∷ ts)) (λ (p : SequenceForm × List Token). during_behind d (sequences d) p.0 p.1) a.0 b
+    in
+    let e : (first >>= λ p. expect CloseRound p.1 >>= λ r. regroup d p.0 r.1) ≡ Some c.0 =
+    sym (body-opens d t ts o) ∙ c.1 in
+    let f =
+    bind-some first (λ (p : SequenceForm × List Token). expect CloseRound p.1 >>= λ r. regroup d p.0 r.1) c.0 e in
     let g = bind-some (expect CloseRound f.0.1) (λ (r : Token × List Token). regroup d f.0.0 r.1) c.0 f.2 in
     let k = expect-some CloseRound f.0.1 g.0 g.1 in
     record {
@@ -85,11 +106,14 @@ grouped d t ts s rest o h =
       marked = k.marked;
       read = f.1 ∙ ap (λ (us : List Token). Some (f.0.0, us)) k.parts;
       regroups = g.2;
-      goes_on = ap (λ (o : Option (SequenceForm × List Token)). o >>= λ p. sides_behind d (sequences d) p.0 p.1) c.2 ∙ a.2;
+      goes_on =
+          ap (λ (o : Option (SequenceForm × List Token)). o >>= λ p. sides_behind d (sequences d) p.0 p.1) c.2 ∙ a.2;
     }
 
 abbrev GoesOn : ℕ → Type 0
-GoesOn d = (ts : List Token) (s : SequenceForm) (rest : List Token) → whole d ts ≡ Some (s, rest) → property d ts ≡ implication_behind d s rest
+GoesOn d =
+    (ts : List Token) (s : SequenceForm) (rest : List Token) → whole d ts ≡ Some (s, rest)
+    → property d ts ≡ implication_behind d s rest
 
 no_inside : (ts : List Token) (p : SequenceForm × List Token) → (sequences zero).whole ts ≡ Some p → ⊥
 unfolding sequences
@@ -103,115 +127,177 @@ inner-property : (d : ℕ) (ts : List Token) → properties (suc d) ts ≡ prope
 unfolding properties property
 inner-property d ts = refl
 
-property-plain : (d : ℕ) (ts : List Token) (s : SequenceForm) (rest : List Token) → expect OpenRound ts ≡ None → whole d ts ≡ Some (s, rest) → property d ts ≡ implication_behind d s rest
+property-plain : (d : ℕ) (ts : List Token) (s : SequenceForm) (rest : List Token) → expect OpenRound ts ≡ None
+    → whole d ts ≡ Some (s, rest) → property d ts ≡ implication_behind d s rest
 unfolding property property_with
 property-plain d ts s rest e h = rw (e, h) refl
 
-property-opens : (d : ℕ) (t c : Token) (ts vs : List Token) (p : PropertyForm) → terminal t ≡ OpenRound → properties d ts ≡ Some (p, c ∷ vs) → terminal c ≡ CloseRound → property d (t ∷ ts) ≡ regroup_property d p vs
+property-opens : (d : ℕ) (t c : Token) (ts vs : List Token) (p : PropertyForm) → terminal t ≡ OpenRound
+    → properties d ts ≡ Some (p, c ∷ vs) → terminal c ≡ CloseRound → property d (t ∷ ts) ≡ regroup_property d p vs
 unfolding property property_with
 property-opens d t c ts vs p o h k = rw (expect-is OpenRound t ts o, h, expect-is CloseRound c vs k) refl
 
-regroup-plain : (d : ℕ) (x : SequenceForm) (vs : List Token) (y : SequenceForm) (ws : List Token) (z : SequenceForm) (us : List Token) → regroup d x vs ≡ Some (y, ws) → sequence_behind d y ws ≡ Some (z, us) → regroup_property d (plain x) vs ≡ implication_behind d z us
+regroup-plain : (d : ℕ) (x : SequenceForm) (vs : List Token) (y : SequenceForm) (ws : List Token) (z : SequenceForm)
+    (us : List Token) → regroup d x vs ≡ Some (y, ws) → sequence_behind d y ws ≡ Some (z, us)
+    → regroup_property d (plain x) vs ≡ implication_behind d z us
 unfolding regroup_property
 regroup-plain d x vs y ws z us a b = rw (a, b) refl
 
-property-group : (d : ℕ) → GoesOn d → (t : Token) (ts : List Token) (s : SequenceForm) (rest : List Token) → terminal t ≡ OpenRound → Grouped (suc d) s ts rest → property (suc d) (t ∷ ts) ≡ implication_behind (suc d) s rest
+property-group : (d : ℕ) → GoesOn d → (t : Token) (ts : List Token) (s : SequenceForm) (rest : List Token)
+    → terminal t ≡ OpenRound → Grouped (suc d) s ts rest → property (suc d) (t ∷ ts)
+    ≡ implication_behind (suc d) s rest
 property-group d inner t ts s rest o g =
     let h : whole d ts ≡ Some (g.inside, g.right ∷ g.after) = sym (inner-whole d ts) ∙ g.read in
-    let p : property d ts ≡ Some (plain g.inside, g.right ∷ g.after) = inner ts g.inside (g.right ∷ g.after) h ∙ implication-none d g.inside (g.right ∷ g.after) (λ e. omega (arith, precedence-CloseRound g.right g.marked)) in
-    property-opens (suc d) t g.right ts g.after (plain g.inside) o (inner-property d ts ∙ p) g.marked ∙ regroup-plain (suc d) g.inside g.after g.first g.middle s rest g.regroups g.goes_on
+    let p : property d ts ≡ Some (plain g.inside, g.right ∷ g.after) =
+    inner ts g.inside (g.right ∷ g.after) h
+    ∙ implication-none d g.inside (g.right ∷ g.after) (λ e. omega (arith, precedence-CloseRound g.right g.marked))
+    in
+    property-opens (suc d) t g.right ts g.after (plain g.inside) o (inner-property d ts ∙ p) g.marked
+    ∙ regroup-plain (suc d) g.inside g.after g.first g.middle s rest g.regroups g.goes_on
 
-goes_on_by : (d : ℕ) (ts : List Token) (s : SequenceForm) (rest : List Token) → whole d ts ≡ Some (s, rest) → ((t : Token) (us : List Token) → terminal t ≡ OpenRound → Grouped d s us rest → property d (t ∷ us) ≡ implication_behind d s rest) → (o : Option (Token × List Token)) → expect OpenRound ts ≡ o
+goes_on_by : (d : ℕ) (ts : List Token) (s : SequenceForm) (rest : List Token) → whole d ts ≡ Some (s, rest)
+    → ((t : Token) (us : List Token) → terminal t ≡ OpenRound → Grouped d s us rest → property d (t ∷ us)
+    ≡ implication_behind d s rest) → (o : Option (Token × List Token)) → expect OpenRound ts ≡ o
     → property d ts ≡ implication_behind d s rest
 goes_on_by d ts s rest h group None e = property-plain d ts s rest e h
 goes_on_by d ts s rest h group (Some q) e =
     let x = expect-some OpenRound ts q e in
-    ap (property d) x.parts ∙ group q.0 q.1 x.marked (grouped d q.0 q.1 s rest x.marked (ap (whole d) (sym x.parts) ∙ h))
+    ap (property d) x.parts
+    ∙ group q.0 q.1 x.marked (grouped d q.0 q.1 s rest x.marked (ap (whole d) (sym x.parts) ∙ h))
 
 pub goes_on : (d : ℕ) → GoesOn d
-goes_on zero ts s rest h = goes_on_by zero ts s rest h (λ t us o g. absurd (no_inside us (g.inside, g.right ∷ g.after) g.read)) (expect OpenRound ts) refl
-goes_on (suc d) ts s rest h = goes_on_by (suc d) ts s rest h (λ t us o g. property-group d (goes_on d) t us s rest o g) (expect OpenRound ts) refl
+goes_on zero ts s rest h =
+    goes_on_by zero ts s rest h (λ t us o g. absurd (no_inside us (g.inside, g.right ∷ g.after) g.read))
+    (expect OpenRound ts) refl
+goes_on (suc d) ts s rest h =
+    goes_on_by (suc d) ts s rest h (λ t us o g. property-group d (goes_on d) t us s rest o g) (expect OpenRound ts)
+    refl
 
-pub whole-read : {d : ℕ} {s : SequenceForm} {ts rest : List Token} → IsSequence d s ts rest → 16 < next_precedence rest → whole d ts ≡ Some (s, rest)
+pub whole-read : {d : ℕ} {s : SequenceForm} {ts rest : List Token} → IsSequence d s ts rest → 16 < next_precedence rest
+    → whole d ts ≡ Some (s, rest)
 unfolding whole
 whole-read w le = sequence-read w le
 
-regroup-stays : (d : ℕ) (p : PropertyForm) (ts : List Token) → 17 < next_precedence ts → regroup_property d p ts ≡ Some (p, ts)
+regroup-stays : (d : ℕ) (p : PropertyForm) (ts : List Token) → 17 < next_precedence ts → regroup_property d p ts
+    ≡ Some (p, ts)
 unfolding regroup_property
-regroup-stays d (plain s) ts h = rw (regroup-none d s ts (omega arith), sequence-none d s ts (omega arith)) (implication-none d s ts (λ e. omega arith))
+regroup-stays d (plain s) ts h =
+    rw (regroup-none d s ts (omega arith), sequence-none d s ts (omega arith))
+    (implication-none d s ts (λ e. omega arith))
 regroup-stays d (implication a i c) ts h = refl
 
-pub property-read : {d : ℕ} {p : PropertyForm} {ts rest : List Token} → IsProperty d p ts rest → 17 < next_precedence rest → property d ts ≡ Some (p, rest)
-property-read (is_plain {d = d} {s = s} {ts = ts} {rest = rest} w) le = goes_on d ts s rest (whole-read w (omega arith)) ∙ implication-none d s rest (λ e. omega arith)
+pub property-read : {d : ℕ} {p : PropertyForm} {ts rest : List Token} → IsProperty d p ts rest
+    → 17 < next_precedence rest → property d ts ≡ Some (p, rest)
+property-read (is_plain {d = d} {s = s} {ts = ts} {rest = rest} w) le =
+    goes_on d ts s rest (whole-read w (omega arith)) ∙ implication-none d s rest (λ e. omega arith)
 property-read (is_implication {d = d} {t = t} {i = i} {a = a} {c = c} {ts = ts} {us = us} {rest = rest} k v w) le =
-    goes_on d ts a (t ∷ us) (whole-read v (omega (arith, implication-precedence t i k))) ∙ implication-some d i a c t us rest k (whole-read w (omega arith))
+    goes_on d ts a (t ∷ us) (whole-read v (omega (arith, implication-precedence t i k)))
+    ∙ implication-some d i a c t us rest k (whole-read w (omega arith))
 property-read (bracketed {d = d} {left = left} {right = right} {p = p} {ts = ts} {rest = rest} o c w) le =
-    property-opens (suc d) left right ts rest p o (inner-property d ts ∙ property-read w (omega (arith, precedence-CloseRound right c))) c ∙ regroup-stays (suc d) p rest le
+    property-opens (suc d) left right ts rest p o
+    (inner-property d ts ∙ property-read w (omega (arith, precedence-CloseRound right c))) c
+    ∙ regroup-stays (suc d) p rest le
 
 -- the other way: a property that is a sequence is spelled as one
 single : {d : ℕ} {s : SequenceForm} {ts rest : List Token} → IsBody d s ts rest → IsSequence d s ts rest
 single b = is_conjunction (is_during (is_cat (is_head (is_prompt (is_once b)))))
 
-operand-at : {d : ℕ} {e : Tree} {ts rest : List Token} → expressions.Operand d zero e ts rest → expressions.Operand d 9 e ts rest
-operand-at o = is_tighter (is_tighter (is_tighter (is_tighter (is_tighter (is_tighter (is_tighter (is_tighter (is_tighter o))))))))
+operand-at : {d : ℕ} {e : Tree} {ts rest : List Token} → expressions.Operand d zero e ts rest
+    → expressions.Operand d 9 e ts rest
+operand-at o =
+    is_tighter
+    (is_tighter (is_tighter (is_tighter (is_tighter (is_tighter (is_tighter (is_tighter (is_tighter o))))))))
 
-group-sequence : (d : ℕ) (left right : Token) (s : SequenceForm) (ts rest : List Token) → terminal left ≡ OpenRound → terminal right ≡ CloseRound → IsSequence d s ts (right ∷ rest) → IsSequence (suc d) s (left ∷ ts) rest
-group-sequence d left right (boolean e) ts rest o c w = single (is_boolean (is_operand (operand-at {d = suc d} (expressions.in_brackets (opening-mark left o) (sequence-is_boolean w) c))))
+group-sequence : (d : ℕ) (left right : Token) (s : SequenceForm) (ts rest : List Token) → terminal left ≡ OpenRound
+    → terminal right ≡ CloseRound → IsSequence d s ts (right ∷ rest) → IsSequence (suc d) s (left ∷ ts) rest
+group-sequence d left right (boolean e) ts rest o c w =
+    single
+    (is_boolean
+    (is_operand (operand-at {d = suc d} (expressions.in_brackets (opening-mark left o) (sequence-is_boolean w) c))))
 group-sequence d left right (repeated s n) ts rest o c w = single (in_brackets o c tt w)
 group-sequence d left right (late t n s) ts rest o c w = single (in_brackets o c tt w)
 group-sequence d left right (delayed s more) ts rest o c w = single (in_brackets o c tt w)
 group-sequence d left right (throughout e s) ts rest o c w = single (in_brackets o c tt w)
 group-sequence d left right (joined j s more) ts rest o c w = single (in_brackets o c tt w)
 
-property-is_plain : {d : ℕ} {s : SequenceForm} {ts rest : List Token} → IsProperty d (plain s) ts rest → IsSequence d s ts rest
+property-is_plain : {d : ℕ} {s : SequenceForm} {ts rest : List Token} → IsProperty d (plain s) ts rest
+    → IsSequence d s ts rest
 property-is_plain (is_plain w) = w
-property-is_plain (bracketed {d = d} {left = left} {right = right} {p = plain s} {ts = ts} {rest = rest} o c w) = group-sequence d left right s ts rest o c (property-is_plain w)
+property-is_plain (bracketed {d = d} {left = left} {right = right} {p = plain s} {ts = ts} {rest = rest} o c w) =
+    group-sequence d left right s ts rest o c (property-is_plain w)
 
 pub whole-sound : (d : ℕ) → Reads (whole d) (λ s ts rest. IsSequence d s ts rest)
 unfolding whole
 whole-sound d ts p h = sequence-sound d ts p h
 
-implication_by-sound : (d : ℕ) (s : SequenceForm) (ts us : List Token) (p : PropertyForm × List Token) → IsSequence d s ts us → (o : Option (Implication × List Token)) → pick implication_of us ≡ o → implication_from d o s us ≡ Some p → IsProperty d p.0 ts p.1
-implication_by-sound d s ts us p w None l h = let same : (plain s, us) ≡ p = cc (h) in subst (λ (r : PropertyForm × List Token). IsProperty d r.0 ts r.1) same (is_plain w)
+implication_by-sound : (d : ℕ) (s : SequenceForm) (ts us : List Token) (p : PropertyForm × List Token)
+    → IsSequence d s ts us → (o : Option (Implication × List Token)) → pick implication_of us ≡ o
+    → implication_from d o s us ≡ Some p → IsProperty d p.0 ts p.1
+implication_by-sound d s ts us p w None l h =
+    let same : (plain s, us) ≡ p = cc (h) in subst (λ (r : PropertyForm × List Token). IsProperty d r.0 ts r.1) same
+    (is_plain w)
 implication_by-sound d s ts us p w (Some q) l h =
     let a = bind-some (whole d q.1) (λ (p : SequenceForm × List Token). Some (implication s q.0 p.0, p.1)) p h in
     let same : (implication s q.0 a.0.0, a.0.1) ≡ p = cc (a.2) in
     let x = pick-some implication_of us q l in
-    subst (λ (r : PropertyForm × List Token). IsProperty d r.0 ts r.1) same (is_implication x.picked (subst (λ (vs : List Token). IsSequence d s ts vs) x.parts w) (whole-sound d q.1 a.0 a.1))
+    subst (λ (r : PropertyForm × List Token). IsProperty d r.0 ts r.1) same
+    (is_implication x.picked (subst (λ (vs : List Token). IsSequence d s ts vs) x.parts w)
+    (whole-sound d q.1 a.0 a.1))
 
-implication-sound : (d : ℕ) (s : SequenceForm) (ts us : List Token) (p : PropertyForm × List Token) → IsSequence d s ts us → implication_behind d s us ≡ Some p → IsProperty d p.0 ts p.1
+implication-sound : (d : ℕ) (s : SequenceForm) (ts us : List Token) (p : PropertyForm × List Token)
+    → IsSequence d s ts us → implication_behind d s us ≡ Some p → IsProperty d p.0 ts p.1
 unfolding implication_behind
 implication-sound d s ts us p w h = implication_by-sound d s ts us p w (pick implication_of us) refl h
 
-sequence_behind-sound : (d : ℕ) (s : SequenceForm) (ts us : List Token) (p : SequenceForm × List Token) → IsBody d s ts us → sequence_behind d s us ≡ Some p → IsSequence d p.0 ts p.1
+sequence_behind-sound : (d : ℕ) (s : SequenceForm) (ts us : List Token) (p : SequenceForm × List Token)
+    → IsBody d s ts us → sequence_behind d s us ≡ Some p → IsSequence d p.0 ts p.1
 unfolding sequence_behind
 sequence_behind-sound d s ts us p b h =
-    let a = bind-some (during_behind d (sequences d) s us) (λ (p : SequenceForm × List Token). sides_behind d (sequences d) p.0 p.1) p h in
+    let a =
+    bind-some (during_behind d (sequences d) s us)
+    (λ (p : SequenceForm × List Token). sides_behind d (sequences d) p.0 p.1) p h in
     sides-sound d (is_sound_below d) a.0.0 ts a.0.1 p (behind-sound d (is_sound_below d) s ts us a.0 b a.1) a.2
 
-regroup_property-sound : (d : ℕ) (left right : Token) (q : PropertyForm) (ts vs : List Token) (p : PropertyForm × List Token) → terminal left ≡ OpenRound → terminal right ≡ CloseRound → IsProperty d q ts (right ∷ vs) → regroup_property (suc d) q vs ≡ Some p → IsProperty (suc d) p.0 (left ∷ ts) p.1
+regroup_property-sound : (d : ℕ) (left right : Token) (q : PropertyForm) (ts vs : List Token)
+    (p : PropertyForm × List Token) → terminal left ≡ OpenRound → terminal right ≡ CloseRound
+    → IsProperty d q ts (right ∷ vs) → regroup_property (suc d) q vs ≡ Some p → IsProperty (suc d) p.0 (left ∷ ts) p.1
 unfolding regroup_property
 regroup_property-sound d left right (plain s) ts vs p o c w h =
-    let a = bind-some (regroup (suc d) s vs) (λ (p : SequenceForm × List Token). sequence_behind (suc d) p.0 p.1 >>= λ q. implication_behind (suc d) q.0 q.1) p h in
-    let b = bind-some (sequence_behind (suc d) a.0.0 a.0.1) (λ (q : SequenceForm × List Token). implication_behind (suc d) q.0 q.1) p a.2 in
+    let a =
+    bind-some (regroup (suc d) s vs) (λ (p : SequenceForm × List Token). sequence_behind (suc d) p.0 p.1
+    >>= λ q. implication_behind (suc d) q.0 q.1) p h in
+    let b =
+    bind-some (sequence_behind (suc d) a.0.0 a.0.1)
+    (λ (q : SequenceForm × List Token). implication_behind (suc d) q.0 q.1) p a.2 in
     let body_is = regroup-sound d left right s ts vs a.0 o c (property-is_plain w) a.1 in
-    implication-sound (suc d) b.0.0 (left ∷ ts) b.0.1 p (sequence_behind-sound (suc d) a.0.0 (left ∷ ts) a.0.1 b.0 body_is b.1) b.2
+    implication-sound (suc d) b.0.0 (left ∷ ts) b.0.1 p
+    (sequence_behind-sound (suc d) a.0.0 (left ∷ ts) a.0.1 b.0 body_is b.1) b.2
 regroup_property-sound d left right (implication a i c') ts vs p o c w h =
-    let same : (implication a i c', vs) ≡ p = cc (h) in subst (λ (r : PropertyForm × List Token). IsProperty (suc d) r.0 (left ∷ ts) r.1) same (bracketed o c w)
+    let same : (implication a i c', vs) ≡ p =
+    cc (h) in subst (λ (r : PropertyForm × List Token). IsProperty (suc d) r.0 (left ∷ ts) r.1) same
+    (bracketed o c w)
 
 abbrev IsSoundInside : ℕ → Type 0
-IsSoundInside d = Reads (properties d) (λ p ts rest. (left right : Token) (q : PropertyForm × List Token) (vs : List Token) → terminal left ≡ OpenRound → terminal right ≡ CloseRound → rest ≡ right ∷ vs → regroup_property d p vs ≡ Some q → IsProperty d q.0 (left ∷ ts) q.1)
+IsSoundInside d =
+    Reads (properties d) (λ p ts rest. (left right : Token) (q : PropertyForm × List Token) (vs : List Token)
+    → terminal left ≡ OpenRound → terminal right ≡ CloseRound → rest ≡ right ∷ vs → regroup_property d p vs ≡ Some q
+    → IsProperty d q.0 (left ∷ ts) q.1)
 
-property_by-sound : (d : ℕ) → IsSoundInside d → (ts : List Token) (p : PropertyForm × List Token) (o : Option (Token × List Token)) → expect OpenRound ts ≡ o → property_by d (properties d) o ts ≡ Some p → IsProperty d p.0 ts p.1
+property_by-sound : (d : ℕ) → IsSoundInside d
+    → (ts : List Token) (p : PropertyForm × List Token) (o : Option (Token × List Token)) → expect OpenRound ts ≡ o
+    → property_by d (properties d) o ts ≡ Some p → IsProperty d p.0 ts p.1
 property_by-sound d inner ts p None l h =
     let a = bind-some (whole d ts) (λ (p : SequenceForm × List Token). implication_behind d p.0 p.1) p h in
     implication-sound d a.0.0 ts a.0.1 p (whole-sound d ts a.0 a.1) a.2
 property_by-sound d inner ts p (Some q) l h =
     let x = expect-some OpenRound ts q l in
-    let a = bind-some (properties d q.1) (λ (p : PropertyForm × List Token). expect CloseRound p.1 >>= λ r. regroup_property d p.0 r.1) p h in
+    let a =
+    bind-some (properties d q.1) (λ (p : PropertyForm × List Token). expect CloseRound p.1
+    >>= λ r. regroup_property d p.0 r.1) p h in
     let b = bind-some (expect CloseRound a.0.1) (λ (r : Token × List Token). regroup_property d a.0.0 r.1) p a.2 in
     let k = expect-some CloseRound a.0.1 b.0 b.1 in
-    subst (λ (us : List Token). IsProperty d p.0 us p.1) (sym x.parts) (inner q.1 a.0 a.1 q.0 b.0.0 p b.0.1 x.marked k.marked k.parts b.2)
+    subst (λ (us : List Token). IsProperty d p.0 us p.1) (sym x.parts)
+    (inner q.1 a.0 a.1 q.0 b.0.0 p b.0.1 x.marked k.marked k.parts b.2)
 
 property_with-sound : (d : ℕ) → IsSoundInside d → Reads (property d) (λ p ts rest. IsProperty d p ts rest)
 unfolding property property_with

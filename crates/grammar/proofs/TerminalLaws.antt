@@ -3,12 +3,62 @@ use Rattle.std.proofs.Common.{◌≡◌, ℕ, eqb, true, false, cond, refl, sym,
 use Rattle.std.proofs.lemmas.Bool.{eqb-true, eqb-false, eq-eqb, ne_eqb}
 use Rattle.lexer.specs.declared.token.Token.{Token}
 use Rattle.grammar.specs.declared.terminal.Terminal.{Terminal}
-use Rattle.grammar.specs.declared.terminal.Terminal.TheVariants.{Counter, Clear, Load, Add, Sub, Sequence, EndSequence, Assert, Assume, Property, Posedge, Disable, Iff, Or, And, Throughout, ForeignWord, Name, Past, Rose, Fell, Stable, Changed, OneHot, OneHot0, ForeignSystem, Number, OpenRound, CloseRound, OpenBrace, CloseBrace, OpenSquare, OpenRepeat, CloseSquare, Comma, Semicolon, Colon, AtSign, Dot, Delay, Overlapped, Following, ForeignSymbol, Operator, End}
+use Rattle.grammar.specs.declared.terminal.Terminal.TheVariants.{Counter, Clear, Load, Add, Sub, Sequence, EndSequence}
+use Rattle.grammar.specs.declared.terminal.Terminal.TheVariants.{Assert, Assume, Property, Posedge, Disable, Iff, Or}
+use Rattle.grammar.specs.declared.terminal.Terminal.TheVariants.{And, Throughout, ForeignWord, Name, Past, Rose, Fell}
+use Rattle.grammar.specs.declared.terminal.Terminal.TheVariants.{Stable, Changed, OneHot, OneHot0, ForeignSystem}
+use Rattle.grammar.specs.declared.terminal.Terminal.TheVariants.{Number, OpenRound, CloseRound, OpenBrace, CloseBrace}
+use Rattle.grammar.specs.declared.terminal.Terminal.TheVariants.{OpenSquare, OpenRepeat, CloseSquare, Comma, Semicolon}
+use Rattle.grammar.specs.declared.terminal.Terminal.TheVariants.{Colon, AtSign, Dot, Delay, Overlapped, Following}
+use Rattle.grammar.specs.declared.terminal.Terminal.TheVariants.{ForeignSymbol, Operator, End}
 use Rattle.grammar.specs.Terminals.{terminal, terminal_number, is}
 
 -- the terminal of a number
 abbrev terminal_at : ℕ → Terminal
-terminal_at n = cond (eqb n 0) Counter (cond (eqb n 1) Clear (cond (eqb n 2) Load (cond (eqb n 3) Add (cond (eqb n 4) Sub (cond (eqb n 5) Sequence (cond (eqb n 6) EndSequence (cond (eqb n 7) Assert (cond (eqb n 8) Assume (cond (eqb n 9) Property (cond (eqb n 10) Posedge (cond (eqb n 11) Disable (cond (eqb n 12) Iff (cond (eqb n 13) Or (cond (eqb n 14) And (cond (eqb n 15) Throughout (cond (eqb n 16) ForeignWord (cond (eqb n 17) Name (cond (eqb n 18) Past (cond (eqb n 19) Rose (cond (eqb n 20) Fell (cond (eqb n 21) Stable (cond (eqb n 22) Changed (cond (eqb n 23) OneHot (cond (eqb n 24) OneHot0 (cond (eqb n 25) ForeignSystem (cond (eqb n 26) Number (cond (eqb n 27) OpenRound (cond (eqb n 28) CloseRound (cond (eqb n 29) OpenBrace (cond (eqb n 30) CloseBrace (cond (eqb n 31) OpenSquare (cond (eqb n 32) OpenRepeat (cond (eqb n 33) CloseSquare (cond (eqb n 34) Comma (cond (eqb n 35) Semicolon (cond (eqb n 36) Colon (cond (eqb n 37) AtSign (cond (eqb n 38) Dot (cond (eqb n 39) Delay (cond (eqb n 40) Overlapped (cond (eqb n 41) Following (cond (eqb n 42) ForeignSymbol (cond (eqb n 43) Operator (End))))))))))))))))))))))))))))))))))))))))))))
+terminal_at n =
+    cond (eqb n 0) Counter
+    (cond (eqb n 1) Clear
+    (cond (eqb n 2) Load
+    (cond (eqb n 3) Add
+    (cond (eqb n 4) Sub
+    (cond (eqb n 5) Sequence
+    (cond (eqb n 6) EndSequence
+    (cond (eqb n 7) Assert
+    (cond (eqb n 8) Assume
+    (cond (eqb n 9) Property
+    (cond (eqb n 10) Posedge
+    (cond (eqb n 11) Disable
+    (cond (eqb n 12) Iff
+    (cond (eqb n 13) Or
+    (cond (eqb n 14) And
+    (cond (eqb n 15) Throughout
+    (cond (eqb n 16) ForeignWord
+    (cond (eqb n 17) Name
+    (cond (eqb n 18) Past
+    (cond (eqb n 19) Rose
+    (cond (eqb n 20) Fell
+    (cond (eqb n 21) Stable
+    (cond (eqb n 22) Changed
+    (cond (eqb n 23) OneHot
+    (cond (eqb n 24) OneHot0
+    (cond (eqb n 25) ForeignSystem
+    (cond (eqb n 26) Number
+    (cond (eqb n 27) OpenRound
+    (cond (eqb n 28) CloseRound
+    (cond (eqb n 29) OpenBrace
+    (cond (eqb n 30) CloseBrace
+    (cond (eqb n 31) OpenSquare
+    (cond (eqb n 32) OpenRepeat
+    (cond (eqb n 33) CloseSquare
+    (cond (eqb n 34) Comma
+    (cond (eqb n 35) Semicolon
+    (cond (eqb n 36) Colon
+    (cond (eqb n 37) AtSign
+    (cond (eqb n 38) Dot
+    (cond (eqb n 39) Delay
+    (cond (eqb n 40) Overlapped
+    (cond (eqb n 41) Following
+    (cond (eqb n 42) ForeignSymbol (cond (eqb n 43) Operator (End))))))))))))))))))))))))))))))))))))))))))))
 
 back : (w : Terminal) → terminal_at (terminal_number w) ≡ w
 back Counter = refl

@@ -42,7 +42,8 @@ set_other (x ∷ xs) zero (suc j) y n = refl
 set_other (x ∷ xs) (suc i) zero y n = refl
 set_other (x ∷ xs) (suc i) (suc j) y n = set_other xs i j y (λ e. n (ap suc e))
 
-pub pushed_at : {A : Type 0} (xs : List A) (y z : A) (i : ℕ) → slice_get (xs ++ y ∷ []) i ≡ Some z → (slice_get xs i ≡ Some z) ⊎ ((i ≡ length xs) × (z ≡ y))
+pub pushed_at : {A : Type 0} (xs : List A) (y z : A) (i : ℕ) → slice_get (xs ++ y ∷ []) i ≡ Some z
+    → (slice_get xs i ≡ Some z) ⊎ ((i ≡ length xs) × (z ≡ y))
 pushed_at [] y z zero h = inr (refl, cc)
 pushed_at [] y z (suc i) h = cc
 pushed_at (x ∷ xs) y z zero h = inl h
@@ -54,11 +55,13 @@ pushed_at (x ∷ xs) y z (suc i) h =
 
 -- one list sent
 pub sent_holds : (pending : List Arrival) (from to : ℕ) (list : List ℕ) (old new : Arrival) (ms : List Message) →
-    slice_get pending to ≡ Some old → arrived new ≡ merge list (arrived old) → from ≤ to → HoldsFrom from pending ms → HoldsFrom from (set pending to new) (record { to = to; list = list } ∷ ms)
+    slice_get pending to ≡ Some old → arrived new ≡ merge list (arrived old) → from ≤ to → HoldsFrom from pending ms
+    → HoldsFrom from (set pending to new) (record { to = to; list = list } ∷ ms)
 sent_holds pending from to list old new ms at is above holds k a low h =
     elim (cases_eq k to) [
       | inl same ↦
-          let changed : a ≡ new = set_same pending to new a (subst (λ (n : ℕ). slice_get (set pending to new) n ≡ Some a) same h) in
+          let changed : a ≡ new =
+          set_same pending to new a (subst (λ (n : ℕ). slice_get (set pending to new) n ≡ Some a) same h) in
           let test : (to == k) ≡ true = eq-eqb to k (sym same) in
           ap arrived changed ∙ is ∙ ap (merge list) (holds to old above at ∙ ap (λ n. arrival_at n ms) (sym same))
           ∙ ap (λ b. cond b (merge list (arrival_at k ms)) (arrival_at k ms)) (sym test)
@@ -69,15 +72,18 @@ sent_holds pending from to list old new ms at is above holds k a low h =
     ]
 
 -- what was taken is not looked at again
-pub taken_holds : (pending : List Arrival) (pc : ℕ) (new : Arrival) (ms : List Message) → HoldsFrom pc pending ms → HoldsFrom (pc + 1) (set pending pc new) ms
-taken_holds pending pc new ms holds k a low h = holds k a (omega (arith, low)) (sym (set_other pending k pc new (λ same. omega (arith, same, low))) ∙ h)
+pub taken_holds : (pending : List Arrival) (pc : ℕ) (new : Arrival) (ms : List Message) → HoldsFrom pc pending ms
+    → HoldsFrom (pc + 1) (set pending pc new) ms
+taken_holds pending pc new ms holds k a low h =
+    holds k a (omega (arith, low)) (sym (set_other pending k pc new (λ same. omega (arith, same, low))) ∙ h)
 
 -- before any instruction was read
 pub entry_first : (a : Arrival) → arrived a ≡ agreed [] → HoldsFrom 0 (a ∷ []) (entry 0)
 entry_first a is zero b low h = let same : b ≡ a = cc in ap arrived same ∙ is
 entry_first a is (suc k) b low h = cc
 
-pub entry_more : (pending : List Arrival) (a : Arrival) → 0 < length pending → arrived a ≡ nothing → HoldsFrom 0 pending (entry 0) → HoldsFrom 0 (pending ++ a ∷ []) (entry 0)
+pub entry_more : (pending : List Arrival) (a : Arrival) → 0 < length pending → arrived a ≡ nothing
+    → HoldsFrom 0 pending (entry 0) → HoldsFrom 0 (pending ++ a ∷ []) (entry 0)
 entry_more pending a some is holds k b low h =
     elim (pushed_at pending a b k h) [
       | inl old ↦ holds k b low old

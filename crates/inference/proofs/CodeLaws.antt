@@ -32,10 +32,12 @@ all_code r base [] y (inl e) = ap (λ f. f.section) e
 all_code r base [] y (inr h) = absurd h
 all_code r base (i ∷ is) y h = (stands_from r (base + length (i ∷ is)) base (i ∷ is) (entry base) y h).section_is
 
-all_blocks : (section atoms positions p base : ℕ) (bs : List (List BlockInstr)) → AllIn section (blocks_faults section atoms positions p base bs)
+all_blocks : (section atoms positions p base : ℕ) (bs : List (List BlockInstr))
+    → AllIn section (blocks_faults section atoms positions p base bs)
 all_blocks section atoms positions p base [] y h = absurd h
 all_blocks section atoms positions p base (b ∷ bs) y h =
-    elim (in_append y (code_faults (block_rules section atoms positions p) base b) (blocks_faults section atoms positions (p + 1) (base + length b) bs) h) [
+    elim (in_append y (code_faults (block_rules section atoms positions p) base b)
+    (blocks_faults section atoms positions (p + 1) (base + length b) bs) h) [
       | inl i ↦ all_code (block_rules section atoms positions p) base b y i
       | inr i ↦ all_blocks section atoms positions (p + 1) (base + length b) bs y i
     ]
@@ -59,7 +61,8 @@ AllFrom section fs = (y : Found) → IsIn y fs → section ≤ y.section
 pub from_in : (section : ℕ) (fs : List Found) → AllIn section fs → AllFrom section fs
 from_in section fs h y i = omega (arith, h y i)
 
-pub from_join : (section : ℕ) (xs ys : List Found) → AllFrom section xs → AllFrom section ys → AllFrom section (xs ++ ys)
+pub from_join : (section : ℕ) (xs ys : List Found) → AllFrom section xs → AllFrom section ys
+    → AllFrom section (xs ++ ys)
 from_join section xs ys a b y i =
     elim (in_append y xs ys i) [
       | inl j ↦ a y j
@@ -70,7 +73,8 @@ pub from_weaker : (low section : ℕ) (fs : List Found) → low ≤ section → 
 from_weaker low section fs le h y i = omega (arith, h y i, le)
 
 -- the first fault, before those of later sections, and behind none
-pub first_before : (section : ℕ) (r : Refusal) (xs ys : List Found) → AllIn section xs → AllFrom (section + 1) ys → IsFirstRefusal r xs → IsFirstRefusal r (xs ++ ys)
+pub first_before : (section : ℕ) (r : Refusal) (xs ys : List Found) → AllIn section xs → AllFrom (section + 1) ys
+    → IsFirstRefusal r xs → IsFirstRefusal r (xs ++ ys)
 first_before section r xs ys same later f =
     record {
       fault = f.fault;
@@ -88,19 +92,22 @@ pub first_behind : (r : Refusal) (xs ys : List Found) → xs ≡ [] → IsFirstR
 first_behind r xs ys none f = subst (λ (zs : List Found). IsFirstRefusal r (zs ++ ys)) (sym none) f
 
 -- code without a fault
-pub typed_code : {I : Type 0} (r : Rules I) (base : ℕ) (code : List I) → code_faults r base code ≡ [] → (table : ℕ → List ℕ) × IsTyped r base code table × AreShort r base code table
+pub typed_code : {I : Type 0} (r : Rules I) (base : ℕ) (code : List I) → code_faults r base code ≡ []
+    → (table : ℕ → List ℕ) × IsTyped r base code table × AreShort r base code table
 typed_code r base [] h = cc
 typed_code r base (i ∷ is) h =
     let typed = typed_by r base (i ∷ is) (omega arith) h in
     (table_of r base (i ∷ is) (omega arith) h, typed.0, typed.1)
 
-pub faultless_code : {I : Type 0} (r : Rules I) (base : ℕ) (code : List I) (table : ℕ → List ℕ) → IsTyped r base code table → AreShort r base code table → code_faults r base code ≡ []
+pub faultless_code : {I : Type 0} (r : Rules I) (base : ℕ) (code : List I) (table : ℕ → List ℕ)
+    → IsTyped r base code table → AreShort r base code table → code_faults r base code ≡ []
 faultless_code r base [] table typed short = absurd (omega (arith, typed.some))
 faultless_code r base (i ∷ is) table typed short = no_faults r base (i ∷ is) table typed short
 
 -- blocks have empty lists
 module _ (section atoms positions p base : ℕ) (b : List BlockInstr) where
-  emptied : (table : ℕ → List ℕ) → IsTyped (block_rules section atoms positions p) base b table → IsTyped (block_rules section atoms positions p) base b (λ pc. [])
+  emptied : (table : ℕ → List ℕ) → IsTyped (block_rules section atoms positions p) base b table
+      → IsTyped (block_rules section atoms positions p) base b (λ pc. [])
   emptied table typed =
       record {
         some = typed.some;
@@ -116,37 +123,57 @@ module _ (section atoms positions p base : ℕ) (b : List BlockInstr) where
         reached = typed.reached;
       }
 
-  pub typed_block : code_faults (block_rules section atoms positions p) base b ≡ [] → IsTyped (block_rules section atoms positions p) base b (λ pc. [])
+  pub typed_block : code_faults (block_rules section atoms positions p) base b ≡ []
+      → IsTyped (block_rules section atoms positions p) base b (λ pc. [])
   typed_block h = (let t = typed_code (block_rules section atoms positions p) base b h in emptied t.0 t.1)
 
-  pub faultless_block : IsTyped (block_rules section atoms positions p) base b (λ pc. []) → code_faults (block_rules section atoms positions p) base b ≡ []
-  faultless_block typed = faultless_code (block_rules section atoms positions p) base b (λ pc. []) typed (record { each = λ k i after h rule. short after rule })
+  pub faultless_block : IsTyped (block_rules section atoms positions p) base b (λ pc. [])
+      → code_faults (block_rules section atoms positions p) base b ≡ []
+  faultless_block typed =
+      faultless_code (block_rules section atoms positions p) base b (λ pc. []) typed
+      (record { each = λ k i after h rule. short after rule })
     where
       short : (after : List ℕ) → leaves [] ≡ leaves after → length after ≤ 1024
       short after rule = (let is : [] ≡ after = cc in omega (arith, ap (length {A = ℕ}) is))
 
-pub typed_blocks : (section atoms positions p base : ℕ) (bs : List (List BlockInstr)) → blocks_faults section atoms positions p base bs ≡ [] → AreTyped section atoms positions p base bs
+pub typed_blocks : (section atoms positions p base : ℕ) (bs : List (List BlockInstr))
+    → blocks_faults section atoms positions p base bs ≡ [] → AreTyped section atoms positions p base bs
 typed_blocks section atoms positions p base [] h = tt
 typed_blocks section atoms positions p base (b ∷ bs) h =
-    let parts = nil_parts (code_faults (block_rules section atoms positions p) base b) (blocks_faults section atoms positions (p + 1) (base + length b) bs) h in
-    (typed_block section atoms positions p base b parts.0, typed_blocks section atoms positions (p + 1) (base + length b) bs parts.1)
+    let parts =
+    nil_parts (code_faults (block_rules section atoms positions p) base b)
+    (blocks_faults section atoms positions (p + 1) (base + length b) bs) h in (
+      typed_block section atoms positions p base b parts.0,
+      typed_blocks section atoms positions (p + 1) (base + length b) bs parts.1,
+    )
 
-pub faultless_blocks : (section atoms positions p base : ℕ) (bs : List (List BlockInstr)) → AreTyped section atoms positions p base bs → blocks_faults section atoms positions p base bs ≡ []
+pub faultless_blocks : (section atoms positions p base : ℕ) (bs : List (List BlockInstr))
+    → AreTyped section atoms positions p base bs → blocks_faults section atoms positions p base bs ≡ []
 faultless_blocks section atoms positions p base [] h = refl
 faultless_blocks section atoms positions p base (b ∷ bs) h =
-    ap (λ fs. fs ++ blocks_faults section atoms positions (p + 1) (base + length b) bs) (faultless_block section atoms positions p base b h.0)
+    ap (λ fs. fs ++ blocks_faults section atoms positions (p + 1) (base + length b) bs)
+    (faultless_block section atoms positions p base b h.0)
     ∙ faultless_blocks section atoms positions (p + 1) (base + length b) bs h.1
 
-pub typed_section : (section atoms : ℕ) (s : SectionData) → section_faults section atoms s ≡ [] → IsSection section atoms s
+pub typed_section : (section atoms : ℕ) (s : SectionData) → section_faults section atoms s ≡ []
+    → IsSection section atoms s
 typed_section section atoms s h =
     let parts = nil_parts (start_faults section s) (blocks_faults section atoms (length s.blocks) 0 0 s.blocks) h in
-    record { start = by_test (cases_Bool (nat_lt s.start (2 ^ length s.blocks))) parts.0; blocks = typed_blocks section atoms (length s.blocks) 0 0 s.blocks parts.1 }
+    record {
+      start = by_test (cases_Bool (nat_lt s.start (2 ^ length s.blocks))) parts.0;
+      blocks = typed_blocks section atoms (length s.blocks) 0 0 s.blocks parts.1;
+    }
   where
-    by_test : (nat_lt s.start (2 ^ length s.blocks) ≡ true) ⊎ (nat_lt s.start (2 ^ length s.blocks) ≡ false) → start_faults section s ≡ [] → s.start < 2 ^ length s.blocks
+    by_test : (nat_lt s.start (2 ^ length s.blocks) ≡ true) ⊎ (nat_lt s.start (2 ^ length s.blocks) ≡ false)
+        → start_faults section s ≡ [] → s.start < 2 ^ length s.blocks
     by_test (inl hit) none = ltb-true s.start (2 ^ length s.blocks) hit
-    by_test (inr miss) none = (let some : found section 0 (SlotRange 0) ∷ [] ≡ [] = sym (ap (λ b. cond b [] (found section 0 (SlotRange 0) ∷ [])) miss) ∙ none in cc)
+    by_test (inr miss) none =
+        (let some : found section 0 (SlotRange 0) ∷ []
+        ≡ [] = sym (ap (λ b. cond b [] (found section 0 (SlotRange 0) ∷ [])) miss) ∙ none in cc)
 
-pub faultless_section : (section atoms : ℕ) (s : SectionData) → IsSection section atoms s → section_faults section atoms s ≡ []
+pub faultless_section : (section atoms : ℕ) (s : SectionData) → IsSection section atoms s
+    → section_faults section atoms s ≡ []
 faultless_section section atoms s h =
-    ap (λ b. cond b [] (found section 0 (SlotRange 0) ∷ []) ++ blocks_faults section atoms (length s.blocks) 0 0 s.blocks) (lt-ltb s.start (2 ^ length s.blocks) h.start)
+    ap (λ b. cond b [] (found section 0 (SlotRange 0) ∷ []) ++ blocks_faults section atoms (length s.blocks) 0 0
+    s.blocks) (lt-ltb s.start (2 ^ length s.blocks) h.start)
     ∙ faultless_blocks section atoms (length s.blocks) 0 0 s.blocks h.blocks

@@ -38,7 +38,8 @@ abbrev pub Rises : ℕ → ℕ → List Refusal → Type 0
 Rises low high [] = low ≤ high
 Rises low high (r ∷ rs) = (low < number_of r) × (part_of r ≡ 0) × Rises (number_of r) high rs
 
-rises_join : (low middle high : ℕ) (xs ys : List Refusal) → Rises low middle xs → Rises middle high ys → Rises low high (xs ++ ys)
+rises_join : (low middle high : ℕ) (xs ys : List Refusal) → Rises low middle xs → Rises middle high ys
+    → Rises low high (xs ++ ys)
 rises_join low middle high [] ys a b = rises_weaker low middle high ys a b
   where
     rises_weaker : (low middle high : ℕ) (ys : List Refusal) → low ≤ middle → Rises middle high ys → Rises low high ys
@@ -46,7 +47,8 @@ rises_join low middle high [] ys a b = rises_weaker low middle high ys a b
     rises_weaker low middle high (y ∷ ys) a b = (omega (arith, b.0), b.1, b.2)
 rises_join low middle high (x ∷ xs) ys a b = (a.0, a.1, rises_join (number_of x) middle high xs ys a.2 b)
 
-if_one : (b : Bool) (r : Refusal) (low high : ℕ) → low < number_of r → number_of r ≤ high → part_of r ≡ 0 → Rises low high (cond b (r ∷ []) [])
+if_one : (b : Bool) (r : Refusal) (low high : ℕ) → low < number_of r → number_of r ≤ high → part_of r ≡ 0
+    → Rises low high (cond b (r ∷ []) [])
 if_one true r low high l h p = (l, p, h)
 if_one false r low high l h p = omega arith
 
@@ -96,19 +98,23 @@ end_rises end pc (Branches target) = if_one ((pc + 1) == end) NoHalt 7 8 (omega 
 abbrev pub NamesRise : {I : Type 0} → Rules I → Type 0
 NamesRise {I} r = (pc : ℕ) (i : I) → Rises 8 16 (r.names pc i)
 
-pub faults_rise : {I : Type 0} (r : Rules I) → NamesRise r → (end pc : ℕ) (i : I) (a : ArrivalData) → Rises 0 16 (faults_at r end pc i a)
+pub faults_rise : {I : Type 0} (r : Rules I) → NamesRise r → (end pc : ℕ) (i : I) (a : ArrivalData)
+    → Rises 0 16 (faults_at r end pc i a)
 faults_rise r rise end pc i a =
     rises_join 0 3 16 (operand_faults r pc i a) _ (operand_rises r pc i a)
     (rises_join 3 5 16 (jump_faults end pc (r.flow i)) _ (jump_rises end pc (r.flow i))
     (rises_join 5 7 16 (arrival_faults pc a) _ (arrival_rises pc a)
     (rises_join 7 8 16 (end_faults end pc (r.flow i)) (r.names pc i) (end_rises end pc (r.flow i)) (rise pc i))))
 
-above : (x : Refusal) (low high : ℕ) (rs : List Refusal) → Rises low high rs → IsIn x rs → (low < number_of x) × (part_of x ≡ 0)
+above : (x : Refusal) (low high : ℕ) (rs : List Refusal) → Rises low high rs → IsIn x rs → (low < number_of x)
+    × (part_of x ≡ 0)
 above x low high [] h i = absurd i
 above x low high (r ∷ rs) h (inl e) = (subst (λ (y : Refusal). low < number_of y) (sym e) h.0, ap part_of e ∙ h.1)
-above x low high (r ∷ rs) h (inr i) = (let more = above x (number_of r) high rs h.2 i in (omega (arith, h.0, more.0), more.1))
+above x low high (r ∷ rs) h (inr i) =
+    (let more = above x (number_of r) high rs h.2 i in (omega (arith, h.0, more.0), more.1))
 
-in_found : (y : Found) (section pc : ℕ) (rs : List Refusal) → IsIn y (map (found section pc) rs) → (x : Refusal) × IsIn x rs × (y ≡ found section pc x)
+in_found : (y : Found) (section pc : ℕ) (rs : List Refusal) → IsIn y (map (found section pc) rs) → (x : Refusal)
+    × IsIn x rs × (y ≡ found section pc x)
 in_found y section pc [] h = absurd h
 in_found y section pc (r ∷ rs) (inl e) = (r, inl refl, e)
 in_found y section pc (r ∷ rs) (inr h) = (let more = in_found y section pc rs h in (more.0, inr more.1, more.2))
@@ -118,7 +124,8 @@ pub record Stands (section pc : ℕ) (y : Found) : Type 0 where
   pub section_is : y.section ≡ section
   pub from : pc ≤ y.pc
 
-pub stands_from : {I : Type 0} (r : Rules I) (end pc : ℕ) (is : List I) (ms : List Message) (y : Found) → IsIn y (faults_from r end pc is ms) → Stands r.section pc y
+pub stands_from : {I : Type 0} (r : Rules I) (end pc : ℕ) (is : List I) (ms : List Message) (y : Found)
+    → IsIn y (faults_from r end pc is ms) → Stands r.section pc y
 stands_from r end pc [] ms y h = absurd h
 stands_from r end pc (i ∷ is) ms y h =
     elim (in_append y (map (found r.section pc) (faults_at r end pc i (arrival_at pc ms))) _ h) [
@@ -131,7 +138,8 @@ stands_from r end pc (i ∷ is) ms y h =
     ]
 
 -- the first of those at one place, before all that stand later in the section
-pub first_here : (section pc : ℕ) (e : Refusal) (rest : List Refusal) (later : List Found) → Rises 0 16 (e ∷ rest) → ((y : Found) → IsIn y later → Stands section (pc + 1) y) →
+pub first_here : (section pc : ℕ) (e : Refusal) (rest : List Refusal) (later : List Found) → Rises 0 16 (e ∷ rest)
+    → ((y : Found) → IsIn y later → Stands section (pc + 1) y) →
     IsFirst (found section pc e) (map (found section pc) (e ∷ rest) ++ later)
 first_here section pc e rest later rises after =
     record {
@@ -139,11 +147,13 @@ first_here section pc e rest later rises after =
       first = λ y h. by_part y (in_append y (map (found section pc) (e ∷ rest)) later h);
     }
   where
-    at_place : (x : Refusal) → IsIn x (e ∷ rest) → IsUpTo (place_of (found section pc e)) (place_of (found section pc x))
+    at_place : (x : Refusal) → IsIn x (e ∷ rest)
+        → IsUpTo (place_of (found section pc e)) (place_of (found section pc x))
     at_place x (inl same) = inr (refl, inr (refl, inr (ap number_of (sym same), inr (ap part_of (sym same), tt))))
     at_place x (inr i) = inr (refl, inr (refl, inl ((above x (number_of e) 16 rest rises.2 i).0)))
 
-    by_part : (y : Found) → IsIn y (map (found section pc) (e ∷ rest)) ⊎ IsIn y later → IsUpTo (place_of (found section pc e)) (place_of y)
+    by_part : (y : Found) → IsIn y (map (found section pc) (e ∷ rest)) ⊎ IsIn y later
+        → IsUpTo (place_of (found section pc e)) (place_of y)
     by_part y (inl here) =
         let at = in_found y section pc (e ∷ rest) here in
         subst (λ (f : Found). IsUpTo (place_of (found section pc e)) (place_of f)) (sym at.2) (at_place at.0 at.1)

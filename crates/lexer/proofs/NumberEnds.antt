@@ -1,5 +1,6 @@
 -- Where a number ends, in the steps of the code.
-use Rattle.std.proofs.Common.{◌≡◌, ℕ, zero, suc, ◌+◌, ◌<◌, ◌≤◌, true, false, List, ◌∷◌, length, get_or, drop, Option, Some, None, refl, sym, ap, ◌∙◌, arith, add-one}
+use Rattle.std.proofs.Common.{◌≡◌, ℕ, zero, suc, ◌+◌, ◌<◌, ◌≤◌, true, false, List, ◌∷◌, length, get_or, drop, Option}
+use Rattle.std.proofs.Common.{Some, None, refl, sym, ap, ◌∙◌, arith, add-one}
 use Rattle.std.proofs.Math.Seq.{drop-cons}
 use Rattle.std.proofs.Math.ListN.{drop_of_length-le}
 use Rattle.std.proofs.lemmas.Bool.{eq-eqb, ne_eqb}
@@ -19,7 +20,8 @@ module _ (bytes : List ℕ) (i : ℕ) where
   base_len-end e = let le : length bytes ≤ i = omega arith in rw (drop_of_length-le bytes {i = i} le) refl
 
   module _ (lt : i < length bytes) where
-    by_base : (o : Option Base) → o ≡ base_of (get_or bytes i 0) → base_len (drop i bytes) ≡ digits_len o (drop (i + 1) bytes)
+    by_base : (o : Option Base) → o ≡ base_of (get_or bytes i 0) → base_len (drop i bytes)
+        ≡ digits_len o (drop (i + 1) bytes)
     unfolding base_len
     by_base o e = ap base_len (behind bytes i lt) ∙ ap (λ (o : Option Base). digits_len o (drop (i + 1) bytes)) (sym e)
 
@@ -33,18 +35,24 @@ module _ (bytes : List ℕ) (i : ℕ) where
       second : i + 1 < length bytes → drop (i + 1) bytes ≡ get_or bytes (i + 1) 0 ∷ drop (i + 1 + 1) bytes
       second lt' = behind bytes (i + 1) lt'
 
-      pub base_len-no_digit : i + 1 < length bytes → false ≡ is_based_digit base (get_or bytes (i + 1) 0) → base_len (drop i bytes) ≡ 1
+      pub base_len-no_digit : i + 1 < length bytes → false ≡ is_based_digit base (get_or bytes (i + 1) 0)
+          → base_len (drop i bytes) ≡ 1
       base_len-no_digit lt' h = by_base (Some base) e ∙ ap (digits_len (Some base)) (second lt') ∙ rw (← h) refl
 
-      pub base_len-digits : i + 1 < length bytes → true ≡ is_based_digit base (get_or bytes (i + 1) 0) → base_len (drop i bytes) ≡ suc (suc (run (is_based_part base) (drop (i + 1 + 1) bytes)))
+      pub base_len-digits : i + 1 < length bytes → true ≡ is_based_digit base (get_or bytes (i + 1) 0)
+          → base_len (drop i bytes) ≡ suc (suc (run (is_based_part base) (drop (i + 1 + 1) bytes)))
       base_len-digits lt' h = by_base (Some base) e ∙ ap (digits_len (Some base)) (second lt') ∙ rw (← h) refl
 
 module _ (bytes : List ℕ) (start q : ℕ) (at : q ≡ start + run is_digit_part (drop start bytes)) where
   by_quote : size_len (drop start bytes) ≡ run is_digit_part (drop start bytes) + quote_len (drop q bytes)
-  by_quote = size_len-run (drop start bytes) ∙ ap (λ (r : List ℕ). run is_digit_part (drop start bytes) + quote_len r) (drop-drop bytes start (run is_digit_part (drop start bytes)) ∙ ap (λ (i : ℕ). drop i bytes) (sym at))
+  by_quote =
+      size_len-run (drop start bytes) ∙ ap (λ (r : List ℕ). run is_digit_part (drop start bytes) + quote_len r)
+      (drop-drop bytes start (run is_digit_part (drop start bytes)) ∙ ap (λ (i : ℕ). drop i bytes) (sym at))
 
   pub size_len-end : q ≡ length bytes → q ≡ start + size_len (drop start bytes)
-  size_len-end e = let none : quote_len (drop q bytes) ≡ 0 = ap quote_len (drop_of_length-le bytes (omega arith)) in omega (arith, by_quote)
+  size_len-end e =
+      let none : quote_len (drop q bytes) ≡ 0 = ap quote_len (drop_of_length-le bytes (omega arith)) in
+      omega (arith, by_quote)
 
   module _ (lt : q < length bytes) where
     pub size_len-other : (get_or bytes q 0 ≡ 39 → ⊥) → q ≡ start + size_len (drop start bytes)
@@ -52,9 +60,11 @@ module _ (bytes : List ℕ) (start q : ℕ) (at : q ≡ start + run is_digit_par
         let none : quote_len (drop q bytes) ≡ 0 = ap quote_len (behind bytes q lt) ∙ rw (ne_eqb _ 39 ne) refl in
         omega (arith, by_quote)
 
-    pub size_len-quote : (n : ℕ) → get_or bytes q 0 ≡ 39 → base_len (drop (q + 1) bytes) ≡ n → q + with_quote n ≡ start + size_len (drop start bytes)
+    pub size_len-quote : (n : ℕ) → get_or bytes q 0 ≡ 39 → base_len (drop (q + 1) bytes) ≡ n
+        → q + with_quote n ≡ start + size_len (drop start bytes)
     size_len-quote n e h =
-        let some : quote_len (drop q bytes) ≡ with_quote n = ap quote_len (behind bytes q lt) ∙ rw (eq-eqb _ 39 e, h) refl in
+        let some : quote_len (drop q bytes) ≡ with_quote n =
+        ap quote_len (behind bytes q lt) ∙ rw (eq-eqb _ 39 e, h) refl in
         omega (arith, by_quote)
 
 pub with_quote-suc : (n : ℕ) → 0 < n → with_quote n ≡ suc n

@@ -40,24 +40,34 @@ or-false : (a : Bool) → (a || false) ≡ a
 or-false true = refl
 or-false false = refl
 
-joined-more : (seen : List Attempt) (accepted : Bool) (a : Attempt) (b : Bool) (r : Ran Visits) → and_then (and_then r (λ vs m. done (record { attempts = a ∷ vs.attempts; accepted = b || vs.accepted }) m)) (joined seen accepted) ≡ and_then r (joined (seen ++ a ∷ []) (accepted || b))
+joined-more : (seen : List Attempt) (accepted : Bool) (a : Attempt) (b : Bool) (r : Ran Visits)
+    → and_then (and_then r (λ vs m. done (record { attempts = a ∷ vs.attempts; accepted = b || vs.accepted }) m))
+    (joined seen accepted) ≡ and_then r (joined (seen ++ a ∷ []) (accepted || b))
 joined-more seen accepted a b (done vs m) =
-    ap (λ (l : List Attempt). done (record { attempts = l; accepted = accepted || (b || vs.accepted) }) m) (sym (append_assoc seen (a ∷ []) vs.attempts))
-    ∙ ap (λ (x : Bool). done (record { attempts = (seen ++ a ∷ []) ++ vs.attempts; accepted = x }) m) (sym (or-assoc accepted b vs.accepted))
+    ap (λ (l : List Attempt). done (record { attempts = l; accepted = accepted || (b || vs.accepted) }) m)
+    (sym (append_assoc seen (a ∷ []) vs.attempts))
+    ∙ ap (λ (x : Bool). done (record { attempts = (seen ++ a ∷ []) ++ vs.attempts; accepted = x }) m)
+    (sym (or-assoc accepted b vs.accepted))
 joined-more seen accepted a b (trapped t) = refl
 
 -- a walk that visits: what lies behind it, and what the visits of what is left come to
-pub record Visiting (p : ProgramData) (atoms : List Bool) (now : ℕ) (pool : Pooled AttemptRecord) (at : Option ℕ) (left : ℕ) (accepted : Bool) (old : Pooled AttemptRecord) (first : ℕ) : Type 0 where
+pub record Visiting (p : ProgramData) (atoms : List Bool) (now : ℕ) (pool : Pooled AttemptRecord) (at : Option ℕ)
+    (left : ℕ) (accepted : Bool) (old : Pooled AttemptRecord) (first : ℕ) : Type 0 where
   pub before : List (ℕ × AttemptRecord)
   pub rest : List (ℕ × AttemptRecord)
   pub stands : IsAt pool.live at before rest
   pub low : ℕ
   pub rises : Rises began (IsRunning p now) low (now + 1) (attempts_in rest)
   pub fits : length rest * (1 + path_sum 0 p.antecedent.blocks) ≤ left
-  pub whole : visit_attempts p.antecedent atoms now (attempts_in old.live) first ≡ and_then (visit_attempts p.antecedent atoms now (attempts_in rest) left) (joined (attempts_in before) accepted)
+  pub whole : visit_attempts p.antecedent atoms now (attempts_in old.live) first
+      ≡ and_then (visit_attempts p.antecedent atoms now (attempts_in rest) left)
+      (joined (attempts_in before) accepted)
   pub cap : pool.cap ≡ old.cap
 
-pub visiting-first : (p : ProgramData) (atoms : List Bool) (now : ℕ) (pool : Pooled AttemptRecord) (at : Option ℕ) (left : ℕ) → IsAt pool.live at [] pool.live → Rises began (IsRunning p now) 0 (now + 1) (attempts_in pool.live) → length pool.live * (1 + path_sum 0 p.antecedent.blocks) ≤ left → Visiting p atoms now pool at left false pool left
+pub visiting-first : (p : ProgramData) (atoms : List Bool) (now : ℕ) (pool : Pooled AttemptRecord) (at : Option ℕ)
+    (left : ℕ) → IsAt pool.live at [] pool.live → Rises began (IsRunning p now) 0 (now + 1) (attempts_in pool.live)
+    → length pool.live * (1 + path_sum 0 p.antecedent.blocks) ≤ left
+    → Visiting p atoms now pool at left false pool left
 visiting-first p atoms now pool at left stands rises fits = record {
   before = [];
   rest = pool.live;
@@ -69,17 +79,27 @@ visiting-first p atoms now pool at left stands rises fits = record {
   cap = refl;
 }
 
-pub visiting-last : (p : ProgramData) (atoms : List Bool) (now : ℕ) (pool : Pooled AttemptRecord) (at : Option ℕ) (left : ℕ) (accepted : Bool) (old : Pooled AttemptRecord) (first : ℕ) → Visiting p atoms now pool at left accepted old first → at ≡ None → visit_attempts p.antecedent atoms now (attempts_in old.live) first ≡ done (record { attempts = attempts_in pool.live; accepted = accepted }) left
+pub visiting-last : (p : ProgramData) (atoms : List Bool) (now : ℕ) (pool : Pooled AttemptRecord) (at : Option ℕ)
+    (left : ℕ) (accepted : Bool) (old : Pooled AttemptRecord) (first : ℕ)
+    → Visiting p atoms now pool at left accepted old first → at ≡ None
+    → visit_attempts p.antecedent atoms now (attempts_in old.live) first
+    ≡ done (record { attempts = attempts_in pool.live; accepted = accepted }) left
 visiting-last p atoms now pool at left accepted old first i e =
     let end = steps.over pool at i.before i.rest i.stands e in
     i.whole
-    ∙ ap (λ (l : List (ℕ × AttemptRecord)). and_then (visit_attempts p.antecedent atoms now (attempts_in l) left) (joined (attempts_in i.before) accepted)) end.0
-    ∙ ap (λ (l : List Attempt). done (record { attempts = l; accepted = accepted || false }) left) (append-nil (attempts_in i.before))
+    ∙ ap (λ (l : List (ℕ × AttemptRecord)). and_then (visit_attempts p.antecedent atoms now (attempts_in l) left)
+    (joined (attempts_in i.before) accepted)) end.0
+    ∙ ap (λ (l : List Attempt). done (record { attempts = l; accepted = accepted || false }) left)
+    (append-nil (attempts_in i.before))
     ∙ ap (λ (b : Bool). done (record { attempts = attempts_in i.before; accepted = b }) left) (or-false accepted)
-    ∙ ap (λ (l : List (ℕ × AttemptRecord)). done (record { attempts = attempts_in l; accepted = accepted }) left) (sym end.1)
+    ∙ ap (λ (l : List (ℕ × AttemptRecord)). done (record { attempts = attempts_in l; accepted = accepted }) left)
+    (sym end.1)
 
 -- at a slot whose record was read
-module _ (p : ProgramData) (atoms : List Bool) (now : ℕ) (pool : Pooled AttemptRecord) (at : Option ℕ) (left : ℕ) (accepted : Bool) (old : Pooled AttemptRecord) (first : ℕ) (i : Visiting p atoms now pool at left accepted old first) (s : ℕ) (is : at ≡ Some s) (x : AttemptRecord) (got : lookup (nat_eq s) pool.live ≡ Some x) where
+module _ (p : ProgramData) (atoms : List Bool) (now : ℕ) (pool : Pooled AttemptRecord) (at : Option ℕ) (left : ℕ)
+    (accepted : Bool) (old : Pooled AttemptRecord) (first : ℕ)
+    (i : Visiting p atoms now pool at left accepted old first) (s : ℕ) (is : at ≡ Some s) (x : AttemptRecord)
+    (got : lookup (nat_eq s) pool.live ≡ Some x) where
   abbrev pub tail : List (ℕ × AttemptRecord)
   tail = steps.tail pool at s i.before i.rest i.stands is
 
@@ -87,7 +107,9 @@ module _ (p : ProgramData) (atoms : List Bool) (now : ℕ) (pool : Pooled Attemp
   split = steps.split pool at s i.before i.rest i.stands is x got
 
   pub rises-here : Rises began (IsRunning p now) i.low (now + 1) (attempt_of x ∷ attempts_in tail)
-  rises-here = subst (λ (l : List (ℕ × AttemptRecord)). Rises began (IsRunning p now) i.low (now + 1) (attempts_in l)) split i.rises
+  rises-here =
+      subst (λ (l : List (ℕ × AttemptRecord)). Rises began (IsRunning p now) i.low (now + 1) (attempts_in l)) split
+      i.rises
 
   pub running : IsRunning p now (attempt_of x)
   running = rises-here.1
@@ -98,19 +120,28 @@ module _ (p : ProgramData) (atoms : List Bool) (now : ℕ) (pool : Pooled Attemp
   pub affords : 1 + path_sum 0 p.antecedent.blocks + length tail * (1 + path_sum 0 p.antecedent.blocks) ≤ left
   affords =
       let long : length i.rest ≡ suc (length tail) = ap length split in
-      let product : length i.rest * (1 + path_sum 0 p.antecedent.blocks) ≡ 1 + path_sum 0 p.antecedent.blocks + length tail * (1 + path_sum 0 p.antecedent.blocks) = ap (λ n. n * (1 + path_sum 0 p.antecedent.blocks)) long ∙ omega arith in
+      let product : length i.rest * (1 + path_sum 0 p.antecedent.blocks) ≡ 1 + path_sum 0 p.antecedent.blocks
+      + length tail * (1 + path_sum 0 p.antecedent.blocks) = ap (λ n. n * (1 + path_sum 0 p.antecedent.blocks))
+      long ∙ omega arith in
       omega (arith, product, i.fits)
 
   -- after its visit
-  module _ (section : IsSection (length atoms) p.antecedent) (v : Visit) (less : ℕ) (visits : visit p.antecedent atoms x.positions (left - 1) ≡ done v less) where
+  module _ (section : IsSection (length atoms) p.antecedent) (v : Visit) (less : ℕ)
+      (visits : visit p.antecedent atoms x.positions (left - 1) ≡ done v less) where
     seen : Visited p.antecedent x.start now (left - 1) v less
-    seen = Meets-at (Visited p.antecedent x.start now (left - 1)) (visit p.antecedent atoms x.positions (left - 1)) v less visits
-        (visit-meets p.antecedent atoms section x.start now x.positions (left - 1) running.positions (omega (arith, affords)))
+    seen =
+        Meets-at (Visited p.antecedent x.start now (left - 1)) (visit p.antecedent atoms x.positions (left - 1)) v
+        less visits
+        (visit-meets p.antecedent atoms section x.start now x.positions (left - 1) running.positions
+        (omega (arith, affords)))
 
     pub young : length p.antecedent.blocks ≤ 127 → v.accepted ≡ true → now < x.start + 128
     young few on = omega (arith, seen.0.accepted on, start_life-most p.antecedent few)
 
-    pub next : (next : Option ℕ) → next ≡ slot_after s pool.live → (after : Pooled AttemptRecord) (y : AttemptRecord) → attempt_of y ≡ visited now (attempt_of x) v → after ≡ pooled pool.cap (set_value (nat_eq s) pool.live y) → (b : Bool) → b ≡ (accepted || v.accepted) → Visiting p atoms now after next less b old first × (left_at next after.live < left_at at pool.live)
+    pub next : (next : Option ℕ) → next ≡ slot_after s pool.live → (after : Pooled AttemptRecord) (y : AttemptRecord)
+        → attempt_of y ≡ visited now (attempt_of x) v → after ≡ pooled pool.cap (set_value (nat_eq s) pool.live y)
+        → (b : Bool) → b ≡ (accepted || v.accepted) → Visiting p atoms now after next less b old first
+        × (left_at next after.live < left_at at pool.live)
     next at' is-next after y same e b is-b =
         let moved = steps.reset pool at s i.before i.rest i.stands is x got at' is-next after y e in
         let one : left ≡ suc (left - 1) = omega (arith, affords) in
@@ -124,12 +155,23 @@ module _ (p : ProgramData) (atoms : List Bool) (now : ℕ) (pool : Pooled Attemp
             fits = omega (arith, affords, seen.1);
             whole =
                 i.whole
-                ∙ ap (λ (l : List (ℕ × AttemptRecord)). and_then (visit_attempts p.antecedent atoms now (attempts_in l) left) (joined (attempts_in i.before) accepted)) split
-                ∙ ap (λ (n : ℕ). and_then (visit_attempts p.antecedent atoms now (attempt_of x ∷ attempts_in tail) n) (joined (attempts_in i.before) accepted)) one
-                ∙ ap (λ (r : Ran Visit). and_then (and_then r (λ v left. and_then (visit_attempts p.antecedent atoms now (attempts_in tail) left) (λ vs left. done (record { attempts = visited now (attempt_of x) v ∷ vs.attempts; accepted = v.accepted || vs.accepted }) left))) (joined (attempts_in i.before) accepted)) visits
+                ∙ ap (λ (l : List (ℕ × AttemptRecord)). and_then
+                (visit_attempts p.antecedent atoms now (attempts_in l) left)
+                (joined (attempts_in i.before) accepted)) split
+                ∙ ap (λ (n : ℕ). and_then (visit_attempts p.antecedent atoms now (attempt_of x ∷ attempts_in tail) n)
+                (joined (attempts_in i.before) accepted)) one
+                ∙ ap (λ (r : Ran Visit). and_then
+                (and_then r
+                (λ v left. and_then (visit_attempts p.antecedent atoms now (attempts_in tail) left)
+                (λ vs left.
+                done (record
+                { attempts = visited now (attempt_of x) v ∷ vs.attempts; accepted = v.accepted || vs.accepted })
+                left))) (joined (attempts_in i.before) accepted)) visits
                 ∙ joined-more (attempts_in i.before) accepted (visited now (attempt_of x) v) v.accepted others
-                ∙ ap (λ (a : Attempt). and_then others (joined (attempts_in i.before ++ a ∷ []) (accepted || v.accepted))) (sym same)
-                ∙ ap (λ (l : List Attempt). and_then others (joined l (accepted || v.accepted))) (sym (map-append (λ e. attempt_of e.1) i.before ((s, y) ∷ [])))
+                ∙ ap (λ (a : Attempt). and_then others
+                (joined (attempts_in i.before ++ a ∷ []) (accepted || v.accepted))) (sym same)
+                ∙ ap (λ (l : List Attempt). and_then others (joined l (accepted || v.accepted)))
+                (sym (map-append (λ e. attempt_of e.1) i.before ((s, y) ∷ [])))
                 ∙ ap (λ (c : Bool). and_then others (joined (attempts_in (i.before ++ (s, y) ∷ [])) c)) (sym is-b);
             cap = ap (λ (q : Pooled AttemptRecord). q.cap) e ∙ i.cap;
           },

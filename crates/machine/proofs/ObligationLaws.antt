@@ -34,7 +34,8 @@ joined-none : (r : Ran (List Fate)) → r ≡ and_then r (joined [])
 joined-none (done gs m) = refl
 joined-none (trapped t) = refl
 
-joined-more : (fs : List Fate) (f : Fate) (r : Ran (List Fate)) → and_then (and_then r (λ gs m. done (f ∷ gs) m)) (joined fs) ≡ and_then r (joined (fs ++ f ∷ []))
+joined-more : (fs : List Fate) (f : Fate) (r : Ran (List Fate))
+    → and_then (and_then r (λ gs m. done (f ∷ gs) m)) (joined fs) ≡ and_then r (joined (fs ++ f ∷ []))
 joined-more fs f (done gs m) = ap (λ (l : List Fate). done l m) (sym (append_assoc fs (f ∷ []) gs))
 joined-more fs f (trapped t) = refl
 
@@ -42,20 +43,23 @@ or-assoc : (a b c : ℕ) → bit_or (bit_or a b) c ≡ bit_or a (bit_or b c)
 or-assoc a b c = same_from_bits (bit_or (bit_or a b) c) (bit_or a (bit_or b c)) (λ i.
     omega (arith, bit_at_or (bit_or a b) c i, bit_at_or a b i, bit_at_or a (bit_or b c) i, bit_at_or b c i))
 
-marked-more : (passes : Fate → Bool) (now : ℕ) (f : Fate) (fs : List Fate) → marked passes now (fs ++ f ∷ []) ≡ bit_or (marked passes now fs) (mark_if passes now f)
+marked-more : (passes : Fate → Bool) (now : ℕ) (f : Fate) (fs : List Fate) → marked passes now (fs ++ f ∷ [])
+    ≡ bit_or (marked passes now fs) (mark_if passes now f)
 marked-more passes now f [] = or_zero_r (mark_if passes now f) ∙ sym (or_zero_l (mark_if passes now f))
 marked-more passes now f (g ∷ fs) =
     ap (λ n. bit_or (mark_if passes now g) n) (marked-more passes now f fs)
     ∙ sym (or-assoc (mark_if passes now g) (marked passes now fs) (mark_if passes now f))
 
-recent-more : (now : ℕ) (f : Fate) → f.tick ≤ now → now ≤ f.tick + 127 → (fs : List Fate) → AreRecent now fs → AreRecent now (fs ++ f ∷ [])
+recent-more : (now : ℕ) (f : Fate) → f.tick ≤ now → now ≤ f.tick + 127 → (fs : List Fate) → AreRecent now fs
+    → AreRecent now (fs ++ f ∷ [])
 recent-more now f low high [] h = (low, high, tt)
 recent-more now f low high (g ∷ fs) h = (h.0, h.1, recent-more now f low high fs h.2)
 
 abbrev pub stays : Fate → List Obligation
 stays f = if is_ended f then [] else left_open f ∷ []
 
-staying-one : (f g : Fate) (b : Bool) (all rest : List Obligation) → all ≡ rest ++ stays f → (if b then all else left_open g ∷ all) ≡ (if b then rest else left_open g ∷ rest) ++ stays f
+staying-one : (f g : Fate) (b : Bool) (all rest : List Obligation) → all ≡ rest ++ stays f
+    → (if b then all else left_open g ∷ all) ≡ (if b then rest else left_open g ∷ rest) ++ stays f
 staying-one f g true all rest h = h
 staying-one f g false all rest h = ap (λ (l : List Obligation). left_open g ∷ l) h
 
@@ -64,7 +68,8 @@ staying-more f [] = refl
 staying-more f (g ∷ fs) = staying-one f g (is_ended g) (staying (fs ++ f ∷ [])) (staying fs) (staying-more f fs)
 
 -- a walk that visits: what lies behind it, and what the visits of what is left come to
-pub record Visiting (p : ProgramData) (atoms : List Bool) (now : ℕ) (pool : Pooled ObligationRecord) (at : Option ℕ) (left : ℕ) (fates : Fates) (old : Pooled ObligationRecord) (first : ℕ) : Type 0 where
+pub record Visiting (p : ProgramData) (atoms : List Bool) (now : ℕ) (pool : Pooled ObligationRecord) (at : Option ℕ)
+    (left : ℕ) (fates : Fates) (old : Pooled ObligationRecord) (first : ℕ) : Type 0 where
   pub before : List (ℕ × ObligationRecord)
   pub rest : List (ℕ × ObligationRecord)
   pub stands : IsAt pool.live at before rest
@@ -76,10 +81,15 @@ pub record Visiting (p : ProgramData) (atoms : List Bool) (now : ℕ) (pool : Po
   pub stayed : obligations_in before ≡ staying fs
   pub sets : fates ≡ fates_of now fs
   pub recent : AreRecent now fs
-  pub whole : visit_obligations p.consequent atoms (obligations_in old.live) first ≡ and_then (visit_obligations p.consequent atoms (obligations_in rest) left) (joined fs)
+  pub whole : visit_obligations p.consequent atoms (obligations_in old.live) first
+      ≡ and_then (visit_obligations p.consequent atoms (obligations_in rest) left) (joined fs)
   pub cap : pool.cap ≡ old.cap
 
-pub visiting-first : (p : ProgramData) (atoms : List Bool) (now : ℕ) (pool : Pooled ObligationRecord) (at : Option ℕ) (left : ℕ) (fates : Fates) → fates ≡ fates_of 0 [] → IsAt pool.live at [] pool.live → Rises since (IsOwed p now) 0 (now + 1) (obligations_in pool.live) → OpenedLately now (obligations_in pool.live) → length pool.live * (1 + path_sum 0 p.consequent.blocks) ≤ left → Visiting p atoms now pool at left fates pool left
+pub visiting-first : (p : ProgramData) (atoms : List Bool) (now : ℕ) (pool : Pooled ObligationRecord) (at : Option ℕ)
+    (left : ℕ) (fates : Fates) → fates ≡ fates_of 0 [] → IsAt pool.live at [] pool.live
+    → Rises since (IsOwed p now) 0 (now + 1) (obligations_in pool.live) → OpenedLately now (obligations_in pool.live)
+    → length pool.live * (1 + path_sum 0 p.consequent.blocks) ≤ left
+    → Visiting p atoms now pool at left fates pool left
 visiting-first p atoms now pool at left fates none stands rises lately fits = record {
   before = [];
   rest = pool.live;
@@ -96,14 +106,18 @@ visiting-first p atoms now pool at left fates none stands rises lately fits = re
   cap = refl;
 }
 
-pub visiting-last : (p : ProgramData) (atoms : List Bool) (now : ℕ) (pool : Pooled ObligationRecord) (at : Option ℕ) (left : ℕ) (fates : Fates) (old : Pooled ObligationRecord) (first : ℕ) → Visiting p atoms now pool at left fates old first → at ≡ None → AreVisited p.consequent atoms now (obligations_in old.live) first (obligations_in pool.live) left fates
+pub visiting-last : (p : ProgramData) (atoms : List Bool) (now : ℕ) (pool : Pooled ObligationRecord) (at : Option ℕ)
+    (left : ℕ) (fates : Fates) (old : Pooled ObligationRecord) (first : ℕ)
+    → Visiting p atoms now pool at left fates old first → at ≡ None
+    → AreVisited p.consequent atoms now (obligations_in old.live) first (obligations_in pool.live) left fates
 visiting-last p atoms now pool at left fates old first i e =
     let end = steps.over pool at i.before i.rest i.stands e in
     record {
       fs = i.fs;
       came =
           i.whole
-          ∙ ap (λ (l : List (ℕ × ObligationRecord)). and_then (visit_obligations p.consequent atoms (obligations_in l) left) (joined i.fs)) end.0
+          ∙ ap (λ (l : List (ℕ × ObligationRecord)). and_then
+          (visit_obligations p.consequent atoms (obligations_in l) left) (joined i.fs)) end.0
           ∙ ap (λ (l : List Fate). done l left) (append-nil i.fs);
       stayed = ap (λ (l : List (ℕ × ObligationRecord)). obligations_in l) end.1 ∙ i.stayed;
       sets = i.sets;
@@ -111,7 +125,10 @@ visiting-last p atoms now pool at left fates old first i e =
     }
 
 -- at a slot whose record was read
-module _ (p : ProgramData) (atoms : List Bool) (now : ℕ) (pool : Pooled ObligationRecord) (at : Option ℕ) (left : ℕ) (fates : Fates) (old : Pooled ObligationRecord) (first : ℕ) (i : Visiting p atoms now pool at left fates old first) (s : ℕ) (is : at ≡ Some s) (x : ObligationRecord) (got : lookup (nat_eq s) pool.live ≡ Some x) where
+module _ (p : ProgramData) (atoms : List Bool) (now : ℕ) (pool : Pooled ObligationRecord) (at : Option ℕ) (left : ℕ)
+    (fates : Fates) (old : Pooled ObligationRecord) (first : ℕ)
+    (i : Visiting p atoms now pool at left fates old first) (s : ℕ) (is : at ≡ Some s) (x : ObligationRecord)
+    (got : lookup (nat_eq s) pool.live ≡ Some x) where
   abbrev pub tail : List (ℕ × ObligationRecord)
   tail = steps.tail pool at s i.before i.rest i.stands is
 
@@ -119,7 +136,9 @@ module _ (p : ProgramData) (atoms : List Bool) (now : ℕ) (pool : Pooled Obliga
   split = steps.split pool at s i.before i.rest i.stands is x got
 
   rises-here : Rises since (IsOwed p now) i.low (now + 1) (obligation_of x ∷ obligations_in tail)
-  rises-here = subst (λ (l : List (ℕ × ObligationRecord)). Rises since (IsOwed p now) i.low (now + 1) (obligations_in l)) split i.rises
+  rises-here =
+      subst (λ (l : List (ℕ × ObligationRecord)). Rises since (IsOwed p now) i.low (now + 1) (obligations_in l)) split
+      i.rises
 
   lately-here : OpenedLately now (obligation_of x ∷ obligations_in tail)
   lately-here = subst (λ (l : List (ℕ × ObligationRecord)). OpenedLately now (obligations_in l)) split i.lately
@@ -136,24 +155,38 @@ module _ (p : ProgramData) (atoms : List Bool) (now : ℕ) (pool : Pooled Obliga
   pub affords : 1 + path_sum 0 p.consequent.blocks + length tail * (1 + path_sum 0 p.consequent.blocks) ≤ left
   affords =
       let long : length i.rest ≡ suc (length tail) = ap length split in
-      let product : length i.rest * (1 + path_sum 0 p.consequent.blocks) ≡ 1 + path_sum 0 p.consequent.blocks + length tail * (1 + path_sum 0 p.consequent.blocks) = ap (λ n. n * (1 + path_sum 0 p.consequent.blocks)) long ∙ omega arith in
+      let product : length i.rest * (1 + path_sum 0 p.consequent.blocks) ≡ 1 + path_sum 0 p.consequent.blocks
+      + length tail * (1 + path_sum 0 p.consequent.blocks) = ap (λ n. n * (1 + path_sum 0 p.consequent.blocks))
+      long ∙ omega arith in
       omega (arith, product, i.fits)
 
   -- after its visit
-  module _ (section : IsSection (length atoms) p.consequent) (v : Visit) (less : ℕ) (visits : visit p.consequent atoms x.positions (left - 1) ≡ done v less) where
+  module _ (section : IsSection (length atoms) p.consequent) (v : Visit) (less : ℕ)
+      (visits : visit p.consequent atoms x.positions (left - 1) ≡ done v less) where
     seen : Visited p.consequent x.tick now (left - 1) v less
-    seen = Meets-at (Visited p.consequent x.tick now (left - 1)) (visit p.consequent atoms x.positions (left - 1)) v less visits
-        (visit-meets p.consequent atoms section x.tick now x.positions (left - 1) owed.positions (omega (arith, affords)))
+    seen =
+        Meets-at (Visited p.consequent x.tick now (left - 1)) (visit p.consequent atoms x.positions (left - 1)) v less
+        visits
+        (visit-meets p.consequent atoms section x.tick now x.positions (left - 1) owed.positions
+        (omega (arith, affords)))
 
     abbrev pub fate : Fate
     fate = record { tick = x.tick; positions = v.entered; kept = v.accepted }
 
-    moved-on : (after : Pooled ObligationRecord) (at' : Option ℕ) (before : List (ℕ × ObligationRecord)) → IsAt after.live at' before tail → obligations_in before ≡ obligations_in i.before ++ stays fate → after.cap ≡ pool.cap → (noted : Fates) → noted.open_ticks ≡ bit_or fates.open_ticks (mark_if is_open now fate) → noted.broken_ticks ≡ bit_or fates.broken_ticks (mark_if is_broken now fate) → Visiting p atoms now after at' less noted old first
+    moved-on : (after : Pooled ObligationRecord) (at' : Option ℕ) (before : List (ℕ × ObligationRecord))
+        → IsAt after.live at' before tail → obligations_in before ≡ obligations_in i.before ++ stays fate
+        → after.cap ≡ pool.cap → (noted : Fates)
+        → noted.open_ticks ≡ bit_or fates.open_ticks (mark_if is_open now fate) → noted.broken_ticks
+        ≡ bit_or fates.broken_ticks (mark_if is_broken now fate) → Visiting p atoms now after at' less noted old first
     moved-on after at' before stands stayed cap noted opening breaking =
         let one : left ≡ suc (left - 1) = omega (arith, affords) in
         let others = visit_obligations p.consequent atoms (obligations_in tail) less in
-        let opens : noted.open_ticks ≡ marked is_open now (i.fs ++ fate ∷ []) = opening ∙ ap (λ (f : Fates). bit_or f.open_ticks (mark_if is_open now fate)) i.sets ∙ sym (marked-more is_open now fate i.fs) in
-        let breaks : noted.broken_ticks ≡ marked is_broken now (i.fs ++ fate ∷ []) = breaking ∙ ap (λ (f : Fates). bit_or f.broken_ticks (mark_if is_broken now fate)) i.sets ∙ sym (marked-more is_broken now fate i.fs) in
+        let opens : noted.open_ticks ≡ marked is_open now (i.fs ++ fate ∷ []) =
+        opening ∙ ap (λ (f : Fates). bit_or f.open_ticks (mark_if is_open now fate)) i.sets
+        ∙ sym (marked-more is_open now fate i.fs) in
+        let breaks : noted.broken_ticks ≡ marked is_broken now (i.fs ++ fate ∷ []) =
+        breaking ∙ ap (λ (f : Fates). bit_or f.broken_ticks (mark_if is_broken now fate)) i.sets
+        ∙ sym (marked-more is_broken now fate i.fs) in
         record {
           before = before;
           rest = tail;
@@ -168,27 +201,48 @@ module _ (p : ProgramData) (atoms : List Bool) (now : ℕ) (pool : Pooled Obliga
           recent = recent-more now fate opened late i.fs i.recent;
           whole =
               i.whole
-              ∙ ap (λ (l : List (ℕ × ObligationRecord)). and_then (visit_obligations p.consequent atoms (obligations_in l) left) (joined i.fs)) split
-              ∙ ap (λ (n : ℕ). and_then (visit_obligations p.consequent atoms (obligation_of x ∷ obligations_in tail) n) (joined i.fs)) one
-              ∙ ap (λ (r : Ran Visit). and_then (and_then r (λ v left. and_then (visit_obligations p.consequent atoms (obligations_in tail) left) (λ gs left. done (record { tick = x.tick; positions = v.entered; kept = v.accepted } ∷ gs) left))) (joined i.fs)) visits
+              ∙ ap (λ (l : List (ℕ × ObligationRecord)). and_then
+              (visit_obligations p.consequent atoms (obligations_in l) left) (joined i.fs)) split
+              ∙ ap (λ (n : ℕ). and_then (visit_obligations p.consequent atoms (obligation_of x ∷ obligations_in tail) n)
+              (joined i.fs)) one
+              ∙ ap (λ (r : Ran Visit). and_then
+              (and_then r
+              (λ v left. and_then (visit_obligations p.consequent atoms (obligations_in tail) left)
+              (λ gs left. done (record { tick = x.tick; positions = v.entered; kept = v.accepted } ∷ gs) left)))
+              (joined i.fs)) visits
               ∙ joined-more i.fs fate others;
           cap = cap ∙ i.cap;
         }
 
     -- ended, and retired
-    pub retired : is_ended fate ≡ true → (next : Option ℕ) → next ≡ slot_after s pool.live → (after : Pooled ObligationRecord) → after ≡ pooled pool.cap (remove_entry (nat_eq s) pool.live) → (noted : Fates) → noted.open_ticks ≡ bit_or fates.open_ticks (mark_if is_open now fate) → noted.broken_ticks ≡ bit_or fates.broken_ticks (mark_if is_broken now fate) → Visiting p atoms now after next less noted old first × (left_at next after.live < left_at at pool.live)
+    pub retired : is_ended fate ≡ true → (next : Option ℕ) → next ≡ slot_after s pool.live
+        → (after : Pooled ObligationRecord) → after ≡ pooled pool.cap (remove_entry (nat_eq s) pool.live)
+        → (noted : Fates) → noted.open_ticks ≡ bit_or fates.open_ticks (mark_if is_open now fate) → noted.broken_ticks
+        ≡ bit_or fates.broken_ticks (mark_if is_broken now fate)
+        → Visiting p atoms now after next less noted old first × (left_at next after.live < left_at at pool.live)
     retired ended next is-next after e noted opening breaking =
         let moved = steps.retired pool at s i.before i.rest i.stands is x got next is-next after e in
-        let none : stays fate ≡ [] = ap (λ (b : Bool). if b then [] else left_open fate ∷ []) ended in
-        (moved-on after next i.before moved.0 (sym (append-nil (obligations_in i.before)) ∙ ap (λ (l : List Obligation). obligations_in i.before ++ l) (sym none)) (ap (λ (q : Pooled ObligationRecord). q.cap) e) noted opening breaking, moved.1)
+        let none : stays fate ≡ [] = ap (λ (b : Bool). if b then [] else left_open fate ∷ []) ended in (
+          moved-on after next i.before moved.0 (sym (append-nil (obligations_in i.before))
+              ∙ ap (λ (l : List Obligation). obligations_in i.before ++ l) (sym none))
+              (ap (λ (q : Pooled ObligationRecord). q.cap) e) noted opening breaking,
+          moved.1,
+        )
 
     -- open, and set
-    pub reset : is_ended fate ≡ false → (next : Option ℕ) → next ≡ slot_after s pool.live → (after : Pooled ObligationRecord) (y : ObligationRecord) → obligation_of y ≡ left_open fate → after ≡ pooled pool.cap (set_value (nat_eq s) pool.live y) → (noted : Fates) → noted.open_ticks ≡ bit_or fates.open_ticks (mark_if is_open now fate) → noted.broken_ticks ≡ bit_or fates.broken_ticks (mark_if is_broken now fate) → Visiting p atoms now after next less noted old first × (left_at next after.live < left_at at pool.live)
+    pub reset : is_ended fate ≡ false → (next : Option ℕ) → next ≡ slot_after s pool.live
+        → (after : Pooled ObligationRecord) (y : ObligationRecord) → obligation_of y ≡ left_open fate
+        → after ≡ pooled pool.cap (set_value (nat_eq s) pool.live y) → (noted : Fates)
+        → noted.open_ticks ≡ bit_or fates.open_ticks (mark_if is_open now fate) → noted.broken_ticks
+        ≡ bit_or fates.broken_ticks (mark_if is_broken now fate)
+        → Visiting p atoms now after next less noted old first × (left_at next after.live < left_at at pool.live)
     reset going next is-next after y same e noted opening breaking =
         let moved = steps.reset pool at s i.before i.rest i.stands is x got next is-next after y e in
         let one : stays fate ≡ left_open fate ∷ [] = ap (λ (b : Bool). if b then [] else left_open fate ∷ []) going in (
           moved-on after next (i.before ++ (s, y) ∷ []) moved.0
-              (map-append (λ e. obligation_of e.1) i.before ((s, y) ∷ []) ∙ ap (λ (o : Obligation). obligations_in i.before ++ o ∷ []) same ∙ ap (λ (l : List Obligation). obligations_in i.before ++ l) (sym one))
+              (map-append (λ e. obligation_of e.1) i.before ((s, y) ∷ [])
+              ∙ ap (λ (o : Obligation). obligations_in i.before ++ o ∷ []) same
+              ∙ ap (λ (l : List Obligation). obligations_in i.before ++ l) (sym one))
               (ap (λ (q : Pooled ObligationRecord). q.cap) e) noted opening breaking,
           moved.1,
         )

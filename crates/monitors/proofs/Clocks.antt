@@ -1,12 +1,16 @@
 -- A clock goes from standing to standing, and decides what falls at it.
-use Rattle.std.proofs.Common.{◌≡◌, ◌∙◌, ◌⊎◌, inl, inr, ℕ, suc, ◌+◌, ◌-◌, ◌^◌, ◌<◌, ◌≤◌, Bool, true, false, not, ◌&&◌, ◌||◌, if◌then◌else◌, List, [], ◌∷◌, ◌++◌, refl, sym, ap, arith}
+use Rattle.std.proofs.Common.{◌≡◌, ◌∙◌, ◌⊎◌, inl, inr, ℕ, suc, ◌+◌, ◌-◌, ◌^◌, ◌<◌, ◌≤◌, Bool, true, false, not, ◌&&◌}
+use Rattle.std.proofs.Common.{◌||◌, if◌then◌else◌, List, [], ◌∷◌, ◌++◌, refl, sym, ap, arith}
 use Rattle.std.specs.Prelude.{◌==◌, bit_or, nat_le}
 use Rattle.std.specs.Int.{bit_at}
-use Rattle.std.proofs.lemmas.Bool.{both_ways, cases_Bool, cases_lt, cases_eq, eqb-true, eq-eqb, eqb-false, leb-true, le-leb, not-true, not-false, not_from_false, and_parts, and_from, or_parts, or_cases, or_from, false_from_ne_true}
+use Rattle.std.proofs.lemmas.Bool.{both_ways, cases_Bool, cases_lt, cases_eq, eqb-true, eq-eqb, eqb-false, leb-true}
+use Rattle.std.proofs.lemmas.Bool.{le-leb, not-true, not-false, not_from_false, and_parts, and_from, or_parts, or_cases}
+use Rattle.std.proofs.lemmas.Bool.{or_from, false_from_ne_true}
 use Rattle.signals.specs.declared.verdict.Verdict.{Verdict}
 use Rattle.signals.specs.declared.verdict.Decided.{Decided}
 use Rattle.signals.specs.declared.verdict.Verdict.TheVariants as outcome
-use Rattle.checked_machine.specs.Clocks.{Attempt, Obligation, Settled, visited, Fate, is_broken, is_ended, staying, awaits, some_broken, some_open, Settlement, ends, settle}
+use Rattle.checked_machine.specs.Clocks.{Attempt, Obligation, Settled, visited, Fate, is_broken, is_ended, staying}
+use Rattle.checked_machine.specs.Clocks.{awaits, some_broken, some_open, Settlement, ends, settle}
 use Rattle.assertions.specs.declared.decision.Decision.{Decision}
 use Rattle.assertions.specs.declared.decision.Decision.TheVariants.{Held, Vacuously, Failed}
 use Rattle.assertions.specs.Quantifiers.{some_in, each_in}
@@ -14,13 +18,21 @@ use Rattle.assertions.proofs.Quantifiers.{some_in-found, some_in-true, each_in-a
 use Rattle.assertions.specs.Segments.{Seq, sat, Matches}
 use Rattle.assertions.specs.Attempts.{IsEnd, IsKept, IsOver, IsDecided}
 use Rattle.monitors.specs.Automata.{Automaton, places, accepts, accepted_at, Follows}
-use Rattle.monitors.specs.Monitors.{Monitor, visit_each, some_accepts, with_new, fate_of, fates_of, settle_each, disable_each, settled_with, clock_with, new_attempt, clock_of}
-use Rattle.monitors.specs.Standing.{select, is_open, falls_at, attempt_at, is_awaited, is_unsettled, is_owed, obligation_at, standing_at, falling}
+use Rattle.monitors.specs.Monitors.{Monitor, visit_each, some_accepts, with_new, fate_of, fates_of, settle_each}
+use Rattle.monitors.specs.Monitors.{disable_each, settled_with, clock_with, new_attempt, clock_of}
+use Rattle.monitors.specs.Standing.{select, is_open, falls_at, attempt_at, is_awaited, is_unsettled, is_owed}
+use Rattle.monitors.specs.Standing.{obligation_at, standing_at, falling}
 use Rattle.monitors.proofs.Local.{Matches-seen, Matches-sat}
-use Rattle.monitors.proofs.Facts.{accepted_at-bit, bit-accepted_at, accepted_at-zero, some-accepted_at, IsEnd-accepts, accepts-IsEnd, IsOver-places, places-IsOver, IsKept-later, IsBroken-not_kept, IsBroken-places, places-IsBroken, IsKept-accepts, accepts-IsKept, unsettled-IsKept, settled-fate}
+use Rattle.monitors.proofs.Facts.{accepted_at-bit, bit-accepted_at, accepted_at-zero, some-accepted_at, IsEnd-accepts}
+use Rattle.monitors.proofs.Facts.{accepts-IsEnd, IsOver-places, places-IsOver, IsKept-later, IsBroken-not_kept}
+use Rattle.monitors.proofs.Facts.{IsBroken-places, places-IsBroken, IsKept-accepts, accepts-IsKept, unsettled-IsKept}
+use Rattle.monitors.proofs.Facts.{settled-fate}
 use Rattle.monitors.proofs.Selections.{last_of, select-push, select-same, select-none, some_of-same, some_in-of}
-use Rattle.monitors.proofs.Parts.{visit_each-select, some_accepts-select, fates_of-select, stayed, staying-select, some_broken-select, some_open-select, disable_each-select, settled, settlement, settle_each-select}
-use Rattle.monitors.proofs.Verdicts.{AreVerdicts, IsRunning, is_open-runs, runs-is_open, begins, runs-before, decides, goes_on, falls-was_open, open-was_open, off-Disabled, runs-Open}
+use Rattle.monitors.proofs.Parts.{visit_each-select, some_accepts-select, fates_of-select, stayed, staying-select}
+use Rattle.monitors.proofs.Parts.{some_broken-select, some_open-select, disable_each-select, settled, settlement}
+use Rattle.monitors.proofs.Parts.{settle_each-select}
+use Rattle.monitors.proofs.Verdicts.{AreVerdicts, IsRunning, is_open-runs, runs-is_open, begins, runs-before, decides}
+use Rattle.monitors.proofs.Verdicts.{goes_on, falls-was_open, open-was_open, off-Disabled, runs-Open}
 
 and-regroup : (a q u x : Bool) → ((a && q) && u) && x ≡ (a && q) && (u && x)
 and-regroup true true u x = refl
@@ -42,17 +54,24 @@ module _ (a : Automaton) where
       let here : n ≡ c + (n - c) = omega arith in
       ap (λ t. (a.step t (places a c (n - c))).accepted) here
 
-  step-heard : (n c : ℕ) → c ≤ n → (if (a.step n (places a c (n - c))).accepted then bit_or (accepted_at a c (n - c)) (2 ^ (n - c)) else accepted_at a c (n - c)) ≡ accepted_at a c (n + 1 - c)
+  step-heard : (n c : ℕ) → c ≤ n
+      → (if (a.step n (places a c (n - c))).accepted then bit_or (accepted_at a c (n - c)) (2 ^ (n - c)) else
+      accepted_at a c (n - c)) ≡ accepted_at a c (n + 1 - c)
   step-heard n c le =
       let next : suc (n - c) ≡ n + 1 - c = omega arith in
-      ap (λ b. if b then bit_or (accepted_at a c (n - c)) (2 ^ (n - c)) else accepted_at a c (n - c)) (step-accepted n c le) ∙ ap (accepted_at a c) next
+      ap (λ b. if b then bit_or (accepted_at a c (n - c)) (2 ^ (n - c)) else accepted_at a c (n - c))
+      (step-accepted n c le) ∙ ap (accepted_at a c) next
 
 module _ (m : Monitor) where
   -- an attempt after its visit
-  visited-attempt : (n c : ℕ) → c ≤ n → visited n (attempt_at m n c) (m.antecedent.step n (attempt_at m n c).positions) ≡ attempt_at m (n + 1) c
+  visited-attempt : (n c : ℕ) → c ≤ n → visited n (attempt_at m n c) (m.antecedent.step n (attempt_at m n c).positions)
+      ≡ attempt_at m (n + 1) c
   visited-attempt n c le =
       let g : ℕ → ℕ → Attempt = λ x y. record { start = c; positions = x; awaited = y } in
-      ap (λ x. g x (if (m.antecedent.step n (places m.antecedent c (n - c))).accepted then bit_or (accepted_at m.antecedent c (n - c)) (2 ^ (n - c)) else accepted_at m.antecedent c (n - c))) (step-entered m.antecedent n c le)
+      ap (λ x.
+      g x (if (m.antecedent.step n (places m.antecedent c (n - c))).accepted then bit_or
+      (accepted_at m.antecedent c (n - c)) (2 ^ (n - c)) else accepted_at m.antecedent c (n - c)))
+      (step-entered m.antecedent n c le)
       ∙ ap (λ y. g (places m.antecedent c (n + 1 - c)) y) (step-heard m.antecedent n c le)
 
   -- an obligation after its visit
@@ -79,7 +98,9 @@ module _ (m : Monitor) where
       let none : n - n ≡ 0 = omega arith in
       ap (λ k. record { tick = n; positions = places m.consequent n k }) none
 
-module _ (B : Type 0) (value : B → ℕ → Bool) (r s : Seq B) (m : Monitor) (fr : Follows value r m.antecedent) (fs : Follows value s m.consequent) (fills : (e : ℕ) → Matches value s e e → ⊥) (verdict : ℕ → ℕ → Verdict) (are : AreVerdicts value m.off r s verdict) (n : ℕ) where
+module _ (B : Type 0) (value : B → ℕ → Bool) (r s : Seq B) (m : Monitor) (fr : Follows value r m.antecedent)
+    (fs : Follows value s m.consequent) (fills : (e : ℕ) → Matches value s e e → ⊥) (verdict : ℕ → ℕ → Verdict)
+    (are : AreVerdicts value m.off r s verdict) (n : ℕ) where
   abbrev running : ℕ → Type 0
   running c = IsRunning B value m.off r s verdict are n c
 
@@ -90,10 +111,12 @@ module _ (B : Type 0) (value : B → ℕ → Bool) (r s : Seq B) (m : Monitor) (
   owed = is_owed m verdict n
 
   -- the attempts with the new one
-  with-attempt : select open_now (attempt_at m n) 0 n ++ new_attempt m n ∷ [] ≡ select open_now (attempt_at m n) 0 (suc n)
+  with-attempt : select open_now (attempt_at m n) 0 n ++ new_attempt m n ∷ []
+      ≡ select open_now (attempt_at m n) 0 (suc n)
   with-attempt =
       let first : 0 + n ≡ n = omega arith in
-      let is : open_now n ≡ true = runs-is_open B value m.off r s verdict are n n (begins B value m.off r s verdict are n) in
+      let is : open_now n ≡ true =
+      runs-is_open B value m.off r s verdict are n n (begins B value m.off r s verdict are n) in
       sym (
       select-push open_now (attempt_at m n) 0 n
       ∙ ap (λ c. select open_now (attempt_at m n) 0 n ++ last_of (open_now c) (attempt_at m n c)) first
@@ -108,7 +131,9 @@ module _ (B : Type 0) (value : B → ℕ → Bool) (r s : Seq B) (m : Monitor) (
       let more : suc n ≡ n + 1 = omega arith in
       let accepted : some_accepts m.antecedent n (select open_now (attempt_at m n) 0 (suc n)) ≡ is_awaited m verdict n =
       some_accepts-select m.antecedent n open_now (attempt_at m n) 0 (suc n)
-      ∙ some_of-same (λ c. open_now c && (m.antecedent.step n (attempt_at m n c).positions).accepted) (λ c. open_now c && accepts m.antecedent c (n - c)) 0 (suc n) (λ c from below. ap (λ b. open_now c && b) (step-accepted m.antecedent n c (omega arith)))
+      ∙ some_of-same (λ c. open_now c && (m.antecedent.step n (attempt_at m n c).positions).accepted)
+      (λ c. open_now c && accepts m.antecedent c (n - c)) 0 (suc n)
+      (λ c from below. ap (λ b. open_now c && b) (step-accepted m.antecedent n c (omega arith)))
       ∙ sym (some_in-of (suc n) (λ c. open_now c && accepts m.antecedent c (n - c)))
       ∙ ap (λ k. some_in 0 k (λ c. open_now c && accepts m.antecedent c (n - c))) more in
       let quiet : each_in n n (λ k. not (m.off k)) ≡ true = each_in-end n n (λ k. not (m.off k)) (omega arith) in
@@ -118,7 +143,8 @@ module _ (B : Type 0) (value : B → ℕ → Bool) (r s : Seq B) (m : Monitor) (
         | inr off ↦ rw (accepted, off) refl
       ]
 
-  with_new-owed : (b : Bool) → b ≡ owed n → with_new b m.consequent n (select owed (obligation_at m n) 0 n) ≡ select owed (obligation_at m n) 0 (suc n)
+  with_new-owed : (b : Bool) → b ≡ owed n → with_new b m.consequent n (select owed (obligation_at m n) 0 n)
+      ≡ select owed (obligation_at m n) 0 (suc n)
   with_new-owed b e =
       let first : 0 + n ≡ n = omega arith in
       let pushed = select-push owed (obligation_at m n) 0 n
@@ -131,7 +157,8 @@ module _ (B : Type 0) (value : B → ℕ → Bool) (r s : Seq B) (m : Monitor) (
       append-none [] = refl
       append-none (x ∷ xs) = ap (λ ys. x ∷ ys) (append-none xs)
 
-      go : (b : Bool) → with_new b m.consequent n (select owed (obligation_at m n) 0 n) ≡ select owed (obligation_at m n) 0 n ++ last_of b (record { tick = n; positions = m.consequent.start })
+      go : (b : Bool) → with_new b m.consequent n (select owed (obligation_at m n) 0 n)
+          ≡ select owed (obligation_at m n) 0 n ++ last_of b (record { tick = n; positions = m.consequent.start })
       go true = refl
       go false = append-none (select owed (obligation_at m n) 0 n)
 
@@ -142,7 +169,8 @@ module _ (B : Type 0) (value : B → ℕ → Bool) (r s : Seq B) (m : Monitor) (
   fates-owed : fates_of m.consequent n (select owed (obligation_at m n) 0 (suc n)) ≡ fates
   fates-owed =
       fates_of-select m.consequent n owed (obligation_at m n) 0 (suc n)
-      ∙ select-same owed owed (λ e. fate_of m.consequent n (obligation_at m n e)) (fate_at m n) 0 (suc n) (λ e from below. refl) (λ e from below is. fate_of-obligation m n e (omega arith))
+      ∙ select-same owed owed (λ e. fate_of m.consequent n (obligation_at m n e)) (fate_at m n) 0 (suc n)
+      (λ e from below. refl) (λ e from below is. fate_of-obligation m n e (omega arith))
 
   -- where the clock isn't disabled
   module _ (on : m.off n ≡ false) where
@@ -156,7 +184,10 @@ module _ (B : Type 0) (value : B → ℕ → Bool) (r s : Seq B) (m : Monitor) (
                 | inr other ↦ each_in-at e n (λ k. not (m.off k)) k is from (omega arith)
               ]) ∙ sym is
           | inr isnt ↦
-              false_from_ne_true _ (λ h. both_ways _ isnt (each_in-true e n (λ k. not (m.off k)) (λ k from below. each_in-at e (n + 1) (λ k. not (m.off k)) k h from (omega arith)))) ∙ sym isnt
+              false_from_ne_true _
+              (λ h. both_ways _ isnt
+              (each_in-true e n (λ k. not (m.off k))
+              (λ k from below. each_in-at e (n + 1) (λ k. not (m.off k)) k h from (omega arith)))) ∙ sym isnt
         ]
 
     owed-stays : (e : ℕ) → e ≤ n → (owed e && not (is_ended (fate_at m n e))) ≡ is_owed m verdict (n + 1) e
@@ -164,15 +195,19 @@ module _ (B : Type 0) (value : B → ℕ → Bool) (r s : Seq B) (m : Monitor) (
         let next : suc (n - e) ≡ n + 1 - e = omega arith in
         let count : n + 1 - e ≡ suc (n - e) = omega arith in
         ap (λ k. owed e && not (accepts m.consequent e (n - e) || places m.consequent e k == 0)) count
-        ∙ and-regroup (is_awaited m verdict e) (each_in e n (λ k. not (m.off k))) (is_unsettled m.consequent e (n - e)) (not (accepts m.consequent e (n - e) || places m.consequent e (suc (n - e)) == 0))
+        ∙ and-regroup (is_awaited m verdict e) (each_in e n (λ k. not (m.off k))) (is_unsettled m.consequent e (n - e))
+        (not (accepts m.consequent e (n - e) || places m.consequent e (suc (n - e)) == 0))
         ∙ ap (λ b. (is_awaited m verdict e && b) && is_unsettled m.consequent e (suc (n - e))) (sym (quiet-more e le))
-        ∙ ap (λ k. (is_awaited m verdict e && each_in e (n + 1) (λ k. not (m.off k))) && is_unsettled m.consequent e k) next
+        ∙ ap (λ k. (is_awaited m verdict e && each_in e (n + 1) (λ k. not (m.off k))) && is_unsettled m.consequent e k)
+        next
 
     staying-owed : staying fates ≡ select (is_owed m verdict (n + 1)) (obligation_at m (n + 1)) 0 (n + 1)
     staying-owed =
         let more : suc n ≡ n + 1 = omega arith in
         staying-select owed (fate_at m n) 0 (suc n)
-        ∙ select-same (λ e. owed e && not (is_ended (fate_at m n e))) (is_owed m verdict (n + 1)) (λ e. stayed (fate_at m n e)) (obligation_at m (n + 1)) 0 (suc n) (λ e from below. owed-stays e (omega arith)) (λ e from below is. refl)
+        ∙ select-same (λ e. owed e && not (is_ended (fate_at m n e))) (is_owed m verdict (n + 1))
+        (λ e. stayed (fate_at m n e)) (obligation_at m (n + 1)) 0 (suc n)
+        (λ e from below. owed-stays e (omega arith)) (λ e from below is. refl)
         ∙ ap (λ k. select (is_owed m verdict (n + 1)) (obligation_at m (n + 1)) 0 k) more
 
     -- an attempt that runs
@@ -190,24 +225,36 @@ module _ (B : Type 0) (value : B → ℕ → Bool) (r s : Seq B) (m : Monitor) (
       IsEnd-awaits : (e : ℕ) → IsEnd value r (n + 1) c e → awaits x e ≡ true
       IsEnd-awaits e end =
           and_from (nat_le c e) (bit_at (accepted_at m.antecedent c (n + 1 - c)) (e - c) == 1) (le-leb c e end.0)
-          (eq-eqb _ 1 (bit-accepted_at m.antecedent c (n + 1 - c) (e - c) (omega (arith, end.0, end.1)) (IsEnd-accepts B value r m.antecedent fr (n + 1) c e end)))
+          (eq-eqb _ 1
+          (bit-accepted_at m.antecedent c (n + 1 - c) (e - c) (omega (arith, end.0, end.1))
+          (IsEnd-accepts B value r m.antecedent fr (n + 1) c e end)))
 
       -- an obligation that it awaits is live, or kept before
       owed-or-kept : (e : ℕ) → IsEnd value r (n + 1) c e → (owed e ≡ true) ⊎ IsKept value s n e
       owed-or-kept e end =
           let from : e ≤ n = omega (arith, end.1) in
           let awaited : is_awaited m verdict e ≡ true =
-          some_in-true 0 (e + 1) (λ c. is_open (verdict e c) && accepts m.antecedent c (e - c)) c (omega arith) (omega (arith, end.0))
-          (and_from _ _ (runs-is_open B value m.off r s verdict are e c (runs-before B value m.off r s verdict are e n c from runs)) (IsEnd-accepts B value r m.antecedent fr (n + 1) c e end)) in
+          some_in-true 0 (e + 1) (λ c. is_open (verdict e c) && accepts m.antecedent c (e - c)) c (omega arith)
+          (omega (arith, end.0))
+          (and_from _ _
+          (runs-is_open B value m.off r s verdict are e c
+          (runs-before B value m.off r s verdict are e n c from runs))
+          (IsEnd-accepts B value r m.antecedent fr (n + 1) c e end)) in
           let quiet : each_in e n (λ k. not (m.off k)) ≡ true =
-          each_in-true e n (λ k. not (m.off k)) (λ k low below. not_from_false (m.off k) (false_from_ne_true _ (runs.never_off k (omega (arith, end.0)) below))) in
-          let live : is_unsettled m.consequent e (n - e) ≡ true → owed e ≡ true = λ h. and_from _ _ (and_from _ _ awaited quiet) h in
+          each_in-true e n (λ k. not (m.off k))
+          (λ k low below. not_from_false (m.off k)
+          (false_from_ne_true _ (runs.never_off k (omega (arith, end.0)) below))) in
+          let live : is_unsettled m.consequent e (n - e) ≡ true → owed e ≡ true =
+          λ h. and_from _ _ (and_from _ _ awaited quiet) h in
           elim (cases_Bool (is_unsettled m.consequent e (n - e))) [
             | inl is ↦ inl (live is)
             | inr isnt ↦ elim (cases_lt e n) [
               | inl early ↦ elim (settled-fate B value s m.consequent fs fills n e from isnt) [
                 | inl kept ↦ inr kept
-                | inr broken ↦ absurd (runs.undecided n Failed (omega (arith, end.0)) (omega arith) (e, (end.0, early, Matches-now e early end), broken))
+                | inr broken ↦
+                    absurd
+                    (runs.undecided n Failed (omega (arith, end.0)) (omega arith)
+                    (e, (end.0, early, Matches-now e early end), broken))
               ]
               | inr late ↦
                   let none : n - e ≡ 0 = omega arith in
@@ -216,29 +263,44 @@ module _ (B : Type 0) (value : B → ℕ → Bool) (r s : Seq B) (m : Monitor) (
           ]
         where
           Matches-now : (e : ℕ) → e < n → IsEnd value r (n + 1) c e → Matches (sat value n) r c (e + 1)
-          Matches-now e early end = Matches-sat B value r n c (e + 1) (Matches-seen B value r (n + 1) c (e + 1) (omega (arith, end.1)) end.2)
+          Matches-now e early end =
+              Matches-sat B value r n c (e + 1)
+              (Matches-seen B value r (n + 1) c (e + 1) (omega (arith, end.1)) end.2)
 
-      owed-unkept : (e : ℕ) → e ≤ n → owed e ≡ true → accepts m.consequent e (n - e) ≡ false → IsKept value s (n + 1) e → ⊥
+      owed-unkept : (e : ℕ) → e ≤ n → owed e ≡ true → accepts m.consequent e (n - e) ≡ false → IsKept value s (n + 1) e
+          → ⊥
       owed-unkept e from is isnt kept =
-          let live = and_parts (is_awaited m verdict e && each_in e n (λ k. not (m.off k))) (is_unsettled m.consequent e (n - e)) is in
+          let live =
+          and_parts (is_awaited m verdict e && each_in e n (λ k. not (m.off k)))
+          (is_unsettled m.consequent e (n - e)) is in
           let at = IsKept-accepts B value s m.consequent fs fills (n + 1) e kept in
           elim (cases_eq at.0 (n - e)) [
             | inl same ↦ both_ways _ isnt (ap (accepts m.consequent e) (sym same) ∙ at.2)
-            | inr other ↦ unsettled-IsKept B value s m.consequent fs fills n e from live.1 (accepts-IsKept B value s m.consequent fs fills n e at.0 (omega (arith, at.1)) at.2)
+            | inr other ↦ unsettled-IsKept B value s m.consequent fs fills n e from live.1
+                (accepts-IsKept B value s m.consequent fs fills n e at.0 (omega (arith, at.1)) at.2)
           ]
 
       broken-Fails : some_broken x fates ≡ true → IsDecided value r s (n + 1) c Failed
       broken-Fails h =
-          let f = some_in-found 0 (suc n) (λ e. owed e && (is_broken (fate_at m n e) && awaits x e)) (some_in-of (suc n) (λ e. owed e && (is_broken (fate_at m n e) && awaits x e)) ∙ sym (some_broken-select x owed (fate_at m n) 0 (suc n)) ∙ h) in
+          let f =
+          some_in-found 0 (suc n) (λ e. owed e && (is_broken (fate_at m n e) && awaits x e))
+          (some_in-of (suc n) (λ e. owed e && (is_broken (fate_at m n e) && awaits x e))
+          ∙ sym (some_broken-select x owed (fate_at m n) 0 (suc n)) ∙ h) in
           let e : ℕ = f.0 in
           let p = and_parts (owed e) (is_broken (fate_at m n e) && awaits x e) f.3 in
           let q = and_parts (is_broken (fate_at m n e)) (awaits x e) p.1 in
           let b = and_parts (not (accepts m.consequent e (n - e))) (places m.consequent e (n + 1 - e) == 0) q.0 in
-          let from : e ≤ n = omega (arith, f.2) in
-          (e, awaits-IsEnd e q.1, places-IsBroken B value s m.consequent fs (n + 1) e (omega arith) (eqb-true _ 0 b.1) (owed-unkept e from p.0 (not-true _ b.0)))
+          let from : e ≤ n = omega (arith, f.2) in (
+            e,
+            awaits-IsEnd e q.1,
+            places-IsBroken B value s m.consequent fs (n + 1) e (omega arith) (eqb-true _ 0 b.1)
+                (owed-unkept e from p.0 (not-true _ b.0)),
+          )
 
       unaccepted : (e : ℕ) → e ≤ n → (IsKept value s (n + 1) e → ⊥) → accepts m.consequent e (n - e) ≡ false
-      unaccepted e from unkept = false_from_ne_true _ (λ h. unkept (accepts-IsKept B value s m.consequent fs fills (n + 1) e (n - e) (omega arith) h))
+      unaccepted e from unkept =
+          false_from_ne_true _
+          (λ h. unkept (accepts-IsKept B value s m.consequent fs fills (n + 1) e (n - e) (omega arith) h))
 
       Fails-broken : IsDecided value r s (n + 1) c Failed → some_broken x fates ≡ true
       Fails-broken fails =
@@ -249,21 +311,28 @@ module _ (B : Type 0) (value : B → ℕ → Bool) (r s : Seq B) (m : Monitor) (
             | inl is ↦ is
             | inr kept ↦ absurd (unkept (IsKept-later B value s m.consequent fs n (n + 1) e (omega arith) kept))
           ] in
-          let broken : is_broken (fate_at m n e) ≡ true = and_from _ _ (not_from_false _ (unaccepted e from unkept)) (eq-eqb _ 0 (IsBroken-places B value s m.consequent fs (n + 1) e (omega arith) fails.2)) in
+          let broken : is_broken (fate_at m n e) ≡ true =
+          and_from _ _ (not_from_false _ (unaccepted e from unkept))
+          (eq-eqb _ 0 (IsBroken-places B value s m.consequent fs (n + 1) e (omega arith) fails.2)) in
           some_broken-select x owed (fate_at m n) 0 (suc n)
           ∙ sym (some_in-of (suc n) (λ e. owed e && (is_broken (fate_at m n e) && awaits x e)))
-          ∙ some_in-true 0 (suc n) (λ e. owed e && (is_broken (fate_at m n e) && awaits x e)) e (omega arith) (omega arith) (and_from _ _ is (and_from _ _ broken (IsEnd-awaits e fails.1)))
+          ∙ some_in-true 0 (suc n) (λ e. owed e && (is_broken (fate_at m n e) && awaits x e)) e (omega arith)
+          (omega arith) (and_from _ _ is (and_from _ _ broken (IsEnd-awaits e fails.1)))
 
       open-unkept : some_open x fates ≡ true → (e : ℕ) × IsEnd value r (n + 1) c e × (IsKept value s (n + 1) e → ⊥)
       open-unkept h =
-          let f = some_in-found 0 (suc n) (λ e. owed e && (not (is_ended (fate_at m n e)) && awaits x e)) (some_in-of (suc n) (λ e. owed e && (not (is_ended (fate_at m n e)) && awaits x e)) ∙ sym (some_open-select x owed (fate_at m n) 0 (suc n)) ∙ h) in
+          let f =
+          some_in-found 0 (suc n) (λ e. owed e && (not (is_ended (fate_at m n e)) && awaits x e))
+          (some_in-of (suc n) (λ e. owed e && (not (is_ended (fate_at m n e)) && awaits x e))
+          ∙ sym (some_open-select x owed (fate_at m n) 0 (suc n)) ∙ h) in
           let e : ℕ = f.0 in
           let p = and_parts (owed e) (not (is_ended (fate_at m n e)) && awaits x e) f.3 in
           let q = and_parts (not (is_ended (fate_at m n e))) (awaits x e) p.1 in
           let b = or_parts (accepts m.consequent e (n - e)) (places m.consequent e (n + 1 - e) == 0) (not-true _ q.0) in
           (e, awaits-IsEnd e q.1, owed-unkept e (omega (arith, f.2)) p.0 b.0)
 
-      each-kept : some_broken x fates ≡ false → some_open x fates ≡ false → (e : ℕ) → IsEnd value r (n + 1) c e → IsKept value s (n + 1) e
+      each-kept : some_broken x fates ≡ false → some_open x fates ≡ false → (e : ℕ) → IsEnd value r (n + 1) c e
+          → IsKept value s (n + 1) e
       each-kept unbroken closed e end =
           let from : e ≤ n = omega (arith, end.1) in
           elim (owed-or-kept e end) [
@@ -275,50 +344,69 @@ module _ (B : Type 0) (value : B → ℕ → Bool) (r s : Seq B) (m : Monitor) (
                     absurd (both_ways _ unbroken (
                     some_broken-select x owed (fate_at m n) 0 (suc n)
                     ∙ sym (some_in-of (suc n) (λ e. owed e && (is_broken (fate_at m n e) && awaits x e)))
-                    ∙ some_in-true 0 (suc n) (λ e. owed e && (is_broken (fate_at m n e) && awaits x e)) e (omega arith) (omega arith) (and_from _ _ is (and_from _ _ (and_from _ _ (not_from_false _ untaken) none) (IsEnd-awaits e end)))
+                    ∙ some_in-true 0 (suc n) (λ e. owed e && (is_broken (fate_at m n e) && awaits x e)) e (omega arith)
+                    (omega arith)
+                    (and_from _ _ is
+                    (and_from _ _ (and_from _ _ (not_from_false _ untaken) none) (IsEnd-awaits e end)))
                     ))
                 | inr some ↦
                     absurd (both_ways _ closed (
                     some_open-select x owed (fate_at m n) 0 (suc n)
                     ∙ sym (some_in-of (suc n) (λ e. owed e && (not (is_ended (fate_at m n e)) && awaits x e)))
-                    ∙ some_in-true 0 (suc n) (λ e. owed e && (not (is_ended (fate_at m n e)) && awaits x e)) e (omega arith) (omega arith) (and_from _ _ is (and_from _ _ (not_from_false _ (or_from _ _ untaken some)) (IsEnd-awaits e end)))
+                    ∙ some_in-true 0 (suc n) (λ e. owed e && (not (is_ended (fate_at m n e)) && awaits x e)) e
+                    (omega arith) (omega arith)
+                    (and_from _ _ is
+                    (and_from _ _ (not_from_false _ (or_from _ _ untaken some)) (IsEnd-awaits e end)))
                     ))
               ]
             ]
           ]
 
       -- an attempt that stays is undecided
-      stays-undecided : some_broken x fates ≡ false → (some_open x fates || not (x.positions == 0)) ≡ true → (d : Decision) → IsDecided value r s (n + 1) c d → ⊥
+      stays-undecided : some_broken x fates ≡ false → (some_open x fates || not (x.positions == 0)) ≡ true
+          → (d : Decision) → IsDecided value r s (n + 1) c d → ⊥
       stays-undecided unbroken more Failed is = both_ways _ unbroken (Fails-broken is)
       stays-undecided unbroken more Held is =
           elim (or_cases (some_open x fates) (not (x.positions == 0)) more) [
             | inl h ↦ let o = open-unkept h in o.2 (is.1 o.0 o.1)
-            | inr h ↦ eqb-false x.positions 0 (not-true _ h) (IsOver-places B value r m.antecedent fr (n + 1) c (omega arith) is.2)
+            | inr h ↦ eqb-false x.positions 0 (not-true _ h)
+                (IsOver-places B value r m.antecedent fr (n + 1) c (omega arith) is.2)
           ]
       stays-undecided unbroken more Vacuously is =
           elim (or_cases (some_open x fates) (not (x.positions == 0)) more) [
             | inl h ↦ let o = open-unkept h in is.0 o.0 o.1
-            | inr h ↦ eqb-false x.positions 0 (not-true _ h) (IsOver-places B value r m.antecedent fr (n + 1) c (omega arith) is.1)
+            | inr h ↦ eqb-false x.positions 0 (not-true _ h)
+                (IsOver-places B value r m.antecedent fr (n + 1) c (omega arith) is.1)
           ]
 
       -- an attempt that ends without a failure
-      ends-so : some_broken x fates ≡ false → (some_open x fates || not (x.positions == 0)) ≡ false → (rest : Settlement) → ends x (if x.awaited == 0 then outcome.Vacuous n else outcome.Holds n) rest ≡ settled (verdict (n + 1) c) x rest
+      ends-so : some_broken x fates ≡ false → (some_open x fates || not (x.positions == 0)) ≡ false
+          → (rest : Settlement) → ends x (if x.awaited == 0 then outcome.Vacuous n else outcome.Holds n) rest
+          ≡ settled (verdict (n + 1) c) x rest
       ends-so unbroken closed rest =
           let p = or_parts (some_open x fates) (not (x.positions == 0)) closed in
-          let over : IsOver value r (n + 1) c = places-IsOver B value r m.antecedent fr (n + 1) c (omega arith) (eqb-true x.positions 0 (not-false _ p.1)) in
+          let over : IsOver value r (n + 1) c =
+          places-IsOver B value r m.antecedent fr (n + 1) c (omega arith)
+          (eqb-true x.positions 0 (not-false _ p.1)) in
           elim (cases_Bool (x.awaited == 0)) [
             | inl none ↦
                 let zeros = eqb-true x.awaited 0 none in
                 let is : verdict (n + 1) c ≡ outcome.Vacuous n =
-                decides B value m.off r s verdict are n c le Vacuously runs on
-                (λ e end. accepted_at-zero m.antecedent c (n + 1 - c) zeros (e - c) (omega (arith, end.0, end.1)) (IsEnd-accepts B value r m.antecedent fr (n + 1) c e end), over) in
+                decides B value m.off r s verdict are n c le Vacuously runs on (
+                  λ e end. accepted_at-zero m.antecedent c (n + 1 - c) zeros (e
+                      - c) (omega (arith, end.0, end.1)) (IsEnd-accepts B value r m.antecedent fr (n + 1) c e end),
+                  over,
+                ) in
                 rw (none, is) refl
             | inr some ↦
                 let at = some-accepted_at m.antecedent c (n + 1 - c) (eqb-false x.awaited 0 some) in
                 let same : at.0 ≡ c + at.0 - c = omega arith in
-                let end : IsEnd value r (n + 1) c (c + at.0) = accepts-IsEnd B value r m.antecedent fr (n + 1) c (c + at.0) (omega arith) (omega (arith, at.1)) (ap (accepts m.antecedent c) (sym same) ∙ at.2) in
+                let end : IsEnd value r (n + 1) c (c + at.0) =
+                accepts-IsEnd B value r m.antecedent fr (n + 1) c (c + at.0) (omega arith) (omega (arith, at.1))
+                (ap (accepts m.antecedent c) (sym same) ∙ at.2) in
                 let is : verdict (n + 1) c ≡ outcome.Holds n =
-                decides B value m.off r s verdict are n c le Held runs on ((c + at.0, end), each-kept unbroken p.0, over) in
+                decides B value m.off r s verdict are n c le Held runs on
+                ((c + at.0, end), each-kept unbroken p.0, over) in
                 rw (some, is) refl
           ]
 
@@ -326,71 +414,119 @@ module _ (B : Type 0) (value : B → ℕ → Bool) (r s : Seq B) (m : Monitor) (
       settle-verdict rest =
           elim (cases_Bool (some_broken x fates)) [
             | inl broken ↦
-                let is : verdict (n + 1) c ≡ outcome.Fails n = decides B value m.off r s verdict are n c le Failed runs on (broken-Fails broken) in
+                let is : verdict (n + 1) c ≡ outcome.Fails n =
+                decides B value m.off r s verdict are n c le Failed runs on (broken-Fails broken) in
                 rw (broken, is) refl
             | inr unbroken ↦ elim (cases_Bool (some_open x fates || not (x.positions == 0))) [
               | inl more ↦
-                  let is : verdict (n + 1) c ≡ outcome.Open = runs-Open B value m.off r s verdict are (n + 1) c (goes_on B value m.off r s verdict are n c le runs on (stays-undecided unbroken more)) in
+                  let is : verdict (n + 1) c ≡ outcome.Open =
+                  runs-Open B value m.off r s verdict are (n + 1) c
+                  (goes_on B value m.off r s verdict are n c le runs on (stays-undecided unbroken more)) in
                   rw (unbroken, more, is) refl
               | inr closed ↦ rw (unbroken, closed) (ends-so unbroken closed rest)
             ]
           ]
 
     -- the clock goes on
-    on-goes : clock_with m n (select open_now (attempt_at m n) 0 (suc n)) (select owed (obligation_at m n) 0 n) false ≡ record { state = standing_at m verdict (n + 1); decided = falling verdict n }
+    on-goes : clock_with m n (select open_now (attempt_at m n) 0 (suc n)) (select owed (obligation_at m n) 0 n) false
+        ≡ record { state = standing_at m verdict (n + 1); decided = falling verdict n }
     on-goes =
         let more : suc n ≡ n + 1 = omega arith in
-        let visits : visit_each m.antecedent n (select open_now (attempt_at m n) 0 (suc n)) ≡ select open_now (attempt_at m (n + 1)) 0 (suc n) =
+        let visits : visit_each m.antecedent n (select open_now (attempt_at m n) 0 (suc n))
+        ≡ select open_now (attempt_at m (n + 1)) 0 (suc n) =
         visit_each-select m.antecedent n open_now (attempt_at m n) 0 (suc n)
-        ∙ select-same open_now open_now (λ c. visited n (attempt_at m n c) (m.antecedent.step n (attempt_at m n c).positions)) (attempt_at m (n + 1)) 0 (suc n) (λ c from below. refl) (λ c from below is. visited-attempt m n c (omega arith)) in
-        let told : fates_of m.consequent n (with_new (some_accepts m.antecedent n (select open_now (attempt_at m n) 0 (suc n))) m.consequent n (select owed (obligation_at m n) 0 n)) ≡ fates =
-        ap (fates_of m.consequent n) (with_new-owed (some_accepts m.antecedent n (select open_now (attempt_at m n) 0 (suc n))) owed-new) ∙ fates-owed in
-        let settles : settle_each n fates (select open_now (attempt_at m (n + 1)) 0 (suc n)) ≡ settlement open_now (attempt_at m (n + 1)) (verdict (n + 1)) 0 (suc n) =
-        settle_each-select n fates open_now (attempt_at m (n + 1)) (verdict (n + 1)) 0 (suc n) (λ c from below is. settle-verdict c (omega arith) (is_open-runs B value m.off r s verdict are n c is)) in
-        let live : select (λ c. open_now c && is_open (verdict (n + 1) c)) (attempt_at m (n + 1)) 0 (suc n) ≡ select (λ c. is_open (verdict (n + 1) c)) (attempt_at m (n + 1)) 0 (n + 1) =
-        select-same (λ c. open_now c && is_open (verdict (n + 1) c)) (λ c. is_open (verdict (n + 1) c)) (attempt_at m (n + 1)) (attempt_at m (n + 1)) 0 (suc n) (λ c from below. sym (open-was_open B value m.off r s verdict are n c (omega arith))) (λ c from below is. refl)
+        ∙ select-same open_now open_now
+        (λ c. visited n (attempt_at m n c) (m.antecedent.step n (attempt_at m n c).positions))
+        (attempt_at m (n + 1)) 0 (suc n) (λ c from below. refl)
+        (λ c from below is. visited-attempt m n c (omega arith)) in
+        let told : fates_of m.consequent n
+        (with_new (some_accepts m.antecedent n (select open_now (attempt_at m n) 0 (suc n))) m.consequent n
+        (select owed (obligation_at m n) 0 n)) ≡ fates =
+        ap (fates_of m.consequent n)
+        (with_new-owed (some_accepts m.antecedent n (select open_now (attempt_at m n) 0 (suc n))) owed-new)
+        ∙ fates-owed in
+        let settles : settle_each n fates (select open_now (attempt_at m (n + 1)) 0 (suc n))
+        ≡ settlement open_now (attempt_at m (n + 1)) (verdict (n + 1)) 0 (suc n) =
+        settle_each-select n fates open_now (attempt_at m (n + 1)) (verdict (n + 1)) 0 (suc n)
+        (λ c from below is. settle-verdict c (omega arith) (is_open-runs B value m.off r s verdict are n c is)) in
+        let live : select (λ c. open_now c && is_open (verdict (n + 1) c)) (attempt_at m (n + 1)) 0 (suc n)
+        ≡ select (λ c. is_open (verdict (n + 1) c)) (attempt_at m (n + 1)) 0 (n + 1) =
+        select-same (λ c. open_now c && is_open (verdict (n + 1) c)) (λ c. is_open (verdict (n + 1) c))
+        (attempt_at m (n + 1)) (attempt_at m (n + 1)) 0 (suc n)
+        (λ c from below. sym (open-was_open B value m.off r s verdict are n c (omega arith)))
+        (λ c from below is. refl)
         ∙ ap (λ k. select (λ c. is_open (verdict (n + 1) c)) (attempt_at m (n + 1)) 0 k) more in
-        let fall : select (λ c. open_now c && not (is_open (verdict (n + 1) c))) (λ c. record { start = c; verdict = verdict (n + 1) c }) 0 (suc n) ≡ falling verdict n =
-        select-same (λ c. open_now c && not (is_open (verdict (n + 1) c))) (λ c. falls_at n (verdict (n + 1) c)) (λ c. record { start = c; verdict = verdict (n + 1) c }) (λ c. record { start = c; verdict = verdict (n + 1) c }) 0 (suc n) (λ c from below. sym (falls-was_open B value m.off r s verdict are n c (omega arith))) (λ c from below is. refl)
-        ∙ ap (λ k. select (λ c. falls_at n (verdict (n + 1) c)) (λ c. record { start = c; verdict = verdict (n + 1) c }) 0 k) more in
-        let whole : List Attempt → List Obligation → List Decided → Settled = λ xs os ds. record { state = record { now = n + 1; attempts = xs; obligations = os }; decided = ds } in
-        ap (λ xs. settled_with n xs (fates_of m.consequent n (with_new (some_accepts m.antecedent n (select open_now (attempt_at m n) 0 (suc n))) m.consequent n (select owed (obligation_at m n) 0 n)))) visits
+        let fall : select (λ c. open_now c && not (is_open (verdict (n + 1) c)))
+        (λ c. record { start = c; verdict = verdict (n + 1) c }) 0 (suc n) ≡ falling verdict n =
+        select-same (λ c. open_now c && not (is_open (verdict (n + 1) c))) (λ c. falls_at n (verdict (n + 1) c))
+        (λ c. record { start = c; verdict = verdict (n + 1) c })
+        (λ c. record { start = c; verdict = verdict (n + 1) c }) 0 (suc n)
+        (λ c from below. sym (falls-was_open B value m.off r s verdict are n c (omega arith)))
+        (λ c from below is. refl)
+        ∙ ap (λ k. select (λ c. falls_at n (verdict (n + 1) c)) (λ c. record { start = c; verdict = verdict (n + 1) c })
+        0 k) more in
+        let whole : List Attempt → List Obligation → List Decided → Settled =
+        λ xs os ds. record { state = record { now = n + 1; attempts = xs; obligations = os }; decided = ds } in
+        ap (λ xs. settled_with n xs
+        (fates_of m.consequent n
+        (with_new (some_accepts m.antecedent n (select open_now (attempt_at m n) 0 (suc n))) m.consequent n
+        (select owed (obligation_at m n) 0 n)))) visits
         ∙ ap (λ fs. settled_with n (select open_now (attempt_at m (n + 1)) 0 (suc n)) fs) told
         ∙ ap (λ (r : Settlement). whole r.live (staying fates) r.decided) settles
-        ∙ ap (λ xs. whole xs (staying fates) (settlement open_now (attempt_at m (n + 1)) (verdict (n + 1)) 0 (suc n)).decided) live
-        ∙ ap (λ os. whole (standing_at m verdict (n + 1)).attempts os (settlement open_now (attempt_at m (n + 1)) (verdict (n + 1)) 0 (suc n)).decided) staying-owed
+        ∙ ap (λ xs. whole xs (staying fates)
+        (settlement open_now (attempt_at m (n + 1)) (verdict (n + 1)) 0 (suc n)).decided) live
+        ∙ ap (λ os. whole (standing_at m verdict (n + 1)).attempts os
+        (settlement open_now (attempt_at m (n + 1)) (verdict (n + 1)) 0 (suc n)).decided) staying-owed
         ∙ ap (λ ds. whole (standing_at m verdict (n + 1)).attempts (standing_at m verdict (n + 1)).obligations ds) fall
 
   -- where it is disabled
-  off-goes : m.off n ≡ true → clock_with m n (select open_now (attempt_at m n) 0 (suc n)) (select owed (obligation_at m n) 0 n) true ≡ record { state = standing_at m verdict (n + 1); decided = falling verdict n }
+  off-goes : m.off n ≡ true → clock_with m n (select open_now (attempt_at m n) 0 (suc n))
+      (select owed (obligation_at m n) 0 n) true
+      ≡ record { state = standing_at m verdict (n + 1); decided = falling verdict n }
   off-goes off =
       let more : suc n ≡ n + 1 = omega arith in
       let closed : (c : ℕ) → c ≤ n → is_open (verdict (n + 1) c) ≡ false = λ c le.
       (elim (cases_Bool (open_now c)) [
-        | inl on ↦ let is : verdict (n + 1) c ≡ outcome.Disabled n = off-Disabled B value m.off r s verdict are n c le on off in ap is_open is
+        | inl on ↦ let is : verdict (n + 1) c ≡ outcome.Disabled n =
+            off-Disabled B value m.off r s verdict are n c le on off in ap is_open is
         | inr was ↦ open-was_open B value m.off r s verdict are n c le ∙ ap (λ b. b && is_open (verdict (n + 1) c)) was
       ]) in
-      let live : [] ≡ (standing_at m verdict (n + 1)).attempts = sym (select-none (λ c. is_open (verdict (n + 1) c)) (attempt_at m (n + 1)) 0 (n + 1) (λ c from below. closed c (omega arith))) in
+      let live : [] ≡ (standing_at m verdict (n + 1)).attempts =
+      sym (select-none (λ c. is_open (verdict (n + 1) c)) (attempt_at m (n + 1)) 0 (n + 1)
+      (λ c from below. closed c (omega arith))) in
       let ended : (e : ℕ) → e ≤ n → is_owed m verdict (n + 1) e ≡ false = λ e le.
-      (let quiet : each_in e (n + 1) (λ k. not (m.off k)) ≡ false = false_from_ne_true _ (λ h. both_ways _ (not-true _ (each_in-at e (n + 1) (λ k. not (m.off k)) n h le (omega arith))) off) in
+      (let quiet : each_in e (n + 1) (λ k. not (m.off k)) ≡ false =
+      false_from_ne_true _
+      (λ h. both_ways _ (not-true _ (each_in-at e (n + 1) (λ k. not (m.off k)) n h le (omega arith))) off) in
       elim (cases_Bool (is_awaited m verdict e)) [
         | inl on ↦ rw (on, quiet) refl
         | inr none ↦ rw none refl
       ]) in
-      let owed_none : [] ≡ (standing_at m verdict (n + 1)).obligations = sym (select-none (is_owed m verdict (n + 1)) (obligation_at m (n + 1)) 0 (n + 1) (λ e from below. ended e (omega arith))) in
+      let owed_none : [] ≡ (standing_at m verdict (n + 1)).obligations =
+      sym (select-none (is_owed m verdict (n + 1)) (obligation_at m (n + 1)) 0 (n + 1)
+      (λ e from below. ended e (omega arith))) in
       let falls : (c : ℕ) → c ≤ n → open_now c ≡ falls_at n (verdict (n + 1) c) = λ c le.
-      (sym (falls-was_open B value m.off r s verdict are n c le ∙ ap (λ b. open_now c && not b) (closed c le) ∙ and-true (open_now c))) in
+      (sym (falls-was_open B value m.off r s verdict are n c le ∙ ap (λ b. open_now c && not b) (closed c le)
+      ∙ and-true (open_now c))) in
       let ended_at : ℕ → Decided = λ c. record { start = c; verdict = outcome.Disabled n } in
       let fallen_at : ℕ → Decided = λ c. record { start = c; verdict = verdict (n + 1) c } in
-      let each : disable_each n (select open_now (attempt_at m n) 0 (suc n)) ≡ select open_now ended_at 0 (suc n) = disable_each-select n open_now (attempt_at m n) 0 (suc n) in
+      let each : disable_each n (select open_now (attempt_at m n) 0 (suc n)) ≡ select open_now ended_at 0 (suc n) =
+      disable_each-select n open_now (attempt_at m n) 0 (suc n) in
       let same : select open_now ended_at 0 (suc n) ≡ select (λ c. falls_at n (verdict (n + 1) c)) fallen_at 0 (suc n) =
-      select-same open_now (λ c. falls_at n (verdict (n + 1) c)) ended_at fallen_at 0 (suc n) (λ c from below. falls c (omega arith)) (λ c from below is. ap (λ v. record { start = c; verdict = v }) (sym (off-Disabled B value m.off r s verdict are n c (omega arith) is off))) in
-      let last : select (λ c. falls_at n (verdict (n + 1) c)) fallen_at 0 (suc n) ≡ falling verdict n = ap (select (λ c. falls_at n (verdict (n + 1) c)) fallen_at 0) more in
-      let fall : disable_each n (select open_now (attempt_at m n) 0 (suc n)) ≡ falling verdict n = each ∙ (same ∙ last) in
-      let whole : List Attempt → List Obligation → List Decided → Settled = λ xs os ds. record { state = record { now = n + 1; attempts = xs; obligations = os }; decided = ds } in
+      select-same open_now (λ c. falls_at n (verdict (n + 1) c)) ended_at fallen_at 0 (suc n)
+      (λ c from below. falls c (omega arith))
+      (λ c from below is. ap (λ v. record { start = c; verdict = v })
+      (sym (off-Disabled B value m.off r s verdict are n c (omega arith) is off))) in
+      let last : select (λ c. falls_at n (verdict (n + 1) c)) fallen_at 0 (suc n) ≡ falling verdict n =
+      ap (select (λ c. falls_at n (verdict (n + 1) c)) fallen_at 0) more in
+      let fall : disable_each n (select open_now (attempt_at m n) 0 (suc n)) ≡ falling verdict n =
+      each ∙ (same ∙ last) in
+      let whole : List Attempt → List Obligation → List Decided → Settled =
+      λ xs os ds. record { state = record { now = n + 1; attempts = xs; obligations = os }; decided = ds } in
       let next = standing_at m verdict (n + 1) in
       let rest : whole [] [] (falling verdict n) ≡ whole next.attempts next.obligations (falling verdict n) =
-      ap (λ xs. whole xs [] (falling verdict n)) live ∙ ap (λ os. whole next.attempts os (falling verdict n)) owed_none in
+      ap (λ xs. whole xs [] (falling verdict n)) live ∙ ap (λ os. whole next.attempts os (falling verdict n)) owed_none
+      in
       ap (λ ds. whole [] [] ds) fall ∙ rest
     where
       and-true : (b : Bool) → (b && true) ≡ b
@@ -398,11 +534,16 @@ module _ (B : Type 0) (value : B → ℕ → Bool) (r s : Seq B) (m : Monitor) (
       and-true false = refl
 
   -- a clock that begins where the state stands for the meaning
-  pub clock-goes : clock_of m (standing_at m verdict n) ≡ record { state = standing_at m verdict (n + 1); decided = falling verdict n }
+  pub clock-goes : clock_of m (standing_at m verdict n)
+      ≡ record { state = standing_at m verdict (n + 1); decided = falling verdict n }
   unfolding clock_of
   clock-goes =
       ap (λ xs. clock_with m n xs (select owed (obligation_at m n) 0 n) (m.off n)) with-attempt
       ∙ (elim (cases_Bool (m.off n)) [
-        | inl off ↦ ap (clock_with m n (select open_now (attempt_at m n) 0 (suc n)) (select owed (obligation_at m n) 0 n)) off ∙ off-goes off
-        | inr on ↦ ap (clock_with m n (select open_now (attempt_at m n) 0 (suc n)) (select owed (obligation_at m n) 0 n)) on ∙ on-goes on
+        | inl off ↦
+            ap (clock_with m n (select open_now (attempt_at m n) 0 (suc n)) (select owed (obligation_at m n) 0 n)) off
+            ∙ off-goes off
+        | inr on ↦
+            ap (clock_with m n (select open_now (attempt_at m n) 0 (suc n)) (select owed (obligation_at m n) 0 n)) on
+            ∙ on-goes on
       ])

@@ -5,7 +5,8 @@ use Rattle.std.proofs.lemmas.Bool.{or_cases, or_left, or_right, leb-true, le-leb
 use Rattle.assertions.specs.Segments.{Seq, one, none, chop, fuse, either, both, during, times, Chain, sat, Matches}
 use Rattle.assertions.proofs.Segments.{Matches-forward, Chain-forward}
 
-Chain-each : (P Q : ℕ → ℕ → Type 0) → ((i j : ℕ) → P i j → i ≤ j) → (n i j : ℕ) → ((a b : ℕ) → i ≤ a → b ≤ j → P a b → Q a b) → Chain P n i j → Chain Q n i j
+Chain-each : (P Q : ℕ → ℕ → Type 0) → ((i j : ℕ) → P i j → i ≤ j) → (n i j : ℕ)
+    → ((a b : ℕ) → i ≤ a → b ≤ j → P a b → Q a b) → Chain P n i j → Chain Q n i j
 Chain-each P Q forward zero i j each h = h
 Chain-each P Q forward (suc n) i j each h = (
   h.0,
@@ -59,7 +60,11 @@ module _ (B : Type 0) (value : B → ℕ → Bool) where
   seen-sat n b k h = or_right (nat_le n k) (value b k) h
 
   pub sat-seen : (n : ℕ) (b : B) (k : ℕ) → k < n → IsTrue (sat value n b k) → IsTrue (value b k)
-  sat-seen n b k below h = elim (or_cases (nat_le n k) (value b k) h) [ inl late ↦ absurd (omega (arith, leb-true n k late)) | inr seen ↦ seen ]
+  sat-seen n b k below h =
+      elim (or_cases (nat_le n k) (value b k) h) [
+        | inl late ↦ absurd (omega (arith, leb-true n k late))
+        | inr seen ↦ seen
+      ]
 
   pub sat-earlier : (m n : ℕ) (b : B) (k : ℕ) → m ≤ n → IsTrue (sat value n b k) → IsTrue (sat value m b k)
   sat-earlier m n b k le h =
@@ -77,4 +82,5 @@ module _ (B : Type 0) (value : B → ℕ → Bool) where
 
   -- what is possible is possible before
   pub Matches-earlier : (r : Seq B) (m n i j : ℕ) → m ≤ n → Matches (sat value n) r i j → Matches (sat value m) r i j
-  Matches-earlier r m n i j le = Matches-local B (sat value n) (sat value m) r i j (λ b k from below. sat-earlier m n b k le)
+  Matches-earlier r m n i j le =
+      Matches-local B (sat value n) (sat value m) r i j (λ b k from below. sat-earlier m n b k le)

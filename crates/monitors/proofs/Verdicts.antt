@@ -1,5 +1,6 @@
 -- How a verdict comes by one tick more.
-use Rattle.std.proofs.Common.{◌≡◌, ◌∙◌, ◌⊎◌, inl, inr, ℕ, ◌+◌, ◌≤◌, Bool, true, false, not, ◌&&◌, refl, sym, ap, subst, arith}
+use Rattle.std.proofs.Common.{◌≡◌, ◌∙◌, ◌⊎◌, inl, inr, ℕ, ◌+◌, ◌≤◌, Bool, true, false, not, ◌&&◌, refl, sym, ap, subst}
+use Rattle.std.proofs.Common.{arith}
 use Rattle.std.specs.Prelude.{IsTrue}
 use Rattle.std.proofs.lemmas.Bool.{both_ways, cases_Bool, cases_lt, cases_eq, eqb-true, eq-eqb, false_from_ne_true}
 use Rattle.signals.specs.declared.verdict.Verdict.{Verdict}
@@ -7,15 +8,18 @@ use Rattle.signals.specs.declared.verdict.Verdict.TheVariants as outcome
 use Rattle.assertions.specs.declared.decision.Decision.{Decision}
 use Rattle.assertions.specs.declared.decision.Decision.TheVariants.{Held, Vacuously, Failed}
 use Rattle.assertions.specs.Segments.{Seq}
-use Rattle.assertions.specs.Attempts.{IsDecided, IsFirstDecided, IsUndecided, IsFirstOff, IsNeverOff, IsVerdict, decided_at}
+use Rattle.assertions.specs.Attempts.{IsDecided, IsFirstDecided, IsUndecided, IsFirstOff, IsNeverOff, IsVerdict}
+use Rattle.assertions.specs.Attempts.{decided_at}
 use Rattle.monitors.specs.Standing.{is_open, falls_at}
 
 -- each verdict is the one that is stated, and there is no other
-pub record AreVerdicts {B : Type 0} (value : B → ℕ → Bool) (off : ℕ → Bool) (r s : Seq B) (verdict : ℕ → ℕ → Verdict) : Type 0 where
+pub record AreVerdicts {B : Type 0} (value : B → ℕ → Bool) (off : ℕ → Bool) (r s : Seq B) (verdict : ℕ → ℕ → Verdict) :
+    Type 0 where
   pub stated : (n c : ℕ) → IsVerdict value off r s n c (verdict n c)
   pub only : (n c : ℕ) (v : Verdict) → IsVerdict value off r s n c v → verdict n c ≡ v
 
-module _ (B : Type 0) (value : B → ℕ → Bool) (off : ℕ → Bool) (r s : Seq B) (verdict : ℕ → ℕ → Verdict) (are : AreVerdicts value off r s verdict) where
+module _ (B : Type 0) (value : B → ℕ → Bool) (off : ℕ → Bool) (r s : Seq B) (verdict : ℕ → ℕ → Verdict)
+    (are : AreVerdicts value off r s verdict) where
   -- neither decided nor disabled so far
   pub record IsRunning (n c : ℕ) : Type 0 where
     pub undecided : IsUndecided value r s n c
@@ -25,7 +29,8 @@ module _ (B : Type 0) (value : B → ℕ → Bool) (off : ℕ → Bool) (r s : S
   stated-as n c v e = subst (IsVerdict value off r s n c) e (are.stated n c)
 
   open-runs : (n c : ℕ) (v : Verdict) → verdict n c ≡ v → is_open v ≡ true → IsRunning n c
-  open-runs n c outcome.Open e h = let is = stated-as n c outcome.Open e in record { undecided = is.0; never_off = is.1 }
+  open-runs n c outcome.Open e h =
+      let is = stated-as n c outcome.Open e in record { undecided = is.0; never_off = is.1 }
   open-runs n c (outcome.Holds t) e h = cc
   open-runs n c (outcome.Vacuous t) e h = cc
   open-runs n c (outcome.Fails t) e h = cc
@@ -52,7 +57,8 @@ module _ (B : Type 0) (value : B → ℕ → Bool) (off : ℕ → Bool) (r s : S
 
   module _ (n c : ℕ) (le : c ≤ n) where
     -- decided at this clock
-    pub decides : (d : Decision) → IsRunning n c → off n ≡ false → IsDecided value r s (n + 1) c d → verdict (n + 1) c ≡ decided_at d n
+    pub decides : (d : Decision) → IsRunning n c → off n ≡ false → IsDecided value r s (n + 1) c d
+        → verdict (n + 1) c ≡ decided_at d n
     decides d runs on is = go d (record {
       above = omega arith;
       within = omega arith;
@@ -73,7 +79,8 @@ module _ (B : Type 0) (value : B → ℕ → Bool) (off : ℕ → Bool) (r s : S
         go Failed first = are.only (n + 1) c (outcome.Fails n) (first, never)
 
     -- or not
-    pub goes_on : IsRunning n c → off n ≡ false → ((d : Decision) → IsDecided value r s (n + 1) c d → ⊥) → IsRunning (n + 1) c
+    pub goes_on : IsRunning n c → off n ≡ false → ((d : Decision) → IsDecided value r s (n + 1) c d → ⊥)
+        → IsRunning (n + 1) c
     goes_on runs on none = record {
       undecided = λ m d above within is. elim (cases_eq m (n + 1)) [
         | inl same ↦ none d (subst (λ k. IsDecided value r s k c d) same is)
@@ -102,22 +109,28 @@ module _ (B : Type 0) (value : B → ℕ → Bool) (off : ℕ → Bool) (r s : S
     -- what was open and isn't falls at this clock
     open-falls : (v : Verdict) → verdict (n + 1) c ≡ v → IsRunning n c → falls_at n v ≡ not (is_open v)
     open-falls outcome.Open e runs = refl
-    open-falls (outcome.Holds t) e runs = let is = stated-as (n + 1) c (outcome.Holds t) e in eq-eqb t n (first-now t Held runs is.0)
-    open-falls (outcome.Vacuous t) e runs = let is = stated-as (n + 1) c (outcome.Vacuous t) e in eq-eqb t n (first-now t Vacuously runs is.0)
-    open-falls (outcome.Fails t) e runs = let is = stated-as (n + 1) c (outcome.Fails t) e in eq-eqb t n (first-now t Failed runs is.0)
+    open-falls (outcome.Holds t) e runs =
+        let is = stated-as (n + 1) c (outcome.Holds t) e in eq-eqb t n (first-now t Held runs is.0)
+    open-falls (outcome.Vacuous t) e runs =
+        let is = stated-as (n + 1) c (outcome.Vacuous t) e in eq-eqb t n (first-now t Vacuously runs is.0)
+    open-falls (outcome.Fails t) e runs =
+        let is = stated-as (n + 1) c (outcome.Fails t) e in eq-eqb t n (first-now t Failed runs is.0)
     open-falls (outcome.Disabled t) e runs =
         elim (stated-as (n + 1) c (outcome.Disabled t) e) [
           | inl is ↦ eq-eqb t n (off-now t is.0 runs (is.2.within) is.3)
           | inr is ↦ eq-eqb t n (off-now t (n + 1) runs (omega arith) is.1)
         ]
 
-    first-runs : (t : ℕ) (d : Decision) → t ≡ n → IsFirstDecided value r s (n + 1) c (t + 1) d → IsNeverOff off c (t + 1) → IsRunning n c
+    first-runs : (t : ℕ) (d : Decision) → t ≡ n → IsFirstDecided value r s (n + 1) c (t + 1) d
+        → IsNeverOff off c (t + 1) → IsRunning n c
     first-runs t d e first never = record {
       undecided = λ m other above within is. first.least m other above (omega arith) is;
       never_off = λ k from below is. never k from (omega arith) is;
     }
 
-    off-runs : (t : ℕ) → t ≡ n → ((m : ℕ) × (d : Decision) × IsFirstDecided value r s (n + 1) c m d × IsFirstOff off c m t) ⊎ (IsUndecided value r s (n + 1) c × IsFirstOff off c (n + 1) t) → IsRunning n c
+    off-runs : (t : ℕ) → t ≡ n
+        → ((m : ℕ) × (d : Decision) × IsFirstDecided value r s (n + 1) c m d × IsFirstOff off c m t)
+        ⊎ (IsUndecided value r s (n + 1) c × IsFirstOff off c (n + 1) t) → IsRunning n c
     off-runs t e (inl is) = record {
       undecided = λ m other above within was. is.2.least m other above (omega (arith, is.3.below)) was;
       never_off = λ k from below was. is.3.least k from (omega arith) was;
@@ -130,9 +143,12 @@ module _ (B : Type 0) (value : B → ℕ → Bool) (off : ℕ → Bool) (r s : S
     -- what falls at this clock was open
     falls-runs : (v : Verdict) → verdict (n + 1) c ≡ v → falls_at n v ≡ true → IsRunning n c
     falls-runs outcome.Open e h = cc
-    falls-runs (outcome.Holds t) e h = let is = stated-as (n + 1) c (outcome.Holds t) e in first-runs t Held (eqb-true t n h) is.0 is.1
-    falls-runs (outcome.Vacuous t) e h = let is = stated-as (n + 1) c (outcome.Vacuous t) e in first-runs t Vacuously (eqb-true t n h) is.0 is.1
-    falls-runs (outcome.Fails t) e h = let is = stated-as (n + 1) c (outcome.Fails t) e in first-runs t Failed (eqb-true t n h) is.0 is.1
+    falls-runs (outcome.Holds t) e h =
+        let is = stated-as (n + 1) c (outcome.Holds t) e in first-runs t Held (eqb-true t n h) is.0 is.1
+    falls-runs (outcome.Vacuous t) e h =
+        let is = stated-as (n + 1) c (outcome.Vacuous t) e in first-runs t Vacuously (eqb-true t n h) is.0 is.1
+    falls-runs (outcome.Fails t) e h =
+        let is = stated-as (n + 1) c (outcome.Fails t) e in first-runs t Failed (eqb-true t n h) is.0 is.1
     falls-runs (outcome.Disabled t) e h = off-runs t (eqb-true t n h) (stated-as (n + 1) c (outcome.Disabled t) e)
 
     pub falls-was_open : falls_at n (verdict (n + 1) c) ≡ (is_open (verdict n c) && not (is_open (verdict (n + 1) c)))
@@ -141,7 +157,8 @@ module _ (B : Type 0) (value : B → ℕ → Bool) (off : ℕ → Bool) (r s : S
           | inl on ↦ rw on (open-falls (verdict (n + 1) c) refl (is_open-runs n c on))
           | inr closed ↦
               rw closed
-              (false_from_ne_true _ (λ h. both_ways _ closed (runs-is_open n c (falls-runs (verdict (n + 1) c) refl h))))
+              (false_from_ne_true _
+              (λ h. both_ways _ closed (runs-is_open n c (falls-runs (verdict (n + 1) c) refl h))))
         ]
 
     pub open-was_open : is_open (verdict (n + 1) c) ≡ (is_open (verdict n c) && is_open (verdict (n + 1) c))
@@ -150,16 +167,25 @@ module _ (B : Type 0) (value : B → ℕ → Bool) (off : ℕ → Bool) (r s : S
           | inl on ↦ rw on refl
           | inr closed ↦
               rw closed
-              (false_from_ne_true _ (λ h. both_ways _ closed (runs-is_open n c (runs-before n (n + 1) c (omega arith) (is_open-runs (n + 1) c h)))))
+              (false_from_ne_true _
+              (λ h. both_ways _ closed
+              (runs-is_open n c (runs-before n (n + 1) c (omega arith) (is_open-runs (n + 1) c h)))))
         ]
 
     -- where the clock is disabled
     disables : (v : Verdict) → verdict (n + 1) c ≡ v → IsRunning n c → IsTrue (off n) → v ≡ outcome.Disabled n
     disables outcome.Open e runs is = let h = stated-as (n + 1) c outcome.Open e in absurd (h.1 n le (omega arith) is)
-    disables (outcome.Holds t) e runs is = let h = stated-as (n + 1) c (outcome.Holds t) e in absurd (h.1 n le (omega (arith, first-now t Held runs h.0)) is)
-    disables (outcome.Vacuous t) e runs is = let h = stated-as (n + 1) c (outcome.Vacuous t) e in absurd (h.1 n le (omega (arith, first-now t Vacuously runs h.0)) is)
-    disables (outcome.Fails t) e runs is = let h = stated-as (n + 1) c (outcome.Fails t) e in absurd (h.1 n le (omega (arith, first-now t Failed runs h.0)) is)
-    disables (outcome.Disabled t) e runs is = ap outcome.Disabled (eqb-true t n (open-falls (outcome.Disabled t) e runs))
+    disables (outcome.Holds t) e runs is =
+        let h = stated-as (n + 1) c (outcome.Holds t) e in
+        absurd (h.1 n le (omega (arith, first-now t Held runs h.0)) is)
+    disables (outcome.Vacuous t) e runs is =
+        let h = stated-as (n + 1) c (outcome.Vacuous t) e in
+        absurd (h.1 n le (omega (arith, first-now t Vacuously runs h.0)) is)
+    disables (outcome.Fails t) e runs is =
+        let h = stated-as (n + 1) c (outcome.Fails t) e in
+        absurd (h.1 n le (omega (arith, first-now t Failed runs h.0)) is)
+    disables (outcome.Disabled t) e runs is =
+        ap outcome.Disabled (eqb-true t n (open-falls (outcome.Disabled t) e runs))
 
     pub off-Disabled : is_open (verdict n c) ≡ true → off n ≡ true → verdict (n + 1) c ≡ outcome.Disabled n
     off-Disabled on is = disables (verdict (n + 1) c) refl (is_open-runs n c on) is

@@ -8,7 +8,8 @@ use Rattle.parser.specs.declared.fault.ParseFault.TheVariants as faults
 use Rattle.parser.specs.Faults.{IsWordIn, IsPlaced}
 use Rattle.parser_expressions.specs.Bytes.{IsByteIn}
 
-pub contains-behind : (ts : List Token) (t : Token) (us : List Token) (x : Token) → ts ≡ t ∷ us → Contains us x → Contains ts x
+pub contains-behind : (ts : List Token) (t : Token) (us : List Token) (x : Token) → ts ≡ t ∷ us → Contains us x
+    → Contains ts x
 contains-behind ts t us x e h = rw e (suc h.0, omega (arith, h.1), h.2)
 
 contains-drop : (n : ℕ) (ts : List Token) (x : Token) → Contains (drop n ts) x → Contains ts x
@@ -24,12 +25,18 @@ byte-drop : (n : ℕ) (ts : List Token) (at : ℕ) → IsByteIn (drop n ts) at �
 byte-drop n ts at h = record { token = h.token; among = contains-drop n ts h.token h.among; stands = h.stands }
 
 -- a fault that stands in the last tokens
-pub placed-drop : (n : ℕ) (ts us : List Token) (fault : ParseFault) → us ≡ drop n ts → IsPlaced us fault → IsPlaced ts fault
+pub placed-drop : (n : ℕ) (ts us : List Token) (fault : ParseFault) → us ≡ drop n ts → IsPlaced us fault
+    → IsPlaced ts fault
 placed-drop n ts us faults.Memory e h = tt
 placed-drop n ts us (faults.Expected what at) e h = byte-drop n ts at (subst (λ (vs : List Token). IsByteIn vs at) e h)
 placed-drop n ts us (faults.OutsideProfile word at) e h =
     let in_last : IsWordIn (drop n ts) word.now at = subst (λ (vs : List Token). IsWordIn vs word.now at) e h in
-    record { token = in_last.token; among = contains-drop n ts in_last.token in_last.among; stands = in_last.stands; text = in_last.text }
+    record {
+      token = in_last.token;
+      among = contains-drop n ts in_last.token in_last.among;
+      stands = in_last.stands;
+      text = in_last.text;
+    }
 placed-drop n ts us (faults.TooDeep at) e h = byte-drop n ts at (subst (λ (vs : List Token). IsByteIn vs at) e h)
 placed-drop n ts us (faults.BadBound at) e h = byte-drop n ts at (subst (λ (vs : List Token). IsByteIn vs at) e h)
 

@@ -1,5 +1,6 @@
 -- What is read up to the end is a file; and a file is read so.
-use Rattle.std.proofs.Common.{◌≡◌, Bool, true, false, ◌||◌, List, [], ◌∷◌, ◌++◌, Option, Some, None, refl, sym, ap, ap₂, ◌∙◌, subst, map}
+use Rattle.std.proofs.Common.{◌≡◌, Bool, true, false, ◌||◌, List, [], ◌∷◌, ◌++◌, Option, Some, None, refl, sym, ap, ap₂}
+use Rattle.std.proofs.Common.{◌∙◌, subst, map}
 use Rattle.std.specs.Prelude.{Result, Ok, Err, IfErr, IsErrAnd}
 use Rattle.lexer.specs.declared.token.Token.{Token}
 use Rattle.grammar.specs.declared.terminal.Terminal.TheVariants.{End}
@@ -21,20 +22,24 @@ use Rattle.parser.specs.Faults.{NamesStop, Refuses, IsParseFault}
 use Rattle.parser_expressions.specs.Views.{Fails}
 
 -- a stop that is no want of memory, and the fault that names it
-pub refuses : {A : Type 0} (stop : Stop) (fault : ParseFault) (o : Option A) → Fails stop o → NamesStop stop fault → Refuses fault o
+pub refuses : {A : Type 0} (stop : Stop) (fault : ParseFault) (o : Option A) → Fails stop o → NamesStop stop fault
+    → Refuses fault o
 refuses stops.Memory fault o f n some = absurd (some n)
 refuses (stops.Expected what at) fault o f n some = f
 refuses (stops.TooDeep at) fault o f n some = f
 refuses (stops.BadBound at) fault o f n some = f
 
 -- the reader of the items at a token and those behind it
-pub at-item-fails : (ts : List Token) (t : Token) (us : List Token) (x : Stop) → ts ≡ t ∷ us → Fails x (item ts) → Fails x (item (t ∷ us))
+pub at-item-fails : (ts : List Token) (t : Token) (us : List Token) (x : Stop) → ts ≡ t ∷ us → Fails x (item ts)
+    → Fails x (item (t ∷ us))
 at-item-fails ts t us x e f = subst (λ (vs : List Token). Fails x (item vs)) e f
 
-pub at-item : (ts : List Token) (t : Token) (us : List Token) (o : Option (ItemForm × List Token)) → ts ≡ t ∷ us → item ts ≡ o → item (t ∷ us) ≡ o
+pub at-item : (ts : List Token) (t : Token) (us : List Token) (o : Option (ItemForm × List Token)) → ts ≡ t ∷ us
+    → item ts ≡ o → item (t ∷ us) ≡ o
 at-item ts t us o e h = ap item (sym e) ∙ h
 
-pub items-are : (ts : List Token) (o : Option (List ItemForm × List Token)) → each is_more (λ t us. item (t ∷ us)) ts ≡ o → items ts ≡ o
+pub items-are : (ts : List Token) (o : Option (List ItemForm × List Token)) → each is_more (λ t us. item (t ∷ us)) ts
+    ≡ o → items ts ≡ o
 unfolding items
 items-are ts o h = h
 
@@ -91,7 +96,10 @@ module _ (tokens : List Token) (xs : List ItemForm) (us : List Token) (h : items
         some-more cc
 
     pub found : true ≡ is End t → vs ≡ [] → true ≡ asserts xs → IsFile xs tokens
-    found ends none asserted = file-found xs tokens t (h ∙ ap (λ (ws : List Token). Some (xs, ws)) (e ∙ ap (λ (ws : List Token). t ∷ ws) none)) (is-true End t (sym ends)) (sym asserted)
+    found ends none asserted =
+        file-found xs tokens t
+        (h ∙ ap (λ (ws : List Token). Some (xs, ws)) (e ∙ ap (λ (ws : List Token). t ∷ ws) none))
+        (is-true End t (sym ends)) (sym asserted)
 
   pub no-assertion : (fault : ParseFault) → false ≡ asserts xs → IsParseFault tokens fault
   no-assertion fault lacks some ys is_file =
@@ -109,4 +117,5 @@ err_is (Ok x) e Why h why = tt
 err_is (Err f) e Why h why = subst Why (sym h) why
 
 pub nothing-read : (tokens : List Token) (fault : ParseFault) → Refuses fault (items tokens) → IsParseFault tokens fault
-nothing-read tokens fault refused some ys is_file = let f = file-read ys tokens is_file in clash (items tokens) (ys, f.last ∷ []) (refused some) f.read
+nothing-read tokens fault refused some ys is_file =
+    let f = file-read ys tokens is_file in clash (items tokens) (ys, f.last ∷ []) (refused some) f.read

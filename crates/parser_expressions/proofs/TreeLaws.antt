@@ -14,7 +14,8 @@ pub links-none : (e : Tree) (xs : List (Infix × ExprTree)) → length xs ≡ 0 
 links-none e [] h = refl
 links-none e (x ∷ xs) h = absurd (omega arith)
 
-pub links-some : (e : Tree) (xs : List (Infix × ExprTree)) → (length xs ≡ 0 → ⊥) → trees.chain e (links_of (map link_of xs)) ≡ chain_of e (map link_of xs)
+pub links-some : (e : Tree) (xs : List (Infix × ExprTree)) → (length xs ≡ 0 → ⊥)
+    → trees.chain e (links_of (map link_of xs)) ≡ chain_of e (map link_of xs)
 links-some e [] h = absurd (h refl)
 links-some e (x ∷ xs) h = refl
 

@@ -44,7 +44,8 @@ rows-copied f draft now made next pushed is so_far =
     pushed
     ∙ ap (λ d. with_rows d made) so_far
     ∙ ap (λ xs. with_rows (record { rows = flat_map f (numbers 0 next); begun = [] }) xs) is
-    ∙ ap (λ xs. record { rows = xs; begun = [] }) (sym (copies-last f 0 next (next + 1) next (omega arith) (omega arith)))
+    ∙ ap (λ xs. record { rows = xs; begun = [] })
+    (sym (copies-last f 0 next (next + 1) next (omega arith) (omega arith)))
 
 -- the copies up to one are no more than all
 pub copies-within : {A : Type 0} (g : A → ℕ) (f : ℕ → List A) (first n k : ℕ) → k < n →

@@ -1,5 +1,6 @@
 -- The section of a table follows its sequence.
-use Rattle.std.proofs.Common.{◌≡◌, ◌∙◌, inl, inr, ℕ, zero, suc, ◌+◌, Bool, true, false, List, [], ◌∷◌, Option, Some, None, refl, sym, ap, subst, arith}
+use Rattle.std.proofs.Common.{◌≡◌, ◌∙◌, inl, inr, ℕ, zero, suc, ◌+◌, Bool, true, false, List, [], ◌∷◌, Option, Some}
+use Rattle.std.proofs.Common.{None, refl, sym, ap, subst, arith}
 use Rattle.std.specs.Prelude.{IsTrue, slice_index_or}
 use Rattle.std.specs.Int.{bit_at}
 use Rattle.std.proofs.lemmas.Bool.{cases_lt, and_parts, and_from}
@@ -15,7 +16,8 @@ use Rattle.monitors.specs.Effects.{visit_of, automaton_of}
 use Rattle.positions.proofs.Local.{seen-sat, sat-seen}
 use Rattle.positions.specs.Sections.{section_of, coded, numbered, with_atom, atoms_of, told}
 use Rattle.positions.specs.States.{State, Left}
-use Rattle.positions.proofs.Effects.{bits-Has, Has-bits, all_now, made_by, blocks-effects, EnterNow, AcceptNow, by-bit, bit-by, by-accepts, accepts-by}
+use Rattle.positions.proofs.Effects.{bits-Has, Has-bits, all_now, made_by, blocks-effects, EnterNow, AcceptNow, by-bit}
+use Rattle.positions.proofs.Effects.{bit-by, by-accepts, accepts-by}
 use Rattle.positions.proofs.Lists.{SomeOf-each, SomeOf-map, map-SomeOf}
 use Rattle.positions.proofs.Standing.{Stands, Stands-below, Stands-local, Stands-At, At-Stands}
 
@@ -45,11 +47,13 @@ module _ (B : Type 0) (t : Table B) (rising : IsRising t) (atom : B → Option �
   unfolding visit_of
   step-made i set = blocks-effects (rows i) set prow 0 0 t.size nothing
 
-  now-more : (i : ℕ) (o : Option ℕ) (ns : List ℕ) → all_now (rows i) (with_atom o ns) ≡ true → (told o (rows i) ≡ true) × (all_now (rows i) ns ≡ true)
+  now-more : (i : ℕ) (o : Option ℕ) (ns : List ℕ) → all_now (rows i) (with_atom o ns) ≡ true → (told o (rows i) ≡ true)
+      × (all_now (rows i) ns ≡ true)
   now-more i None ns h = (refl, h)
   now-more i (Some n) ns h = let p = and_parts (slice_index_or (rows i) n true) (all_now (rows i) ns) h in (p.0, p.1)
 
-  more-now : (i : ℕ) (o : Option ℕ) (ns : List ℕ) → told o (rows i) ≡ true → all_now (rows i) ns ≡ true → all_now (rows i) (with_atom o ns) ≡ true
+  more-now : (i : ℕ) (o : Option ℕ) (ns : List ℕ) → told o (rows i) ≡ true → all_now (rows i) ns ≡ true
+      → all_now (rows i) (with_atom o ns) ≡ true
   more-now i None ns h k = k
   more-now i (Some n) ns h k = and_from (slice_index_or (rows i) n true) (all_now (rows i) ns) h k
 
@@ -63,23 +67,27 @@ module _ (B : Type 0) (t : Table B) (rising : IsRising t) (atom : B → Option �
 
   Enter-prow : (i p q : ℕ) → EnterNow (rows i) (prow p) q → Enters value t p i q
   Enter-prow i p q h =
-      SomeOf-each (λ e. (all_now (rows i) (atoms_of atom e.wanted) ≡ true) × Has e.enters q) (λ e. Fires value i e × Has e.enters q) (t.row p) (λ e x. (fires-now i e.wanted x.0, x.1))
+      SomeOf-each (λ e. (all_now (rows i) (atoms_of atom e.wanted) ≡ true) × Has e.enters q)
+      (λ e. Fires value i e × Has e.enters q) (t.row p) (λ e x. (fires-now i e.wanted x.0, x.1))
       (SomeOf-map (λ (e : Edge ℕ). (all_now (rows i) e.wanted ≡ true) × Has e.enters q) (numbered atom) (t.row p) h)
 
   prow-Enter : (i p q : ℕ) → Enters value t p i q → EnterNow (rows i) (prow p) q
   prow-Enter i p q h =
       map-SomeOf (λ (e : Edge ℕ). (all_now (rows i) e.wanted ≡ true) × Has e.enters q) (numbered atom) (t.row p)
-      (SomeOf-each (λ e. Fires value i e × Has e.enters q) (λ e. (all_now (rows i) (atoms_of atom e.wanted) ≡ true) × Has e.enters q) (t.row p) (λ e x. (now-fires i e.wanted x.0, x.1)) h)
+      (SomeOf-each (λ e. Fires value i e × Has e.enters q) (λ e. (all_now (rows i) (atoms_of atom e.wanted) ≡ true)
+      × Has e.enters q) (t.row p) (λ e x. (now-fires i e.wanted x.0, x.1)) h)
 
   Accept-prow : (i p : ℕ) → AcceptNow (rows i) (prow p) → Accepts value t p i
   Accept-prow i p h =
-      SomeOf-each (λ e. (all_now (rows i) (atoms_of atom e.wanted) ≡ true) × (e.accepts ≡ true)) (λ e. Fires value i e × (e.accepts ≡ true)) (t.row p) (λ e x. (fires-now i e.wanted x.0, x.1))
+      SomeOf-each (λ e. (all_now (rows i) (atoms_of atom e.wanted) ≡ true) × (e.accepts ≡ true))
+      (λ e. Fires value i e × (e.accepts ≡ true)) (t.row p) (λ e x. (fires-now i e.wanted x.0, x.1))
       (SomeOf-map (λ (e : Edge ℕ). (all_now (rows i) e.wanted ≡ true) × (e.accepts ≡ true)) (numbered atom) (t.row p) h)
 
   prow-Accept : (i p : ℕ) → Accepts value t p i → AcceptNow (rows i) (prow p)
   prow-Accept i p h =
       map-SomeOf (λ (e : Edge ℕ). (all_now (rows i) e.wanted ≡ true) × (e.accepts ≡ true)) (numbered atom) (t.row p)
-      (SomeOf-each (λ e. Fires value i e × (e.accepts ≡ true)) (λ e. (all_now (rows i) (atoms_of atom e.wanted) ≡ true) × (e.accepts ≡ true)) (t.row p) (λ e x. (now-fires i e.wanted x.0, x.1)) h)
+      (SomeOf-each (λ e. Fires value i e × (e.accepts ≡ true)) (λ e. (all_now (rows i) (atoms_of atom e.wanted) ≡ true)
+      × (e.accepts ≡ true)) (t.row p) (λ e x. (now-fires i e.wanted x.0, x.1)) h)
 
   -- its places are where the table stands
   places-Stands : (c k q : ℕ) → bit_at (places a c k) q ≡ 1 → Stands B t rising value c k q
@@ -97,9 +105,11 @@ module _ (B : Type 0) (t : Table B) (rising : IsRising t) (atom : B → Option �
       let below = Stands-below B t rising value c k h.0 h.1 in
       let before = Stands-places c k h.0 h.1 in
       ap (λ (v : Visit). bit_at v.entered q) (step-made (c + k) (places a c k))
-      ∙ bit-by (rows (c + k)) (places a c k) prow 0 t.size nothing q (inr (h.0, omega arith, omega (arith, below), before, prow-Enter (c + k) h.0 q h.2))
+      ∙ bit-by (rows (c + k)) (places a c k) prow 0 t.size nothing q
+      (inr (h.0, omega arith, omega (arith, below), before, prow-Enter (c + k) h.0 q h.2))
 
-  accepts-Stands : (c k : ℕ) → IsTrue (accepts a c k) → (p : ℕ) × Stands B t rising value c k p × Accepts value t p (c + k)
+  accepts-Stands : (c k : ℕ) → IsTrue (accepts a c k) → (p : ℕ) × Stands B t rising value c k p
+      × Accepts value t p (c + k)
   accepts-Stands c k h =
       let on = ap (λ (v : Visit). v.accepted) (sym (step-made (c + k) (places a c k))) ∙ h in
       elim (by-accepts (rows (c + k)) (places a c k) prow 0 t.size nothing on) [
@@ -111,26 +121,32 @@ module _ (B : Type 0) (t : Table B) (rising : IsRising t) (atom : B → Option �
   Stands-accepts c k p h on =
       let below = Stands-below B t rising value c k p h in
       ap (λ (v : Visit). v.accepted) (step-made (c + k) (places a c k))
-      ∙ accepts-by (rows (c + k)) (places a c k) prow 0 t.size nothing (inr (p, omega arith, omega (arith, below), Stands-places c k p h, prow-Accept (c + k) p on))
+      ∙ accepts-by (rows (c + k)) (places a c k) prow 0 t.size nothing
+      (inr (p, omega arith, omega (arith, below), Stands-places c k p h, prow-Accept (c + k) p on))
 
   module _ (r : Plan B) (spells : Spells r t) where
     ends-forth : (c k : ℕ) → IsTrue (accepts a c k) → Matches value (shape r) c (c + k + 1)
     ends-forth c k h =
         let x = accepts-Stands c k h in
         let y = Stands-At B t rising r spells value c k x.0 x.1 in
-        ends-Match B value r c k y.0 y.2 ((spells.accepts value y.0 (c + k)).0 (subst (λ p. Accepts value t p (c + k)) (sym y.1) x.2))
+        ends-Match B value r c k y.0 y.2
+        ((spells.accepts value y.0 (c + k)).0 (subst (λ p. Accepts value t p (c + k)) (sym y.1) x.2))
 
     ends-back : (c k : ℕ) → Matches value (shape r) c (c + k + 1) → IsTrue (accepts a c k)
     ends-back c k h =
         let x = Match-ends B value r c k h in
-        Stands-accepts c k (spells.number x.0) (At-Stands B t rising r spells value c k x.0 x.1) ((spells.accepts value x.0 (c + k)).1 x.2)
+        Stands-accepts c k (spells.number x.0) (At-Stands B t rising r spells value c k x.0 x.1)
+        ((spells.accepts value x.0 (c + k)).1 x.2)
 
     over-forth : (c k : ℕ) → places a c k ≡ 0 → IsOver value (shape r) (c + k) c
     over-forth c k none j past h =
         let holds : B → ℕ → Bool = sat value (c + k) in
         let x = Match-At B holds r c k j past h in
         let stands = At-Stands B t rising r spells holds c k x.0 x.1 in
-        let bit = Stands-places c k (spells.number x.0) (Stands-local B t rising holds value c k (spells.number x.0) (λ b i from low. sat-seen B value (c + k) b i low) stands) in
+        let bit =
+        Stands-places c k (spells.number x.0)
+        (Stands-local B t rising holds value c k (spells.number x.0)
+        (λ b i from low. sat-seen B value (c + k) b i low) stands) in
         let zeros = ap (λ n. bit_at n (spells.number x.0)) none in
         omega (arith, bit, zeros, bit_at-zero (spells.number x.0))
 
@@ -139,7 +155,9 @@ module _ (B : Type 0) (t : Table B) (rising : IsRising t) (atom : B → Option �
       over-back : (c k : ℕ) → IsOver value (shape r) (c + k) c → places a c k ≡ 0
       over-back c k over = set-none (places a c k) (λ q bit.
           let holds : B → ℕ → Bool = sat value (c + k) in
-          let stands = Stands-local B t rising value holds c k q (λ b i from low. seen-sat B value (c + k) b i) (places-Stands c k q bit) in
+          let stands =
+          Stands-local B t rising value holds c k q (λ b i from low. seen-sat B value (c + k) b i)
+          (places-Stands c k q bit) in
           let y = Stands-At B t rising r spells holds c k q stands in
           let rest = alive (c + k) y.0 in
           over rest.0 (Left-after B holds r y.0 (c + k) rest.0 rest.1) (At-Match B holds r c k rest.0 y.0 y.2 rest.1))

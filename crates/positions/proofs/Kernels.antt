@@ -15,7 +15,9 @@ use Rattle.positions.proofs.Ticks.{link-Linked, Linked-link}
 use Rattle.positions.proofs.Local.{Matches-local}
 
 -- Where every boolean is true, a match may begin so many ticks earlier.
-Chain-back : (P Q : ℕ → ℕ → Type 0) (c : ℕ) → ((i j : ℕ) → P i j → i ≤ j) → ((i j : ℕ) → c ≤ i → P i j → Q (i - c) (j - c)) → (n i j : ℕ) → c ≤ i → Chain P n i j → Chain Q n (i - c) (j - c)
+Chain-back : (P Q : ℕ → ℕ → Type 0) (c : ℕ) → ((i j : ℕ) → P i j → i ≤ j)
+    → ((i j : ℕ) → c ≤ i → P i j → Q (i - c) (j - c)) → (n i j : ℕ) → c ≤ i → Chain P n i j
+    → Chain Q n (i - c) (j - c)
 Chain-back P Q c forward each zero i j le h = ap (λ n. n - c) h
 Chain-back P Q c forward each (suc n) i j le h = (
   h.0 - c,
@@ -40,7 +42,8 @@ module _ (B : Type 0) where
         subst (λ m. Matches always r (i - c) m) e (Matches-back r c i (h.0 + 1) le h.3),
         Matches-back s c h.0 j (omega (arith, h.1)) h.4,
       )
-  Matches-back (either r s) c i j le h = elim h [ inl a ↦ inl (Matches-back r c i j le a) | inr a ↦ inr (Matches-back s c i j le a) ]
+  Matches-back (either r s) c i j le h =
+      elim h [ inl a ↦ inl (Matches-back r c i j le a) | inr a ↦ inr (Matches-back s c i j le a) ]
   Matches-back (both r s) c i j le h = (
     h.0 - c,
     h.1 - c,
@@ -62,24 +65,31 @@ Chain-map P Q each (suc n) i j h = (h.0, Chain-map P Q each n i h.0 h.1, each h.
 
 module _ (B : Type 0) (holds : B → ℕ → Bool) (true_one : B) where
   -- what matches a tick or more is told by its form
-  pub moves-takes : (w : Written B) → IsOrdered w → (i j : ℕ) → i < j → Matches holds (kernel true_one w) i j → IsTrue (takes_ticks w)
+  pub moves-takes : (w : Written B) → IsOrdered w → (i j : ℕ) → i < j → Matches holds (kernel true_one w) i j
+      → IsTrue (takes_ticks w)
   moves-takes w ordered i j lt h = elim (cases_Bool (takes_ticks w)) [
     | inl takes ↦ takes
     | inr still ↦
         let seen = Matches-local B holds always (kernel true_one w) i j (λ b k from below x. refl) h in
         let e : i - i ≡ 0 = omega arith in
-        let begun = subst (λ m. Matches always (kernel true_one w) m (j - i)) e (Matches-back B (kernel true_one w) i i j (omega arith) seen) in
+        let begun =
+        subst (λ m. Matches always (kernel true_one w) m (j - i)) e
+        (Matches-back B (kernel true_one w) i i j (omega arith) seen) in
         absurd (none-degenerate B true_one w ordered still (j - i) (omega arith) begun)
   ]
 
   -- a range is one of its numbers
-  one_of-some : (form : ℕ → Seq B) (first more i j : ℕ) → Matches holds (one_of first more form) i j → (d : ℕ) × (first ≤ d) × (d ≤ first + more) × Matches holds (form d) i j
+  one_of-some : (form : ℕ → Seq B) (first more i j : ℕ) → Matches holds (one_of first more form) i j → (d : ℕ)
+      × (first ≤ d) × (d ≤ first + more) × Matches holds (form d) i j
   one_of-some form first zero i j h = (first, omega arith, omega arith, h)
   one_of-some form first (suc more) i j (inl h) = (first, omega arith, omega arith, h)
-  one_of-some form first (suc more) i j (inr h) = let x = one_of-some form (first + 1) more i j h in (x.0, omega (arith, x.1), omega (arith, x.2), x.3)
+  one_of-some form first (suc more) i j (inr h) =
+      let x = one_of-some form (first + 1) more i j h in (x.0, omega (arith, x.1), omega (arith, x.2), x.3)
 
-  some-one_of : (form : ℕ → Seq B) (first more i j d : ℕ) → first ≤ d → d ≤ first + more → Matches holds (form d) i j → Matches holds (one_of first more form) i j
-  some-one_of form first zero i j d low high h = let same : d ≡ first = omega arith in subst (λ n. Matches holds (form n) i j) same h
+  some-one_of : (form : ℕ → Seq B) (first more i j d : ℕ) → first ≤ d → d ≤ first + more → Matches holds (form d) i j
+      → Matches holds (one_of first more form) i j
+  some-one_of form first zero i j d low high h =
+      let same : d ≡ first = omega arith in subst (λ n. Matches holds (form n) i j) same h
   some-one_of form first (suc more) i j d low high h = elim (cases_eq d first) [
     | inl same ↦ inl (subst (λ n. Matches holds (form n) i j) same h)
     | inr other ↦ inr (some-one_of form (first + 1) more i j d (omega arith) (omega arith) h)
@@ -105,14 +115,16 @@ module _ (B : Type 0) (holds : B → ℕ → Bool) (true_one : B) where
       let e : suc n ≡ n + 1 = omega arith in
       (h.1, (h.0, h.2, (n + 1, omega arith, omega arith, subst (λ c. Ticks c h.0 h.1) e h.3)), h.4)
 
-  later-Ticks : (s : Seq B) (n i j : ℕ) → Matches holds (later true_one s n) i j → (k : ℕ) × Ticks n i k × Matches holds s k j
+  later-Ticks : (s : Seq B) (n i j : ℕ) → Matches holds (later true_one s n) i j → (k : ℕ) × Ticks n i k
+      × Matches holds s k j
   later-Ticks s zero i j h = (i, refl, h)
   later-Ticks s (suc n) i j h =
       let x = h.1 in
       let e : x.0 ≡ suc n = omega (arith, x.1, x.2) in
       (h.0, subst (λ c. Ticks c i h.0) e x.3, h.2)
 
-  Ticks-later : (s : Seq B) (n i j : ℕ) → (k : ℕ) × Ticks n i k × Matches holds s k j → Matches holds (later true_one s n) i j
+  Ticks-later : (s : Seq B) (n i j : ℕ) → (k : ℕ) × Ticks n i k × Matches holds s k j
+      → Matches holds (later true_one s n) i j
   Ticks-later s zero i j h = subst (λ k. Matches holds s k j) (sym h.1) h.2
   Ticks-later s (suc n) i j h = (h.0, (suc n, omega arith, omega arith, h.1), h.2)
 
@@ -120,47 +132,67 @@ module _ (B : Type 0) (holds : B → ℕ → Bool) (true_one : B) where
   Same r s = (i j : ℕ) → Matches holds r i j ↔ Matches holds s i j
 
   -- with parts that are the same
-  Spaced-forth : (r s : Seq B) (p q : Plan B) → Same r (shape p) → Same s (shape q) → (n i j : ℕ) → Spaced r s n i j → Spaced (shape p) (shape q) n i j
+  Spaced-forth : (r s : Seq B) (p q : Plan B) → Same r (shape p) → Same s (shape q) → (n i j : ℕ) → Spaced r s n i j
+      → Spaced (shape p) (shape q) n i j
   Spaced-forth r s p q er es n i j h = (h.0, h.1, (er i h.0).0 h.2, h.3, (es h.1 j).0 h.4)
 
-  Spaced-back : (r s : Seq B) (p q : Plan B) → Same r (shape p) → Same s (shape q) → (n i j : ℕ) → Spaced (shape p) (shape q) n i j → Spaced r s n i j
+  Spaced-back : (r s : Seq B) (p q : Plan B) → Same r (shape p) → Same s (shape q) → (n i j : ℕ)
+      → Spaced (shape p) (shape q) n i j → Spaced r s n i j
   Spaced-back r s p q er es n i j h = (h.0, h.1, (er i h.0).1 h.2, h.3, (es h.1 j).1 h.4)
 
   -- r and s share a tick in a match only where they may
   abbrev pub Shares : Bool → Seq B → Seq B → Type 0
   Shares shares r s = (i e j : ℕ) → i ≤ e → e < j → Matches holds r i (e + 1) → Matches holds s e j → IsTrue shares
 
-  apart-forth : (shares : Bool) (r s : Seq B) (p q : Plan B) → Shares shares r s → Same r (shape p) → Same s (shape q) → (least most : ℕ) → least ≤ most → (i j d : ℕ) → least ≤ d → d ≤ most → Matches holds (after true_one r s d) i j → Matches holds (shape (apart shares true_one p q least most)) i j
+  apart-forth : (shares : Bool) (r s : Seq B) (p q : Plan B) → Shares shares r s → Same r (shape p) → Same s (shape q)
+      → (least most : ℕ) → least ≤ most → (i j d : ℕ) → least ≤ d → d ≤ most
+      → Matches holds (after true_one r s d) i j → Matches holds (shape (apart shares true_one p q least most)) i j
   apart-forth shares r s p q may er es zero zero le i j zero low high h =
-      Linked-link B holds shares false p skip q i j (inl (may i h.0 j h.1 h.2 h.3 h.4, h.0, h.1, h.2, (er i (h.0 + 1)).0 h.3, (es h.0 j).0 h.4))
+      Linked-link B holds shares false p skip q i j
+      (inl (may i h.0 j h.1 h.2 h.3 h.4, h.0, h.1, h.2, (er i (h.0 + 1)).0 h.3, (es h.0 j).0 h.4))
   apart-forth shares r s p q may er es zero zero le i j (suc d) low high h = absurd (omega arith)
   apart-forth shares r s p q may er es zero (suc most) le i j zero low high h =
-      Linked-link B holds shares true p (loop (tick true_one) 0 most) q i j (inl (may i h.0 j h.1 h.2 h.3 h.4, h.0, h.1, h.2, (er i (h.0 + 1)).0 h.3, (es h.0 j).0 h.4))
+      Linked-link B holds shares true p (loop (tick true_one) 0 most) q i j
+      (inl (may i h.0 j h.1 h.2 h.3 h.4, h.0, h.1, h.2, (er i (h.0 + 1)).0 h.3, (es h.0 j).0 h.4))
   apart-forth shares r s p q may er es zero (suc most) le i j (suc d) low high h =
       let x = Spaced-forth r s p q er es d i j (after-Spaced r s d i j h) in
-      Linked-link B holds shares true p (loop (tick true_one) 0 most) q i j (inr (refl, x.0, x.1, x.2, (d, omega arith, omega arith, x.3), x.4))
+      Linked-link B holds shares true p (loop (tick true_one) 0 most) q i j
+      (inr (refl, x.0, x.1, x.2, (d, omega arith, omega arith, x.3), x.4))
   apart-forth shares r s p q may er es (suc least) most le i j zero low high h = absurd (omega arith)
   apart-forth shares r s p q may er es (suc least) most le i j (suc d) low high h =
       let x = Spaced-forth r s p q er es d i j (after-Spaced r s d i j h) in
       (x.1, (x.0, x.2, (d, omega arith, omega arith, x.3)), x.4)
 
-  apart-back : (shares : Bool) (r s : Seq B) (p q : Plan B) → Same r (shape p) → Same s (shape q) → (least most : ℕ) → least ≤ most → (i j : ℕ) → Matches holds (shape (apart shares true_one p q least most)) i j → (d : ℕ) × (least ≤ d) × (d ≤ most) × Matches holds (after true_one r s d) i j
+  apart-back : (shares : Bool) (r s : Seq B) (p q : Plan B) → Same r (shape p) → Same s (shape q) → (least most : ℕ)
+      → least ≤ most → (i j : ℕ) → Matches holds (shape (apart shares true_one p q least most)) i j → (d : ℕ)
+      × (least ≤ d) × (d ≤ most) × Matches holds (after true_one r s d) i j
   apart-back shares r s p q er es zero zero le i j h = elim (link-Linked B holds shares false p skip q i j h) [
     | inl x ↦ (0, omega arith, omega arith, (x.1, x.2, x.3, (er i (x.1 + 1)).1 x.4, (es x.1 j).1 x.5))
     | inr x ↦ (let no : false ≡ true = x.0 in cc)
   ]
-  apart-back shares r s p q er es zero (suc most) le i j h = elim (link-Linked B holds shares true p (loop (tick true_one) 0 most) q i j h) [
-    | inl x ↦ (0, omega arith, omega arith, (x.1, x.2, x.3, (er i (x.1 + 1)).1 x.4, (es x.1 j).1 x.5))
-    | inr x ↦
-        let c : ℕ = x.4.0 in
-        (suc c, omega arith, omega (arith, x.4.2), Spaced-after r s c i j (Spaced-back r s p q er es c i j (x.1, x.2, x.3, x.4.3, x.5)))
-  ]
+  apart-back shares r s p q er es zero (suc most) le i j h =
+      elim (link-Linked B holds shares true p (loop (tick true_one) 0 most) q i j h) [
+        | inl x ↦ (0, omega arith, omega arith, (x.1, x.2, x.3, (er i (x.1 + 1)).1 x.4, (es x.1 j).1 x.5))
+        | inr x ↦
+            let c : ℕ = x.4.0 in (
+              suc c,
+              omega arith,
+              omega (arith, x.4.2),
+              Spaced-after r s c i j (Spaced-back r s p q er es c i j (x.1, x.2, x.3, x.4.3, x.5)),
+            )
+      ]
   apart-back shares r s p q er es (suc least) most le i j h =
-      let c : ℕ = h.1.2.0 in
-      (suc c, omega (arith, h.1.2.1), omega (arith, h.1.2.2), Spaced-after r s c i j (Spaced-back r s p q er es c i j (h.1.0, h.0, h.1.1, h.1.2.3, h.2)))
+      let c : ℕ = h.1.2.0 in (
+        suc c,
+        omega (arith, h.1.2.1),
+        omega (arith, h.1.2.2),
+        Spaced-after r s c i j (Spaced-back r s p q er es c i j (h.1.0, h.0, h.1.1, h.1.2.3, h.2)),
+      )
 
   -- what is left of a plan where no match takes a tick
-  moving-Same : (r : Seq B) (p : Plan B) (takes empty : Bool) → ((i j : ℕ) → i < j → Matches holds r i j → IsTrue takes) → ((i : ℕ) → Matches holds r i i → IsTrue empty) → ((i : ℕ) → IsTrue empty → Matches holds r i i) → Same r (shape p) → Same r (shape (moving takes empty p))
+  moving-Same : (r : Seq B) (p : Plan B) (takes empty : Bool) → ((i j : ℕ) → i < j → Matches holds r i j → IsTrue takes)
+      → ((i : ℕ) → Matches holds r i i → IsTrue empty) → ((i : ℕ) → IsTrue empty → Matches holds r i i)
+      → Same r (shape p) → Same r (shape (moving takes empty p))
   moving-Same r p true empty takes nulls lone same i j = same i j
   moving-Same r p false true takes nulls lone same i j = (
     λ h. elim (cases_lt i j) [
@@ -179,32 +211,44 @@ module _ (B : Type 0) (holds : B → ℕ → Bool) (true_one : B) where
     λ h. absurd (omega (arith, h.2, h.3, h.4)),
   )
 
-  moving-kernel : (w : Written B) (p : Plan B) → IsOrdered w → Same (kernel true_one w) (shape p) → Same (kernel true_one w) (shape (moving (takes_ticks w) (admits_empty w) p))
+  moving-kernel : (w : Written B) (p : Plan B) → IsOrdered w → Same (kernel true_one w) (shape p)
+      → Same (kernel true_one w) (shape (moving (takes_ticks w) (admits_empty w) p))
   moving-kernel w p ordered =
       moving-Same (kernel true_one w) p (takes_ticks w) (admits_empty w)
       (moves-takes w ordered)
       (λ i h. Matches-empty B holds true_one w i ordered h)
       (λ i h. empty-Matches B holds true_one w i ordered h)
 
-  shares-told : (r s : Written B) → IsOrdered r → IsOrdered s → Shares (takes_ticks r && takes_ticks s) (kernel true_one r) (kernel true_one s)
+  shares-told : (r s : Written B) → IsOrdered r → IsOrdered s
+      → Shares (takes_ticks r && takes_ticks s) (kernel true_one r) (kernel true_one s)
   shares-told r s r_in s_in i e j from past front rest =
-      and_from (takes_ticks r) (takes_ticks s) (moves-takes r r_in i (e + 1) (omega arith) front) (moves-takes s s_in e j past rest)
+      and_from (takes_ticks r) (takes_ticks s) (moves-takes r r_in i (e + 1) (omega arith) front)
+      (moves-takes s s_in e j past rest)
 
   -- a plan matches what its kernel does
   pub plan-kernel : (w : Written B) → IsOrdered w → Same (kernel true_one w) (shape (plan true_one w))
   plan-kernel (boolean b) ordered = λ i j. (λ h. h, λ h. h)
-  plan-kernel (delay r least most s) ordered = moving-kernel (delay r least most s) (apart (takes_ticks r && takes_ticks s) true_one (plan true_one r) (plan true_one s) least most) ordered (λ i j.
+  plan-kernel (delay r least most s) ordered =
+      moving-kernel (delay r least most s)
+      (apart (takes_ticks r && takes_ticks s) true_one (plan true_one r) (plan true_one s) least most) ordered (λ i j.
       let er = plan-kernel r ordered.1 in
       let es = plan-kernel s ordered.2 in
       let sum : least + (most - least) ≡ most = omega (arith, ordered.0) in (
         λ h.
             let x = one_of-some (after true_one (kernel true_one r) (kernel true_one s)) least (most - least) i j h in
-            apart-forth (takes_ticks r && takes_ticks s) (kernel true_one r) (kernel true_one s) (plan true_one r) (plan true_one s) (shares-told r s ordered.1 ordered.2) er es least most ordered.0 i j x.0 x.1 (omega (arith, x.2, sum)) x.3,
+            apart-forth (takes_ticks r && takes_ticks s) (kernel true_one r) (kernel true_one s) (plan true_one r)
+            (plan true_one s) (shares-told r s ordered.1 ordered.2) er es least most ordered.0 i j x.0 x.1
+            (omega (arith, x.2, sum)) x.3,
         λ h.
-            let x = apart-back (takes_ticks r && takes_ticks s) (kernel true_one r) (kernel true_one s) (plan true_one r) (plan true_one s) er es least most ordered.0 i j h in
-            some-one_of (after true_one (kernel true_one r) (kernel true_one s)) least (most - least) i j x.0 x.1 (omega (arith, x.2, sum)) x.3,
+            let x =
+            apart-back (takes_ticks r && takes_ticks s) (kernel true_one r) (kernel true_one s) (plan true_one r)
+            (plan true_one s) er es least most ordered.0 i j h in
+            some-one_of (after true_one (kernel true_one r) (kernel true_one s)) least (most - least) i j x.0 x.1
+            (omega (arith, x.2, sum)) x.3,
       ))
-  plan-kernel (lead least most s) ordered = moving-kernel (lead least most s) (link false true (loop (tick true_one) least most) skip (plan true_one s)) ordered (λ i j.
+  plan-kernel (lead least most s) ordered =
+      moving-kernel (lead least most s) (link false true (loop (tick true_one) least most) skip (plan true_one s))
+      ordered (λ i j.
       let es = plan-kernel s ordered.1 in
       let sum : least + (most - least) ≡ most = omega (arith, ordered.0) in (
         λ h.
@@ -214,12 +258,26 @@ module _ (B : Type 0) (holds : B → ℕ → Bool) (true_one : B) where
         λ h.
             let c : ℕ = h.1.1.0 in
             let there = subst (λ k. Ticks c i k) h.1.2 h.1.1.3 in
-            some-one_of (later true_one (kernel true_one s)) least (most - least) i j c h.1.1.1 (omega (arith, h.1.1.2, sum)) (Ticks-later (kernel true_one s) c i j (h.0, there, (es h.0 j).1 h.2)),
+            some-one_of (later true_one (kernel true_one s)) least (most - least) i j c h.1.1.1
+            (omega (arith, h.1.1.2, sum)) (Ticks-later (kernel true_one s) c i j (h.0, there, (es h.0 j).1 h.2)),
       ))
-  plan-kernel (repeat r least most) ordered = moving-kernel (repeat r least most) (loop (plan true_one r) least most) ordered (λ i j.
+  plan-kernel (repeat r least most) ordered =
+      moving-kernel (repeat r least most) (loop (plan true_one r) least most) ordered (λ i j.
       let er = plan-kernel r ordered.1 in (
-        λ h. (h.0, h.1, h.2, Chain-map (Matches holds (kernel true_one r)) (Matches holds (shape (plan true_one r))) (λ a b. (er a b).0) h.0 i j h.3),
-        λ h. (h.0, h.1, h.2, Chain-map (Matches holds (shape (plan true_one r))) (Matches holds (kernel true_one r)) (λ a b. (er a b).1) h.0 i j h.3),
+        λ h. (
+          h.0,
+          h.1,
+          h.2,
+          Chain-map (Matches holds (kernel true_one r)) (Matches holds (shape (plan true_one r)))
+              (λ a b. (er a b).0) h.0 i j h.3,
+        ),
+        λ h. (
+          h.0,
+          h.1,
+          h.2,
+          Chain-map (Matches holds (shape (plan true_one r))) (Matches holds (kernel true_one r))
+              (λ a b. (er a b).1) h.0 i j h.3,
+        ),
       ))
   plan-kernel (or r s) ordered = moving-kernel (or r s) (any (plan true_one r) (plan true_one s)) ordered (λ i j.
       let er = plan-kernel r ordered.0 in

@@ -21,6 +21,8 @@ module _ (fuses follows : Bool) (t g u : TableData) where
   abbrev pub second_rows : List (List (Edge ℕ))
   second_rows = change_all (moved past) u.rows
 
-  pub firsts-made : (c : ChangeData) (by : ℕ) (rows : List (List (Edge ℕ))) → c ≡ leading_data follows t g u → by ≡ past → rows ≡ t.rows → leads c by rows ≡ first_rows
+  pub firsts-made : (c : ChangeData) (by : ℕ) (rows : List (List (Edge ℕ))) → c ≡ leading_data follows t g u → by ≡ past
+      → rows ≡ t.rows → leads c by rows ≡ first_rows
   firsts-made c by rows is placed same =
-      ap (λ x. leads x by rows) is ∙ ap (λ n. leads (leading_data follows t g u) n rows) placed ∙ ap (leads (leading_data follows t g u) past) same
+      ap (λ x. leads x by rows) is ∙ ap (λ n. leads (leading_data follows t g u) n rows) placed
+      ∙ ap (leads (leading_data follows t g u) past) same

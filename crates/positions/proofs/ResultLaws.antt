@@ -12,7 +12,8 @@ pub err_same : {X : Type 0} (r : Result X SectionFault) (n m : ℕ) → IfErr r 
 err_same (Ok x) n m h e = h
 err_same (Err f) n m h e = λ is. subst (λ k. 4096 < k) e (h is)
 
-pub never_long : {X : Type 0} (r : Result X SectionFault) (n : ℕ) → IfErr r (IsLong n) → n ≤ 4096 → IfErr r (λ f. f ≡ Memory)
+pub never_long : {X : Type 0} (r : Result X SectionFault) (n : ℕ) → IfErr r (IsLong n) → n ≤ 4096
+    → IfErr r (λ f. f ≡ Memory)
 never_long (Ok x) n h le = h
 never_long (Err TooLong) n h le = absurd (omega (arith, h refl))
 never_long (Err Memory) n h le = refl

@@ -1,5 +1,7 @@
 -- The section of a plain sequence is short.
-use Rattle.std.proofs.Common.{◌≡◌, ◌∙◌, inl, inr, ℕ, zero, suc, ◌+◌, ◌-◌, ◌*◌, ◌/◌, ◌%◌, ◌<◌, ◌≤◌, min, Bool, true, false, ◌&&◌, if◌then◌else◌, List, [], ◌∷◌, ◌++◌, length, Option, Some, None, refl, ap, subst, arith, length-append}
+use Rattle.std.proofs.Common.{◌≡◌, ◌∙◌, inl, inr, ℕ, zero, suc, ◌+◌, ◌-◌, ◌*◌, ◌/◌, ◌%◌, ◌<◌, ◌≤◌, min, Bool, true}
+use Rattle.std.proofs.Common.{false, ◌&&◌, if◌then◌else◌, List, [], ◌∷◌, ◌++◌, length, Option, Some, None, refl, ap}
+use Rattle.std.proofs.Common.{subst, arith, length-append}
 use Rattle.std.specs.Prelude.{map}
 use Rattle.std.proofs.Math.Nat.{mul-le-mul_right}
 use Rattle.std.proofs.lemmas.Nat.{div-add-mod'}
@@ -10,8 +12,11 @@ use Rattle.assertions.specs.Written.{Written, boolean, delay, lead, repeat, or, 
 use Rattle.positions.specs.Plans.{Plan, tick, skip, any, under, loop, link, moving, plan}
 use Rattle.assertions.specs.Emptiness.{admits_empty, takes_ticks}
 use Rattle.std.specs.List.{flat_map}
-use Rattle.positions.specs.Tables.{Edge, Table, shift, shifted, picked, numbers, tick_table, skip_table, any_table, wanting, under_table, onward, leading, joined, fusing, crossing, link_table, copies, looping, loop_table, table_of}
-use Rattle.positions.specs.Sections.{edge_size, block_of, edge_code, blocks_of, rows_of, with_atom, atoms_of, numbered, coded}
+use Rattle.positions.specs.Tables.{Edge, Table, shift, shifted, picked, numbers, tick_table, skip_table, any_table}
+use Rattle.positions.specs.Tables.{wanting, under_table, onward, leading, joined, fusing, crossing, link_table, copies}
+use Rattle.positions.specs.Tables.{looping, loop_table, table_of}
+use Rattle.positions.specs.Sections.{edge_size, block_of, edge_code, blocks_of, rows_of, with_atom, atoms_of, numbered}
+use Rattle.positions.specs.Sections.{coded}
 use Rattle.positions.specs.Laws.{IsPlain, booleans, section_for, SectionIsShort}
 use Rattle.positions.proofs.Shapes.{edge-length}
 use Rattle.positions.proofs.Theorem.{size-weight}
@@ -33,7 +38,8 @@ Climbs-high : (low high higher : ℕ) (qs : List ℕ) → high ≤ higher → Cl
 Climbs-high low high higher [] le h = omega arith
 Climbs-high low high higher (q ∷ qs) le h = (h.0, Climbs-high (q + 1) high higher qs le h.1)
 
-Climbs-append : (low mid high : ℕ) (xs ys : List ℕ) → Climbs low mid xs → Climbs mid high ys → Climbs low high (xs ++ ys)
+Climbs-append : (low mid high : ℕ) (xs ys : List ℕ) → Climbs low mid xs → Climbs mid high ys
+    → Climbs low high (xs ++ ys)
 Climbs-append low mid high [] ys a b = Climbs-low low mid high ys a b
 Climbs-append low mid high (x ∷ xs) ys a b = (a.0, Climbs-append (x + 1) mid high xs ys a.1 b)
 
@@ -43,7 +49,8 @@ Climbs-shift n low high (q ∷ qs) h =
     let e : n + (q + 1) ≡ n + q + 1 = omega arith in
     (omega (arith, h.0), subst (λ k. Climbs k (n + high) (shift n qs)) e (Climbs-shift n (q + 1) high qs h.1))
 
-Climbs-picked : (low high : ℕ) (b : Bool) (qs : List ℕ) → low ≤ high → Climbs low high qs → Climbs low high (picked b qs)
+Climbs-picked : (low high : ℕ) (b : Bool) (qs : List ℕ) → low ≤ high → Climbs low high qs
+    → Climbs low high (picked b qs)
 Climbs-picked low high true qs le h = h
 Climbs-picked low high false qs le h = le
 
@@ -62,7 +69,12 @@ module _ (B : Type 0) where
   tick-single : (b : B) (most : ℕ) → 1 ≤ most → AreSingle most (tick_table b)
   tick-single b most le = record {
     starts = (omega arith, omega arith);
-    row = λ p below. record { edge = record { wanted = b ∷ []; enters = []; accepts = true }; alone = refl; wanted = omega arith; enters = omega arith };
+    row = λ p below. record {
+      edge = record { wanted = b ∷ []; enters = []; accepts = true };
+      alone = refl;
+      wanted = omega arith;
+      enters = omega arith;
+    };
   }
 
   skip-single : (most : ℕ) → AreSingle {B = B} most skip_table
@@ -71,10 +83,13 @@ module _ (B : Type 0) where
   more-single : (most more : ℕ) (t : Table B) → most ≤ more → AreSingle most t → AreSingle more t
   more-single most more t le h = record {
     starts = h.starts;
-    row = λ p below. (let s = h.row p below in record { edge = s.edge; alone = s.alone; wanted = omega (arith, s.wanted); enters = s.enters });
+    row = λ p below.
+        (let s = h.row p below in
+        record { edge = s.edge; alone = s.alone; wanted = omega (arith, s.wanted); enters = s.enters });
   }
 
-  shifted-single : (most n low high : ℕ) (es : List (Edge B)) → IsSingle most low high es → IsSingle most (n + low) (n + high) (map (shifted n) es)
+  shifted-single : (most n low high : ℕ) (es : List (Edge B)) → IsSingle most low high es
+      → IsSingle most (n + low) (n + high) (map (shifted n) es)
   shifted-single most n low high es s = record {
     edge = shifted n s.edge;
     alone = ap (map (shifted n)) s.alone;
@@ -86,24 +101,46 @@ module _ (B : Type 0) where
   any-single most t u a b = record {
     starts =
         let e : t.size + 0 ≡ t.size = omega arith in
-        Climbs-append 0 t.size (t.size + u.size) t.starts (shift t.size u.starts) a.starts (subst (λ k. Climbs k (t.size + u.size) (shift t.size u.starts)) e (Climbs-shift t.size 0 u.size u.starts b.starts));
+        Climbs-append 0 t.size (t.size + u.size) t.starts (shift t.size u.starts) a.starts
+        (subst (λ k. Climbs k (t.size + u.size) (shift t.size u.starts)) e
+        (Climbs-shift t.size 0 u.size u.starts b.starts));
     row = λ p below. (elim (cases_lt p t.size) [
       | inl low ↦
           let s = a.row p low in
           let here : (any_table t u).row p ≡ t.row p = rw (lt-ltb p t.size low) refl in
-          record { edge = s.edge; alone = here ∙ s.alone; wanted = s.wanted; enters = Climbs-high (p + 1) t.size (t.size + u.size) s.edge.enters (omega arith) s.enters }
+          record {
+            edge = s.edge;
+            alone = here ∙ s.alone;
+            wanted = s.wanted;
+            enters = Climbs-high (p + 1) t.size (t.size + u.size) s.edge.enters (omega arith) s.enters;
+          }
       | inr high ↦
-          let s = shifted-single most t.size (p - t.size + 1) u.size (u.row (p - t.size)) (b.row (p - t.size) (omega arith)) in
-          let here : (any_table t u).row p ≡ map (shifted t.size) (u.row (p - t.size)) = rw (le-ltb p t.size high) refl in
+          let s =
+          shifted-single most t.size (p - t.size + 1) u.size (u.row (p - t.size))
+          (b.row (p - t.size) (omega arith)) in
+          let here : (any_table t u).row p ≡ map (shifted t.size) (u.row (p - t.size)) =
+          rw (le-ltb p t.size high) refl in
           let e : t.size + (p - t.size + 1) ≡ p + 1 = omega arith in
-          record { edge = s.edge; alone = here ∙ s.alone; wanted = s.wanted; enters = subst (λ k. Climbs k (t.size + u.size) s.edge.enters) e s.enters }
+          record {
+            edge = s.edge;
+            alone = here ∙ s.alone;
+            wanted = s.wanted;
+            enters = subst (λ k. Climbs k (t.size + u.size) s.edge.enters) e s.enters;
+          }
     ]);
   }
 
   under-single : (most : ℕ) (b : B) (t : Table B) → AreSingle most t → AreSingle (most + 1) (under_table b t)
   under-single most b t a = record {
     starts = a.starts;
-    row = λ p below. (let s = a.row p below in record { edge = wanting b s.edge; alone = ap (map (wanting b)) s.alone; wanted = omega (arith, s.wanted); enters = s.enters });
+    row = λ p below.
+        (let s = a.row p below in
+        record {
+          edge = wanting b s.edge;
+          alone = ap (map (wanting b)) s.alone;
+          wanted = omega (arith, s.wanted);
+          enters = s.enters;
+        });
   }
 
   module _ (most : ℕ) (t g u : Table B) (a : AreSingle most t) (c : AreSingle most g) (b : AreSingle most u) where
@@ -113,16 +150,21 @@ module _ (B : Type 0) where
     last-climbs : Climbs (t.size + g.size) (t.size + g.size + u.size) (shift (t.size + g.size) u.starts)
     last-climbs =
         let e : t.size + g.size + 0 ≡ t.size + g.size = omega arith in
-        subst (λ k. Climbs k (t.size + g.size + u.size) (shift (t.size + g.size) u.starts)) e (Climbs-shift (t.size + g.size) 0 u.size u.starts b.starts)
+        subst (λ k. Climbs k (t.size + g.size + u.size) (shift (t.size + g.size) u.starts)) e
+        (Climbs-shift (t.size + g.size) 0 u.size u.starts b.starts)
 
     onward-climbs : Climbs t.size (t.size + g.size + u.size) (onward t g u)
     onward-climbs =
         let e : t.size + 0 ≡ t.size = omega arith in
-        Climbs-append t.size (t.size + g.size) (t.size + g.size + u.size) (shift t.size g.starts) (picked g.empty (shift (t.size + g.size) u.starts))
-        (subst (λ k. Climbs k (t.size + g.size) (shift t.size g.starts)) e (Climbs-shift t.size 0 g.size g.starts c.starts))
-        (Climbs-picked (t.size + g.size) (t.size + g.size + u.size) g.empty (shift (t.size + g.size) u.starts) (omega arith) last-climbs)
+        Climbs-append t.size (t.size + g.size) (t.size + g.size + u.size) (shift t.size g.starts)
+        (picked g.empty (shift (t.size + g.size) u.starts))
+        (subst (λ k. Climbs k (t.size + g.size) (shift t.size g.starts)) e
+        (Climbs-shift t.size 0 g.size g.starts c.starts))
+        (Climbs-picked (t.size + g.size) (t.size + g.size + u.size) g.empty (shift (t.size + g.size) u.starts)
+        (omega arith) last-climbs)
 
-    lead-alone : (e : Edge B) → flat_map (λ e. leading true t g u e ∷ fusing false t g u e) (e ∷ []) ≡ leading true t g u e ∷ []
+    lead-alone : (e : Edge B) → flat_map (λ e. leading true t g u e ∷ fusing false t g u e) (e ∷ [])
+        ≡ leading true t g u e ∷ []
     lead-alone e = ap (λ x. leading true t g u e ∷ x) (none e.accepts)
       where
         none : (x : Bool) → picked (x && false) (map (joined (t.size + g.size) e) (flat_map u.row u.starts)) ++ [] ≡ []
@@ -131,53 +173,85 @@ module _ (B : Type 0) where
 
     link-single : AreSingle most whole
     link-single = record {
-      starts = Climbs-append 0 t.size (t.size + g.size + u.size) t.starts (picked (true && t.empty) (onward t g u)) a.starts (Climbs-picked t.size (t.size + g.size + u.size) (true && t.empty) (onward t g u) (omega arith) onward-climbs);
+      starts =
+          Climbs-append 0 t.size (t.size + g.size + u.size) t.starts (picked (true && t.empty) (onward t g u))
+          a.starts (Climbs-picked t.size (t.size + g.size + u.size) (true && t.empty) (onward t g u) (omega arith)
+          onward-climbs);
       row = λ p below. (elim (cases_lt p t.size) [
         | inl low ↦
             let s = a.row p low in
-            let here : whole.row p ≡ flat_map (λ e. leading true t g u e ∷ fusing false t g u e) (t.row p) = rw (lt-ltb p t.size low) refl in
+            let here : whole.row p ≡ flat_map (λ e. leading true t g u e ∷ fusing false t g u e) (t.row p) =
+            rw (lt-ltb p t.size low) refl in
             record {
               edge = leading true t g u s.edge;
-              alone = here ∙ ap (flat_map (λ e. leading true t g u e ∷ fusing false t g u e)) s.alone ∙ lead-alone s.edge;
+              alone =
+                  here ∙ ap (flat_map (λ e. leading true t g u e ∷ fusing false t g u e)) s.alone ∙ lead-alone s.edge;
               wanted = s.wanted;
-              enters = Climbs-append (p + 1) t.size (t.size + g.size + u.size) s.edge.enters (picked (s.edge.accepts && true) (onward t g u)) s.enters (Climbs-picked t.size (t.size + g.size + u.size) (s.edge.accepts && true) (onward t g u) (omega arith) onward-climbs);
+              enters =
+                  Climbs-append (p + 1) t.size (t.size + g.size + u.size) s.edge.enters
+                  (picked (s.edge.accepts && true) (onward t g u)) s.enters
+                  (Climbs-picked t.size (t.size + g.size + u.size) (s.edge.accepts && true) (onward t g u)
+                  (omega arith) onward-climbs);
             }
         | inr high ↦ elim (cases_lt p (t.size + g.size)) [
           | inl low ↦
               let s = c.row (p - t.size) (omega arith) in
-              let here : whole.row p ≡ map (crossing t g u) (g.row (p - t.size)) = rw (le-ltb p t.size high, lt-ltb p (t.size + g.size) low) refl in
+              let here : whole.row p ≡ map (crossing t g u) (g.row (p - t.size)) =
+              rw (le-ltb p t.size high, lt-ltb p (t.size + g.size) low) refl in
               let e : t.size + (p - t.size + 1) ≡ p + 1 = omega arith in
               record {
                 edge = crossing t g u s.edge;
                 alone = here ∙ ap (map (crossing t g u)) s.alone;
                 wanted = s.wanted;
-                enters = Climbs-append (p + 1) (t.size + g.size) (t.size + g.size + u.size) (shift t.size s.edge.enters) (picked s.edge.accepts (shift (t.size + g.size) u.starts))
-                    (subst (λ k. Climbs k (t.size + g.size) (shift t.size s.edge.enters)) e (Climbs-shift t.size (p - t.size + 1) g.size s.edge.enters s.enters))
-                    (Climbs-picked (t.size + g.size) (t.size + g.size + u.size) s.edge.accepts (shift (t.size + g.size) u.starts) (omega arith) last-climbs);
+                enters =
+                    Climbs-append (p + 1) (t.size + g.size) (t.size + g.size + u.size) (shift t.size s.edge.enters)
+                    (picked s.edge.accepts (shift (t.size + g.size) u.starts))
+                    (subst (λ k. Climbs k (t.size + g.size) (shift t.size s.edge.enters)) e
+                    (Climbs-shift t.size (p - t.size + 1) g.size s.edge.enters s.enters))
+                    (Climbs-picked (t.size + g.size) (t.size + g.size + u.size) s.edge.accepts
+                    (shift (t.size + g.size) u.starts) (omega arith) last-climbs);
               }
           | inr higher ↦
-              let s = shifted-single most (t.size + g.size) (p - (t.size + g.size) + 1) u.size (u.row (p - (t.size + g.size))) (b.row (p - (t.size + g.size)) (omega arith)) in
-              let here : whole.row p ≡ map (shifted (t.size + g.size)) (u.row (p - (t.size + g.size))) = rw (le-ltb p t.size high, le-ltb p (t.size + g.size) higher) refl in
+              let s =
+              shifted-single most (t.size + g.size) (p - (t.size + g.size) + 1) u.size
+              (u.row (p - (t.size + g.size))) (b.row (p - (t.size + g.size)) (omega arith)) in
+              let here : whole.row p ≡ map (shifted (t.size + g.size)) (u.row (p - (t.size + g.size))) =
+              rw (le-ltb p t.size high, le-ltb p (t.size + g.size) higher) refl in
               let e : t.size + g.size + (p - (t.size + g.size) + 1) ≡ p + 1 = omega arith in
-              record { edge = s.edge; alone = here ∙ s.alone; wanted = s.wanted; enters = subst (λ k. Climbs k (t.size + g.size + u.size) s.edge.enters) e s.enters }
+              record {
+                edge = s.edge;
+                alone = here ∙ s.alone;
+                wanted = s.wanted;
+                enters = subst (λ k. Climbs k (t.size + g.size + u.size) s.edge.enters) e s.enters;
+              }
         ]
       ]);
     }
 
   module _ (most : ℕ) (t : Table B) (a : AreSingle most t) (least turns : ℕ) where
-    flat-climbs : (first count : ℕ) → Climbs (first * t.size) ((first + count) * t.size) (flat_map (λ c. shift (c * t.size) t.starts) (numbers first count))
+    flat-climbs : (first count : ℕ)
+        → Climbs (first * t.size) ((first + count) * t.size)
+        (flat_map (λ c. shift (c * t.size) t.starts) (numbers first count))
     flat-climbs first zero = let e : first + 0 ≡ first = omega arith in mul-le-mul_right t.size (omega arith)
     flat-climbs first (suc count) =
         let e : first + 1 + count ≡ first + suc count = omega arith in
         let z : first * t.size + 0 ≡ first * t.size = omega arith in
         let next : first * t.size + t.size ≡ (first + 1) * t.size = omega arith in
-        Climbs-append (first * t.size) ((first + 1) * t.size) ((first + suc count) * t.size) (shift (first * t.size) t.starts) (flat_map (λ c. shift (c * t.size) t.starts) (numbers (first + 1) count))
-        (subst (λ k. Climbs (first * t.size) k (shift (first * t.size) t.starts)) next (subst (λ k. Climbs k (first * t.size + t.size) (shift (first * t.size) t.starts)) z (Climbs-shift (first * t.size) 0 t.size t.starts a.starts)))
-        (subst (λ k. Climbs ((first + 1) * t.size) (k * t.size) (flat_map (λ c. shift (c * t.size) t.starts) (numbers (first + 1) count))) e (flat-climbs (first + 1) count))
+        Climbs-append (first * t.size) ((first + 1) * t.size) ((first + suc count) * t.size)
+        (shift (first * t.size) t.starts)
+        (flat_map (λ c. shift (c * t.size) t.starts) (numbers (first + 1) count))
+        (subst (λ k. Climbs (first * t.size) k (shift (first * t.size) t.starts)) next
+        (subst (λ k. Climbs k (first * t.size + t.size) (shift (first * t.size) t.starts)) z
+        (Climbs-shift (first * t.size) 0 t.size t.starts a.starts)))
+        (subst
+        (λ k. Climbs ((first + 1) * t.size) (k * t.size)
+        (flat_map (λ c. shift (c * t.size) t.starts) (numbers (first + 1) count))) e
+        (flat-climbs (first + 1) count))
 
     copies-climbs : (first : ℕ) → first ≤ turns → Climbs (first * t.size) (turns * t.size) (copies t first turns)
     copies-climbs first le =
-        Climbs-high (first * t.size) ((first + (if t.empty then turns - first else min 1 (turns - first))) * t.size) (turns * t.size) (copies t first turns)
+        Climbs-high (first * t.size) ((first + (if t.empty then turns - first else min 1 (turns - first))) * t.size)
+        (turns * t.size) (copies t first turns)
         (mul-le-mul_right t.size (few t.empty))
         (flat-climbs first (if t.empty then turns - first else min 1 (turns - first)))
       where
@@ -187,10 +261,13 @@ module _ (B : Type 0) where
 
     loop-single : AreSingle most (loop_table t least turns)
     loop-single = record {
-      starts = (let z : 0 * t.size ≡ 0 = omega arith in subst (λ k. Climbs k (turns * t.size) (copies t 0 turns)) z (copies-climbs 0 (omega arith)));
+      starts =
+          (let z : 0 * t.size ≡ 0 = omega arith in subst (λ k. Climbs k (turns * t.size) (copies t 0 turns)) z
+          (copies-climbs 0 (omega arith)));
       row = λ p below.
           (let some : 0 < t.size = (elim (cases_eq t.size 0) [
-            | inl none ↦ (let zeros : turns * t.size ≡ turns * 0 = ap (λ n. turns * n) none in absurd (omega (arith, zeros)))
+            | inl none ↦ (let zeros : turns * t.size ≡ turns * 0 = ap (λ n. turns * n) none in
+                absurd (omega (arith, zeros)))
             | inr other ↦ omega arith
           ]) in
           let c : ℕ = p / t.size in
@@ -198,7 +275,8 @@ module _ (B : Type 0) where
           let split : p / t.size * t.size + p % t.size ≡ p = div-add-mod' p t.size in
           let high : p / t.size < turns = (elim (cases_lt (p / t.size) turns) [
             | inl is ↦ is
-            | inr over ↦ (let more : turns * t.size ≤ p / t.size * t.size = mul-le-mul_right t.size over in absurd (omega (arith, more, split)))
+            | inr over ↦ (let more : turns * t.size ≤ p / t.size * t.size = mul-le-mul_right t.size over in
+                absurd (omega (arith, more, split)))
           ]) in
           let low : p % t.size < t.size = omega arith in
           let s = a.row (p % t.size) low in
@@ -209,9 +287,14 @@ module _ (B : Type 0) where
             edge = looping t least turns c s.edge;
             alone = ap (map (looping t least turns c)) s.alone;
             wanted = s.wanted;
-            enters = Climbs-append (p + 1) ((c + 1) * t.size) (turns * t.size) (shift (c * t.size) s.edge.enters) (picked s.edge.accepts (copies t (c + 1) turns))
-                (subst (λ n. Climbs (p + 1) n (shift (c * t.size) s.edge.enters)) next (subst (λ n. Climbs n (c * t.size + t.size) (shift (c * t.size) s.edge.enters)) begin (Climbs-shift (c * t.size) (k + 1) t.size s.edge.enters s.enters)))
-                (Climbs-picked ((c + 1) * t.size) (turns * t.size) s.edge.accepts (copies t (c + 1) turns) up (copies-climbs (c + 1) (omega (arith, high))));
+            enters =
+                Climbs-append (p + 1) ((c + 1) * t.size) (turns * t.size) (shift (c * t.size) s.edge.enters)
+                (picked s.edge.accepts (copies t (c + 1) turns))
+                (subst (λ n. Climbs (p + 1) n (shift (c * t.size) s.edge.enters)) next
+                (subst (λ n. Climbs n (c * t.size + t.size) (shift (c * t.size) s.edge.enters)) begin
+                (Climbs-shift (c * t.size) (k + 1) t.size s.edge.enters s.enters)))
+                (Climbs-picked ((c + 1) * t.size) (turns * t.size) s.edge.accepts (copies t (c + 1) turns) up
+                (copies-climbs (c + 1) (omega (arith, high))));
           });
     }
 
@@ -224,30 +307,41 @@ booleans-positive (or r s) = omega (arith, booleans-positive r)
 booleans-positive (and r s) = omega (arith, booleans-positive r)
 booleans-positive (throughout b r) = omega arith
 
-ticks-single : (true_one : Boolean) (most least turns : ℕ) → 1 ≤ most → AreSingle most (table_of (loop (tick true_one) least turns))
-ticks-single true_one most least turns le = loop-single Boolean most (tick_table true_one) (tick-single Boolean true_one most le) least turns
+ticks-single : (true_one : Boolean) (most least turns : ℕ) → 1 ≤ most
+    → AreSingle most (table_of (loop (tick true_one) least turns))
+ticks-single true_one most least turns le =
+    loop-single Boolean most (tick_table true_one) (tick-single Boolean true_one most le) least turns
 
-moving-single : (most : ℕ) (t e : Bool) (p : Plan Boolean) → AreSingle most (table_of p) → AreSingle most (table_of (moving t e p))
+moving-single : (most : ℕ) (t e : Bool) (p : Plan Boolean) → AreSingle most (table_of p)
+    → AreSingle most (table_of (moving t e p))
 moving-single most true e p single = single
 moving-single most false true p single = skip-single Boolean most
-moving-single most false false p single = record { starts = omega arith; row = λ q below. absurd (omega (arith, below)) }
+moving-single most false false p single =
+    record { starts = omega arith; row = λ q below. absurd (omega (arith, below)) }
 
-plain-single : (true_one : Boolean) (w : Written Boolean) → IsPlain w → AreSingle (booleans w) (table_of (plan true_one w))
+plain-single : (true_one : Boolean) (w : Written Boolean) → IsPlain w
+    → AreSingle (booleans w) (table_of (plan true_one w))
 plain-single true_one (boolean b) plain = tick-single Boolean b 1 (omega arith)
 plain-single true_one (delay r zero most s) plain = absurd (omega (arith, plain.0))
 plain-single true_one (delay r (suc least) most s) plain =
     let m : ℕ = booleans r + booleans s in
-    moving-single m (takes_ticks (delay r (suc least) most s)) (admits_empty (delay r (suc least) most s)) (link false true (plan true_one r) (loop (tick true_one) least (most - 1)) (plan true_one s))
-    (link-single Boolean m (table_of (plan true_one r)) (table_of (loop (tick true_one) least (most - 1))) (table_of (plan true_one s))
+    moving-single m (takes_ticks (delay r (suc least) most s)) (admits_empty (delay r (suc least) most s))
+    (link false true (plan true_one r) (loop (tick true_one) least (most - 1)) (plan true_one s))
+    (link-single Boolean m (table_of (plan true_one r)) (table_of (loop (tick true_one) least (most - 1)))
+    (table_of (plan true_one s))
     (more-single Boolean (booleans r) m (table_of (plan true_one r)) (omega arith) (plain-single true_one r plain.1))
     (ticks-single true_one m least (most - 1) (omega (arith, booleans-positive r)))
     (more-single Boolean (booleans s) m (table_of (plan true_one s)) (omega arith) (plain-single true_one s plain.2)))
 plain-single true_one (lead least most s) plain =
-    moving-single (booleans s) (takes_ticks (lead least most s)) (admits_empty (lead least most s)) (link false true (loop (tick true_one) least most) skip (plan true_one s))
-    (link-single Boolean (booleans s) (table_of (loop (tick true_one) least most)) skip_table (table_of (plan true_one s))
-    (ticks-single true_one (booleans s) least most (booleans-positive s)) (skip-single Boolean (booleans s)) (plain-single true_one s plain))
+    moving-single (booleans s) (takes_ticks (lead least most s)) (admits_empty (lead least most s))
+    (link false true (loop (tick true_one) least most) skip (plan true_one s))
+    (link-single Boolean (booleans s) (table_of (loop (tick true_one) least most)) skip_table
+    (table_of (plan true_one s))
+    (ticks-single true_one (booleans s) least most (booleans-positive s)) (skip-single Boolean (booleans s))
+    (plain-single true_one s plain))
 plain-single true_one (repeat r least most) plain =
-    moving-single (booleans r) (takes_ticks (repeat r least most)) (admits_empty (repeat r least most)) (loop (plan true_one r) least most)
+    moving-single (booleans r) (takes_ticks (repeat r least most)) (admits_empty (repeat r least most))
+    (loop (plan true_one r) least most)
     (loop-single Boolean (booleans r) (table_of (plan true_one r)) (plain-single true_one r plain) least most)
 plain-single true_one (or r s) plain =
     let m : ℕ = booleans r + booleans s in
@@ -257,7 +351,8 @@ plain-single true_one (or r s) plain =
     (more-single Boolean (booleans s) m (table_of (plan true_one s)) (omega arith) (plain-single true_one s plain.1)))
 plain-single true_one (and r s) plain = absurd plain
 plain-single true_one (throughout b r) plain =
-    moving-single (booleans r + 1) (takes_ticks (throughout b r)) (admits_empty (throughout b r)) (under b (plan true_one r))
+    moving-single (booleans r + 1) (takes_ticks (throughout b r)) (admits_empty (throughout b r))
+    (under b (plan true_one r))
     (under-single Boolean (booleans r) b (table_of (plan true_one r)) (plain-single true_one r plain))
 
 with_atom-length : (o : Option ℕ) (ns : List ℕ) → length (with_atom o ns) ≤ length ns + 1
@@ -278,15 +373,19 @@ module _ (atom : Boolean → Option ℕ) (most : ℕ) (t : Table Boolean) (singl
       let s = single.row p below in
       let e : Edge ℕ = numbered atom s.edge in
       let alone : coded atom t p ≡ e ∷ [] = ap (map (numbered atom)) s.alone in
-      let same : length (block_of base (coded atom t p)) ≡ length (block_of base (e ∷ [])) = ap (λ es. length (block_of base es)) alone in
-      let whole : length (block_of base (e ∷ [])) ≡ length (edge_code base e) + length (block_of (base + edge_size e) []) = length-append (edge_code base e) (block_of (base + edge_size e) []) in
+      let same : length (block_of base (coded atom t p)) ≡ length (block_of base (e ∷ [])) =
+      ap (λ es. length (block_of base es)) alone in
+      let whole : length (block_of base (e ∷ [])) ≡ length (edge_code base e)
+      + length (block_of (base + edge_size e) []) = length-append (edge_code base e)
+      (block_of (base + edge_size e) []) in
       let size : length (edge_code base e) ≡ edge_size e = edge-length base e in
       let w = atoms_of-length atom s.edge.wanted in
       let k = Climbs-within (p + 1) t.size s.edge.enters s.enters in
       let a = accept-most s.edge.accepts in
       omega (arith, same, whole, size, w, k, a, s.wanted)
 
-  blocks-size : (base p count : ℕ) → p + count ≡ t.size → 2 * size_of (blocks_of base (rows_of (coded atom t) p count)) + count ≤ count * count + 2 * (count * (most + 2))
+  blocks-size : (base p count : ℕ) → p + count ≡ t.size → 2 * size_of (blocks_of base (rows_of (coded atom t) p count))
+      + count ≤ count * count + 2 * (count * (most + 2))
   blocks-size base p zero e = omega arith
   blocks-size base p (suc count) e =
       let rest = blocks-size (base + length (block_of base (coded atom t p))) (p + 1) count (omega (arith, e)) in
@@ -295,7 +394,8 @@ module _ (atom : Boolean → Option ℕ) (most : ℕ) (t : Table Boolean) (singl
       let product : suc count * (most + 2) ≡ count * (most + 2) + most + 2 = omega arith in
       omega (arith, rest, here, square, product, e)
 
-heavier : (n d m s : ℕ) → 2 * s + n ≤ n * n + 2 * (n * (m + 2)) → 2 * s + (n + d) ≤ (n + d) * (n + d) + 2 * ((n + d) * (m + 2))
+heavier : (n d m s : ℕ) → 2 * s + n ≤ n * n + 2 * (n * (m + 2))
+    → 2 * s + (n + d) ≤ (n + d) * (n + d) + 2 * ((n + d) * (m + 2))
 heavier n d m s h =
     let square : (n + d) * (n + d) ≡ n * n + 2 * (n * d) + d * d = omega arith in
     let product : (n + d) * (m + 2) ≡ n * (m + 2) + d * m + 2 * d = omega arith in
@@ -309,4 +409,5 @@ law-section_is_short atom true_one w ordered plain =
     let s : ℕ = size_of (section_for atom true_one w).blocks in
     let zero_plus : 0 + t.size ≡ t.size = omega arith in
     subst (λ n. 2 * s + n ≤ n * n + 2 * (n * (booleans w + 2))) same
-    (heavier t.size (weight w - t.size) (booleans w) s (blocks-size atom (booleans w) t (plain-single true_one w plain) 0 0 t.size zero_plus))
+    (heavier t.size (weight w - t.size) (booleans w) s
+    (blocks-size atom (booleans w) t (plain-single true_one w plain) 0 0 t.size zero_plus))

@@ -1,5 +1,6 @@
 -- What the edges of a sequence's positions want are the sequence's booleans.
-use Rattle.std.proofs.Common.{◌≡◌, inl, inr, ℕ, zero, suc, ◌+◌, ◌-◌, ◌*◌, ◌/◌, ◌%◌, Bool, true, false, ◌&&◌, List, [], ◌∷◌}
+use Rattle.std.proofs.Common.{◌≡◌, inl, inr, ℕ, zero, suc, ◌+◌, ◌-◌, ◌*◌, ◌/◌, ◌%◌, Bool, true, false, ◌&&◌, List, []}
+use Rattle.std.proofs.Common.{◌∷◌}
 use Rattle.std.proofs.Common.{◌++◌, refl}
 use Rattle.std.specs.Prelude.{map, nat_lt, if◌then◌else◌}
 use Rattle.std.specs.List.{flat_map}
@@ -30,11 +31,13 @@ module _ (B : Type 0) (Q : B → Type 0) where
   each-append P [] ys g h = h
   each-append P (x ∷ xs) ys g h = (g.0, each-append P xs ys g.1 h)
 
-  each-map : (f : Edge B → Edge B) → ((e : Edge B) → Wants e → Wants (f e)) → (es : List (Edge B)) → Row es → Row (map f es)
+  each-map : (f : Edge B → Edge B) → ((e : Edge B) → Wants e → Wants (f e)) → (es : List (Edge B)) → Row es
+      → Row (map f es)
   each-map f keeps [] h = tt
   each-map f keeps (e ∷ es) h = (keeps e h.0, each-map f keeps es h.1)
 
-  each-flat : (f : Edge B → List (Edge B)) → ((e : Edge B) → Wants e → Row (f e)) → (es : List (Edge B)) → Row es → Row (flat_map f es)
+  each-flat : (f : Edge B → List (Edge B)) → ((e : Edge B) → Wants e → Row (f e)) → (es : List (Edge B)) → Row es
+      → Row (flat_map f es)
   each-flat f keeps [] h = tt
   each-flat f keeps (e ∷ es) h = each-append Wants (f e) (flat_map f es) (keeps e h.0) (each-flat f keeps es h.1)
 
@@ -60,11 +63,13 @@ module _ (B : Type 0) (Q : B → Type 0) where
   joined-wants : (n : ℕ) (e : Edge B) → Wants e → (es : List (Edge B)) → Row es → Row (map (joined n e) es)
   joined-wants n e w es h = each-map (joined n e) (λ f k. each-append Q e.wanted f.wanted w k) es h
 
-  link-wants : (fuses follows : Bool) (t g u : Table B) → Rows t → Rows g → Rows u → Rows (link_table fuses follows t g u)
+  link-wants : (fuses follows : Bool) (t g u : Table B) → Rows t → Rows g → Rows u
+      → Rows (link_table fuses follows t g u)
   link-wants fuses follows t g u ht hg hu p =
       either-way (nat_lt p t.size)
       (flat_map (λ e. leading follows t g u e ∷ fusing fuses t g u e) (t.row p))
-      (if nat_lt p (t.size + g.size) then map (crossing t g u) (g.row (p - t.size)) else map (shifted (t.size + g.size)) (u.row (p - (t.size + g.size))))
+      (if nat_lt p (t.size + g.size) then map (crossing t g u) (g.row (p - t.size)) else map (shifted (t.size + g.size))
+      (u.row (p - (t.size + g.size))))
       (each-flat (λ e. leading follows t g u e ∷ fusing fuses t g u e)
       (λ e w. (
         w,
@@ -72,24 +77,30 @@ module _ (B : Type 0) (Q : B → Type 0) where
             (joined-wants (t.size + g.size) e w (flat_map u.row u.starts) (each-place u.row hu u.starts)),
       ))
       (t.row p) (ht p))
-      (either-way (nat_lt p (t.size + g.size)) (map (crossing t g u) (g.row (p - t.size))) (map (shifted (t.size + g.size)) (u.row (p - (t.size + g.size))))
+      (either-way (nat_lt p (t.size + g.size)) (map (crossing t g u) (g.row (p - t.size)))
+      (map (shifted (t.size + g.size)) (u.row (p - (t.size + g.size))))
       (each-map (crossing t g u) (λ e k. k) (g.row (p - t.size)) (hg (p - t.size)))
       (shifted-wants (t.size + g.size) (u.row (p - (t.size + g.size))) (hu (p - (t.size + g.size)))))
 
   loop-wants : (t : Table B) (least most : ℕ) → Rows t → Rows (loop_table t least most)
-  loop-wants t least most g p = each-map (looping t least most (p / t.size)) (λ e k. k) (t.row (p % t.size)) (g (p % t.size))
+  loop-wants t least most g p =
+      each-map (looping t least most (p / t.size)) (λ e k. k) (t.row (p % t.size)) (g (p % t.size))
 
   all-wants : (t u : Table B) → Rows t → Rows u → Rows (all_table t u)
   all-wants t u g h p =
       either-way (nat_lt p (t.size * u.size))
       (flat_map (λ e. map (paired t u e) (u.row (p % u.size))) (t.row (p / u.size)))
-      (if nat_lt p (t.size * u.size + t.size) then map (shifted (t.size * u.size)) (t.row (p - t.size * u.size)) else map (shifted (t.size * u.size + t.size)) (u.row (p - (t.size * u.size + t.size))))
+      (if nat_lt p (t.size * u.size + t.size) then map (shifted (t.size * u.size)) (t.row (p - t.size * u.size)) else
+      map (shifted (t.size * u.size + t.size)) (u.row (p - (t.size * u.size + t.size))))
       (each-flat (λ e. map (paired t u e) (u.row (p % u.size)))
-      (λ e w. each-map (paired t u e) (λ f k. each-append Q e.wanted f.wanted w k) (u.row (p % u.size)) (h (p % u.size)))
+      (λ e w. each-map (paired t u e) (λ f k. each-append Q e.wanted f.wanted w k) (u.row (p % u.size))
+      (h (p % u.size)))
       (t.row (p / u.size)) (g (p / u.size)))
-      (either-way (nat_lt p (t.size * u.size + t.size)) (map (shifted (t.size * u.size)) (t.row (p - t.size * u.size))) (map (shifted (t.size * u.size + t.size)) (u.row (p - (t.size * u.size + t.size))))
+      (either-way (nat_lt p (t.size * u.size + t.size)) (map (shifted (t.size * u.size)) (t.row (p - t.size * u.size)))
+      (map (shifted (t.size * u.size + t.size)) (u.row (p - (t.size * u.size + t.size))))
       (shifted-wants (t.size * u.size) (t.row (p - t.size * u.size)) (g (p - t.size * u.size)))
-      (shifted-wants (t.size * u.size + t.size) (u.row (p - (t.size * u.size + t.size))) (h (p - (t.size * u.size + t.size)))))
+      (shifted-wants (t.size * u.size + t.size) (u.row (p - (t.size * u.size + t.size)))
+      (h (p - (t.size * u.size + t.size)))))
 
   -- each boolean of a plan
   abbrev Of : Plan B → Type 0
@@ -109,14 +120,16 @@ module _ (B : Type 0) (Q : B → Type 0) where
   plan-wants (under b r) h = under-wants b (table_of r) h.0 (plan-wants r h.1)
   plan-wants (loop r least most) h = loop-wants (table_of r) least most (plan-wants r h)
   plan-wants (link fuses follows r g s) h =
-      link-wants fuses follows (table_of r) (table_of g) (table_of s) (plan-wants r h.0) (plan-wants g h.1) (plan-wants s h.2)
+      link-wants fuses follows (table_of r) (table_of g) (table_of s) (plan-wants r h.0) (plan-wants g h.1)
+      (plan-wants s h.2)
 
   moving-of : (moves empty : Bool) (r : Plan B) → Of r → Of (moving moves empty r)
   moving-of true empty r h = h
   moving-of false true r h = tt
   moving-of false false r h = (tt, tt, tt)
 
-  apart-of : (shares : Bool) (true_one : B) (r s : Plan B) (least most : ℕ) → Q true_one → Of r → Of s → Of (apart shares true_one r s least most)
+  apart-of : (shares : Bool) (true_one : B) (r s : Plan B) (least most : ℕ) → Q true_one → Of r → Of s
+      → Of (apart shares true_one r s least most)
   apart-of shares true_one r s zero zero q g h = (g, tt, h)
   apart-of shares true_one r s zero (suc most) q g h = (g, q, h)
   apart-of shares true_one r s (suc least) most q g h = (g, q, h)
@@ -127,14 +140,16 @@ module _ (B : Type 0) (Q : B → Type 0) where
   sequence-of true_one (delay r least most s) h =
       moving-of (takes_ticks (delay r least most s)) (admits_empty (delay r least most s))
       (apart (takes_ticks r && takes_ticks s) true_one (plan true_one r) (plan true_one s) least most)
-      (apart-of (takes_ticks r && takes_ticks s) true_one (plan true_one r) (plan true_one s) least most (h true_one (inl refl))
+      (apart-of (takes_ticks r && takes_ticks s) true_one (plan true_one r) (plan true_one s) least most
+      (h true_one (inl refl))
       (sequence-of true_one r (λ b o. h b (inr (inl o)))) (sequence-of true_one s (λ b o. h b (inr (inr o)))))
   sequence-of true_one (lead least most s) h =
       moving-of (takes_ticks (lead least most s)) (admits_empty (lead least most s))
       (link false true (loop (tick true_one) least most) skip (plan true_one s))
       (h true_one (inl refl), tt, sequence-of true_one s (λ b o. h b (inr o)))
   sequence-of true_one (repeat r least most) h =
-      moving-of (takes_ticks (repeat r least most)) (admits_empty (repeat r least most)) (loop (plan true_one r) least most)
+      moving-of (takes_ticks (repeat r least most)) (admits_empty (repeat r least most))
+      (loop (plan true_one r) least most)
       (sequence-of true_one r h)
   sequence-of true_one (or r s) h =
       moving-of (takes_ticks (or r s)) (admits_empty (or r s)) (any (plan true_one r) (plan true_one s))

@@ -4,18 +4,23 @@ use Rattle.lexer.specs.declared.token.Token.{Token}
 use Rattle.grammar.specs.declared.terminal.Terminal.{Terminal}
 use Rattle.grammar.specs.Trees.{Tree, SequenceForm, Steps, Others, PropertyForm, ItemForm}
 use Rattle.grammar.specs.Expressions.{Spells}
-use Rattle.grammar.specs.Sequences.{IsBody, is_boolean, in_brackets, IsRepetition, is_once, is_repeated, IsHead, is_prompt, is_late}
-use Rattle.grammar.specs.Sequences.{AreSteps, no_steps, one_step, IsDelayed, is_head, is_delayed, IsDuring, is_cat, is_throughout}
+use Rattle.grammar.specs.Sequences.{IsBody, is_boolean, in_brackets, IsRepetition, is_once, is_repeated, IsHead}
+use Rattle.grammar.specs.Sequences.{is_prompt, is_late}
+use Rattle.grammar.specs.Sequences.{AreSteps, no_steps, one_step, IsDelayed, is_head, is_delayed, IsDuring, is_cat}
+use Rattle.grammar.specs.Sequences.{is_throughout}
 use Rattle.grammar.specs.Sequences.{AreConjuncts, no_conjunct, one_conjunct, IsConjunction, is_during, is_all}
-use Rattle.grammar.specs.Sequences.{AreAlternatives, no_alternative, one_alternative, IsSequence, is_conjunction, is_either}
+use Rattle.grammar.specs.Sequences.{AreAlternatives, no_alternative, one_alternative, IsSequence, is_conjunction}
+use Rattle.grammar.specs.Sequences.{is_either}
 use Rattle.grammar.specs.Sequences.{IsProperty, is_plain, is_implication, bracketed}
 use Rattle.grammar.specs.Files.{IsClear, no_clear, clear, IsClause, no_clause, clause, is_counter, is_declaration}
-use Rattle.grammar.specs.Files.{IsDisable, no_disable, disable, is_assertion, SpellsItem, a_counter, a_declaration, an_assertion}
+use Rattle.grammar.specs.Files.{IsDisable, no_disable, disable, is_assertion, SpellsItem, a_counter, a_declaration}
+use Rattle.grammar.specs.Files.{an_assertion}
 use Rattle.grammar.specs.Files.{AreItems, no_item, one_item, most_open}
 use Rattle.text_depths.specs.Trees.{OfOne, OfTwo, OfSequence, OfSteps, OfOthers, OfProperty, OfItem, EachTree}
 
 -- P holds of what is spelled with at most 64 open
-module _ (P : Tree → Type 0) (each : (d : ℕ) (t : Tree) (ts rest : List Token) → Spells d t ts rest → d ≤ most_open → P t) where
+module _ (P : Tree → Type 0) (each : (d : ℕ) (t : Tree) (ts rest : List Token) → Spells d t ts rest → d ≤ most_open
+    → P t) where
   mutual
     unfolding OfSequence OfSteps OfOthers
 
@@ -23,7 +28,8 @@ module _ (P : Tree → Type 0) (each : (d : ℕ) (t : Tree) (ts rest : List Toke
     of-body (is_boolean spelled) low = each _ _ _ _ spelled low
     of-body (in_brackets l r n inner) low = of-sequence inner (omega arith)
 
-    of-repetition : {d : ℕ} {s : SequenceForm} {ts rest : List Token} → IsRepetition d s ts rest → d ≤ most_open → OfSequence P s
+    of-repetition : {d : ℕ} {s : SequenceForm} {ts rest : List Token} → IsRepetition d s ts rest → d ≤ most_open
+        → OfSequence P s
     of-repetition (is_once inner) low = of-body inner low
     of-repetition (is_repeated inner counts) low = of-body inner low
 
@@ -31,35 +37,43 @@ module _ (P : Tree → Type 0) (each : (d : ℕ) (t : Tree) (ts rest : List Toke
     of-head (is_prompt inner) low = of-repetition inner low
     of-head (is_late delay inner) low = of-repetition inner low
 
-    of-steps : {d : ℕ} {steps : Steps} {ts rest : List Token} → AreSteps d steps ts rest → d ≤ most_open → OfSteps P steps
+    of-steps : {d : ℕ} {steps : Steps} {ts rest : List Token} → AreSteps d steps ts rest → d ≤ most_open
+        → OfSteps P steps
     of-steps no_steps low = tt
     of-steps (one_step delay inner more) low = (of-repetition inner low, of-steps more low)
 
-    of-delayed : {d : ℕ} {s : SequenceForm} {ts rest : List Token} → IsDelayed d s ts rest → d ≤ most_open → OfSequence P s
+    of-delayed : {d : ℕ} {s : SequenceForm} {ts rest : List Token} → IsDelayed d s ts rest → d ≤ most_open
+        → OfSequence P s
     of-delayed (is_head inner) low = of-head inner low
     of-delayed (is_delayed inner more) low = (of-head inner low, of-steps more low)
 
-    of-during : {d : ℕ} {s : SequenceForm} {ts rest : List Token} → IsDuring d s ts rest → d ≤ most_open → OfSequence P s
+    of-during : {d : ℕ} {s : SequenceForm} {ts rest : List Token} → IsDuring d s ts rest → d ≤ most_open
+        → OfSequence P s
     of-during (is_cat inner) low = of-delayed inner low
     of-during (is_throughout h spelled inner) low = (each _ _ _ _ spelled low, of-during inner (omega arith))
 
-    of-conjuncts : {d : ℕ} {others : Others} {ts rest : List Token} → AreConjuncts d others ts rest → d ≤ most_open → OfOthers P others
+    of-conjuncts : {d : ℕ} {others : Others} {ts rest : List Token} → AreConjuncts d others ts rest → d ≤ most_open
+        → OfOthers P others
     of-conjuncts no_conjunct low = tt
     of-conjuncts (one_conjunct h inner more) low = (of-during inner low, of-conjuncts more low)
 
-    of-conjunction : {d : ℕ} {s : SequenceForm} {ts rest : List Token} → IsConjunction d s ts rest → d ≤ most_open → OfSequence P s
+    of-conjunction : {d : ℕ} {s : SequenceForm} {ts rest : List Token} → IsConjunction d s ts rest → d ≤ most_open
+        → OfSequence P s
     of-conjunction (is_during inner) low = of-during inner low
     of-conjunction (is_all inner more) low = (of-during inner low, of-conjuncts more low)
 
-    of-alternatives : {d : ℕ} {others : Others} {ts rest : List Token} → AreAlternatives d others ts rest → d ≤ most_open → OfOthers P others
+    of-alternatives : {d : ℕ} {others : Others} {ts rest : List Token} → AreAlternatives d others ts rest
+        → d ≤ most_open → OfOthers P others
     of-alternatives no_alternative low = tt
     of-alternatives (one_alternative h inner more) low = (of-conjunction inner low, of-alternatives more low)
 
-    of-sequence : {d : ℕ} {s : SequenceForm} {ts rest : List Token} → IsSequence d s ts rest → d ≤ most_open → OfSequence P s
+    of-sequence : {d : ℕ} {s : SequenceForm} {ts rest : List Token} → IsSequence d s ts rest → d ≤ most_open
+        → OfSequence P s
     of-sequence (is_conjunction inner) low = of-conjunction inner low
     of-sequence (is_either inner more) low = (of-conjunction inner low, of-alternatives more low)
 
-  of-property : {d : ℕ} {p : PropertyForm} {ts rest : List Token} → IsProperty d p ts rest → d ≤ most_open → OfProperty P p
+  of-property : {d : ℕ} {p : PropertyForm} {ts rest : List Token} → IsProperty d p ts rest → d ≤ most_open
+      → OfProperty P p
   of-property (is_plain inner) low = of-sequence inner low
   of-property (is_implication h first second) low = (of-sequence first low, of-sequence second low)
   of-property (bracketed l r inner) low = of-property inner (omega arith)
@@ -68,7 +82,8 @@ module _ (P : Tree → Type 0) (each : (d : ℕ) (t : Tree) (ts rest : List Toke
   of-clear no_clear = tt
   of-clear (clear w l spelled r) = each _ _ _ _ spelled (omega arith)
 
-  of-clause : {which : Terminal} {pair : Option (Tree × Tree)} {ts rest : List Token} → IsClause which pair ts rest → OfTwo P pair
+  of-clause : {which : Terminal} {pair : Option (Tree × Tree)} {ts rest : List Token} → IsClause which pair ts rest
+      → OfTwo P pair
   of-clause no_clause = tt
   of-clause (clause w l first k second r) = (each _ _ _ _ first (omega arith), each _ _ _ _ second (omega arith))
 
@@ -77,7 +92,8 @@ module _ (P : Tree → Type 0) (each : (d : ℕ) (t : Tree) (ts rest : List Toke
   of-disable (disable w i l spelled r) = each _ _ _ _ spelled (omega arith)
 
   of-item : {i : ItemForm} {ts rest : List Token} → SpellsItem i ts rest → OfItem P i
-  of-item (a_counter (is_counter w n l b r c load add sub e)) = record { clear = of-clear c; load = of-clause load; add = of-clause add; sub = of-clause sub }
+  of-item (a_counter (is_counter w n l b r c load add sub e)) =
+      record { clear = of-clear c; load = of-clause load; add = of-clause add; sub = of-clause sub }
   of-item (a_declaration (is_declaration w n k body e)) = of-sequence body (omega arith)
   of-item (an_assertion (is_assertion named verb property left at_sign round posedge clock right d p last semicolon)) =
       record { disable = of-disable d; property = of-property p (omega arith) }

@@ -5,7 +5,9 @@ use Rattle.types_sequences.specs.Drafts.{Draft, IsCyclic}
 use Rattle.types.specs.Cycles.{IsFirstCycle, IsAtMost}
 
 -- it doesn't reach itself
-pub cycle_none : {B : Type 0} (bodies : List (Draft B)) (bytes : List ℕ) (place : ℕ) (fault : Option ℕ) → (IsCyclic bodies place → ⊥) → IsFirstCycle bodies bytes place fault → IsFirstCycle bodies bytes (place + 1) fault
+pub cycle_none : {B : Type 0} (bodies : List (Draft B)) (bytes : List ℕ) (place : ℕ) (fault : Option ℕ)
+    → (IsCyclic bodies place → ⊥) → IsFirstCycle bodies bytes place fault
+    → IsFirstCycle bodies bytes (place + 1) fault
 cycle_none bodies bytes place None n h = λ p lt c.
     elim (cases_eq p place) [
       | inl e ↦ n (subst (λ (x : ℕ). IsCyclic bodies x) e c)
@@ -25,7 +27,9 @@ cycle_none bodies bytes place (Some at) n h =
     }
 
 -- a lower one was found
-pub cycle_above : {B : Type 0} (bodies : List (Draft B)) (bytes : List ℕ) (place : ℕ) (fault : Option ℕ) → IsAtMost fault (get_or bytes place 0) → IsFirstCycle bodies bytes place fault → IsFirstCycle bodies bytes (place + 1) fault
+pub cycle_above : {B : Type 0} (bodies : List (Draft B)) (bytes : List ℕ) (place : ℕ) (fault : Option ℕ)
+    → IsAtMost fault (get_or bytes place 0) → IsFirstCycle bodies bytes place fault
+    → IsFirstCycle bodies bytes (place + 1) fault
 cycle_above bodies bytes place None n h = elim n [ ]
 cycle_above bodies bytes place (Some at) n h =
     record {
@@ -41,7 +45,9 @@ cycle_above bodies bytes place (Some at) n h =
     }
 
 -- it reaches itself, and stands lower than what was found
-pub cycle_found : {B : Type 0} (bodies : List (Draft B)) (bytes : List ℕ) (place byte : ℕ) (fault : Option ℕ) → byte ≡ get_or bytes place 0 → (IsAtMost fault byte → ⊥) → IsCyclic bodies place → IsFirstCycle bodies bytes place fault → IsFirstCycle bodies bytes (place + 1) (Some byte)
+pub cycle_found : {B : Type 0} (bodies : List (Draft B)) (bytes : List ℕ) (place byte : ℕ) (fault : Option ℕ)
+    → byte ≡ get_or bytes place 0 → (IsAtMost fault byte → ⊥) → IsCyclic bodies place
+    → IsFirstCycle bodies bytes place fault → IsFirstCycle bodies bytes (place + 1) (Some byte)
 cycle_found bodies bytes place byte None is n c h =
     record {
       place = place;

@@ -1,5 +1,6 @@
 -- Faults of cycles, by the entries of named sequences.
-use Rattle.std.proofs.Common.{◌≡◌, ℕ, ◌<◌, ◌≤◌, List, [], ◌∷◌, map, length, get_or, Option, Some, None, true, slice_get, refl, sym, ap, subst, ◌∙◌, arith}
+use Rattle.std.proofs.Common.{◌≡◌, ℕ, ◌<◌, ◌≤◌, List, [], ◌∷◌, map, length, get_or, Option, Some, None, true, slice_get}
+use Rattle.std.proofs.Common.{refl, sym, ap, subst, ◌∙◌, arith}
 use Rattle.std.proofs.lemmas.Bool.{false≢true}
 use Rattle.std.proofs.lemmas.List.{length-map}
 use Rattle.std.proofs.lemmas.Option.{slice_get-map, slice_get-get_or, get_or_from_slice_get}
@@ -29,7 +30,8 @@ entry_there (Some None) h = absurd (false≢true h)
 entry_there (Some (Some e)) h = (e, refl)
 
 -- what has an entry doesn't reach itself
-pub entry_acyclic : (bodies : List (Draft Boolean)) (table : List (Option Entry)) (p : ℕ) → IsTable bodies table → has_entry table p ≡ true → IsCyclic bodies p → ⊥
+pub entry_acyclic : (bodies : List (Draft Boolean)) (table : List (Option Entry)) (p : ℕ) → IsTable bodies table
+    → has_entry table p ≡ true → IsCyclic bodies p → ⊥
 entry_acyclic bodies table p t h c =
     let there = entry_there (slice_get table p) h in
     let of = t p there.0 there.1 in
@@ -39,7 +41,8 @@ some_at : {A : Type 0} (xs : List A) (p : ℕ) → p < length xs → (x : A) × 
 some_at [] p h = absurd (omega (arith, h))
 some_at (x ∷ xs) p h = (get_or (x ∷ xs) p x, slice_get-get_or (x ∷ xs) p x h)
 
-module _ (s : Scope) (items : List ItemForm) (bodies : List (Draft Boolean)) (bytes : List ℕ) (o : AreOutlined s items bodies bytes) where
+module _ (s : Scope) (items : List ItemForm) (bodies : List (Draft Boolean)) (bytes : List ℕ)
+    (o : AreOutlined s items bodies bytes) where
   outlined : (p : ℕ) → IsCyclic (outlines_of s items) p → IsCyclic bodies p
   outlined p c = map_cyclic (λ b. dot) bodies p (subst (λ (ds : List (Draft Dot)). IsCyclic ds p) (sym o.outlines) c)
 
@@ -53,7 +56,8 @@ module _ (s : Scope) (items : List ItemForm) (bodies : List (Draft Boolean)) (by
   byte_at p d e =
       ap (λ (bs : List ℕ). get_or bs p 0) o.declared
       ∙ get_or_from_slice_get (map (λ (x : DeclarationForm). x.name.at) (declarations_of items)) p d.name.at 0
-      (slice_get-map (λ (x : DeclarationForm). x.name.at) (declarations_of items) p ∙ ap (option_map (λ (x : DeclarationForm). x.name.at)) e)
+      (slice_get-map (λ (x : DeclarationForm). x.name.at) (declarations_of items) p
+      ∙ ap (option_map (λ (x : DeclarationForm). x.name.at)) e)
 
   -- no declaration reaches itself
   pub clear_6 : ((p : ℕ) → p < length bodies → IsCyclic bodies p → ⊥) → ClearTo s items 5 → ClearTo s items 6
@@ -74,7 +78,8 @@ module _ (s : Scope) (items : List ItemForm) (bodies : List (Draft Boolean)) (by
         byte = low.byte ∙ byte_at low.place there.0 there.1;
       }
 
-  above_lowest : (at : ℕ) → IsLowest bodies bytes (length bodies) at → (other : TypeFault) → rank other ≡ 6 → FaultStands s items other → at ≤ byte_of other
+  above_lowest : (at : ℕ) → IsLowest bodies bytes (length bodies) at → (other : TypeFault) → rank other ≡ 6
+      → FaultStands s items other → at ≤ byte_of other
   above_lowest at low other r h =
       let c : CycleAt s items (byte_of other) = of_rank s items 6 other r h in
       let d = outlined c.place c.cyclic in
@@ -82,5 +87,7 @@ module _ (s : Scope) (items : List ItemForm) (bodies : List (Draft Boolean)) (by
       omega (arith, under, byte_at c.place c.declared c.found, c.byte)
 
   -- the lowest one that does
-  pub first_6 : (at : ℕ) → IsLowest bodies bytes (length bodies) at → ClearTo s items 5 → IsFirst s items (CyclicSequence at)
-  first_6 at low clear = first_at s items 5 (CyclicSequence at) clear (omega arith) (lowest_at at low) (above_lowest at low)
+  pub first_6 : (at : ℕ) → IsLowest bodies bytes (length bodies) at → ClearTo s items 5
+      → IsFirst s items (CyclicSequence at)
+  first_6 at low clear =
+      first_at s items 5 (CyclicSequence at) clear (omega arith) (lowest_at at low) (above_lowest at low)

@@ -1,5 +1,6 @@
 -- Faults of sides, by what is known of them.
-use Rattle.std.proofs.Common.{◌≡◌, ◌⊎◌, inl, inr, ℕ, ◌<◌, ◌≤◌, List, [], ◌∷◌, Bool, true, false, not, refl, sym, ap, subst, ◌∙◌, arith}
+use Rattle.std.proofs.Common.{◌≡◌, ◌⊎◌, inl, inr, ℕ, ◌<◌, ◌≤◌, List, [], ◌∷◌, Bool, true, false, not, refl, sym, ap}
+use Rattle.std.proofs.Common.{subst, ◌∙◌, arith}
 use Rattle.std.proofs.lemmas.Bool.{cases_Bool, false≢true, ltb-true, ltb-false, lt-ltb}
 use Rattle.assertions.specs.Segments.{IsDegenerate, AdmitsEmpty, always}
 use Rattle.assertions.specs.Written.{Written, kernel, weight}
@@ -15,31 +16,38 @@ use Rattle.types.specs.Sides.{IsWeighed, AreWeighed, AreLight, places_where, is_
 
 -- the test tells what is so of what a side says
 abbrev pub Tells : (Written Dot → Type 0) → (Facts → Bool) → Type 0
-Tells IsSo test = (bodies : List (Draft Dot)) (x : faults.Side) (y : Side) (h : IsWeighed bodies x y) → (test y.facts ≡ true → IsSo h.meant) × (IsSo h.meant → test y.facts ≡ true)
+Tells IsSo test =
+    (bodies : List (Draft Dot)) (x : faults.Side) (y : Side) (h : IsWeighed bodies x y)
+    → (test y.facts ≡ true → IsSo h.meant) × (IsSo h.meant → test y.facts ≡ true)
 
-place_kept : (test : Facts → Bool) (y : Side) (ys : List Side) (at : ℕ) → IsIn at (places_where test ys) → IsIn at (places_where test (y ∷ ys))
+place_kept : (test : Facts → Bool) (y : Side) (ys : List Side) (at : ℕ) → IsIn at (places_where test ys)
+    → IsIn at (places_where test (y ∷ ys))
 place_kept test y ys at i =
     elim (cases_Bool (test y.facts)) [
       | inl e ↦ rw e (inr i)
       | inr e ↦ rw e i
     ]
 
-place_here : (test : Facts → Bool) (y : Side) (ys : List Side) → test y.facts ≡ true → IsIn y.at (places_where test (y ∷ ys))
+place_here : (test : Facts → Bool) (y : Side) (ys : List Side) → test y.facts ≡ true
+    → IsIn y.at (places_where test (y ∷ ys))
 place_here test y ys e = rw e (inl refl)
 
-place_of : (test : Facts → Bool) (y : Side) (ys : List Side) (at : ℕ) → IsIn at (places_where test (y ∷ ys)) → ((test y.facts ≡ true) × (at ≡ y.at)) ⊎ IsIn at (places_where test ys)
+place_of : (test : Facts → Bool) (y : Side) (ys : List Side) (at : ℕ) → IsIn at (places_where test (y ∷ ys))
+    → ((test y.facts ≡ true) × (at ≡ y.at)) ⊎ IsIn at (places_where test ys)
 place_of test y ys at i =
     elim (cases_Bool (test y.facts)) [
       | inl e ↦ here e (rw e at i)
       | inr e ↦ inr (rw e at i)
     ]
   where
-    here : test y.facts ≡ true → (at ≡ y.at) ⊎ IsIn at (places_where test ys) → ((test y.facts ≡ true) × (at ≡ y.at)) ⊎ IsIn at (places_where test ys)
+    here : test y.facts ≡ true → (at ≡ y.at) ⊎ IsIn at (places_where test ys) → ((test y.facts ≡ true) × (at ≡ y.at))
+        ⊎ IsIn at (places_where test ys)
     here e (inl a) = inl (e, a)
     here e (inr r) = inr r
 
 -- a side that is so stands among the places
-pub side_there : (IsSo : Written Dot → Type 0) (test : Facts → Bool) → Tells IsSo test → (bodies : List (Draft Dot)) (xs : List faults.Side) (ys : List Side) → AreWeighed bodies xs ys →
+pub side_there : (IsSo : Written Dot → Type 0) (test : Facts → Bool) → Tells IsSo test
+    → (bodies : List (Draft Dot)) (xs : List faults.Side) (ys : List Side) → AreWeighed bodies xs ys →
     (at : ℕ) → SideAt bodies xs IsSo at → IsIn at (places_where test ys)
 side_there IsSo test tells bodies [] [] all at s = elim s.one [ ]
 side_there IsSo test tells bodies [] (y ∷ ys) all at s = elim all [ ]
@@ -47,45 +55,64 @@ side_there IsSo test tells bodies (x ∷ xs) [] all at s = elim all [ ]
 side_there IsSo test tells bodies (x ∷ xs) (y ∷ ys) all at s =
     elim s.one [
       | inl e ↦ first e
-      | inr r ↦ place_kept test y ys at (side_there IsSo test tells bodies xs ys all.1 at (record { side = s.side; one = r; meant = s.meant; spells = s.spells; so = s.so; byte = s.byte }))
+      | inr r ↦ place_kept test y ys at
+          (side_there IsSo test tells bodies xs ys all.1 at
+          (record { side = s.side; one = r; meant = s.meant; spells = s.spells; so = s.so; byte = s.byte }))
     ]
   where
     first : s.side ≡ x → IsIn at (places_where test (y ∷ ys))
     first e =
-        let here : Spells bodies x.outline s.meant = subst (λ (z : faults.Side). Spells bodies z.outline s.meant) e s.spells in
+        let here : Spells bodies x.outline s.meant =
+        subst (λ (z : faults.Side). Spells bodies z.outline s.meant) e s.spells in
         let same = spells_one bodies x.outline s.meant all.0.meant here all.0.spells in
         let so : IsSo all.0.meant = subst IsSo same s.so in
         let byte : at ≡ y.at = s.byte ∙ ap (λ (z : faults.Side). z.byte) e ∙ sym all.0.byte in
-        subst (λ (b : ℕ). IsIn b (places_where test (y ∷ ys))) (sym byte) (place_here test y ys ((tells bodies x y all.0).1 so))
+        subst (λ (b : ℕ). IsIn b (places_where test (y ∷ ys))) (sym byte)
+        (place_here test y ys ((tells bodies x y all.0).1 so))
 
 -- and each place is that of a side that is so
-pub side_back : (IsSo : Written Dot → Type 0) (test : Facts → Bool) → Tells IsSo test → (bodies : List (Draft Dot)) (xs : List faults.Side) (ys : List Side) → AreWeighed bodies xs ys →
+pub side_back : (IsSo : Written Dot → Type 0) (test : Facts → Bool) → Tells IsSo test
+    → (bodies : List (Draft Dot)) (xs : List faults.Side) (ys : List Side) → AreWeighed bodies xs ys →
     (at : ℕ) → IsIn at (places_where test ys) → SideAt bodies xs IsSo at
 side_back IsSo test tells bodies [] [] all at i = elim i [ ]
 side_back IsSo test tells bodies [] (y ∷ ys) all at i = elim all [ ]
 side_back IsSo test tells bodies (x ∷ xs) [] all at i = elim all [ ]
 side_back IsSo test tells bodies (x ∷ xs) (y ∷ ys) all at i =
     elim (place_of test y ys at i) [
-      | inl h ↦ (record { side = x; one = inl refl; meant = all.0.meant; spells = all.0.spells; so = (tells bodies x y all.0).0 h.0; byte = h.1 ∙ all.0.byte })
+      | inl h ↦
+          (record {
+            side = x;
+            one = inl refl;
+            meant = all.0.meant;
+            spells = all.0.spells;
+            so = (tells bodies x y all.0).0 h.0;
+            byte = h.1 ∙ all.0.byte;
+          })
       | inr r ↦
           (let s = side_back IsSo test tells bodies xs ys all.1 at r in
           record { side = s.side; one = inr s.one; meant = s.meant; spells = s.spells; so = s.so; byte = s.byte })
     ]
 
 pub tells_wide : Tells (λ w. 127 < weight w) is_wide
-tells_wide bodies x y h =
-    (λ t. omega (arith, ltb-true 127 y.facts.weight t, h.weighs), λ so. lt-ltb 127 y.facts.weight (omega (arith, so, h.weighs)))
+tells_wide bodies x y h = (
+  λ t. omega (arith, ltb-true 127 y.facts.weight t, h.weighs),
+  λ so. lt-ltb 127 y.facts.weight (omega (arith, so, h.weighs)),
+)
 
 pub tells_degenerate : Tells (λ w. IsDegenerate (kernel dot w)) is_degenerate
-tells_degenerate bodies x y h =
-    (λ t. none-degenerate Dot dot h.meant h.ordered (sym h.ticks ∙ ticks_false t), λ so. ap not (h.ticks ∙ degenerate-none Dot dot h.meant h.ordered so))
+tells_degenerate bodies x y h = (
+  λ t. none-degenerate Dot dot h.meant h.ordered (sym h.ticks ∙ ticks_false t),
+  λ so. ap not (h.ticks ∙ degenerate-none Dot dot h.meant h.ordered so),
+)
   where
     ticks_false : not y.facts.ticks ≡ true → y.facts.ticks ≡ false
     ticks_false t = elim (cases_Bool y.facts.ticks) [ inl e ↦ absurd (false≢true (sym (ap not e) ∙ t)) | inr e ↦ e ]
 
 pub tells_empty : Tells (λ w. AdmitsEmpty (kernel dot w)) is_empty
-tells_empty bodies x y h =
-    (λ t. empty-Matches Dot always dot h.meant 0 h.ordered (sym h.empty ∙ t), λ so. h.empty ∙ Matches-empty Dot always dot h.meant 0 h.ordered so)
+tells_empty bodies x y h = (
+  λ t. empty-Matches Dot always dot h.meant 0 h.ordered (sym h.empty ∙ t),
+  λ so. h.empty ∙ Matches-empty Dot always dot h.meant 0 h.ordered so,
+)
 
 -- Where no side is wide, each is light.
 pub all_light : (ys : List Side) → ((at : ℕ) → IsIn at (places_where is_wide ys) → ⊥) → AreLight ys

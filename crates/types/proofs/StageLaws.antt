@@ -1,5 +1,6 @@
 -- Faults are looked for by their kinds, in order.
-use Rattle.std.proofs.Common.{◌≡◌, inl, inr, ℕ, ◌+◌, ◌≤◌, min, List, [], ◌∷◌, get_or, Option, Some, None, Result, Ok, Err, IfErr, refl, sym, subst, ◌∙◌, arith}
+use Rattle.std.proofs.Common.{◌≡◌, inl, inr, ℕ, ◌+◌, ◌≤◌, min, List, [], ◌∷◌, get_or, Option, Some, None, Result, Ok}
+use Rattle.std.proofs.Common.{Err, IfErr, refl, sym, subst, ◌∙◌, arith}
 use Rattle.std.specs.Result.{IsErrAnd}
 use Rattle.std.proofs.lemmas.Option.{none-some}
 use Rattle.std.proofs.lemmas.Bool.{cases_eq, cases_lt}
@@ -10,7 +11,9 @@ use Rattle.types_expressions.specs.declared.own.Sought.TheVariants.{Unknown, Wid
 use Rattle.types_expressions.specs.Scopes.{Scope}
 use Rattle.types_expressions.specs.Faults.{file_faults, earlier, least}
 use Rattle.types.specs.declared.fault.TypeFault.{TypeFault}
-use Rattle.types.specs.declared.fault.TypeFault.TheVariants.{UnknownName, Duplicate, WiderThan128, SliceRange, Degenerate, AdmitsEmpty as Empty, OtherClock, CyclicSequence, TooWide, Memory}
+use Rattle.types.specs.declared.fault.TypeFault.TheVariants.{UnknownName, Duplicate, WiderThan128, SliceRange}
+use Rattle.types.specs.declared.fault.TypeFault.TheVariants.{Degenerate, AdmitsEmpty as Empty, OtherClock}
+use Rattle.types.specs.declared.fault.TypeFault.TheVariants.{CyclicSequence, TooWide, Memory}
 use Rattle.types_suites.specs.Texts.{assertions_of, duplicates, other_clocks}
 use Rattle.types.specs.Faults.{FaultStands, rank, byte_of, IsFirst, IsTypeFault, ClearTo}
 
@@ -28,7 +31,8 @@ pub record IsLeast (xs : List ℕ) (at : ℕ) : Type 0 where
   pub stands : IsIn at xs
   pub lowest : (other : ℕ) → IsIn other xs → at ≤ other
 
-least_with : (x at : ℕ) (xs : List ℕ) (o : Option ℕ) → o ≡ least xs → ((b : ℕ) → o ≡ Some b → IsLeast xs b) → earlier (Some x) o ≡ Some at → IsLeast (x ∷ xs) at
+least_with : (x at : ℕ) (xs : List ℕ) (o : Option ℕ) → o ≡ least xs → ((b : ℕ) → o ≡ Some b → IsLeast xs b)
+    → earlier (Some x) o ≡ Some at → IsLeast (x ∷ xs) at
 least_with x at xs None is below e =
     let same : x ≡ at = cc in
     record {
@@ -99,15 +103,18 @@ of_rank s items n fault r h =
     subst (λ (m : ℕ). FaultStands s items (ranked m (byte_of fault))) r
     (subst (λ (f : TypeFault). FaultStands s items f) (sym (is_ranked fault)) h)
 
-pub clear_next : (s : Scope) (items : List ItemForm) (n : ℕ) → ClearTo s items n → ((fault : TypeFault) → rank fault ≡ n + 1 → FaultStands s items fault → ⊥) → ClearTo s items (n + 1)
+pub clear_next : (s : Scope) (items : List ItemForm) (n : ℕ) → ClearTo s items n
+    → ((fault : TypeFault) → rank fault ≡ n + 1 → FaultStands s items fault → ⊥) → ClearTo s items (n + 1)
 clear_next s items n clear none fault h =
     elim (cases_eq (rank fault) (n + 1)) [
       | inl e ↦ absurd (none fault e h)
       | inr d ↦ omega (arith, clear fault h, d)
     ]
 
-pub first_at : (s : Scope) (items : List ItemForm) (n : ℕ) (fault : TypeFault) → ClearTo s items n → rank fault ≡ n + 1 → FaultStands s items fault →
-    ((other : TypeFault) → rank other ≡ n + 1 → FaultStands s items other → byte_of fault ≤ byte_of other) → IsFirst s items fault
+pub first_at : (s : Scope) (items : List ItemForm) (n : ℕ) (fault : TypeFault) → ClearTo s items n → rank fault ≡ n + 1
+    → FaultStands s items fault →
+    ((other : TypeFault) → rank other ≡ n + 1 → FaultStands s items other → byte_of fault ≤ byte_of other)
+    → IsFirst s items fault
 first_at s items n fault clear r h low =
     record {
       stands = h;
@@ -190,7 +197,8 @@ first_5 s items at =
     first_by s items 4 (other_clocks (assertions_of items)) (OtherClock at) (of_rank s items 5) (omega arith)
     (λ h. h)
 
-pub ruleset for_stages = (clear_start, clear_1, clear_2, clear_3, clear_4, clear_5, first_1, first_2, first_3, first_4, first_5)
+pub ruleset for_stages =
+    (clear_start, clear_1, clear_2, clear_3, clear_4, clear_5, first_1, first_2, first_3, first_4, first_5)
 
 -- Behind the first five kinds, the expressions of a text have no fault.
 nothing_in : (xs : List ℕ) → ((at : ℕ) → IsIn at xs → ⊥) → xs ≡ []
@@ -198,15 +206,20 @@ nothing_in [] none = refl
 nothing_in (x ∷ xs) none = absurd (none x (inl refl))
 
 pub clear_sound : (s : Scope) (items : List ItemForm) → ClearTo s items 5 → (k : Sought) → file_faults s k items ≡ []
-clear_sound s items clear Unknown = nothing_in (file_faults s Unknown items) (λ at i. omega (arith, clear (UnknownName at) i))
-clear_sound s items clear Wide = nothing_in (file_faults s Wide items) (λ at i. omega (arith, clear (WiderThan128 at) i))
-clear_sound s items clear OutOfRange = nothing_in (file_faults s OutOfRange items) (λ at i. omega (arith, clear (SliceRange at) i))
+clear_sound s items clear Unknown =
+    nothing_in (file_faults s Unknown items) (λ at i. omega (arith, clear (UnknownName at) i))
+clear_sound s items clear Wide =
+    nothing_in (file_faults s Wide items) (λ at i. omega (arith, clear (WiderThan128 at) i))
+clear_sound s items clear OutOfRange =
+    nothing_in (file_faults s OutOfRange items) (λ at i. omega (arith, clear (SliceRange at) i))
 
 -- a refusal that `?` passes on
-pub refused_memory : {X : Type 0} (s : Scope) (items : List ItemForm) (r : Result X TypeFault) → IsErrAnd r (λ e. e ≡ Memory) → IfErr r (IsTypeFault s items)
+pub refused_memory : {X : Type 0} (s : Scope) (items : List ItemForm) (r : Result X TypeFault)
+    → IsErrAnd r (λ e. e ≡ Memory) → IfErr r (IsTypeFault s items)
 refused_memory s items (Ok x) h = elim h [ ]
 refused_memory s items (Err e) h = rw h tt
 
-pub refused_same : {X : Type 0} (s : Scope) (items : List ItemForm) (f : TypeFault) (r : Result X TypeFault) → IsErrAnd r (λ e. e ≡ f) → IsTypeFault s items f → IfErr r (IsTypeFault s items)
+pub refused_same : {X : Type 0} (s : Scope) (items : List ItemForm) (f : TypeFault) (r : Result X TypeFault)
+    → IsErrAnd r (λ e. e ≡ f) → IsTypeFault s items f → IfErr r (IsTypeFault s items)
 refused_same s items f (Ok x) h g = elim h [ ]
 refused_same s items f (Err e) h g = rw h g

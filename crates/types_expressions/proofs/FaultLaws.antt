@@ -17,7 +17,8 @@ earlier-assoc (Some a) (Some b) (Some c) = ap Some (min-assoc a b c)
 
 pub least-append : (xs ys : List ℕ) → least (xs ++ ys) ≡ earlier (least xs) (least ys)
 least-append [] ys = refl
-least-append (x ∷ xs) ys = ap (earlier (Some x)) (least-append xs ys) ∙ sym (earlier-assoc (Some x) (least xs) (least ys))
+least-append (x ∷ xs) ys =
+    ap (earlier (Some x)) (least-append xs ys) ∙ sym (earlier-assoc (Some x) (least xs) (least ys))
 
 pub ruleset for_least = (least-append)
 

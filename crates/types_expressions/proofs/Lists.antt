@@ -1,5 +1,6 @@
 -- Lists that loops go over, from a place on.
-use Rattle.std.proofs.Common.{◌≡◌, ℕ, ◌+◌, ◌<◌, ◌≤◌, List, [], ◌∷◌, map, drop, length, get_or, refl, ap, drop-cons, add-one, Result, Ok, Err, IfOk}
+use Rattle.std.proofs.Common.{◌≡◌, ℕ, ◌+◌, ◌<◌, ◌≤◌, List, [], ◌∷◌, map, drop, length, get_or, refl, ap, drop-cons}
+use Rattle.std.proofs.Common.{add-one, Result, Ok, Err, IfOk}
 use Rattle.std.proofs.lemmas.List.{drop_all}
 use Rattle.grammar.specs.declared.bound.Range.{Range}
 use Rattle.grammar.specs.declared.operator.Infix.{Infix}
@@ -12,7 +13,8 @@ use Rattle.text_trees.specs.declared.sequence.SequenceTree.{SequenceTree}
 use Rattle.text_trees.specs.Views.{tree_of, link_of, sequence_of, delay_step_of}
 
 -- the element at a place, and those behind it
-pub at : {A : Type 0} (B : Type 0) (f : A → B) (xs : List A) (i : ℕ) (x : A) → i < length xs → x ≡ get_or xs i x → map f (drop i xs) ≡ f x ∷ map f (drop (i + 1) xs)
+pub at : {A : Type 0} (B : Type 0) (f : A → B) (xs : List A) (i : ℕ) (x : A) → i < length xs → x ≡ get_or xs i x
+    → map f (drop i xs) ≡ f x ∷ map f (drop (i + 1) xs)
 at B f xs i x lt is = rw (drop-cons xs i x lt, add-one, ← is) refl
 
 -- nothing behind the last
@@ -33,11 +35,14 @@ parts-at xs i x lt is = ap parts_of (at trees.Tree tree_of xs i x lt is)
 pub parts-end : (xs : List ExprTree) (i : ℕ) → length xs ≤ i → parts_of (map tree_of (drop i xs)) ≡ no_part
 parts-end xs i le = ap parts_of (past_end trees.Tree tree_of xs i le)
 
-pub steps-at : (xs : List (Range × SequenceTree)) (i : ℕ) (x : Range × SequenceTree) → i < length xs → x ≡ get_or xs i x →
-    steps_of (map delay_step_of (drop i xs)) ≡ step x.0 (sequence_of x.1) (steps_of (map delay_step_of (drop (i + 1) xs)))
+pub steps-at : (xs : List (Range × SequenceTree)) (i : ℕ) (x : Range × SequenceTree) → i < length xs → x ≡ get_or xs i x
+    →
+    steps_of (map delay_step_of (drop i xs))
+    ≡ step x.0 (sequence_of x.1) (steps_of (map delay_step_of (drop (i + 1) xs)))
 steps-at xs i x lt is = ap steps_of (at (Range × trees.SequenceForm) delay_step_of xs i x lt is)
 
-pub steps-end : (xs : List (Range × SequenceTree)) (i : ℕ) → length xs ≤ i → steps_of (map delay_step_of (drop i xs)) ≡ no_step
+pub steps-end : (xs : List (Range × SequenceTree)) (i : ℕ) → length xs ≤ i → steps_of (map delay_step_of (drop i xs))
+    ≡ no_step
 steps-end xs i le = ap steps_of (past_end (Range × trees.SequenceForm) delay_step_of xs i le)
 
 pub others-at : (xs : List SequenceTree) (i : ℕ) (x : SequenceTree) → i < length xs → x ≡ get_or xs i x →

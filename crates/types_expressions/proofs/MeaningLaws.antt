@@ -1,7 +1,8 @@
 -- What expressions mean has their own widths.
 use Rattle.std.proofs.Common.{◌≡◌, ℕ, ◌+◌, ◌-◌, max, List, Option, Some, None, refl, ap, ◌∙◌}
 use Rattle.grammar.specs.declared.bound.Select.{Select}
-use Rattle.grammar.specs.Trees.{Tree, number, path, concatenation, past, call, unary, chain, choice, Links, end, link, Parts, no_part, part}
+use Rattle.grammar.specs.Trees.{Tree, number, path, concatenation, past, call, unary, chain, choice, Links, end, link}
+use Rattle.grammar.specs.Trees.{Parts, no_part, part}
 use Rattle.expressions.specs.Terms as terms
 use Rattle.expressions.specs.Terms.{Term, width_of}
 use Rattle.expressions.specs.declared.name.Name.{Name}
@@ -15,20 +16,25 @@ use Rattle.types_expressions.specs.declared.operator.Unary.TheVariants as unarie
 use Rattle.types_expressions.specs.declared.operator.Call.{Call}
 use Rattle.types_expressions.specs.declared.operator.Call.TheVariants as calls
 use Rattle.types_expressions.specs.Scopes.{Scope, path_text, meaning, bits_of}
-use Rattle.types_expressions.specs.Widths.{binary_of, unary_of, call_of, binary_width, unary_width, path_width_by, high_of, low_of, own_width, chain_width, parts_width}
+use Rattle.types_expressions.specs.Widths.{binary_of, unary_of, call_of, binary_width, unary_width, path_width_by}
+use Rattle.types_expressions.specs.Widths.{high_of, low_of, own_width, chain_width, parts_width}
 use Rattle.types_expressions.specs.Columns.{column_of}
-use Rattle.types_expressions.specs.Meanings.{binary_term, unary_term, call_term, IsNameOf, IsRead, Means, Chains, Joins, JoinsMore}
+use Rattle.types_expressions.specs.Meanings.{binary_term, unary_term, call_term, IsNameOf, IsRead, Means, Chains, Joins}
+use Rattle.types_expressions.specs.Meanings.{JoinsMore}
 
-name-width : (means : Option Meaning) (column : Option ℕ) (n : Name) → IsNameOf means column n → n.width ≡ path_width_by (bits_of means) None
+name-width : (means : Option Meaning) (column : Option ℕ) (n : Name) → IsNameOf means column n
+    → n.width ≡ path_width_by (bits_of means) None
 name-width None column n h = elim h [ ]
 name-width (Some (Signal width)) column n h = h.width_is
 name-width (Some (Declared (Counter place width))) column n h = h.width_is
 name-width (Some (Declared (Sequence place))) column n h = elim h [ ]
 
-read-width : (means : Option Meaning) (column : Option ℕ) (x : Option Select) (e : Term) → IsRead means column x e → width_of e ≡ path_width_by (bits_of means) x
+read-width : (means : Option Meaning) (column : Option ℕ) (x : Option Select) (e : Term) → IsRead means column x e
+    → width_of e ≡ path_width_by (bits_of means) x
 read-width means column None e h = ap width_of h.is ∙ name-width means column h.name h.names
 read-width means column (Some x) e h =
-    ap width_of h.is ∙ ap (λ n. n - h.part.low + 1) h.high ∙ ap (λ n. high_of x - n + 1) h.low ∙ part-width (bits_of means)
+    ap width_of h.is ∙ ap (λ n. n - h.part.low + 1) h.high ∙ ap (λ n. high_of x - n + 1) h.low
+    ∙ part-width (bits_of means)
   where
     part-width : (bits : Option ℕ) → high_of x - low_of x + 1 ≡ path_width_by bits (Some x)
     part-width None = refl
@@ -58,22 +64,31 @@ module _ (s : Scope) (cs : List (List ℕ)) where
     mean-width (concatenation t d parts) e m = joins-width parts m.0 (own_width s d) e (mean-width d m.0 m.1) m.2
     mean-width (past t d n) e m = ap width_of m.2 ∙ mean-width d m.0 m.1
     mean-width (call f t d) e m = ap width_of m.2 ∙ called-width (call_of f) m.0
-    mean-width (unary op t d) e m = ap width_of m.2 ∙ prefixed-width (unary_of op) m.0 ∙ ap (unary_width (unary_of op)) (mean-width d m.0 m.1)
+    mean-width (unary op t d) e m =
+        ap width_of m.2 ∙ prefixed-width (unary_of op) m.0 ∙ ap (unary_width (unary_of op)) (mean-width d m.0 m.1)
     mean-width (chain d links) e m = chains-width links m.0 (own_width s d) e (mean-width d m.0 m.1) m.2
-    mean-width (choice d x y) e m = ap width_of m.6 ∙ ap (λ n. max n (width_of m.2)) (mean-width x m.1 m.4) ∙ ap (max (own_width s x)) (mean-width y m.2 m.5)
+    mean-width (choice d x y) e m =
+        ap width_of m.6 ∙ ap (λ n. max n (width_of m.2)) (mean-width x m.1 m.4)
+        ∙ ap (max (own_width s x)) (mean-width y m.2 m.5)
 
-    chains-width : (links : Links) (a : Term) (w : ℕ) (e : Term) → width_of a ≡ w → Chains s cs a links e → width_of e ≡ chain_width s w links
+    chains-width : (links : Links) (a : Term) (w : ℕ) (e : Term) → width_of a ≡ w → Chains s cs a links e
+        → width_of e ≡ chain_width s w links
     chains-width end a w e h m = ap width_of m ∙ h
     chains-width (link op d links) a w e h m =
         chains-width links (binary_term (binary_of op) a m.0) (binary_width (binary_of op) w (own_width s d)) e
-        (combined-width (binary_of op) a m.0 ∙ ap (λ n. binary_width (binary_of op) n (width_of m.0)) h ∙ ap (binary_width (binary_of op) w) (mean-width d m.0 m.1)) m.2
+        (combined-width (binary_of op) a m.0 ∙ ap (λ n. binary_width (binary_of op) n (width_of m.0)) h
+        ∙ ap (binary_width (binary_of op) w) (mean-width d m.0 m.1)) m.2
 
-    joins-width : (parts : Parts) (a : Term) (w : ℕ) (e : Term) → width_of a ≡ w → Joins s cs a parts e → width_of e ≡ parts_width s w parts
+    joins-width : (parts : Parts) (a : Term) (w : ℕ) (e : Term) → width_of a ≡ w → Joins s cs a parts e
+        → width_of e ≡ parts_width s w parts
     joins-width no_part a w e h m = ap width_of m ∙ h
     joins-width (part d parts) a w e h m =
-        joins_more-width parts (terms.concat a m.0) (w + own_width s d) e (ap (λ n. n + width_of m.0) h ∙ ap (λ n. w + n) (mean-width d m.0 m.1)) m.2
+        joins_more-width parts (terms.concat a m.0) (w + own_width s d) e
+        (ap (λ n. n + width_of m.0) h ∙ ap (λ n. w + n) (mean-width d m.0 m.1)) m.2
 
-    joins_more-width : (parts : Parts) (a : Term) (w : ℕ) (e : Term) → width_of a ≡ w → JoinsMore s cs a parts e → width_of e ≡ parts_width s w parts
+    joins_more-width : (parts : Parts) (a : Term) (w : ℕ) (e : Term) → width_of a ≡ w → JoinsMore s cs a parts e
+        → width_of e ≡ parts_width s w parts
     joins_more-width no_part a w e h m = ap width_of m ∙ h
     joins_more-width (part d parts) a w e h m =
-        joins_more-width parts (terms.concat a m.0) (w + own_width s d) e (ap (λ n. n + width_of m.0) h ∙ ap (λ n. w + n) (mean-width d m.0 m.1)) m.2
+        joins_more-width parts (terms.concat a m.0) (w + own_width s d) e
+        (ap (λ n. n + width_of m.0) h ∙ ap (λ n. w + n) (mean-width d m.0 m.1)) m.2

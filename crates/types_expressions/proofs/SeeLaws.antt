@@ -30,14 +30,16 @@ small (Comparison op) a b h k = omega arith
 small (Connective op) a b h k = omega arith
 
 module _ (s : Scope) where
-  pub width-concatenation : (x : Tree) (t : Token) (e : Tree) (parts : Parts) (first whole : ℕ) → x ≡ concatenation t e parts → first ≡ min (own_width s e) 129 →
+  pub width-concatenation : (x : Tree) (t : Token) (e : Tree) (parts : Parts) (first whole : ℕ)
+      → x ≡ concatenation t e parts → first ≡ min (own_width s e) 129 →
       whole ≡ min (parts_width s first parts) 129 → whole ≡ min (own_width s x) 129
   unfolding own_width
   width-concatenation x t e parts first whole is one all =
       let same : min first 129 ≡ min (own_width s e) 129 = ap (λ w. min w 129) one ∙ held-held (own_width s e) in
       all ∙ parts-held s first (own_width s e) parts same ∙ ap (λ y. min (own_width s y) 129) (sym is)
 
-  pub width-chain : (x : Tree) (e : Tree) (links : Links) (first whole : ℕ) → x ≡ chain e links → first ≡ min (own_width s e) 129 →
+  pub width-chain : (x : Tree) (e : Tree) (links : Links) (first whole : ℕ) → x ≡ chain e links
+      → first ≡ min (own_width s e) 129 →
       whole ≡ min (chain_width s first links) 129 → whole ≡ min (own_width s x) 129
   unfolding own_width
   width-chain x e links first whole is one all =
@@ -45,60 +47,88 @@ module _ (s : Scope) where
       all ∙ chain-held s first (own_width s e) links same ∙ ap (λ y. min (own_width s y) 129) (sym is)
 
   module _ (k : Sought) where
-    pub fault-concatenation : (x : Tree) (t : Token) (e : Tree) (parts : Parts) (whole : ℕ) (wide first more all : Option ℕ) → x ≡ concatenation t e parts → whole ≡ min (own_width s x) 129 →
-        wide ≡ least (wide_faults k t.at whole) → first ≡ least (faults s k e) → more ≡ earlier first (least (part_faults s k parts)) → all ≡ earlier wide more → all ≡ least (faults s k x)
+    pub fault-concatenation : (x : Tree) (t : Token) (e : Tree) (parts : Parts) (whole : ℕ)
+        (wide first more all : Option ℕ) → x ≡ concatenation t e parts → whole ≡ min (own_width s x) 129 →
+        wide ≡ least (wide_faults k t.at whole) → first ≡ least (faults s k e)
+        → more ≡ earlier first (least (part_faults s k parts)) → all ≡ earlier wide more
+        → all ≡ least (faults s k x)
     unfolding own_width faults
     fault-concatenation x t e parts whole wide first more all is held w one rest last =
-        let width : whole ≡ min (parts_width s (own_width s e) parts) 129 = held ∙ ap (λ y. min (own_width s y) 129) is in
+        let width : whole ≡ min (parts_width s (own_width s e) parts) 129 =
+        held ∙ ap (λ y. min (own_width s y) 129) is in
         let v : wide ≡ least (wide_faults k t.at (parts_width s (own_width s e) parts)) =
-        w ∙ ap (λ n. least (wide_faults k t.at n)) width ∙ ap least (wide-held k t.at (parts_width s (own_width s e) parts)) in
-        let inner : more ≡ least (faults s k e ++ part_faults s k parts) = rest ∙ ap (λ o. earlier o (least (part_faults s k parts))) one ∙ sym (least-append (faults s k e) (part_faults s k parts)) in
-        last ∙ ap (λ o. earlier o more) v ∙ ap (earlier (least (wide_faults k t.at (parts_width s (own_width s e) parts)))) inner
-        ∙ sym (least-append (wide_faults k t.at (parts_width s (own_width s e) parts)) (faults s k e ++ part_faults s k parts))
+        w ∙ ap (λ n. least (wide_faults k t.at n)) width
+        ∙ ap least (wide-held k t.at (parts_width s (own_width s e) parts)) in
+        let inner : more ≡ least (faults s k e ++ part_faults s k parts) =
+        rest ∙ ap (λ o. earlier o (least (part_faults s k parts))) one
+        ∙ sym (least-append (faults s k e) (part_faults s k parts)) in
+        last ∙ ap (λ o. earlier o more) v
+        ∙ ap (earlier (least (wide_faults k t.at (parts_width s (own_width s e) parts)))) inner
+        ∙ sym (least-append (wide_faults k t.at (parts_width s (own_width s e) parts))
+        (faults s k e ++ part_faults s k parts))
         ∙ ap (λ y. least (faults s k y)) (sym is)
 
-    pub fault-chain : (x : Tree) (e : Tree) (links : Links) (first all : Option ℕ) → x ≡ chain e links → first ≡ least (faults s k e) → all ≡ earlier first (least (link_faults s k links)) → all ≡ least (faults s k x)
+    pub fault-chain : (x : Tree) (e : Tree) (links : Links) (first all : Option ℕ) → x ≡ chain e links
+        → first ≡ least (faults s k e) → all ≡ earlier first (least (link_faults s k links))
+        → all ≡ least (faults s k x)
     unfolding faults
     fault-chain x e links first all is one last =
-        last ∙ ap (λ o. earlier o (least (link_faults s k links))) one ∙ sym (least-append (faults s k e) (link_faults s k links)) ∙ ap (λ y. least (faults s k y)) (sym is)
+        last ∙ ap (λ o. earlier o (least (link_faults s k links))) one
+        ∙ sym (least-append (faults s k e) (link_faults s k links)) ∙ ap (λ y. least (faults s k y)) (sym is)
 
-    pub fault-choice : (x c a b : Tree) (first second third inner all : Option ℕ) → x ≡ choice c a b → first ≡ least (faults s k c) → second ≡ least (faults s k a) → third ≡ least (faults s k b) →
+    pub fault-choice : (x c a b : Tree) (first second third inner all : Option ℕ) → x ≡ choice c a b
+        → first ≡ least (faults s k c) → second ≡ least (faults s k a) → third ≡ least (faults s k b) →
         inner ≡ earlier second third → all ≡ earlier first inner → all ≡ least (faults s k x)
     unfolding faults
     fault-choice x c a b first second third inner all is one two three four five =
-        let arms : inner ≡ least (faults s k a ++ faults s k b) = four ∙ ap (λ o. earlier o third) two ∙ ap (earlier (least (faults s k a))) three ∙ sym (least-append (faults s k a) (faults s k b)) in
-        five ∙ ap (λ o. earlier o inner) one ∙ ap (earlier (least (faults s k c))) arms ∙ sym (least-append (faults s k c) (faults s k a ++ faults s k b)) ∙ ap (λ y. least (faults s k y)) (sym is)
+        let arms : inner ≡ least (faults s k a ++ faults s k b) =
+        four ∙ ap (λ o. earlier o third) two ∙ ap (earlier (least (faults s k a))) three
+        ∙ sym (least-append (faults s k a) (faults s k b)) in
+        five ∙ ap (λ o. earlier o inner) one ∙ ap (earlier (least (faults s k c))) arms
+        ∙ sym (least-append (faults s k c) (faults s k a ++ faults s k b))
+        ∙ ap (λ y. least (faults s k y)) (sym is)
 
     -- one more operand of a loop
-    pub link-step : (op : Infix) (e : Tree) (rest now : Links) (w v next total : ℕ) → now ≡ link op e rest → v ≡ min (own_width s e) 129 → next ≡ binary_width (binary_of op) w v →
+    pub link-step : (op : Infix) (e : Tree) (rest now : Links) (w v next total : ℕ) → now ≡ link op e rest
+        → v ≡ min (own_width s e) 129 → next ≡ binary_width (binary_of op) w v →
         min (chain_width s w now) 129 ≡ total → min (chain_width s next rest) 129 ≡ total
     unfolding own_width
     link-step op e rest now w v next total is one step h =
         let same : min v 129 ≡ min (own_width s e) 129 = ap (λ n. min n 129) one ∙ held-held (own_width s e) in
-        let held : min next 129 ≡ min (binary_width (binary_of op) w (own_width s e)) 129 = ap (λ n. min n 129) step ∙ binary-held (binary_of op) w v w (own_width s e) refl same in
-        chain-held s next (binary_width (binary_of op) w (own_width s e)) rest held ∙ ap (λ ls. min (chain_width s w ls) 129) (sym is) ∙ h
+        let held : min next 129 ≡ min (binary_width (binary_of op) w (own_width s e)) 129 =
+        ap (λ n. min n 129) step ∙ binary-held (binary_of op) w v w (own_width s e) refl same in
+        chain-held s next (binary_width (binary_of op) w (own_width s e)) rest held
+        ∙ ap (λ ls. min (chain_width s w ls) 129) (sym is) ∙ h
 
-    pub part-step : (e : Tree) (rest now : Parts) (w v next total : ℕ) → now ≡ part e rest → v ≡ min (own_width s e) 129 → next ≡ min (w + v) 129 →
+    pub part-step : (e : Tree) (rest now : Parts) (w v next total : ℕ) → now ≡ part e rest → v ≡ min (own_width s e) 129
+        → next ≡ min (w + v) 129 →
         min (parts_width s w now) 129 ≡ total → min (parts_width s next rest) 129 ≡ total
     unfolding own_width
     part-step e rest now w v next total is one step h =
         let same : min v 129 ≡ min (own_width s e) 129 = ap (λ n. min n 129) one ∙ held-held (own_width s e) in
-        let held : min next 129 ≡ min (w + own_width s e) 129 = ap (λ n. min n 129) step ∙ held-held (w + v) ∙ sum-held w v w (own_width s e) refl same in
+        let held : min next 129 ≡ min (w + own_width s e) 129 =
+        ap (λ n. min n 129) step ∙ held-held (w + v) ∙ sum-held w v w (own_width s e) refl same in
         parts-held s next (w + own_width s e) rest held ∙ ap (λ ps. min (parts_width s w ps) 129) (sym is) ∙ h
 
-    pub link-fault-step : (op : Infix) (e : Tree) (rest now : Links) (f g next total : Option ℕ) → now ≡ link op e rest → g ≡ least (faults s k e) → next ≡ earlier f g →
+    pub link-fault-step : (op : Infix) (e : Tree) (rest now : Links) (f g next total : Option ℕ) → now ≡ link op e rest
+        → g ≡ least (faults s k e) → next ≡ earlier f g →
         earlier f (least (link_faults s k now)) ≡ total → earlier next (least (link_faults s k rest)) ≡ total
     unfolding faults
     link-fault-step op e rest now f g next total is one step h =
-        ap (λ o. earlier o (least (link_faults s k rest))) (step ∙ ap (earlier f) one) ∙ earlier-assoc f (least (faults s k e)) (least (link_faults s k rest))
-        ∙ ap (earlier f) (sym (least-append (faults s k e) (link_faults s k rest))) ∙ ap (λ ls. earlier f (least (link_faults s k ls))) (sym is) ∙ h
+        ap (λ o. earlier o (least (link_faults s k rest))) (step ∙ ap (earlier f) one)
+        ∙ earlier-assoc f (least (faults s k e)) (least (link_faults s k rest))
+        ∙ ap (earlier f) (sym (least-append (faults s k e) (link_faults s k rest)))
+        ∙ ap (λ ls. earlier f (least (link_faults s k ls))) (sym is) ∙ h
 
-    pub part-fault-step : (e : Tree) (rest now : Parts) (f g next total : Option ℕ) → now ≡ part e rest → g ≡ least (faults s k e) → next ≡ earlier f g →
+    pub part-fault-step : (e : Tree) (rest now : Parts) (f g next total : Option ℕ) → now ≡ part e rest
+        → g ≡ least (faults s k e) → next ≡ earlier f g →
         earlier f (least (part_faults s k now)) ≡ total → earlier next (least (part_faults s k rest)) ≡ total
     unfolding faults
     part-fault-step e rest now f g next total is one step h =
-        ap (λ o. earlier o (least (part_faults s k rest))) (step ∙ ap (earlier f) one) ∙ earlier-assoc f (least (faults s k e)) (least (part_faults s k rest))
-        ∙ ap (earlier f) (sym (least-append (faults s k e) (part_faults s k rest))) ∙ ap (λ ps. earlier f (least (part_faults s k ps))) (sym is) ∙ h
+        ap (λ o. earlier o (least (part_faults s k rest))) (step ∙ ap (earlier f) one)
+        ∙ earlier-assoc f (least (faults s k e)) (least (part_faults s k rest))
+        ∙ ap (earlier f) (sym (least-append (faults s k e) (part_faults s k rest)))
+        ∙ ap (λ ps. earlier f (least (part_faults s k ps))) (sym is) ∙ h
 
   pub small-step : (op : Binary) (w v e next : ℕ) → w ≤ 129 → v ≡ min e 129 → next ≡ binary_width op w v → next ≤ 129
   small-step op w v e next h one step = let k : binary_width op w v ≤ 129 = small op w v h (omega arith) in omega arith

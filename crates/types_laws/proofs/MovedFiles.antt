@@ -9,12 +9,28 @@ use Rattle.grammar.specs.Terminals.{is_name, is_word}
 use Rattle.grammar.specs.Bounds.{index, bound_within}
 use Rattle.grammar.specs.Operators.{infix_of, implication_of}
 use Rattle.grammar.specs.Marks.{mark, precedence}
-use Rattle.grammar.specs.Trees.{Tree, Links, Parts, SequenceForm, boolean, repeated, late, delayed, throughout, joined, Steps, Others, PropertyForm, CounterForm, DeclarationForm, AssertionForm, ItemForm, counter, declaration, assertion}
-use Rattle.grammar.specs.Expressions.{AreMembers, no_member, member, IsPath, name, IsSelected, whole, bit, bits, IsTicks, one_tick, some_ticks, Operand, is_number, is_path, is_concatenation, in_brackets, is_past, is_call, is_unary, is_tighter, is_chain, Follows, no_more, one_more, AreParts, no_parts, one_part, Spells, is_operand, is_choice}
+use Rattle.grammar.specs.Trees.{Tree, Links, Parts, SequenceForm, boolean, repeated, late, delayed, throughout, joined}
+use Rattle.grammar.specs.Trees.{Steps, Others, PropertyForm, CounterForm, DeclarationForm, AssertionForm, ItemForm}
+use Rattle.grammar.specs.Trees.{counter, declaration, assertion}
+use Rattle.grammar.specs.Expressions.{AreMembers, no_member, member, IsPath, name, IsSelected, whole, bit, bits}
+use Rattle.grammar.specs.Expressions.{IsTicks, one_tick, some_ticks, Operand, is_number, is_path, is_concatenation}
+use Rattle.grammar.specs.Expressions.{in_brackets, is_past, is_call, is_unary, is_tighter, is_chain, Follows, no_more}
+use Rattle.grammar.specs.Expressions.{one_more, AreParts, no_parts, one_part, Spells, is_operand, is_choice}
 use Rattle.grammar.specs.Sequences as sequences
-use Rattle.grammar.specs.Sequences.{IsNoExpression, IsTimes, times, times_to, IsDelay, after, between, IsBody, is_boolean, IsRepetition, is_once, is_repeated, IsHead, is_prompt, is_late, AreSteps, no_steps, one_step, IsDelayed, is_head, is_delayed, IsDuring, is_cat, is_throughout, AreConjuncts, no_conjunct, one_conjunct, IsConjunction, is_during, is_all, AreAlternatives, no_alternative, one_alternative, IsSequence, is_conjunction, is_either, IsProperty, is_plain, is_implication, bracketed}
-use Rattle.grammar.specs.Files.{IsClear, no_clear, clear, IsClause, no_clause, clause, SpellsCounter, is_counter, IsClosing, no_closing, closing, IsEnding, ending, with_semicolon, SpellsDeclaration, is_declaration, IsDisable, no_disable, disable, IsLabel, no_label, label, SpellsAssertion, is_assertion, SpellsItem, a_counter, a_declaration, an_assertion, AreItems, no_item, one_item, HasAssertion, IsFile}
-use Rattle.types_laws.proofs.MovedTrees.{moved, moved_option, moved_tree, moved_links, moved_parts, moved_sequence, moved_steps, moved_others, moved_property, moved_condition, moved_rule, moved_counter, moved_declaration, moved_assertion, moved_item}
+use Rattle.grammar.specs.Sequences.{IsNoExpression, IsTimes, times, times_to, IsDelay, after, between, IsBody}
+use Rattle.grammar.specs.Sequences.{is_boolean, IsRepetition, is_once, is_repeated, IsHead, is_prompt, is_late}
+use Rattle.grammar.specs.Sequences.{AreSteps, no_steps, one_step, IsDelayed, is_head, is_delayed, IsDuring, is_cat}
+use Rattle.grammar.specs.Sequences.{is_throughout, AreConjuncts, no_conjunct, one_conjunct, IsConjunction, is_during}
+use Rattle.grammar.specs.Sequences.{is_all, AreAlternatives, no_alternative, one_alternative, IsSequence}
+use Rattle.grammar.specs.Sequences.{is_conjunction, is_either, IsProperty, is_plain, is_implication, bracketed}
+use Rattle.grammar.specs.Files.{IsClear, no_clear, clear, IsClause, no_clause, clause, SpellsCounter, is_counter}
+use Rattle.grammar.specs.Files.{IsClosing, no_closing, closing, IsEnding, ending, with_semicolon, SpellsDeclaration}
+use Rattle.grammar.specs.Files.{is_declaration, IsDisable, no_disable, disable, IsLabel, no_label, label}
+use Rattle.grammar.specs.Files.{SpellsAssertion, is_assertion, SpellsItem, a_counter, a_declaration, an_assertion}
+use Rattle.grammar.specs.Files.{AreItems, no_item, one_item, HasAssertion, IsFile}
+use Rattle.types_laws.proofs.MovedTrees.{moved, moved_option, moved_tree, moved_links, moved_parts, moved_sequence}
+use Rattle.types_laws.proofs.MovedTrees.{moved_steps, moved_others, moved_property, moved_condition, moved_rule}
+use Rattle.types_laws.proofs.MovedTrees.{moved_counter, moved_declaration, moved_assertion, moved_item}
 
 abbrev Tokens : Type 0
 Tokens = List Token
@@ -23,7 +39,8 @@ module _ (lies : ℕ → ℕ × ℕ) where
   abbrev moved_all : Tokens → Tokens
   moved_all ts = map (moved lies) ts
 
-  members-moved : {ws ts rest : Tokens} → AreMembers ws ts rest → AreMembers (moved_all ws) (moved_all ts) (moved_all rest)
+  members-moved : {ws ts rest : Tokens} → AreMembers ws ts rest
+      → AreMembers (moved_all ws) (moved_all ts) (moved_all rest)
   unfolding is_word
   members-moved no_member = no_member
   members-moved (member a b m) = member a b (members-moved m)
@@ -32,7 +49,8 @@ module _ (lies : ℕ → ℕ × ℕ) where
   unfolding is_name
   path-moved (name a m) = name a (members-moved m)
 
-  selected-moved : {d : ℕ} {o : Option Select} {ts rest : Tokens} → IsSelected d o ts rest → IsSelected d o (moved_all ts) (moved_all rest)
+  selected-moved : {d : ℕ} {o : Option Select} {ts rest : Tokens} → IsSelected d o ts rest
+      → IsSelected d o (moved_all ts) (moved_all rest)
   unfolding index
   selected-moved whole = whole
   selected-moved (bit a b c) = bit a b c
@@ -46,7 +64,8 @@ module _ (lies : ℕ → ℕ × ℕ) where
   mutual
     unfolding moved_tree infix_of mark precedence
 
-    operand-moved : {d l : ℕ} {e : Tree} {ts rest : Tokens} → Operand d l e ts rest → Operand d l (moved_tree lies e) (moved_all ts) (moved_all rest)
+    operand-moved : {d l : ℕ} {e : Tree} {ts rest : Tokens} → Operand d l e ts rest
+        → Operand d l (moved_tree lies e) (moved_all ts) (moved_all rest)
     operand-moved (is_number m) = is_number m
     operand-moved (is_path p s) = is_path (path-moved p) (selected-moved s)
     operand-moved (is_concatenation m s p c) = is_concatenation m (spells-moved s) (parts-moved p) c
@@ -57,15 +76,18 @@ module _ (lies : ℕ → ℕ × ℕ) where
     operand-moved (is_tighter o) = is_tighter (operand-moved o)
     operand-moved (is_chain o f) = is_chain (operand-moved o) (follows-moved f)
 
-    follows-moved : {d l : ℕ} {more : Links} {ts rest : Tokens} → Follows d l more ts rest → Follows d l (moved_links lies more) (moved_all ts) (moved_all rest)
+    follows-moved : {d l : ℕ} {more : Links} {ts rest : Tokens} → Follows d l more ts rest
+        → Follows d l (moved_links lies more) (moved_all ts) (moved_all rest)
     follows-moved no_more = no_more
     follows-moved (one_more h k o f) = one_more h k (operand-moved o) (follows-moved f)
 
-    parts-moved : {d : ℕ} {more : Parts} {ts rest : Tokens} → AreParts d more ts rest → AreParts d (moved_parts lies more) (moved_all ts) (moved_all rest)
+    parts-moved : {d : ℕ} {more : Parts} {ts rest : Tokens} → AreParts d more ts rest
+        → AreParts d (moved_parts lies more) (moved_all ts) (moved_all rest)
     parts-moved no_parts = no_parts
     parts-moved (one_part c s p) = one_part c (spells-moved s) (parts-moved p)
 
-    spells-moved : {d : ℕ} {e : Tree} {ts rest : Tokens} → Spells d e ts rest → Spells d (moved_tree lies e) (moved_all ts) (moved_all rest)
+    spells-moved : {d : ℕ} {e : Tree} {ts rest : Tokens} → Spells d e ts rest
+        → Spells d (moved_tree lies e) (moved_all ts) (moved_all rest)
     spells-moved (is_operand o) = is_operand (operand-moved o)
     spells-moved (is_choice h c o s t) = is_choice h c (operand-moved o) (spells-moved s) (spells-moved t)
 
@@ -74,7 +96,8 @@ module _ (lies : ℕ → ℕ × ℕ) where
   times-moved (times a b c) = times a b c
   times-moved (times_to a b c e f) = times_to a b c e f
 
-  delay-moved : {d : ℕ} {n : Range} {ts rest : Tokens} → IsDelay d n ts rest → IsDelay d n (moved_all ts) (moved_all rest)
+  delay-moved : {d : ℕ} {n : Range} {ts rest : Tokens} → IsDelay d n ts rest
+      → IsDelay d n (moved_all ts) (moved_all rest)
   unfolding bound_within
   delay-moved (after a b) = after a b
   delay-moved (between a b c e f g) = between a b c e f g
@@ -91,95 +114,120 @@ module _ (lies : ℕ → ℕ × ℕ) where
   mutual
     unfolding moved_sequence
 
-    body-moved : {d : ℕ} {q : SequenceForm} {ts rest : Tokens} → IsBody d q ts rest → IsBody d (moved_sequence lies q) (moved_all ts) (moved_all rest)
+    body-moved : {d : ℕ} {q : SequenceForm} {ts rest : Tokens} → IsBody d q ts rest
+        → IsBody d (moved_sequence lies q) (moved_all ts) (moved_all rest)
     body-moved (is_boolean s) = is_boolean (spells-moved s)
-    body-moved (sequences.in_brackets {s = q} a b n s) = sequences.in_brackets a b (no_expression-moved q n) (sequence-moved s)
+    body-moved (sequences.in_brackets {s = q} a b n s) =
+        sequences.in_brackets a b (no_expression-moved q n) (sequence-moved s)
 
-    repetition-moved : {d : ℕ} {q : SequenceForm} {ts rest : Tokens} → IsRepetition d q ts rest → IsRepetition d (moved_sequence lies q) (moved_all ts) (moved_all rest)
+    repetition-moved : {d : ℕ} {q : SequenceForm} {ts rest : Tokens} → IsRepetition d q ts rest
+        → IsRepetition d (moved_sequence lies q) (moved_all ts) (moved_all rest)
     repetition-moved (is_once b) = is_once (body-moved b)
     repetition-moved (is_repeated b t) = is_repeated (body-moved b) (times-moved t)
 
-    head-moved : {d : ℕ} {q : SequenceForm} {ts rest : Tokens} → IsHead d q ts rest → IsHead d (moved_sequence lies q) (moved_all ts) (moved_all rest)
+    head-moved : {d : ℕ} {q : SequenceForm} {ts rest : Tokens} → IsHead d q ts rest
+        → IsHead d (moved_sequence lies q) (moved_all ts) (moved_all rest)
     head-moved (is_prompt r) = is_prompt (repetition-moved r)
     head-moved (is_late h r) = is_late (delay-moved h) (repetition-moved r)
 
-    steps-moved : {d : ℕ} {more : Steps} {ts rest : Tokens} → AreSteps d more ts rest → AreSteps d (moved_steps lies more) (moved_all ts) (moved_all rest)
+    steps-moved : {d : ℕ} {more : Steps} {ts rest : Tokens} → AreSteps d more ts rest
+        → AreSteps d (moved_steps lies more) (moved_all ts) (moved_all rest)
     steps-moved no_steps = no_steps
     steps-moved (one_step h r s) = one_step (delay-moved h) (repetition-moved r) (steps-moved s)
 
-    delayed-moved : {d : ℕ} {q : SequenceForm} {ts rest : Tokens} → IsDelayed d q ts rest → IsDelayed d (moved_sequence lies q) (moved_all ts) (moved_all rest)
+    delayed-moved : {d : ℕ} {q : SequenceForm} {ts rest : Tokens} → IsDelayed d q ts rest
+        → IsDelayed d (moved_sequence lies q) (moved_all ts) (moved_all rest)
     delayed-moved (is_head h) = is_head (head-moved h)
     delayed-moved (is_delayed h s) = is_delayed (head-moved h) (steps-moved s)
 
-    during-moved : {d : ℕ} {q : SequenceForm} {ts rest : Tokens} → IsDuring d q ts rest → IsDuring d (moved_sequence lies q) (moved_all ts) (moved_all rest)
+    during-moved : {d : ℕ} {q : SequenceForm} {ts rest : Tokens} → IsDuring d q ts rest
+        → IsDuring d (moved_sequence lies q) (moved_all ts) (moved_all rest)
     during-moved (is_cat h) = is_cat (delayed-moved h)
     during-moved (is_throughout t s h) = is_throughout t (spells-moved s) (during-moved h)
 
-    conjuncts-moved : {d : ℕ} {more : Others} {ts rest : Tokens} → AreConjuncts d more ts rest → AreConjuncts d (moved_others lies more) (moved_all ts) (moved_all rest)
+    conjuncts-moved : {d : ℕ} {more : Others} {ts rest : Tokens} → AreConjuncts d more ts rest
+        → AreConjuncts d (moved_others lies more) (moved_all ts) (moved_all rest)
     conjuncts-moved no_conjunct = no_conjunct
     conjuncts-moved (one_conjunct t h s) = one_conjunct t (during-moved h) (conjuncts-moved s)
 
-    conjunction-moved : {d : ℕ} {q : SequenceForm} {ts rest : Tokens} → IsConjunction d q ts rest → IsConjunction d (moved_sequence lies q) (moved_all ts) (moved_all rest)
+    conjunction-moved : {d : ℕ} {q : SequenceForm} {ts rest : Tokens} → IsConjunction d q ts rest
+        → IsConjunction d (moved_sequence lies q) (moved_all ts) (moved_all rest)
     conjunction-moved (is_during h) = is_during (during-moved h)
     conjunction-moved (is_all h s) = is_all (during-moved h) (conjuncts-moved s)
 
-    alternatives-moved : {d : ℕ} {more : Others} {ts rest : Tokens} → AreAlternatives d more ts rest → AreAlternatives d (moved_others lies more) (moved_all ts) (moved_all rest)
+    alternatives-moved : {d : ℕ} {more : Others} {ts rest : Tokens} → AreAlternatives d more ts rest
+        → AreAlternatives d (moved_others lies more) (moved_all ts) (moved_all rest)
     alternatives-moved no_alternative = no_alternative
     alternatives-moved (one_alternative t h s) = one_alternative t (conjunction-moved h) (alternatives-moved s)
 
-    sequence-moved : {d : ℕ} {q : SequenceForm} {ts rest : Tokens} → IsSequence d q ts rest → IsSequence d (moved_sequence lies q) (moved_all ts) (moved_all rest)
+    sequence-moved : {d : ℕ} {q : SequenceForm} {ts rest : Tokens} → IsSequence d q ts rest
+        → IsSequence d (moved_sequence lies q) (moved_all ts) (moved_all rest)
     sequence-moved (is_conjunction h) = is_conjunction (conjunction-moved h)
     sequence-moved (is_either h s) = is_either (conjunction-moved h) (alternatives-moved s)
 
-  property-moved : {d : ℕ} {p : PropertyForm} {ts rest : Tokens} → IsProperty d p ts rest → IsProperty d (moved_property lies p) (moved_all ts) (moved_all rest)
+  property-moved : {d : ℕ} {p : PropertyForm} {ts rest : Tokens} → IsProperty d p ts rest
+      → IsProperty d (moved_property lies p) (moved_all ts) (moved_all rest)
   unfolding implication_of
   property-moved (is_plain s) = is_plain (sequence-moved s)
   property-moved (is_implication h a c) = is_implication h (sequence-moved a) (sequence-moved c)
   property-moved (bracketed a b p) = bracketed a b (property-moved p)
 
-  clear-moved : {o : Option Tree} {ts rest : Tokens} → IsClear o ts rest → IsClear (moved_condition lies o) (moved_all ts) (moved_all rest)
+  clear-moved : {o : Option Tree} {ts rest : Tokens} → IsClear o ts rest
+      → IsClear (moved_condition lies o) (moved_all ts) (moved_all rest)
   clear-moved no_clear = no_clear
   clear-moved (clear a b s c) = clear a b (spells-moved s) c
 
-  clause-moved : {w : Terminal} {o : Option (Tree × Tree)} {ts rest : Tokens} → IsClause w o ts rest → IsClause w (moved_rule lies o) (moved_all ts) (moved_all rest)
+  clause-moved : {w : Terminal} {o : Option (Tree × Tree)} {ts rest : Tokens} → IsClause w o ts rest
+      → IsClause w (moved_rule lies o) (moved_all ts) (moved_all rest)
   clause-moved no_clause = no_clause
   clause-moved (clause a b s c t e) = clause a b (spells-moved s) c (spells-moved t) e
 
-  counter-moved : {c : CounterForm} {ts rest : Tokens} → SpellsCounter c ts rest → SpellsCounter (moved_counter lies c) (moved_all ts) (moved_all rest)
+  counter-moved : {c : CounterForm} {ts rest : Tokens} → SpellsCounter c ts rest
+      → SpellsCounter (moved_counter lies c) (moved_all ts) (moved_all rest)
   unfolding is_name bound_within
-  counter-moved (is_counter a b c e f g h k l m) = is_counter a b c e f (clear-moved g) (clause-moved h) (clause-moved k) (clause-moved l) m
+  counter-moved (is_counter a b c e f g h k l m) =
+      is_counter a b c e f (clear-moved g) (clause-moved h) (clause-moved k) (clause-moved l) m
 
-  closing-moved : {n : Token} {ts rest : Tokens} → IsClosing n ts rest → IsClosing (moved lies n) (moved_all ts) (moved_all rest)
+  closing-moved : {n : Token} {ts rest : Tokens} → IsClosing n ts rest
+      → IsClosing (moved lies n) (moved_all ts) (moved_all rest)
   unfolding is_word
   closing-moved no_closing = no_closing
   closing-moved (closing a b c) = closing a b c
 
-  ending-moved : {n : Token} {ts rest : Tokens} → IsEnding n ts rest → IsEnding (moved lies n) (moved_all ts) (moved_all rest)
+  ending-moved : {n : Token} {ts rest : Tokens} → IsEnding n ts rest
+      → IsEnding (moved lies n) (moved_all ts) (moved_all rest)
   ending-moved (ending a c) = ending a (closing-moved c)
   ending-moved (with_semicolon a b c) = with_semicolon a b (closing-moved c)
 
-  declaration-moved : {d : DeclarationForm} {ts rest : Tokens} → SpellsDeclaration d ts rest → SpellsDeclaration (moved_declaration lies d) (moved_all ts) (moved_all rest)
+  declaration-moved : {d : DeclarationForm} {ts rest : Tokens} → SpellsDeclaration d ts rest
+      → SpellsDeclaration (moved_declaration lies d) (moved_all ts) (moved_all rest)
   unfolding is_name
   declaration-moved (is_declaration a b c s e) = is_declaration a b c (sequence-moved s) (ending-moved e)
 
-  disable-moved : {o : Option Tree} {ts rest : Tokens} → IsDisable o ts rest → IsDisable (moved_condition lies o) (moved_all ts) (moved_all rest)
+  disable-moved : {o : Option Tree} {ts rest : Tokens} → IsDisable o ts rest
+      → IsDisable (moved_condition lies o) (moved_all ts) (moved_all rest)
   disable-moved no_disable = no_disable
   disable-moved (disable a b c s e) = disable a b c (spells-moved s) e
 
-  label-moved : {o : Option Token} {ts rest : Tokens} → IsLabel o ts rest → IsLabel (moved_option lies o) (moved_all ts) (moved_all rest)
+  label-moved : {o : Option Token} {ts rest : Tokens} → IsLabel o ts rest
+      → IsLabel (moved_option lies o) (moved_all ts) (moved_all rest)
   unfolding is_name
   label-moved no_label = no_label
   label-moved (label a b) = label a b
 
-  assertion-moved : {a : AssertionForm} {ts rest : Tokens} → SpellsAssertion a ts rest → SpellsAssertion (moved_assertion lies a) (moved_all ts) (moved_all rest)
-  assertion-moved (is_assertion l v a b c e f p g o q h k) = is_assertion (label-moved l) v a b c e f (path-moved p) g (disable-moved o) (property-moved q) h k
+  assertion-moved : {a : AssertionForm} {ts rest : Tokens} → SpellsAssertion a ts rest
+      → SpellsAssertion (moved_assertion lies a) (moved_all ts) (moved_all rest)
+  assertion-moved (is_assertion l v a b c e f p g o q h k) =
+      is_assertion (label-moved l) v a b c e f (path-moved p) g (disable-moved o) (property-moved q) h k
 
-  item-moved : {i : ItemForm} {ts rest : Tokens} → SpellsItem i ts rest → SpellsItem (moved_item lies i) (moved_all ts) (moved_all rest)
+  item-moved : {i : ItemForm} {ts rest : Tokens} → SpellsItem i ts rest
+      → SpellsItem (moved_item lies i) (moved_all ts) (moved_all rest)
   item-moved (a_counter c) = a_counter (counter-moved c)
   item-moved (a_declaration d) = a_declaration (declaration-moved d)
   item-moved (an_assertion a) = an_assertion (assertion-moved a)
 
-  items-moved : {xs : List ItemForm} {ts rest : Tokens} → AreItems xs ts rest → AreItems (map (moved_item lies) xs) (moved_all ts) (moved_all rest)
+  items-moved : {xs : List ItemForm} {ts rest : Tokens} → AreItems xs ts rest
+      → AreItems (map (moved_item lies) xs) (moved_all ts) (moved_all rest)
   items-moved no_item = no_item
   items-moved (one_item i more) = one_item (item-moved i) (items-moved more)
 
@@ -189,5 +237,12 @@ module _ (lies : ℕ → ℕ × ℕ) where
   asserts-moved (declaration d ∷ xs) h = asserts-moved xs h
   asserts-moved (assertion a ∷ xs) h = h
 
-  pub file-moved : (xs : List ItemForm) (ts : List Token) → IsFile xs ts → IsFile (map (moved_item lies) xs) (map (moved lies) ts)
-  file-moved xs ts h = record { last = moved lies h.last; ends = h.ends; spelled = items-moved h.spelled; asserts = asserts-moved xs h.asserts }
+  pub file-moved : (xs : List ItemForm) (ts : List Token) → IsFile xs ts
+      → IsFile (map (moved_item lies) xs) (map (moved lies) ts)
+  file-moved xs ts h =
+      record {
+        last = moved lies h.last;
+        ends = h.ends;
+        spelled = items-moved h.spelled;
+        asserts = asserts-moved xs h.asserts;
+      }

@@ -1,7 +1,10 @@
 -- Trees whose tokens lie elsewhere in memory: the same kinds, places and texts.
 use Rattle.std.proofs.Common.{ℕ, map, Option, Some, None}
 use Rattle.lexer.specs.declared.token.Token.{Token}
-use Rattle.grammar.specs.Trees.{Tree, number, path, concatenation, past, call, unary, chain, choice, Links, end, link, Parts, no_part, part, SequenceForm, boolean, repeated, late, delayed, throughout, joined, Steps, no_step, step, Others, no_other, other, PropertyForm, plain, implication, CounterForm, DeclarationForm, AssertionForm, ItemForm, counter, declaration, assertion}
+use Rattle.grammar.specs.Trees.{Tree, number, path, concatenation, past, call, unary, chain, choice, Links, end, link}
+use Rattle.grammar.specs.Trees.{Parts, no_part, part, SequenceForm, boolean, repeated, late, delayed, throughout}
+use Rattle.grammar.specs.Trees.{joined, Steps, no_step, step, Others, no_other, other, PropertyForm, plain, implication}
+use Rattle.grammar.specs.Trees.{CounterForm, DeclarationForm, AssertionForm, ItemForm, counter, declaration, assertion}
 
 -- by the byte at which a token stands, where its text is to lie
 module _ (lies : ℕ → ℕ × ℕ) where

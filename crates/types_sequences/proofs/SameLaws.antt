@@ -3,11 +3,13 @@ use Rattle.std.proofs.Common.{◌≡◌, inl, inr, ℕ, ◌+◌, ◌-◌, ◌*�
 use Rattle.std.proofs.Math.Nat.{mul-le-mul_left, mul-le-mul}
 use Rattle.assertions.specs.declared.sequence.Boolean.{Boolean}
 use Rattle.assertions.specs.declared.sequence.Boolean.TheVariants.{One}
-use Rattle.assertions.specs.Written.{Written, boolean, delay, lead, repeat, or, and, throughout, kernel, weight, after, later, IsOrdered}
+use Rattle.assertions.specs.Written.{Written, boolean, delay, lead, repeat, or, and, throughout, kernel, weight, after}
+use Rattle.assertions.specs.Written.{later, IsOrdered}
 use Rattle.assertions.specs.Emptiness.{admits_empty}
 use Rattle.types_sequences.specs.Entries.{SaysSame}
 use Rattle.types_sequences.proofs.UsedLaws.{used_on}
-use Rattle.types_sequences.proofs.AlikeLaws.{alike_same, alike_one_of, alike_after, alike_later, alike_times, alike_either, alike_both, alike_during}
+use Rattle.types_sequences.proofs.AlikeLaws.{alike_same, alike_one_of, alike_after, alike_later, alike_times}
+use Rattle.types_sequences.proofs.AlikeLaws.{alike_either, alike_both, alike_during}
 use Rattle.types_sequences.proofs.ConstantLaws.{alike_empty, alike_never}
 
 pub says_boolean : (b : Boolean) → SaysSame (boolean b) (boolean b)
@@ -18,25 +20,37 @@ says_boolean b = record {
   alike = λ holds. alike_same holds (kernel One (boolean b));
 }
 
-pub says_delay : (v w a b : Written Boolean) (least most : ℕ) → least ≤ most → SaysSame v a → SaysSame w b → SaysSame (delay v least most w) (delay a least most b)
+pub says_delay : (v w a b : Written Boolean) (least most : ℕ) → least ≤ most → SaysSame v a → SaysSame w b
+    → SaysSame (delay v least most w) (delay a least most b)
 says_delay v w a b least most le x y =
     record {
       ordered = (le, x.ordered, y.ordered);
       light = omega (arith, x.light, y.light);
-      known = (used_on v (delay v least most w) a (λ c u. inl u) x.known, used_on w (delay v least most w) b (λ c u. inr u) y.known);
-      alike = λ holds. alike_one_of holds holds least (most - least) (after One (kernel One v) (kernel One w)) (after One (kernel One a) (kernel One b)) (alike_after holds holds One One (kernel One v) (kernel One w) (kernel One a) (kernel One b) (λ k. refl) (x.alike holds) (y.alike holds));
+      known = (
+        used_on v (delay v least most w) a (λ c u. inl u) x.known,
+        used_on w (delay v least most w) b (λ c u. inr u) y.known,
+      );
+      alike =
+          λ holds. alike_one_of holds holds least (most - least) (after One (kernel One v) (kernel One w))
+          (after One (kernel One a) (kernel One b))
+          (alike_after holds holds One One (kernel One v) (kernel One w) (kernel One a) (kernel One b) (λ k. refl)
+          (x.alike holds) (y.alike holds));
     }
 
-pub says_lead : (w b : Written Boolean) (least most : ℕ) → least ≤ most → SaysSame w b → SaysSame (lead least most w) (lead least most b)
+pub says_lead : (w b : Written Boolean) (least most : ℕ) → least ≤ most → SaysSame w b
+    → SaysSame (lead least most w) (lead least most b)
 says_lead w b least most le y =
     record {
       ordered = (le, y.ordered);
       light = omega (arith, y.light);
       known = used_on w (lead least most w) b (λ c u. u) y.known;
-      alike = λ holds. alike_one_of holds holds least (most - least) (later One (kernel One w)) (later One (kernel One b)) (alike_later holds holds One One (kernel One w) (kernel One b) (λ k. refl) (y.alike holds));
+      alike =
+          λ holds. alike_one_of holds holds least (most - least) (later One (kernel One w)) (later One (kernel One b))
+          (alike_later holds holds One One (kernel One w) (kernel One b) (λ k. refl) (y.alike holds));
     }
 
-pub says_repeat : (w b : Written Boolean) (least most : ℕ) → least ≤ most → SaysSame w b → SaysSame (repeat w least most) (repeat b least most)
+pub says_repeat : (w b : Written Boolean) (least most : ℕ) → least ≤ most → SaysSame w b
+    → SaysSame (repeat w least most) (repeat b least most)
 says_repeat w b least most le y =
     record {
       ordered = (le, y.ordered);
@@ -51,11 +65,14 @@ says_or v w a b x y =
       ordered = (x.ordered, y.ordered);
       light = omega (arith, x.light, y.light);
       known = (used_on v (or v w) a (λ c u. inl u) x.known, used_on w (or v w) b (λ c u. inr u) y.known);
-      alike = λ holds. alike_either holds holds (kernel One v) (kernel One w) (kernel One a) (kernel One b) (x.alike holds) (y.alike holds);
+      alike =
+          λ holds. alike_either holds holds (kernel One v) (kernel One w) (kernel One a) (kernel One b)
+          (x.alike holds) (y.alike holds);
     }
 
 lighter_product : (a b c d : ℕ) → a ≤ c → b ≤ d → (a + 1) * (b + 1) ≤ (c + 1) * (d + 1)
-lighter_product a b c d h k = mul-le-mul (let x : a + 1 ≤ c + 1 = omega (arith, h) in x) (let y : b + 1 ≤ d + 1 = omega (arith, k) in y)
+lighter_product a b c d h k =
+    mul-le-mul (let x : a + 1 ≤ c + 1 = omega (arith, h) in x) (let y : b + 1 ≤ d + 1 = omega (arith, k) in y)
 
 pub says_and : (v w a b : Written Boolean) → SaysSame v a → SaysSame w b → SaysSame (and v w) (and a b)
 says_and v w a b x y =
@@ -63,7 +80,9 @@ says_and v w a b x y =
       ordered = (x.ordered, y.ordered);
       light = lighter_product (weight a) (weight b) (weight v) (weight w) x.light y.light;
       known = (used_on v (and v w) a (λ c u. inl u) x.known, used_on w (and v w) b (λ c u. inr u) y.known);
-      alike = λ holds. alike_both holds holds (kernel One v) (kernel One w) (kernel One a) (kernel One b) (x.alike holds) (y.alike holds);
+      alike =
+          λ holds. alike_both holds holds (kernel One v) (kernel One w) (kernel One a) (kernel One b) (x.alike holds)
+          (y.alike holds);
     }
 
 pub says_throughout : (b : Boolean) (v a : Written Boolean) → SaysSame v a → SaysSame (throughout b v) (throughout b a)
@@ -75,7 +94,8 @@ says_throughout b v a x =
       alike = λ holds. alike_during holds holds b b (kernel One v) (kernel One a) (λ k. refl) (x.alike holds);
     }
 
-pub says_empty : (w : Written Boolean) → IsOrdered w → weight w ≡ 0 → admits_empty w ≡ true → SaysSame w (repeat (boolean One) 0 0)
+pub says_empty : (w : Written Boolean) → IsOrdered w → weight w ≡ 0 → admits_empty w ≡ true
+    → SaysSame w (repeat (boolean One) 0 0)
 says_empty w o z e = record {
   ordered = (omega arith, tt);
   light = omega arith;
@@ -83,7 +103,8 @@ says_empty w o z e = record {
   alike = λ holds. alike_empty holds w o z e;
 }
 
-pub says_never : (w : Written Boolean) → IsOrdered w → weight w ≡ 0 → admits_empty w ≡ false → SaysSame w (delay (repeat (boolean One) 0 0) 0 0 (repeat (boolean One) 0 0))
+pub says_never : (w : Written Boolean) → IsOrdered w → weight w ≡ 0 → admits_empty w ≡ false
+    → SaysSame w (delay (repeat (boolean One) 0 0) 0 0 (repeat (boolean One) 0 0))
 says_never w o z e = record {
   ordered = (omega arith, (omega arith, tt), (omega arith, tt));
   light = omega arith;

@@ -1,15 +1,18 @@
 -- A sweep over places that makes the entries of those whose names have entries.
-use Rattle.std.proofs.Common.{◌≡◌, ◌≢◌, ◌⊎◌, inl, inr, ℕ, suc, ◌+◌, ◌<◌, ◌≤◌, List, [], ◌∷◌, ◌++◌, true, length, set, length-append, append-nil, Option, Some, slice_get, refl, sym, ap, subst, ◌∙◌, arith}
+use Rattle.std.proofs.Common.{◌≡◌, ◌≢◌, ◌⊎◌, inl, inr, ℕ, suc, ◌+◌, ◌<◌, ◌≤◌, List, [], ◌∷◌, ◌++◌, true, length, set}
+use Rattle.std.proofs.Common.{length-append, append-nil, Option, Some, slice_get, refl, sym, ap, subst, ◌∙◌, arith}
 use Rattle.std.proofs.lemmas.List.{length-set, get_or-set_same, get_or-set_other}
 use Rattle.std.proofs.lemmas.Option.{slice_get-get_or, slice_get_past}
 use Rattle.std.proofs.lemmas.Bool.{cases_eq, cases_lt}
 use Rattle.assertions.specs.declared.sequence.Boolean.{Boolean}
 use Rattle.types_sequences.specs.declared.entry.Entry.{Entry}
 use Rattle.types_sequences.specs.Drafts.{Draft, IsIn, uses_at}
-use Rattle.types_sequences.specs.Entries.{Bodies, HasEntry, IsEntryOf, IsTable, is_entry, has_entry, LacksOne, Accounts, AllLack}
+use Rattle.types_sequences.specs.Entries.{Bodies, HasEntry, IsEntryOf, IsTable, is_entry, has_entry, LacksOne, Accounts}
+use Rattle.types_sequences.specs.Entries.{AllLack}
 use Rattle.types_sequences.proofs.InLaws.{in_front, in_back, in_either, in_last}
 
-pub record State (bodies : Bodies) (before : List (Option Entry)) (places : List ℕ) (table : List (Option Entry)) (left still : List ℕ) : Type 0 where
+pub record State (bodies : Bodies) (before : List (Option Entry)) (places : List ℕ) (table : List (Option Entry))
+    (left still : List ℕ) : Type 0 where
   pub long : length table ≡ length before
   pub entries : IsTable bodies before → IsTable bodies table
   pub accounts : (p : ℕ) → p < length before → Accounts before places p → Accounts table (left ++ still) p
@@ -17,7 +20,8 @@ pub record State (bodies : Bodies) (before : List (Option Entry)) (places : List
   pub same : length left + length still ≡ length places → table ≡ before
   pub lacking : length left + length still ≡ length places → AllLack bodies table still
 
-pub entry_of_body : (bodies : Bodies) (p : ℕ) (d : Draft Boolean) (e : Entry) → slice_get bodies p ≡ Some d → HasEntry bodies d e → IsEntryOf bodies p e
+pub entry_of_body : (bodies : Bodies) (p : ℕ) (d : Draft Boolean) (e : Entry) → slice_get bodies p ≡ Some d
+    → HasEntry bodies d e → IsEntryOf bodies p e
 entry_of_body bodies p d e found h =
     record {
       meant = h.meant;
@@ -35,10 +39,12 @@ got_other {A} xs p q y n = by_place (cases_lt p (length xs))
   where
     by_place : (p < length xs) ⊎ (length xs ≤ p) → slice_get (set xs q y) p ≡ slice_get xs p
     by_place (inl h) =
-        slice_get-get_or (set xs q y) p y (rw (length-set xs q y) h) ∙ ap Some (get_or-set_other xs q p y y n) ∙ sym (slice_get-get_or xs p y h)
+        slice_get-get_or (set xs q y) p y (rw (length-set xs q y) h) ∙ ap Some (get_or-set_other xs q p y y n)
+        ∙ sym (slice_get-get_or xs p y h)
     by_place (inr h) = slice_get_past (set xs q y) p (rw (length-set xs q y) h) ∙ sym (slice_get_past xs p h)
 
-table_more : (bodies : Bodies) (table : List (Option Entry)) (q : ℕ) (e : Entry) → q < length table → IsTable bodies table → IsEntryOf bodies q e → IsTable bodies (set table q (Some e))
+table_more : (bodies : Bodies) (table : List (Option Entry)) (q : ℕ) (e : Entry) → q < length table
+    → IsTable bodies table → IsEntryOf bodies q e → IsTable bodies (set table q (Some e))
 table_more bodies table q e h t made p f found = by_place (cases_eq p q)
   where
     by_place : (p ≡ q) ⊎ (p ≢ q) → IsEntryOf bodies p f
@@ -49,10 +55,12 @@ table_more bodies table q e h t made p f found = by_place (cases_eq p q)
         subst (λ (x : ℕ). IsEntryOf bodies x f) (sym same) (subst (λ (x : Entry). IsEntryOf bodies q x) one made)
     by_place (inr n) = t p f (sym (got_other table p q (Some e) n) ∙ found)
 
-has_same : (table : List (Option Entry)) (q : ℕ) (e : Entry) → q < length table → has_entry (set table q (Some e)) q ≡ true
+has_same : (table : List (Option Entry)) (q : ℕ) (e : Entry) → q < length table → has_entry (set table q (Some e)) q
+    ≡ true
 has_same table q e h = ap is_entry (got_same table q (Some e) h)
 
-has_kept : (table : List (Option Entry)) (p q : ℕ) (e : Entry) → q < length table → has_entry table p ≡ true → has_entry (set table q (Some e)) p ≡ true
+has_kept : (table : List (Option Entry)) (p q : ℕ) (e : Entry) → q < length table → has_entry table p ≡ true
+    → has_entry (set table q (Some e)) p ≡ true
 has_kept table p q e h there = by_place (cases_eq p q)
   where
     by_place : (p ≡ q) ⊎ (p ≢ q) → has_entry (set table q (Some e)) p ≡ true
@@ -60,7 +68,8 @@ has_kept table p q e h there = by_place (cases_eq p q)
     by_place (inr n) = ap is_entry (got_other table p q (Some e) n) ∙ there
 
 -- the steps of a sweep
-pub start : (bodies : Bodies) (before : List (Option Entry)) (places : List ℕ) → State bodies before places before places []
+pub start : (bodies : Bodies) (before : List (Option Entry)) (places : List ℕ)
+    → State bodies before places before places []
 start bodies before places =
     record {
       long = refl;
@@ -71,7 +80,8 @@ start bodies before places =
       lacking = λ e p i. elim i [ ];
     }
 
-accounted_after : (table more : List (Option Entry)) (rest still : List ℕ) (p q : ℕ) → (has_entry table p ≡ true → has_entry more p ≡ true) → (p ≡ q → Accounts more (rest ++ still) p) →
+accounted_after : (table more : List (Option Entry)) (rest still : List ℕ) (p q : ℕ)
+    → (has_entry table p ≡ true → has_entry more p ≡ true) → (p ≡ q → Accounts more (rest ++ still) p) →
     Accounts table ((rest ++ q ∷ []) ++ still) p → Accounts more (rest ++ still) p
 accounted_after table more rest still p q keeps last (inl m) = inl (keeps m)
 accounted_after table more rest still p q keeps last (inr i) = by_part (in_either p (rest ++ q ∷ []) still i)
@@ -84,14 +94,19 @@ accounted_after table more rest still p q keeps last (inr i) = by_part (in_eithe
     by_part (inl f) = by_last (in_last p q rest f)
     by_part (inr s) = inr (in_back p rest still s)
 
-pub make : (bodies : Bodies) (before : List (Option Entry)) (places : List ℕ) (table : List (Option Entry)) (left rest still : List ℕ) (q : ℕ) (e : Entry) →
+pub make : (bodies : Bodies) (before : List (Option Entry)) (places : List ℕ) (table : List (Option Entry))
+    (left rest still : List ℕ) (q : ℕ) (e : Entry) →
     left ≡ rest ++ q ∷ [] → q < length table → (IsTable bodies table → IsEntryOf bodies q e) →
     State bodies before places table left still → State bodies before places (set table q (Some e)) rest still
 make bodies before places table left rest still q e cut h made s =
     record {
       long = length-set table q (Some e) ∙ s.long;
       entries = λ b. table_more bodies table q e h (s.entries b) (made (s.entries b));
-      accounts = λ p h2 a. accounted_after table (set table q (Some e)) rest still p q (has_kept table p q e h) (λ same. inl (subst (λ (x : ℕ). has_entry (set table q (Some e)) x ≡ true) (sym same) (has_same table q e h))) (subst (λ (xs : List ℕ). Accounts table (xs ++ still) p) cut (s.accounts p h2 a));
+      accounts =
+          λ p h2 a. accounted_after table (set table q (Some e)) rest still p q (has_kept table p q e h)
+          (λ same.
+          inl (subst (λ (x : ℕ). has_entry (set table q (Some e)) x ≡ true) (sym same) (has_same table q e h)))
+          (subst (λ (xs : List ℕ). Accounts table (xs ++ still) p) cut (s.accounts p h2 a));
       fewer = omega (arith, s.fewer, shorter);
       same = λ same. absurd (too_few same);
       lacking = λ same. absurd (too_few same);
@@ -103,7 +118,8 @@ make bodies before places table left rest still q e cut h made s =
     too_few : length rest + length still ≡ length places → ⊥
     too_few same = omega (arith, s.fewer, same, shorter)
 
-pub keep : (bodies : Bodies) (before : List (Option Entry)) (places : List ℕ) (table : List (Option Entry)) (left rest still : List ℕ) (q : ℕ) →
+pub keep : (bodies : Bodies) (before : List (Option Entry)) (places : List ℕ) (table : List (Option Entry))
+    (left rest still : List ℕ) (q : ℕ) →
     left ≡ rest ++ q ∷ [] → LacksOne table (uses_at bodies q) →
     State bodies before places table left still → State bodies before places table rest (still ++ q ∷ [])
 keep bodies before places table left rest still q cut lacks s =
@@ -132,20 +148,24 @@ keep bodies before places table left rest still q cut lacks s =
 
     kept : (p : ℕ) → Accounts table (left ++ still) p → Accounts table (rest ++ (still ++ q ∷ [])) p
     kept p (inl m) = inl m
-    kept p (inr i) = inr (by_part p (in_either p (rest ++ q ∷ []) still (subst (λ (xs : List ℕ). IsIn p (xs ++ still)) cut i)))
+    kept p (inr i) =
+        inr (by_part p (in_either p (rest ++ q ∷ []) still (subst (λ (xs : List ℕ). IsIn p (xs ++ still)) cut i)))
 
     still_lacks : (p : ℕ) → AllLack bodies table still → IsIn p still ⊎ (p ≡ q) → LacksOne table (uses_at bodies p)
     still_lacks p all (inl i) = all p i
     still_lacks p all (inr same) = subst (λ (x : ℕ). LacksOne table (uses_at bodies x)) (sym same) lacks
 
-pub skip : (bodies : Bodies) (before : List (Option Entry)) (places : List ℕ) (table : List (Option Entry)) (left rest still : List ℕ) (q : ℕ) →
+pub skip : (bodies : Bodies) (before : List (Option Entry)) (places : List ℕ) (table : List (Option Entry))
+    (left rest still : List ℕ) (q : ℕ) →
     left ≡ rest ++ q ∷ [] → length table ≤ q →
     State bodies before places table left still → State bodies before places table rest still
 skip bodies before places table left rest still q cut past s =
     record {
       long = s.long;
       entries = s.entries;
-      accounts = λ p h a. accounted_after table table rest still p q (λ m. m) (λ same. absurd (outside p h same)) (subst (λ (xs : List ℕ). Accounts table (xs ++ still) p) cut (s.accounts p h a));
+      accounts =
+          λ p h a. accounted_after table table rest still p q (λ m. m) (λ same. absurd (outside p h same))
+          (subst (λ (xs : List ℕ). Accounts table (xs ++ still) p) cut (s.accounts p h a));
       fewer = omega (arith, s.fewer, shorter);
       same = λ same. absurd (too_few same);
       lacking = λ same. absurd (too_few same);

@@ -20,7 +20,8 @@ abbrev pub bodies_in : List DeclarationForm → List SequenceForm
 bodies_in ds = map (λ d. d.body) ds
 
 module _ (s : Scope) (cs : List (List ℕ)) (now next : List Expr) (more : Extends now next) where
-  read_more : (ds : List DeclarationForm) (made : List (Draft Boolean)) (x : DeclarationForm) (d : Draft Boolean) → AllRead s cs now (bodies_in ds) made → Reads s cs next x.body d →
+  read_more : (ds : List DeclarationForm) (made : List (Draft Boolean)) (x : DeclarationForm) (d : Draft Boolean)
+      → AllRead s cs now (bodies_in ds) made → Reads s cs next x.body d →
       AllRead s cs next (bodies_in (ds ++ x ∷ [])) (made ++ d ∷ [])
   read_more [] [] x d h one = (one, tt)
   read_more [] (m ∷ ms) x d h one = elim h [ ]
@@ -28,22 +29,33 @@ module _ (s : Scope) (cs : List (List ℕ)) (now next : List Expr) (more : Exten
   read_more (y ∷ ds) (m ∷ ms) x d h one = (reads_grows s cs now next more y.body m h.0, read_more ds ms x d h.1 one)
 
   -- one more, behind those that were made
-  pub body_more : (ds : List DeclarationForm) (made after : List Tree) (x : DeclarationForm) (d : Tree) → after ≡ made ++ d ∷ [] → Reads s cs next x.body (draft_of d) → AllRead s cs now (bodies_in ds) (map draft_of made) →
+  pub body_more : (ds : List DeclarationForm) (made after : List Tree) (x : DeclarationForm) (d : Tree)
+      → after ≡ made ++ d ∷ [] → Reads s cs next x.body (draft_of d)
+      → AllRead s cs now (bodies_in ds) (map draft_of made) →
       AllRead s cs next (bodies_in (ds ++ x ∷ [])) (map draft_of after)
   body_more ds made after x d pushed one h =
-      subst (λ (ms : List (Draft Boolean)). AllRead s cs next (bodies_in (ds ++ x ∷ [])) ms) (sym (ap (map draft_of) pushed ∙ map-append draft_of made (d ∷ []))) (read_more ds (map draft_of made) x (draft_of d) h one)
+      subst (λ (ms : List (Draft Boolean)). AllRead s cs next (bodies_in (ds ++ x ∷ [])) ms)
+      (sym (ap (map draft_of) pushed ∙ map-append draft_of made (d ∷ [])))
+      (read_more ds (map draft_of made) x (draft_of d) h one)
 
-  pub bodies_stay : (ds : List DeclarationForm) (made : List (Draft Boolean)) → AllRead s cs now (bodies_in ds) made → AllRead s cs next (bodies_in ds) made
+  pub bodies_stay : (ds : List DeclarationForm) (made : List (Draft Boolean)) → AllRead s cs now (bodies_in ds) made
+      → AllRead s cs next (bodies_in ds) made
   bodies_stay ds made h = all_grow_on s cs now next more (bodies_in ds) made h
 
-outlines_in : (s : Scope) (ds : List DeclarationForm) → map (outline s) (bodies_in ds) ≡ map (λ (d : DeclarationForm). outline s d.body) ds
+outlines_in : (s : Scope) (ds : List DeclarationForm) → map (outline s) (bodies_in ds)
+    ≡ map (λ (d : DeclarationForm). outline s d.body) ds
 outlines_in s [] = refl
 outlines_in s (d ∷ ds) = ap (λ (os : List (Draft Dot)). outline s d.body ∷ os) (outlines_in s ds)
 
 -- What was read of all of them has their outlines.
-pub outlined : (s : Scope) (cs : List (List ℕ)) (e : List Expr) (items : List ItemForm) (ds : List (Draft Boolean)) → AllRead s cs e (bodies_in (declarations_of items)) ds → map dotted ds ≡ outlines_of s items
-outlined s cs e items ds h = all_outlines s cs e (bodies_in (declarations_of items)) ds h ∙ outlines_in s (declarations_of items)
+pub outlined : (s : Scope) (cs : List (List ℕ)) (e : List Expr) (items : List ItemForm) (ds : List (Draft Boolean))
+    → AllRead s cs e (bodies_in (declarations_of items)) ds → map dotted ds ≡ outlines_of s items
+outlined s cs e items ds h =
+    all_outlines s cs e (bodies_in (declarations_of items)) ds h ∙ outlines_in s (declarations_of items)
 
-pub body_count : (s : Scope) (cs : List (List ℕ)) (e : List Expr) (items : List ItemForm) (ds : List Tree) → AllRead s cs e (bodies_in (declarations_of items)) (map draft_of ds) → length ds ≡ length (declarations_of items)
+pub body_count : (s : Scope) (cs : List (List ℕ)) (e : List Expr) (items : List ItemForm) (ds : List Tree)
+    → AllRead s cs e (bodies_in (declarations_of items)) (map draft_of ds)
+    → length ds ≡ length (declarations_of items)
 body_count s cs e items ds h =
-    sym (length-map ds draft_of) ∙ all_long s cs e (bodies_in (declarations_of items)) (map draft_of ds) h ∙ length-map (declarations_of items) (λ (d : DeclarationForm). d.body)
+    sym (length-map ds draft_of) ∙ all_long s cs e (bodies_in (declarations_of items)) (map draft_of ds) h
+    ∙ length-map (declarations_of items) (λ (d : DeclarationForm). d.body)

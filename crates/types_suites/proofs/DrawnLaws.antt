@@ -14,11 +14,13 @@ use Rattle.types_suites.proofs.ReadingLaws.{reads_grows, atom_grows}
 use Rattle.grammar.specs.Trees as trees
 
 module _ (s : Scope) (cs : List (List ℕ)) (now next : List Expr) (more : Extends now next) where
-  pub antecedent_grows : (p : PropertyForm) (d : Draft Boolean) → ReadsAntecedent s cs now p d → ReadsAntecedent s cs next p d
+  pub antecedent_grows : (p : PropertyForm) (d : Draft Boolean) → ReadsAntecedent s cs now p d
+      → ReadsAntecedent s cs next p d
   antecedent_grows (plain q) d h = h
   antecedent_grows (implication a t c) d h = (h.0, reads_grows s cs now next more a h.0 h.1, h.2)
 
-  pub consequent_grows : (p : PropertyForm) (d : Draft Boolean) → ReadsConsequent s cs now p d → ReadsConsequent s cs next p d
+  pub consequent_grows : (p : PropertyForm) (d : Draft Boolean) → ReadsConsequent s cs now p d
+      → ReadsConsequent s cs next p d
   consequent_grows (plain q) d h = reads_grows s cs now next more q d h
   consequent_grows (implication a t c) d h = reads_grows s cs now next more c d h
 
@@ -28,7 +30,8 @@ module _ (s : Scope) (cs : List (List ℕ)) (now next : List Expr) (more : Exten
   disabled_grows (Some t) None h = h
   disabled_grows (Some t) (Some p) h = atom_grows s cs now next more t (Listed p) h
 
-  pub drawn_grows : (before : ℕ) (a : trees.AssertionForm) (m : Drawn) → IsDrawn s cs now before a m → IsDrawn s cs next before a m
+  pub drawn_grows : (before : ℕ) (a : trees.AssertionForm) (m : Drawn) → IsDrawn s cs now before a m
+      → IsDrawn s cs next before a m
   drawn_grows before a m h =
       record {
         name = h.name;

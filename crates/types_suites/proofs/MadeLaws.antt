@@ -1,5 +1,6 @@
 -- Assertions made of what is resolved.
-use Rattle.std.proofs.Common.{◌≡◌, ◌⊎◌, inl, inr, ℕ, ◌+◌, ◌≤◌, ◌<◌, List, [], ◌∷◌, ◌++◌, length, Option, Some, None, Box, refl, sym, ap, ◌∙◌, subst, arith, string_bytes, drop, get_or, drop-cons, add-one}
+use Rattle.std.proofs.Common.{◌≡◌, ◌⊎◌, inl, inr, ℕ, ◌+◌, ◌≤◌, ◌<◌, List, [], ◌∷◌, ◌++◌, length, Option, Some, None}
+use Rattle.std.proofs.Common.{Box, refl, sym, ap, ◌∙◌, subst, arith, string_bytes, drop, get_or, drop-cons, add-one}
 use Rattle.std.specs.Prelude.{true, false, Result, Ok, Err, IfOk, OnOk}
 use Rattle.std.proofs.lemmas.List.{append-nil, append_assoc, length-append}
 use Rattle.std.specs.declared.alloc.Global.{Global}
@@ -45,12 +46,14 @@ fits_none e f none =
     subst (λ (o : Option (Box Sequence Global)). HasSame f.meant o) none (f.entry.same light)
 
 -- and it says what is meant
-pub fits_says : (e : Entry) (x : Box Sequence Global) (w : Written Boolean) → e.facts.weight ≤ 127 → IsEntry w e → e.sequence ≡ Some x → SaysSame w (written_form x.value)
+pub fits_says : (e : Entry) (x : Box Sequence Global) (w : Written Boolean) → e.facts.weight ≤ 127 → IsEntry w e
+    → e.sequence ≡ Some x → SaysSame w (written_form x.value)
 fits_says e x w low h is =
     let light : weight w ≤ 127 = omega (arith, h.facts.weighs, low) in
     subst (λ (o : Option (Box Sequence Global)). HasSame w o) is (h.same light)
 
-pub fits_light : (e : Entry) (x : Box Sequence Global) → IsFitting e → e.sequence ≡ Some x → (weight (written_form x.value) ≤ 127) × IsOrdered (written_form x.value)
+pub fits_light : (e : Entry) (x : Box Sequence Global) → IsFitting e → e.sequence ≡ Some x
+    → (weight (written_form x.value) ≤ 127) × IsOrdered (written_form x.value)
 fits_light e x f is =
     let says = fits_says e x f.meant f.light f.entry is in
     (omega (arith, says.light, f.entry.facts.weighs, f.light), says.ordered)
@@ -132,7 +135,8 @@ places_used start first second third v w o none f g h p i =
     ]
 
 module _ (s : Scope) (cs : List (List ℕ)) (e : List Expr) where
-  disabling_made : (places : List ℕ) (t : Option Tree) (p : Option ℕ) (b : Option Boolean) → IsDisabledBy s cs e t p → IsPlacedAt e places p b → IsDisabling s cs e places t b
+  disabling_made : (places : List ℕ) (t : Option Tree) (p : Option ℕ) (b : Option Boolean) → IsDisabledBy s cs e t p
+      → IsPlacedAt e places p b → IsDisabling s cs e places t b
   disabling_made places None None None h i = tt
   disabling_made places None None (Some b) h i = elim i [ ]
   disabling_made places None (Some p) b h i = elim h [ ]
@@ -165,11 +169,14 @@ module _ (s : Scope) (cs : List (List ℕ)) (e : List Expr) where
         }
 
     -- An assertion with these parts is that of the text.
-    pub assertion_made : (before : ℕ) (a : trees.AssertionForm) (m : Resolved) (r : IsResolved s cs e bodies before a m) (made : Assertion) (first second : Written Boolean) (b : Option Boolean) (places : List ℕ) →
-        string_bytes made.name ≡ string_bytes m.name → written_form made.antecedent ≡ first → written_form made.consequent ≡ second → made.disabling ≡ b → made.booleans.items ≡ places →
+    pub assertion_made : (before : ℕ) (a : trees.AssertionForm) (m : Resolved) (r : IsResolved s cs e bodies before a m)
+        (made : Assertion) (first second : Written Boolean) (b : Option Boolean) (places : List ℕ) →
+        string_bytes made.name ≡ string_bytes m.name → written_form made.antecedent ≡ first
+        → written_form made.consequent ≡ second → made.disabling ≡ b → made.booleans.items ≡ places →
         IsSide e places r.antecedent_entry.meant first → IsSide e places r.consequent_entry.meant second →
         IsPlacedAt e places m.disabling b →
-        ((p : ℕ) → IsIn p places → IsUsed (Listed p) r.antecedent_entry.meant ⊎ (IsUsed (Listed p) r.consequent_entry.meant ⊎ (m.disabling ≡ Some p))) →
+        ((p : ℕ) → IsIn p places → IsUsed (Listed p) r.antecedent_entry.meant
+        ⊎ (IsUsed (Listed p) r.consequent_entry.meant ⊎ (m.disabling ≡ Some p))) →
         IsAssertion s cs e bodies before a made
     unfolding meant_of
     assertion_made before a m r made first second b places name one two off list h g d used =
@@ -180,10 +187,15 @@ module _ (s : Scope) (cs : List (List ℕ)) (e : List Expr) where
           name = name ∙ r.name;
           reads_antecedent = r.reads_antecedent;
           reads_consequent = r.reads_consequent;
-          antecedent_meant = meant_of r.antecedent m.antecedent r.antecedent_entry places ps first (written_form made.antecedent) list one h;
-          consequent_meant = meant_of r.consequent m.consequent r.consequent_entry places ps second (written_form made.consequent) list two g;
+          antecedent_meant =
+              meant_of r.antecedent m.antecedent r.antecedent_entry places ps first (written_form made.antecedent)
+              list one h;
+          consequent_meant =
+              meant_of r.consequent m.consequent r.consequent_entry places ps second (written_form made.consequent)
+              list two g;
           disabling = subst (λ (x : Option Boolean). IsDisabling s cs e ps a.disable x) (sym off)
-              (subst (λ (qs : List ℕ). IsDisabling s cs e qs a.disable b) (sym list) (disabling_made places a.disable m.disabling b r.disabling d));
+              (subst (λ (qs : List ℕ). IsDisabling s cs e qs a.disable b) (sym list)
+              (disabling_made places a.disable m.disabling b r.disabling d));
           used = λ p i.
               elim (used p (subst (λ (qs : List ℕ). IsIn p qs) list i)) [
                 | inl u ↦ inl u
@@ -194,13 +206,18 @@ module _ (s : Scope) (cs : List (List ℕ)) (e : List Expr) where
               ];
         }
 
-    assertion_more : (us : List trees.AssertionForm) (made : List Assertion) (before : ℕ) (a : trees.AssertionForm) (x : Assertion) → AreAssertions s cs e bodies before us made →
-        IsAssertion s cs e bodies (before + length made) a x → AreAssertions s cs e bodies before (us ++ a ∷ []) (made ++ x ∷ [])
+    assertion_more : (us : List trees.AssertionForm) (made : List Assertion) (before : ℕ) (a : trees.AssertionForm)
+        (x : Assertion) → AreAssertions s cs e bodies before us made →
+        IsAssertion s cs e bodies (before + length made) a x
+        → AreAssertions s cs e bodies before (us ++ a ∷ []) (made ++ x ∷ [])
     assertion_more [] [] before a x h one = (subst (λ (b : ℕ). IsAssertion s cs e bodies b a x) (omega arith) one, tt)
     assertion_more [] (m ∷ made) before a x h one = elim h [ ]
     assertion_more (y ∷ us) [] before a x h one = elim h [ ]
-    assertion_more (y ∷ us) (m ∷ made) before a x h one =
-        (h.0, assertion_more us made (before + 1) a x h.1 (subst (λ (b : ℕ). IsAssertion s cs e bodies b a x) (omega arith) one))
+    assertion_more (y ∷ us) (m ∷ made) before a x h one = (
+      h.0,
+      assertion_more us made (before + 1) a x h.1 (subst (λ (b : ℕ). IsAssertion s cs e bodies b a x)
+          (omega arith) one),
+    )
 
     -- So many assertions were made, and the others are left.
     pub record Half (all : List trees.AssertionForm) (left : List Resolved) (made : List Assertion) : Type 0 where
@@ -210,7 +227,8 @@ module _ (s : Scope) (cs : List (List ℕ)) (e : List Expr) where
       pub ready : AreResolved s cs e bodies (length made) rest left
       pub done : AreAssertions s cs e bodies 0 seen made
 
-    pub half_start : (all : List trees.AssertionForm) (left : List Resolved) (made : List Assertion) → made ≡ [] → AreResolved s cs e bodies 0 all left → Half all left made
+    pub half_start : (all : List trees.AssertionForm) (left : List Resolved) (made : List Assertion) → made ≡ []
+        → AreResolved s cs e bodies 0 all left → Half all left made
     half_start all left made none h =
         record {
           seen = [];
@@ -220,8 +238,12 @@ module _ (s : Scope) (cs : List (List ℕ)) (e : List Expr) where
           done = subst (λ (ms : List Assertion). AreAssertions s cs e bodies 0 [] ms) (sym none) tt;
         }
 
-    half_step : (all seen rest : List trees.AssertionForm) (m : Resolved) (left : List Resolved) (made after : List Assertion) (x : Assertion) → all ≡ seen ++ rest → AreResolved s cs e bodies (length made) rest (m ∷ left) →
-        AreAssertions s cs e bodies 0 seen made → after ≡ made ++ x ∷ [] → ((a : trees.AssertionForm) → IsResolved s cs e bodies (length made) a m → IsAssertion s cs e bodies (length made) a x) → Half all left after
+    half_step : (all seen rest : List trees.AssertionForm) (m : Resolved) (left : List Resolved)
+        (made after : List Assertion) (x : Assertion) → all ≡ seen ++ rest
+        → AreResolved s cs e bodies (length made) rest (m ∷ left) →
+        AreAssertions s cs e bodies 0 seen made → after ≡ made ++ x ∷ []
+        → ((a : trees.AssertionForm) → IsResolved s cs e bodies (length made) a m
+        → IsAssertion s cs e bodies (length made) a x) → Half all left after
     half_step all seen [] m left made after x is h done pushed f = elim h [ ]
     half_step all seen (a ∷ rest) m left made after x is h done pushed f =
         let long : length after ≡ length made + 1 = ap length pushed ∙ length-append made (x ∷ []) in
@@ -230,22 +252,36 @@ module _ (s : Scope) (cs : List (List ℕ)) (e : List Expr) where
           rest = rest;
           both = is ∙ sym (append_assoc seen (a ∷ []) rest);
           ready = subst (λ (n : ℕ). AreResolved s cs e bodies n rest left) (sym long) h.1;
-          done = subst (λ (ms : List Assertion). AreAssertions s cs e bodies 0 (seen ++ a ∷ []) ms) (sym pushed) (assertion_more seen made 0 a x done (subst (λ (b : ℕ). IsAssertion s cs e bodies b a x) (omega arith) (f a h.0)));
+          done =
+              subst (λ (ms : List Assertion). AreAssertions s cs e bodies 0 (seen ++ a ∷ []) ms) (sym pushed)
+              (assertion_more seen made 0 a x done
+              (subst (λ (b : ℕ). IsAssertion s cs e bodies b a x) (omega arith) (f a h.0)));
         }
 
-    pub half_more : (all : List trees.AssertionForm) (now : List Resolved) (m : Resolved) (left : List Resolved) (made after : List Assertion) (x : Assertion) → now ≡ m ∷ left → after ≡ made ++ x ∷ [] →
-        ((before : ℕ) (a : trees.AssertionForm) → IsResolved s cs e bodies before a m → IsAssertion s cs e bodies before a x) → Half all now made → Half all left after
+    pub half_more : (all : List trees.AssertionForm) (now : List Resolved) (m : Resolved) (left : List Resolved)
+        (made after : List Assertion) (x : Assertion) → now ≡ m ∷ left → after ≡ made ++ x ∷ [] →
+        ((before : ℕ) (a : trees.AssertionForm) → IsResolved s cs e bodies before a m
+        → IsAssertion s cs e bodies before a x) → Half all now made → Half all left after
     half_more all now m left made after x is pushed f h =
-        half_step all h.seen h.rest m left made after x h.both (subst (λ (ms : List Resolved). AreResolved s cs e bodies (length made) h.rest ms) is h.ready) h.done pushed (f (length made))
+        half_step all h.seen h.rest m left made after x h.both
+        (subst (λ (ms : List Resolved). AreResolved s cs e bodies (length made) h.rest ms) is h.ready) h.done
+        pushed (f (length made))
 
-    done_all : (all seen rest : List trees.AssertionForm) (n : ℕ) (made : List Assertion) → all ≡ seen ++ rest → AreResolved s cs e bodies n rest [] → AreAssertions s cs e bodies 0 seen made → AreAssertions s cs e bodies 0 all made
-    done_all all seen [] n made is h done = subst (λ (us : List trees.AssertionForm). AreAssertions s cs e bodies 0 us made) (sym (is ∙ append-nil seen)) done
+    done_all : (all seen rest : List trees.AssertionForm) (n : ℕ) (made : List Assertion) → all ≡ seen ++ rest
+        → AreResolved s cs e bodies n rest [] → AreAssertions s cs e bodies 0 seen made
+        → AreAssertions s cs e bodies 0 all made
+    done_all all seen [] n made is h done =
+        subst (λ (us : List trees.AssertionForm). AreAssertions s cs e bodies 0 us made) (sym (is ∙ append-nil seen))
+        done
     done_all all seen (a ∷ rest) n made is h done = elim h [ ]
 
-    pub half_all : (all : List trees.AssertionForm) (left : List Resolved) (made : List Assertion) → left ≡ [] → Half all left made → AreAssertions s cs e bodies 0 all made
+    pub half_all : (all : List trees.AssertionForm) (left : List Resolved) (made : List Assertion) → left ≡ []
+        → Half all left made → AreAssertions s cs e bodies 0 all made
     half_all all left made none h =
-        done_all all h.seen h.rest (length made) made h.both (subst (λ (ms : List Resolved). AreResolved s cs e bodies (length made) h.rest ms) none h.ready) h.done
+        done_all all h.seen h.rest (length made) made h.both
+        (subst (λ (ms : List Resolved). AreResolved s cs e bodies (length made) h.rest ms) none h.ready) h.done
 
 -- what stands at a place, and what is behind it
-pub resolved_at : (xs : List Resolved) (i : ℕ) (x : Resolved) → i < length xs → x ≡ get_or xs i x → drop i xs ≡ x ∷ drop (i + 1) xs
+pub resolved_at : (xs : List Resolved) (i : ℕ) (x : Resolved) → i < length xs → x ≡ get_or xs i x
+    → drop i xs ≡ x ∷ drop (i + 1) xs
 resolved_at xs i x lt is = rw (drop-cons xs i x lt, add-one, ← is) refl

@@ -27,26 +27,32 @@ pub record Says (bytes : List ℕ) (vars : List Declared) (stored : List StoredS
 finish : List Declared → Result (List Moment) Fault → Result Contents Fault
 finish vars read = read >>= λ steps. Ok (record { variables = vars; steps = steps })
 
-says : (bytes : List ℕ) (vars : List Declared) (stored : List StoredStep) (read : Result (List Moment) Fault) → kept_steps read ≡ Ok stored → dump_of bytes ≡ finish vars read → Says bytes vars stored
+says : (bytes : List ℕ) (vars : List Declared) (stored : List StoredStep) (read : Result (List Moment) Fault)
+    → kept_steps read ≡ Ok stored → dump_of bytes ≡ finish vars read → Says bytes vars stored
 unfolding finish
-says bytes vars stored (Ok ms) k e = record { contents = record { variables = vars; steps = ms }; read = e; variables = refl; steps = cc }
+says bytes vars stored (Ok ms) k e =
+    record { contents = record { variables = vars; steps = ms }; read = e; variables = refl; steps = cc }
 says bytes vars stored (Err f) k e = absurd cc
 
-fails : (bytes : List ℕ) (vars : List Declared) (read : Result (List Moment) Fault) (e : ReadError) → Fails e (kept_steps read) → dump_of bytes ≡ finish vars read → Fails e (dump_of bytes)
+fails : (bytes : List ℕ) (vars : List Declared) (read : Result (List Moment) Fault) (e : ReadError)
+    → Fails e (kept_steps read) → dump_of bytes ≡ finish vars read → Fails e (dump_of bytes)
 unfolding finish
 fails bytes vars read errors.Memory k e = tt
 fails bytes vars (Ok ms) (errors.Fault f) k e = absurd cc
 fails bytes vars (Err g) (errors.Fault f) k e = e ∙ (let h : g ≡ f = cc in ap (λ (x : Fault). Err x) h)
 
-module _ (bytes : List ℕ) (ss : List Scope) (vs : List Variable) (ts : List DumpToken) (read : header [] [] (tokens 0 bytes) ≡ Ok (map (declaration_of ss) vs, ts)) where
+module _ (bytes : List ℕ) (ss : List Scope) (vs : List Variable) (ts : List DumpToken)
+    (read : header [] [] (tokens 0 bytes) ≡ Ok (map (declaration_of ss) vs, ts)) where
   joined : dump_of bytes ≡ finish (map (declaration_of ss) vs) (steps_of (body (codes_in vs) (length bytes) 0 0 ts))
   unfolding finish dump_of contents_behind
   joined = rw (read, codes-texts ss vs) refl
 
-  pub dump-says : (stored : List StoredStep) → kept_steps (steps_of (body (codes_in vs) (length bytes) 0 0 ts)) ≡ Ok stored → Says bytes (map (declaration_of ss) vs) stored
+  pub dump-says : (stored : List StoredStep) → kept_steps (steps_of (body (codes_in vs) (length bytes) 0 0 ts))
+      ≡ Ok stored → Says bytes (map (declaration_of ss) vs) stored
   dump-says stored k = says bytes (map (declaration_of ss) vs) stored _ k joined
 
-  pub dump-fails : (e : ReadError) → Fails e (kept_steps (steps_of (body (codes_in vs) (length bytes) 0 0 ts))) → Fails e (dump_of bytes)
+  pub dump-fails : (e : ReadError) → Fails e (kept_steps (steps_of (body (codes_in vs) (length bytes) 0 0 ts)))
+      → Fails e (dump_of bytes)
   dump-fails e k = fails bytes (map (declaration_of ss) vs) _ e k joined
 
 pub header-fails : (bytes : List ℕ) (e : ReadError) → Fails e (header [] [] (tokens 0 bytes)) → Fails e (dump_of bytes)

@@ -1,5 +1,6 @@
 -- Codes as numbers.
-use Rattle.std.proofs.Common.{◌≡◌, ℕ, zero, suc, ◌+◌, ◌*◌, ◌/◌, ◌%◌, ◌<◌, true, false, ltb, List, [], ◌∷◌, ◌++◌, length, get_or, set, refl, sym, ap, ◌∙◌, arith, subst}
+use Rattle.std.proofs.Common.{◌≡◌, ℕ, zero, suc, ◌+◌, ◌*◌, ◌/◌, ◌%◌, ◌<◌, true, false, ltb, List, [], ◌∷◌, ◌++◌, length}
+use Rattle.std.proofs.Common.{get_or, set, refl, sym, ap, ◌∙◌, arith, subst}
 use Rattle.std.proofs.lemmas.Bool.{lt-ltb, le-ltb}
 use Rattle.vcd_reader.specs.declared.codes.Entry.{Entry}
 use Rattle.vcd_reader.specs.Packed.{unpacked_code, no_entry, IsKnown, AreKnown}
@@ -45,7 +46,8 @@ three a b c p q r s =
     let z : (a + b * 256 + c * 65536) / 65536 ≡ c = omega arith in
     rw (f, g, t, x, y, z) refl
 
-four : (a b c d : ℕ) → a < 256 → b < 256 → c < 256 → d < 256 → 0 < d → unpacked_code (a + b * 256 + c * 65536 + d * 16777216) ≡ a ∷ b ∷ c ∷ d ∷ []
+four : (a b c d : ℕ) → a < 256 → b < 256 → c < 256 → d < 256 → 0 < d
+    → unpacked_code (a + b * 256 + c * 65536 + d * 16777216) ≡ a ∷ b ∷ c ∷ d ∷ []
 unfolding unpacked_code
 four a b c d p q r s m =
     let n = a + b * 256 + c * 65536 + d * 16777216 in
@@ -58,28 +60,35 @@ four a b c d p q r s m =
     let w : (a + b * 256 + c * 65536 + d * 16777216) / 16777216 ≡ d = omega arith in
     rw (f, g, t, x, y, z, w) refl
 
-pub packs-2 : (xs : List ℕ) → length xs ≡ 2 → get_or xs 0 0 < 256 → get_or xs 1 0 < 256 → 0 < get_or xs 1 0 → unpacked_code (get_or xs 0 0 + get_or xs 1 0 * 256) ≡ xs
+pub packs-2 : (xs : List ℕ) → length xs ≡ 2 → get_or xs 0 0 < 256 → get_or xs 1 0 < 256 → 0 < get_or xs 1 0
+    → unpacked_code (get_or xs 0 0 + get_or xs 1 0 * 256) ≡ xs
 packs-2 xs e a b z = two (get_or xs 0 0) (get_or xs 1 0) a b z ∙ list-2 xs e
 
-pub packs-3 : (xs : List ℕ) → length xs ≡ 3 → get_or xs 0 0 < 256 → get_or xs 1 0 < 256 → get_or xs 2 0 < 256 → 0 < get_or xs 2 0 → unpacked_code (get_or xs 0 0 + get_or xs 1 0 * 256 + get_or xs 2 0 * 65536) ≡ xs
+pub packs-3 : (xs : List ℕ) → length xs ≡ 3 → get_or xs 0 0 < 256 → get_or xs 1 0 < 256 → get_or xs 2 0 < 256
+    → 0 < get_or xs 2 0 → unpacked_code (get_or xs 0 0 + get_or xs 1 0 * 256 + get_or xs 2 0 * 65536) ≡ xs
 packs-3 xs e a b c z = three (get_or xs 0 0) (get_or xs 1 0) (get_or xs 2 0) a b c z ∙ list-3 xs e
 
-pub packs-4 : (xs : List ℕ) → length xs ≡ 4 → get_or xs 0 0 < 256 → get_or xs 1 0 < 256 → get_or xs 2 0 < 256 → get_or xs 3 0 < 256 → 0 < get_or xs 3 0 → unpacked_code (get_or xs 0 0 + get_or xs 1 0 * 256 + get_or xs 2 0 * 65536 + get_or xs 3 0 * 16777216) ≡ xs
+pub packs-4 : (xs : List ℕ) → length xs ≡ 4 → get_or xs 0 0 < 256 → get_or xs 1 0 < 256 → get_or xs 2 0 < 256
+    → get_or xs 3 0 < 256 → 0 < get_or xs 3 0
+    → unpacked_code (get_or xs 0 0 + get_or xs 1 0 * 256 + get_or xs 2 0 * 65536 + get_or xs 3 0 * 16777216) ≡ xs
 packs-4 xs e a b c d z = four (get_or xs 0 0) (get_or xs 1 0) (get_or xs 2 0) (get_or xs 3 0) a b c d z ∙ list-4 xs e
 
 pub ruleset packs = (packs-1, packs-2, packs-3, packs-4)
 
 -- known entries
-known-pushed : (texts : List (List ℕ)) (es : List Entry) → AreKnown texts es → (i : ℕ) → IsKnown texts (get_or (es ++ no_entry ∷ []) i no_entry)
+known-pushed : (texts : List (List ℕ)) (es : List Entry) → AreKnown texts es → (i : ℕ)
+    → IsKnown texts (get_or (es ++ no_entry ∷ []) i no_entry)
 known-pushed texts [] known zero = λ h. absurd (omega arith)
 known-pushed texts [] known (suc i) = λ h. absurd (omega arith)
 known-pushed texts (e ∷ es) known zero = known zero
 known-pushed texts (e ∷ es) known (suc i) = known-pushed texts es (λ j. known (suc j)) i
 
-pub known-push : (texts : List (List ℕ)) (es new : List Entry) → new ≡ es ++ no_entry ∷ [] → AreKnown texts es → AreKnown texts new
+pub known-push : (texts : List (List ℕ)) (es new : List Entry) → new ≡ es ++ no_entry ∷ [] → AreKnown texts es
+    → AreKnown texts new
 known-push texts es new is known = subst (λ (xs : List Entry). AreKnown texts xs) (sym is) (known-pushed texts es known)
 
-pub known-set : (texts : List (List ℕ)) (es : List Entry) (k : ℕ) (e : Entry) → IsKnown texts e → AreKnown texts es → (i : ℕ) → IsKnown texts (get_or (set es k e) i no_entry)
+pub known-set : (texts : List (List ℕ)) (es : List Entry) (k : ℕ) (e : Entry) → IsKnown texts e → AreKnown texts es
+    → (i : ℕ) → IsKnown texts (get_or (set es k e) i no_entry)
 known-set texts [] k e is known i = known i
 known-set texts (x ∷ es) zero e is known zero = is
 known-set texts (x ∷ es) zero e is known (suc i) = known (suc i)

@@ -1,5 +1,6 @@
 -- Counts by clock and counts by start are the same.
-use Rattle.std.proofs.Common.{◌≡◌, ◌∙◌, inl, inr, ℕ, zero, suc, ◌+◌, ◌<◌, ◌≤◌, Bool, false, if◌then◌else◌, List, [], ◌∷◌, ◌++◌, map, refl, ap, arith}
+use Rattle.std.proofs.Common.{◌≡◌, ◌∙◌, inl, inr, ℕ, zero, suc, ◌+◌, ◌<◌, ◌≤◌, Bool, false, if◌then◌else◌, List, []}
+use Rattle.std.proofs.Common.{◌∷◌, ◌++◌, map, refl, ap, arith}
 use Rattle.std.specs.Prelude.{◌==◌, count_by}
 use Rattle.std.specs.List.{range_with_len, flat_map}
 use Rattle.std.proofs.lemmas.Bool.{cases_Bool, cases_eq, eq-eqb, false_from_ne_true, eqb-true}
@@ -54,7 +55,8 @@ module _ (q : Verdict → Bool) (v : ℕ → Verdict) where
   weigh-append : (xs ys : List Decided) → weigh (xs ++ ys) ≡ weigh xs + weigh ys
   weigh-append xs ys =
       ap (count_by q) (map-append (λ (d : Decided). d.verdict) xs ys)
-      ∙ sum_by-append (λ w. if q w then 1 else 0) (map (λ (d : Decided). d.verdict) xs) (map (λ (d : Decided). d.verdict) ys)
+      ∙ sum_by-append (λ w. if q w then 1 else 0) (map (λ (d : Decided). d.verdict) xs)
+      (map (λ (d : Decided). d.verdict) ys)
 
   weigh-cons : (d : Decided) (ds : List Decided) → weigh (d ∷ ds) ≡ one d.verdict + weigh ds
   weigh-cons d ds = sum_by-cons (λ w. if q w then 1 else 0) d.verdict (map (λ (d : Decided). d.verdict) ds)
@@ -65,7 +67,8 @@ module _ (q : Verdict → Bool) (v : ℕ → Verdict) where
   abbrev still : ℕ → ℕ → List Decided
   still i k = map (λ c. record { start = c; verdict = Open }) (select (λ c. is_open (v c)) (λ c. c) i k)
 
-  fall-more : (j i k : ℕ) → weigh (fall i (suc k) j) ≡ (if falls_at j (v i) then one (v i) else 0) + weigh (fall (i + 1) k j)
+  fall-more : (j i k : ℕ) → weigh (fall i (suc k) j) ≡ (if falls_at j (v i) then one (v i) else 0)
+      + weigh (fall (i + 1) k j)
   fall-more j i k =
       elim (cases_Bool (falls_at j (v i))) [
         | inl on ↦ rw on (weigh-cons (record { start = i; verdict = v i }) (fall (i + 1) k j))
@@ -79,7 +82,8 @@ module _ (q : Verdict → Bool) (v : ℕ → Verdict) where
         | inr off ↦ rw off (omega arith)
       ]
 
-  clocks-more : (i k a m : ℕ) → weigh (flat_map (fall i (suc k)) (range_with_len a m)) ≡ hits (λ j. falls_at j (v i)) (one (v i)) a m + weigh (flat_map (fall (i + 1) k) (range_with_len a m))
+  clocks-more : (i k a m : ℕ) → weigh (flat_map (fall i (suc k)) (range_with_len a m))
+      ≡ hits (λ j. falls_at j (v i)) (one (v i)) a m + weigh (flat_map (fall (i + 1) k) (range_with_len a m))
   clocks-more i k a zero = refl
   clocks-more i k a (suc m) =
       let here = fall-more a i k in
@@ -89,14 +93,16 @@ module _ (q : Verdict → Bool) (v : ℕ → Verdict) where
       omega (arith, here, later, whole, rest)
 
   -- each verdict falls at one of the clocks, or is open
-  once : (n : ℕ) (w : Verdict) → FallsBefore n w → hits (λ j. falls_at j w) (one w) 0 n + (if is_open w then one Open else 0) ≡ one w
+  once : (n : ℕ) (w : Verdict) → FallsBefore n w
+      → hits (λ j. falls_at j w) (one w) 0 n + (if is_open w then one Open else 0) ≡ one w
   once n Open h = omega (arith, never-hit (one Open) 0 n)
   once n (Holds t) h = omega (arith, one-hit t (one (Holds t)) 0 n (omega arith) (omega arith))
   once n (Vacuous t) h = omega (arith, one-hit t (one (Vacuous t)) 0 n (omega arith) (omega arith))
   once n (Fails t) h = omega (arith, one-hit t (one (Fails t)) 0 n (omega arith) (omega arith))
   once n (Disabled t) h = omega (arith, one-hit t (one (Disabled t)) 0 n (omega arith) (omega arith))
 
-  by-start : (n i k : ℕ) → ((c : ℕ) → i ≤ c → c < i + k → FallsBefore n (v c)) → weigh (flat_map (fall i k) (range_with_len 0 n)) + weigh (still i k) ≡ count_by q (map v (range_with_len i k))
+  by-start : (n i k : ℕ) → ((c : ℕ) → i ≤ c → c < i + k → FallsBefore n (v c))
+      → weigh (flat_map (fall i k) (range_with_len 0 n)) + weigh (still i k) ≡ count_by q (map v (range_with_len i k))
   by-start n i zero falls = let none = ap weigh (flat-none (range_with_len 0 n)) in omega (arith, none)
   by-start n i (suc k) falls =
       let rest = by-start n (i + 1) k (λ c from below. falls c (omega arith) (omega arith)) in
@@ -106,5 +112,8 @@ module _ (q : Verdict → Bool) (v : ℕ → Verdict) where
       let next = sum_by-cons (λ w. if q w then 1 else 0) (v i) (map v (range_with_len (i + 1) k)) in
       omega (arith, rest, clocks, others, here, next)
 
-  pub tallied : (n : ℕ) → ((c : ℕ) → c < n → FallsBefore n (v c)) → weigh (flat_map (fall 0 n) (range_with_len 0 n) ++ still 0 n) ≡ count_by q (map v (range_with_len 0 n))
-  tallied n falls = weigh-append (flat_map (fall 0 n) (range_with_len 0 n)) (still 0 n) ∙ by-start n 0 n (λ c from below. falls c (omega arith))
+  pub tallied : (n : ℕ) → ((c : ℕ) → c < n → FallsBefore n (v c))
+      → weigh (flat_map (fall 0 n) (range_with_len 0 n) ++ still 0 n) ≡ count_by q (map v (range_with_len 0 n))
+  tallied n falls =
+      weigh-append (flat_map (fall 0 n) (range_with_len 0 n)) (still 0 n)
+      ∙ by-start n 0 n (λ c from below. falls c (omega arith))

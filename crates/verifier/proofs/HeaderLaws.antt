@@ -71,15 +71,18 @@ climbs_weaker : (low middle high : ℕ) (ys : List Refusal) → low ≤ middle �
 climbs_weaker low middle high [] a b = omega arith
 climbs_weaker low middle high (y ∷ ys) a b = (omega (arith, b.0), b.1)
 
-pub climbs_join : (low middle high : ℕ) (xs ys : List Refusal) → Climbs low middle xs → Climbs middle high ys → Climbs low high (xs ++ ys)
+pub climbs_join : (low middle high : ℕ) (xs ys : List Refusal) → Climbs low middle xs → Climbs middle high ys
+    → Climbs low high (xs ++ ys)
 climbs_join low middle high [] ys a b = climbs_weaker low middle high ys a b
 climbs_join low middle high (x ∷ xs) ys a b = (a.0, climbs_join (rank_of x) middle high xs ys a.1 b)
 
-pub climbs_if : (b : Bool) (r : Refusal) (low high : ℕ) → low < rank_of r → rank_of r ≤ high → Climbs low high (cond b (r ∷ []) [])
+pub climbs_if : (b : Bool) (r : Refusal) (low high : ℕ) → low < rank_of r → rank_of r ≤ high
+    → Climbs low high (cond b (r ∷ []) [])
 climbs_if true r low high l h = (l, h)
 climbs_if false r low high l h = omega arith
 
-climbs_over : (b : Bool) (f : Field) (low high : ℕ) → low < 240 + field_place f → 240 + field_place f ≤ high → Climbs low high (cond b (LimitTooLarge f ∷ []) [])
+climbs_over : (b : Bool) (f : Field) (low high : ℕ) → low < 240 + field_place f → 240 + field_place f ≤ high
+    → Climbs low high (cond b (LimitTooLarge f ∷ []) [])
 climbs_over b f low high l h = climbs_if b (LimitTooLarge f) low high (omega (arith, l)) (omega (arith, h))
 
 disable_climbs : (disable : Option ℕ) (atoms : ℕ) → Climbs 0 239 (disable_faults disable atoms)
@@ -97,40 +100,69 @@ header_climbs p = climbs_12
     climbs_0 = disable_climbs p.header.disable p.header.atoms
 
     climbs_1 : Climbs 0 240 (front_1 p)
-    climbs_1 = climbs_join 0 239 240 (front_0 p) (over 4096 p.header.limits.history fields.History) climbs_0 (climbs_over (nat_lt 4096 p.header.limits.history) fields.History 239 240 (omega arith) (omega arith))
+    climbs_1 =
+        climbs_join 0 239 240 (front_0 p) (over 4096 p.header.limits.history fields.History) climbs_0
+        (climbs_over (nat_lt 4096 p.header.limits.history) fields.History 239 240 (omega arith) (omega arith))
 
     climbs_2 : Climbs 0 241 (front_2 p)
-    climbs_2 = climbs_join 0 240 241 (front_1 p) (over 1024 p.header.limits.stack fields.Stack) climbs_1 (climbs_over (nat_lt 1024 p.header.limits.stack) fields.Stack 240 241 (omega arith) (omega arith))
+    climbs_2 =
+        climbs_join 0 240 241 (front_1 p) (over 1024 p.header.limits.stack fields.Stack) climbs_1
+        (climbs_over (nat_lt 1024 p.header.limits.stack) fields.Stack 240 241 (omega arith) (omega arith))
 
     climbs_3 : Climbs 0 242 (front_3 p)
-    climbs_3 = climbs_join 0 241 242 (front_2 p) (over 1024 p.header.limits.attempts fields.Attempts) climbs_2 (climbs_over (nat_lt 1024 p.header.limits.attempts) fields.Attempts 241 242 (omega arith) (omega arith))
+    climbs_3 =
+        climbs_join 0 241 242 (front_2 p) (over 1024 p.header.limits.attempts fields.Attempts) climbs_2
+        (climbs_over (nat_lt 1024 p.header.limits.attempts) fields.Attempts 241 242 (omega arith) (omega arith))
 
     climbs_4 : Climbs 0 243 (front_4 p)
-    climbs_4 = climbs_join 0 242 243 (front_3 p) (over 1024 p.header.limits.obligations fields.Obligations) climbs_3 (climbs_over (nat_lt 1024 p.header.limits.obligations) fields.Obligations 242 243 (omega arith) (omega arith))
+    climbs_4 =
+        climbs_join 0 242 243 (front_3 p) (over 1024 p.header.limits.obligations fields.Obligations) climbs_3
+        (climbs_over (nat_lt 1024 p.header.limits.obligations) fields.Obligations 242 243 (omega arith) (omega arith))
 
     climbs_5 : Climbs 0 244 (front_5 p)
-    climbs_5 = climbs_join 0 243 244 (front_4 p) (over 16777216 p.header.limits.budget fields.Budget) climbs_4 (climbs_over (nat_lt 16777216 p.header.limits.budget) fields.Budget 243 244 (omega arith) (omega arith))
+    climbs_5 =
+        climbs_join 0 243 244 (front_4 p) (over 16777216 p.header.limits.budget fields.Budget) climbs_4
+        (climbs_over (nat_lt 16777216 p.header.limits.budget) fields.Budget 243 244 (omega arith) (omega arith))
 
     climbs_6 : Climbs 0 245 (front_6 p)
-    climbs_6 = climbs_join 0 244 245 (front_5 p) (over 127 p.header.atoms fields.Atoms) climbs_5 (climbs_over (nat_lt 127 p.header.atoms) fields.Atoms 244 245 (omega arith) (omega arith))
+    climbs_6 =
+        climbs_join 0 244 245 (front_5 p) (over 127 p.header.atoms fields.Atoms) climbs_5
+        (climbs_over (nat_lt 127 p.header.atoms) fields.Atoms 244 245 (omega arith) (omega arith))
 
     climbs_7 : Climbs 0 246 (front_7 p)
-    climbs_7 = climbs_join 0 245 246 (front_6 p) (over 256 (length (frame_of p).slots) fields.Slots) climbs_6 (climbs_over (nat_lt 256 (length (frame_of p).slots)) fields.Slots 245 246 (omega arith) (omega arith))
+    climbs_7 =
+        climbs_join 0 245 246 (front_6 p) (over 256 (length (frame_of p).slots) fields.Slots) climbs_6
+        (climbs_over (nat_lt 256 (length (frame_of p).slots)) fields.Slots 245 246 (omega arith) (omega arith))
 
     climbs_8 : Climbs 0 247 (front_8 p)
-    climbs_8 = climbs_join 0 246 247 (front_7 p) (over 4096 (length p.sample) fields.Sample) climbs_7 (climbs_over (nat_lt 4096 (length p.sample)) fields.Sample 246 247 (omega arith) (omega arith))
+    climbs_8 =
+        climbs_join 0 246 247 (front_7 p) (over 4096 (length p.sample) fields.Sample) climbs_7
+        (climbs_over (nat_lt 4096 (length p.sample)) fields.Sample 246 247 (omega arith) (omega arith))
 
     climbs_9 : Climbs 0 248 (front_9 p)
-    climbs_9 = climbs_join 0 247 248 (front_8 p) (over 127 (length p.antecedent.blocks) fields.AntecedentPositions) climbs_8 (climbs_over (nat_lt 127 (length p.antecedent.blocks)) fields.AntecedentPositions 247 248 (omega arith) (omega arith))
+    climbs_9 =
+        climbs_join 0 247 248 (front_8 p) (over 127 (length p.antecedent.blocks) fields.AntecedentPositions) climbs_8
+        (climbs_over (nat_lt 127 (length p.antecedent.blocks)) fields.AntecedentPositions 247 248 (omega arith)
+        (omega arith))
 
     climbs_10 : Climbs 0 249 (front_10 p)
-    climbs_10 = climbs_join 0 248 249 (front_9 p) (over 4096 (size_of p.antecedent.blocks) fields.AntecedentCode) climbs_9 (climbs_over (nat_lt 4096 (size_of p.antecedent.blocks)) fields.AntecedentCode 248 249 (omega arith) (omega arith))
+    climbs_10 =
+        climbs_join 0 248 249 (front_9 p) (over 4096 (size_of p.antecedent.blocks) fields.AntecedentCode) climbs_9
+        (climbs_over (nat_lt 4096 (size_of p.antecedent.blocks)) fields.AntecedentCode 248 249 (omega arith)
+        (omega arith))
 
     climbs_11 : Climbs 0 250 (front_11 p)
-    climbs_11 = climbs_join 0 249 250 (front_10 p) (over 127 (length p.consequent.blocks) fields.ConsequentPositions) climbs_10 (climbs_over (nat_lt 127 (length p.consequent.blocks)) fields.ConsequentPositions 249 250 (omega arith) (omega arith))
+    climbs_11 =
+        climbs_join 0 249 250 (front_10 p) (over 127 (length p.consequent.blocks) fields.ConsequentPositions)
+        climbs_10
+        (climbs_over (nat_lt 127 (length p.consequent.blocks)) fields.ConsequentPositions 249 250 (omega arith)
+        (omega arith))
 
     climbs_12 : Climbs 0 251 (front_12 p)
-    climbs_12 = climbs_join 0 250 251 (front_11 p) (over 4096 (size_of p.consequent.blocks) fields.ConsequentCode) climbs_11 (climbs_over (nat_lt 4096 (size_of p.consequent.blocks)) fields.ConsequentCode 250 251 (omega arith) (omega arith))
+    climbs_12 =
+        climbs_join 0 250 251 (front_11 p) (over 4096 (size_of p.consequent.blocks) fields.ConsequentCode) climbs_11
+        (climbs_over (nat_lt 4096 (size_of p.consequent.blocks)) fields.ConsequentCode 250 251 (omega arith)
+        (omega arith))
 
 -- what rises begins with its first
 above : (x : Refusal) (low high : ℕ) (rs : List Refusal) → Climbs low high rs → IsIn x rs → low < rank_of x
@@ -152,7 +184,8 @@ field_small fields.AntecedentCode = omega arith
 field_small fields.ConsequentPositions = omega arith
 field_small fields.ConsequentCode = omega arith
 
-by_rank : (section pc m n a b : ℕ) → a < 16 → b < 16 → 16 * m + a ≤ 16 * n + b → IsUpTo (section ∷ pc ∷ m ∷ a ∷ []) (section ∷ pc ∷ n ∷ b ∷ [])
+by_rank : (section pc m n a b : ℕ) → a < 16 → b < 16 → 16 * m + a ≤ 16 * n + b
+    → IsUpTo (section ∷ pc ∷ m ∷ a ∷ []) (section ∷ pc ∷ n ∷ b ∷ [])
 by_rank section pc m n a b ha hb le =
     elim (cases_eq m n) [
       | inl same ↦
@@ -167,7 +200,8 @@ by_rank section pc m n a b ha hb le =
 abbrev pub AreSmall : List Refusal → Type 0
 AreSmall rs = (x : Refusal) → IsIn x rs → part_of x < 16
 
-pub head_first : (section low high : ℕ) (rs : List Refusal) (e : Refusal) → Climbs low high rs → AreSmall rs → IsHead e rs → IsFirst (found section 0 e) (map (found section 0) rs)
+pub head_first : (section low high : ℕ) (rs : List Refusal) (e : Refusal) → Climbs low high rs → AreSmall rs
+    → IsHead e rs → IsFirst (found section 0 e) (map (found section 0) rs)
 head_first section low high rs e climbs small h =
     subst (λ (xs : List Refusal). IsFirst (found section 0 e) (map (found section 0) xs)) (sym h.1)
     (record { stands = inl refl; first = λ y i. by_part y i })
@@ -178,7 +212,8 @@ head_first section low high rs e climbs small h =
     small_e : AreSmall (e ∷ h.0)
     small_e = subst AreSmall h.1 small
 
-    in_found : (y : Found) (xs : List Refusal) → IsIn y (map (found section 0) xs) → (x : Refusal) × IsIn x xs × (y ≡ found section 0 x)
+    in_found : (y : Found) (xs : List Refusal) → IsIn y (map (found section 0) xs) → (x : Refusal) × IsIn x xs
+        × (y ≡ found section 0 x)
     in_found y [] i = absurd i
     in_found y (r ∷ rs) (inl same) = (r, inl refl, same)
     in_found y (r ∷ rs) (inr i) = (let more = in_found y rs i in (more.0, inr more.1, more.2))
@@ -187,11 +222,13 @@ head_first section low high rs e climbs small h =
     at_least x (inl same) = omega (arith, ap rank_of same)
     at_least x (inr i) = (let l = above x (rank_of e) high h.0 climbs_e.1 i in omega (arith, l))
 
-    by_part : (y : Found) → IsIn y (map (found section 0) (e ∷ h.0)) → IsUpTo (place_of (found section 0 e)) (place_of y)
+    by_part : (y : Found) → IsIn y (map (found section 0) (e ∷ h.0))
+        → IsUpTo (place_of (found section 0 e)) (place_of y)
     by_part y i =
         let x = in_found y (e ∷ h.0) i in
         subst (λ (f : Found). IsUpTo (place_of (found section 0 e)) (place_of f)) (sym x.2)
-        (by_rank section 0 (number_of e) (number_of x.0) (part_of e) (part_of x.0) (small_e e (inl refl)) (small_e x.0 x.1) (at_least x.0 x.1))
+        (by_rank section 0 (number_of e) (number_of x.0) (part_of e) (part_of x.0) (small_e e (inl refl))
+        (small_e x.0 x.1) (at_least x.0 x.1))
 
 pub part_small : (r : Refusal) → part_of r < 16
 part_small (LimitTooLarge field) = field_small field
@@ -203,10 +240,12 @@ over_none : (most n : ℕ) (f : Field) → over most n f ≡ [] → n ≤ most
 over_none most n f h = by_test (cases_Bool (nat_lt most n))
   where
     by_test : (nat_lt most n ≡ true) ⊎ (nat_lt most n ≡ false) → n ≤ most
-    by_test (inl hit) = (let some : LimitTooLarge f ∷ [] ≡ [] = sym (ap (λ b. cond b (LimitTooLarge f ∷ []) []) hit) ∙ h in cc)
+    by_test (inl hit) =
+        (let some : LimitTooLarge f ∷ [] ≡ [] = sym (ap (λ b. cond b (LimitTooLarge f ∷ []) []) hit) ∙ h in cc)
     by_test (inr miss) = ltb-false most n miss
 
-pub header_clear : (p : ProgramData) → header_refusals p ≡ [] → HasRoom p × (disable_faults p.header.disable p.header.atoms ≡ [])
+pub header_clear : (p : ProgramData) → header_refusals p ≡ [] → HasRoom p
+    × (disable_faults p.header.disable p.header.atoms ≡ [])
 header_clear p h =
     let part_12 = nil_parts (front_11 p) (over 4096 (size_of p.consequent.blocks) fields.ConsequentCode) h in
     let part_11 = nil_parts (front_10 p) (over 127 (length p.consequent.blocks) fields.ConsequentPositions) part_12.0 in
@@ -243,44 +282,69 @@ over_some most n f h = ap (λ b. cond b (LimitTooLarge f ∷ []) []) (le-ltb mos
 nil_join : (xs ys : List Refusal) → xs ≡ [] → ys ≡ [] → xs ++ ys ≡ []
 nil_join xs ys a b = ap (λ zs. zs ++ ys) a ∙ b
 
-pub header_none : (p : ProgramData) → HasRoom p → disable_faults p.header.disable p.header.atoms ≡ [] → header_refusals p ≡ []
+pub header_none : (p : ProgramData) → HasRoom p → disable_faults p.header.disable p.header.atoms ≡ []
+    → header_refusals p ≡ []
 header_none p room none = none_12
   where
     none_0 : front_0 p ≡ []
     none_0 = none
 
     none_1 : front_1 p ≡ []
-    none_1 = nil_join (front_0 p) (over 4096 p.header.limits.history fields.History) none_0 (over_some 4096 p.header.limits.history fields.History room.history)
+    none_1 =
+        nil_join (front_0 p) (over 4096 p.header.limits.history fields.History) none_0
+        (over_some 4096 p.header.limits.history fields.History room.history)
 
     none_2 : front_2 p ≡ []
-    none_2 = nil_join (front_1 p) (over 1024 p.header.limits.stack fields.Stack) none_1 (over_some 1024 p.header.limits.stack fields.Stack room.stack)
+    none_2 =
+        nil_join (front_1 p) (over 1024 p.header.limits.stack fields.Stack) none_1
+        (over_some 1024 p.header.limits.stack fields.Stack room.stack)
 
     none_3 : front_3 p ≡ []
-    none_3 = nil_join (front_2 p) (over 1024 p.header.limits.attempts fields.Attempts) none_2 (over_some 1024 p.header.limits.attempts fields.Attempts room.attempts)
+    none_3 =
+        nil_join (front_2 p) (over 1024 p.header.limits.attempts fields.Attempts) none_2
+        (over_some 1024 p.header.limits.attempts fields.Attempts room.attempts)
 
     none_4 : front_4 p ≡ []
-    none_4 = nil_join (front_3 p) (over 1024 p.header.limits.obligations fields.Obligations) none_3 (over_some 1024 p.header.limits.obligations fields.Obligations room.obligations)
+    none_4 =
+        nil_join (front_3 p) (over 1024 p.header.limits.obligations fields.Obligations) none_3
+        (over_some 1024 p.header.limits.obligations fields.Obligations room.obligations)
 
     none_5 : front_5 p ≡ []
-    none_5 = nil_join (front_4 p) (over 16777216 p.header.limits.budget fields.Budget) none_4 (over_some 16777216 p.header.limits.budget fields.Budget room.budget)
+    none_5 =
+        nil_join (front_4 p) (over 16777216 p.header.limits.budget fields.Budget) none_4
+        (over_some 16777216 p.header.limits.budget fields.Budget room.budget)
 
     none_6 : front_6 p ≡ []
-    none_6 = nil_join (front_5 p) (over 127 p.header.atoms fields.Atoms) none_5 (over_some 127 p.header.atoms fields.Atoms room.atoms)
+    none_6 =
+        nil_join (front_5 p) (over 127 p.header.atoms fields.Atoms) none_5
+        (over_some 127 p.header.atoms fields.Atoms room.atoms)
 
     none_7 : front_7 p ≡ []
-    none_7 = nil_join (front_6 p) (over 256 (length (frame_of p).slots) fields.Slots) none_6 (over_some 256 (length (frame_of p).slots) fields.Slots room.slots)
+    none_7 =
+        nil_join (front_6 p) (over 256 (length (frame_of p).slots) fields.Slots) none_6
+        (over_some 256 (length (frame_of p).slots) fields.Slots room.slots)
 
     none_8 : front_8 p ≡ []
-    none_8 = nil_join (front_7 p) (over 4096 (length p.sample) fields.Sample) none_7 (over_some 4096 (length p.sample) fields.Sample room.sample)
+    none_8 =
+        nil_join (front_7 p) (over 4096 (length p.sample) fields.Sample) none_7
+        (over_some 4096 (length p.sample) fields.Sample room.sample)
 
     none_9 : front_9 p ≡ []
-    none_9 = nil_join (front_8 p) (over 127 (length p.antecedent.blocks) fields.AntecedentPositions) none_8 (over_some 127 (length p.antecedent.blocks) fields.AntecedentPositions room.antecedent_positions)
+    none_9 =
+        nil_join (front_8 p) (over 127 (length p.antecedent.blocks) fields.AntecedentPositions) none_8
+        (over_some 127 (length p.antecedent.blocks) fields.AntecedentPositions room.antecedent_positions)
 
     none_10 : front_10 p ≡ []
-    none_10 = nil_join (front_9 p) (over 4096 (size_of p.antecedent.blocks) fields.AntecedentCode) none_9 (over_some 4096 (size_of p.antecedent.blocks) fields.AntecedentCode room.antecedent_code)
+    none_10 =
+        nil_join (front_9 p) (over 4096 (size_of p.antecedent.blocks) fields.AntecedentCode) none_9
+        (over_some 4096 (size_of p.antecedent.blocks) fields.AntecedentCode room.antecedent_code)
 
     none_11 : front_11 p ≡ []
-    none_11 = nil_join (front_10 p) (over 127 (length p.consequent.blocks) fields.ConsequentPositions) none_10 (over_some 127 (length p.consequent.blocks) fields.ConsequentPositions room.consequent_positions)
+    none_11 =
+        nil_join (front_10 p) (over 127 (length p.consequent.blocks) fields.ConsequentPositions) none_10
+        (over_some 127 (length p.consequent.blocks) fields.ConsequentPositions room.consequent_positions)
 
     none_12 : front_12 p ≡ []
-    none_12 = nil_join (front_11 p) (over 4096 (size_of p.consequent.blocks) fields.ConsequentCode) none_11 (over_some 4096 (size_of p.consequent.blocks) fields.ConsequentCode room.consequent_code)
+    none_12 =
+        nil_join (front_11 p) (over 4096 (size_of p.consequent.blocks) fields.ConsequentCode) none_11
+        (over_some 4096 (size_of p.consequent.blocks) fields.ConsequentCode room.consequent_code)

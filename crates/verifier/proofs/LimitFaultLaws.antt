@@ -53,23 +53,35 @@ limit_climbs p =
     (climbs_join 0 208 209 (limits_3 p) _
     (climbs_join 0 176 208 (limits_2 p) _
     (climbs_join 0 160 176 (limits_1 p) _
-    (climbs_if (nat_lt p.header.limits.history (farthest p.sample)) (HistoryTooShort (farthest p.sample)) 0 160 (omega arith) (omega arith))
-    (climbs_if (nat_lt p.header.limits.stack (least_stack p)) (StackTooShort (least_stack p)) 160 176 (omega arith) (omega arith)))
-    (climbs_if (nat_lt p.header.limits.attempts (least_attempts p)) (PoolTooSmall pools.Attempts (least_attempts p)) 176 208 (omega arith) (omega arith)))
-    (climbs_if (nat_lt p.header.limits.obligations (least_obligations p)) (PoolTooSmall pools.Obligations (least_obligations p)) 208 209 (omega arith) (omega arith)))
-    (climbs_if (nat_lt p.header.limits.budget (least_budget p)) (BudgetTooSmall (least_budget p)) 209 224 (omega arith) (omega arith))
+    (climbs_if (nat_lt p.header.limits.history (farthest p.sample)) (HistoryTooShort (farthest p.sample)) 0 160
+    (omega arith) (omega arith))
+    (climbs_if (nat_lt p.header.limits.stack (least_stack p)) (StackTooShort (least_stack p)) 160 176 (omega arith)
+    (omega arith)))
+    (climbs_if (nat_lt p.header.limits.attempts (least_attempts p)) (PoolTooSmall pools.Attempts (least_attempts p)) 176
+    208 (omega arith) (omega arith)))
+    (climbs_if (nat_lt p.header.limits.obligations (least_obligations p))
+    (PoolTooSmall pools.Obligations (least_obligations p)) 208 209 (omega arith) (omega arith)))
+    (climbs_if (nat_lt p.header.limits.budget (least_budget p)) (BudgetTooSmall (least_budget p)) 209 224 (omega arith)
+    (omega arith))
 
-pub refused_limit : (p : ProgramData) (r : Refusal) → part_faults p ≡ [] → Some r ≡ first_of (limit_refusals p.header.limits (least_limits p)) → IsFirstRefusal r (all_faults p)
+pub refused_limit : (p : ProgramData) (r : Refusal) → part_faults p ≡ []
+    → Some r ≡ first_of (limit_refusals p.header.limits (least_limits p)) → IsFirstRefusal r (all_faults p)
 refused_limit p r none h =
-    subst (λ (fs : List Found). IsFirstRefusal r (fs ++ map (found 4 0) (limit_refusals p.header.limits (least_limits p)))) (sym none)
+    subst (λ (fs : List Found). IsFirstRefusal r
+    (fs ++ map (found 4 0) (limit_refusals p.header.limits (least_limits p)))) (sym none)
     (record {
       fault = found 4 0 r;
-      first = head_first 4 0 224 (limit_refusals p.header.limits (least_limits p)) r (limit_climbs p) (λ x i. part_small x) (head_of r (limit_refusals p.header.limits (least_limits p)) h);
+      first =
+          head_first 4 0 224 (limit_refusals p.header.limits (least_limits p)) r (limit_climbs p)
+          (λ x i. part_small x) (head_of r (limit_refusals p.header.limits (least_limits p)) h);
       is = refl;
     })
 
-pub no_fault : (p : ProgramData) → part_faults p ≡ [] → None ≡ first_of (limit_refusals p.header.limits (least_limits p)) → all_faults p ≡ []
-no_fault p none h = ap (λ fs. fs ++ map (found 4 0) (limit_refusals p.header.limits (least_limits p))) none ∙ ap (map (found 4 0)) (none_first (limit_refusals p.header.limits (least_limits p)) h)
+pub no_fault : (p : ProgramData) → part_faults p ≡ []
+    → None ≡ first_of (limit_refusals p.header.limits (least_limits p)) → all_faults p ≡ []
+no_fault p none h =
+    ap (λ fs. fs ++ map (found 4 0) (limit_refusals p.header.limits (least_limits p))) none
+    ∙ ap (map (found 4 0)) (none_first (limit_refusals p.header.limits (least_limits p)) h)
 
 below_none : (declared least : ℕ) (r : Refusal) → below declared least r ≡ [] → least ≤ declared
 below_none declared least r h = by_test (cases_Bool (nat_lt declared least))
@@ -83,10 +95,19 @@ below_some declared least r h = ap (λ b. cond b (r ∷ []) []) (le-ltb declared
 
 within : (p : ProgramData) → limit_refusals p.header.limits (least_limits p) ≡ [] → IsWithinLimits p
 within p h =
-    let budget = nil_parts (limits_4 p) (below p.header.limits.budget (least_budget p) (BudgetTooSmall (least_budget p))) h in
-    let obligations = nil_parts (limits_3 p) (below p.header.limits.obligations (least_obligations p) (PoolTooSmall pools.Obligations (least_obligations p))) budget.0 in
-    let attempts = nil_parts (limits_2 p) (below p.header.limits.attempts (least_attempts p) (PoolTooSmall pools.Attempts (least_attempts p))) obligations.0 in
-    let stack = nil_parts (limits_1 p) (below p.header.limits.stack (least_stack p) (StackTooShort (least_stack p))) attempts.0 in
+    let budget =
+    nil_parts (limits_4 p) (below p.header.limits.budget (least_budget p) (BudgetTooSmall (least_budget p))) h in
+    let obligations =
+    nil_parts (limits_3 p)
+    (below p.header.limits.obligations (least_obligations p)
+    (PoolTooSmall pools.Obligations (least_obligations p))) budget.0 in
+    let attempts =
+    nil_parts (limits_2 p)
+    (below p.header.limits.attempts (least_attempts p) (PoolTooSmall pools.Attempts (least_attempts p)))
+    obligations.0 in
+    let stack =
+    nil_parts (limits_1 p) (below p.header.limits.stack (least_stack p) (StackTooShort (least_stack p)))
+    attempts.0 in
     record {
       history = below_none p.header.limits.history (farthest p.sample) _ stack.0;
       stack = below_none p.header.limits.stack (least_stack p) _ stack.1;
@@ -103,25 +124,37 @@ without p w =
     join_none (limits_4 p) _ (join_none (limits_3 p) _ (join_none (limits_2 p) _ (join_none (limits_1 p) _
     (below_some p.header.limits.history (farthest p.sample) (HistoryTooShort (farthest p.sample)) w.history)
     (below_some p.header.limits.stack (least_stack p) (StackTooShort (least_stack p)) w.stack))
-    (below_some p.header.limits.attempts (least_attempts p) (PoolTooSmall pools.Attempts (least_attempts p)) w.attempts))
-    (below_some p.header.limits.obligations (least_obligations p) (PoolTooSmall pools.Obligations (least_obligations p)) w.obligations))
+    (below_some p.header.limits.attempts (least_attempts p) (PoolTooSmall pools.Attempts (least_attempts p))
+    w.attempts))
+    (below_some p.header.limits.obligations (least_obligations p) (PoolTooSmall pools.Obligations (least_obligations p))
+    w.obligations))
     (below_some p.header.limits.budget (least_budget p) (BudgetTooSmall (least_budget p)) w.budget)
 
 pub acceptable : (p : ProgramData) → all_faults p ≡ [] → IsAcceptable p
 acceptable p h =
     let parts = nil_parts (part_faults p) (map (found 4 0) (limit_refusals p.header.limits (least_limits p))) h in
     let f = formed p parts.0 in
-    record { formed = f.0; room = f.1; limits = within p (nil_map (found 4 0) (limit_refusals p.header.limits (least_limits p)) parts.1) }
+    record {
+      formed = f.0;
+      room = f.1;
+      limits = within p (nil_map (found 4 0) (limit_refusals p.header.limits (least_limits p)) parts.1);
+    }
 
 pub acceptable_faultless : (p : ProgramData) → IsAcceptable p → all_faults p ≡ []
-acceptable_faultless p a = ap (λ fs. fs ++ map (found 4 0) (limit_refusals p.header.limits (least_limits p))) (faultless p a.formed a.room) ∙ ap (map (found 4 0)) (without p a.limits)
+acceptable_faultless p a =
+    ap (λ fs. fs ++ map (found 4 0) (limit_refusals p.header.limits (least_limits p))) (faultless p a.formed a.room)
+    ∙ ap (map (found 4 0)) (without p a.limits)
 
 -- as the code finds them
-found_limits : (p : ProgramData) (least : LeastLimits) (first : Option Refusal) → least ≡ least_limits p → first ≡ first_of (limit_refusals p.header.limits least) → first ≡ first_of (limit_refusals p.header.limits (least_limits p))
+found_limits : (p : ProgramData) (least : LeastLimits) (first : Option Refusal) → least ≡ least_limits p
+    → first ≡ first_of (limit_refusals p.header.limits least)
+    → first ≡ first_of (limit_refusals p.header.limits (least_limits p))
 found_limits p least first is h = h ∙ ap (λ (l : LeastLimits). first_of (limit_refusals p.header.limits l)) is
 
-pub refused_by : (p : ProgramData) (least : LeastLimits) (r : Refusal) → part_faults p ≡ [] → least ≡ least_limits p → Some r ≡ first_of (limit_refusals p.header.limits least) → IsFirstRefusal r (all_faults p)
+pub refused_by : (p : ProgramData) (least : LeastLimits) (r : Refusal) → part_faults p ≡ [] → least ≡ least_limits p
+    → Some r ≡ first_of (limit_refusals p.header.limits least) → IsFirstRefusal r (all_faults p)
 refused_by p least r none is h = refused_limit p r none (found_limits p least (Some r) is h)
 
-pub acceptable_by : (p : ProgramData) (least : LeastLimits) → part_faults p ≡ [] → least ≡ least_limits p → None ≡ first_of (limit_refusals p.header.limits least) → IsAcceptable p
+pub acceptable_by : (p : ProgramData) (least : LeastLimits) → part_faults p ≡ [] → least ≡ least_limits p
+    → None ≡ first_of (limit_refusals p.header.limits least) → IsAcceptable p
 acceptable_by p least none is h = acceptable p (no_fault p none (found_limits p least None is h))

@@ -46,7 +46,8 @@ end_keeps f (JumpIfZero target) ws h = cc
 end_keeps f (SetAtom atom) ws h = cc
 end_keeps f (Store counter) ws h = cc
 
-longest_at : {I : Type 0} (table : ℕ → List ℕ) (pc : ℕ) (is : List I) (k : ℕ) → k < length is → length (table (pc + k)) ≤ longest_list table pc is
+longest_at : {I : Type 0} (table : ℕ → List ℕ) (pc : ℕ) (is : List I) (k : ℕ) → k < length is
+    → length (table (pc + k)) ≤ longest_list table pc is
 longest_at table pc [] k h = absurd (omega (arith, h))
 longest_at table pc (i ∷ is) zero h = (let e : pc + 0 ≡ pc = omega arith in omega (arith, ap (λ n. length (table n)) e))
 longest_at table pc (i ∷ is) (suc k) h =
@@ -56,32 +57,50 @@ longest_at table pc (i ∷ is) (suc k) h =
 same_leaves : (a b : List ℕ) → leaves a ≡ leaves b → a ≡ b
 same_leaves a b h = cc
 
-module _ (f : FrameData) (code : List SampleInstr) (table : ℕ → List ℕ) (typed : IsTyped (sample_rules f) 0 code table) where
-  at_most : (to : ℕ) → to < length code → length (table to) ≤ longest_list table 0 code
-  at_most to h = (let e : 0 + to ≡ to = omega arith in omega (arith, longest_at table 0 code to h, ap (λ n. length (table n)) e))
+module _ (f : FrameData) (code : List SampleInstr) (table : ℕ → List ℕ) (typed : IsTyped (sample_rules f) 0 code table)
+  where
+    at_most : (to : ℕ) → to < length code → length (table to) ≤ longest_list table 0 code
+    at_most to h =
+        (let e : 0 + to ≡ to = omega arith in omega (arith, longest_at table 0 code to h, ap (λ n. length (table n)) e))
 
-  -- a list that is sent is that of a place of the code
-  sent_at_most : (pc : ℕ) (i : SampleInstr) (fine : IsFine (sample_rules f) (0 + length code) table pc i) (to : ℕ) → LeadsTo (sample_flow i) pc to → length fine.after ≤ longest_list table 0 code
-  sent_at_most pc i fine to leads =
-      let inside = (fine.forward to leads).1 in
-      omega (arith, at_most to (omega (arith, inside)), ap (length {A = ℕ}) (fine.sends to leads))
+    -- a list that is sent is that of a place of the code
+    sent_at_most : (pc : ℕ) (i : SampleInstr) (fine : IsFine (sample_rules f) (0 + length code) table pc i) (to : ℕ)
+        → LeadsTo (sample_flow i) pc to → length fine.after ≤ longest_list table 0 code
+    sent_at_most pc i fine to leads =
+        let inside = (fine.forward to leads).1 in
+        omega (arith, at_most to (omega (arith, inside)), ap (length {A = ℕ}) (fine.sends to leads))
 
-  pub left_at_most : (pc : ℕ) (i : SampleInstr) (fine : IsFine (sample_rules f) (0 + length code) table pc i) → pc < length code → (flow : Flow) → sample_flow i ≡ flow → length fine.after ≤ longest_list table 0 code
-  left_at_most pc i fine below Stops is =
-      omega (arith, at_most pc below, ap (length {A = ℕ}) (same_leaves (table pc) fine.after (sym (end_keeps f i (table pc) is) ∙ fine.rule)))
-  left_at_most pc i fine below GoesOn is = sent_at_most pc i fine (pc + 1) (subst (λ (g : Flow). LeadsTo g pc (pc + 1)) (sym is) refl)
-  left_at_most pc i fine below (Jumps target) is = sent_at_most pc i fine target (subst (λ (g : Flow). LeadsTo g pc target) (sym is) refl)
-  left_at_most pc i fine below (Branches target) is = sent_at_most pc i fine target (subst (λ (g : Flow). LeadsTo g pc target) (sym is) (inl refl))
+    pub left_at_most : (pc : ℕ) (i : SampleInstr) (fine : IsFine (sample_rules f) (0 + length code) table pc i)
+        → pc < length code → (flow : Flow) → sample_flow i ≡ flow → length fine.after ≤ longest_list table 0 code
+    left_at_most pc i fine below Stops is =
+        omega (
+          arith,
+          at_most pc below,
+          ap (length {A = ℕ}) (same_leaves (table pc) fine.after (sym (end_keeps f i (table pc) is) ∙ fine.rule)),
+        )
+    left_at_most pc i fine below GoesOn is =
+        sent_at_most pc i fine (pc + 1) (subst (λ (g : Flow). LeadsTo g pc (pc + 1)) (sym is) refl)
+    left_at_most pc i fine below (Jumps target) is =
+        sent_at_most pc i fine target (subst (λ (g : Flow). LeadsTo g pc target) (sym is) refl)
+    left_at_most pc i fine below (Branches target) is =
+        sent_at_most pc i fine target (subst (λ (g : Flow). LeadsTo g pc target) (sym is) (inl refl))
 
-  pub short_by_longest : longest_list table 0 code ≤ 1024 → AreShort (sample_rules f) 0 code table
-  short_by_longest most = record { each = λ k i after h rule. short k i after h rule }
-    where
-      short : (k : ℕ) (i : SampleInstr) (after : List ℕ) → slice_get code k ≡ Some i → sample_effect f i (table (0 + k)) ≡ leaves after → length after ≤ 1024
-      short k i after h rule =
-          let fine = typed.each k i h in
-          let same = same_leaves fine.after after (sym fine.rule ∙ rule) in
-          let below = slice_get_within code k i h in
-          omega (arith, left_at_most (0 + k) i fine (omega (arith, below)) (sample_flow i) refl, most, ap (length {A = ℕ}) same)
+    pub short_by_longest : longest_list table 0 code ≤ 1024 → AreShort (sample_rules f) 0 code table
+    short_by_longest most = record { each = λ k i after h rule. short k i after h rule }
+      where
+        short : (k : ℕ) (i : SampleInstr) (after : List ℕ) → slice_get code k ≡ Some i
+            → sample_effect f i (table (0 + k))
+            ≡ leaves after → length after ≤ 1024
+        short k i after h rule =
+            let fine = typed.each k i h in
+            let same = same_leaves fine.after after (sym fine.rule ∙ rule) in
+            let below = slice_get_within code k i h in
+            omega (
+              arith,
+              left_at_most (0 + k) i fine (omega (arith, below)) (sample_flow i) refl,
+              most,
+              ap (length {A = ℕ}) same,
+            )
 
 pub accepted : (p : ProgramData) → IsAcceptable p → IsAccepted p
 accepted p a =
@@ -122,6 +141,8 @@ accepted_acceptable p a =
     }
 
 -- what has a first fault isn't accepted
-pub never_accepted : (p : ProgramData) (r : Refusal) → (r ≡ Memory) ⊎ IsFirstRefusal r (all_faults p) → (r ≡ Memory) ⊎ (IsAccepted p → ⊥)
+pub never_accepted : (p : ProgramData) (r : Refusal) → (r ≡ Memory) ⊎ IsFirstRefusal r (all_faults p) → (r ≡ Memory)
+    ⊎ (IsAccepted p → ⊥)
 never_accepted p r (inl m) = inl m
-never_accepted p r (inr f) = inr (λ a. let i = subst (IsIn f.fault) (acceptable_faultless p (accepted_acceptable p a)) f.first.stands in i)
+never_accepted p r (inr f) =
+    inr (λ a. let i = subst (IsIn f.fault) (acceptable_faultless p (accepted_acceptable p a)) f.first.stands in i)

@@ -51,33 +51,47 @@ module _ (p : ProgramData) where
   -- a first fault of a part is the first of all
   of_header : (x : Found) → x.section ≡ 0 → IsFirst x header → IsFirst x (part_faults p)
   of_header x at f =
-      first_below x (header ++ sample ++ antecedent) consequent (later_than (x.section + 1) 3 consequent (all_section 3 p.header.atoms p.consequent) (omega (arith, at)))
-      (first_below x (header ++ sample) antecedent (later_than (x.section + 1) 2 antecedent (all_section 2 p.header.atoms p.antecedent) (omega (arith, at)))
-      (first_below x header sample (later_than (x.section + 1) 1 sample (all_code (sample_rules (frame_of p)) 0 p.sample) (omega (arith, at))) f))
+      first_below x (header ++ sample ++ antecedent) consequent
+      (later_than (x.section + 1) 3 consequent (all_section 3 p.header.atoms p.consequent) (omega (arith, at)))
+      (first_below x (header ++ sample) antecedent
+      (later_than (x.section + 1) 2 antecedent (all_section 2 p.header.atoms p.antecedent) (omega (arith, at)))
+      (first_below x header sample
+      (later_than (x.section + 1) 1 sample (all_code (sample_rules (frame_of p)) 0 p.sample) (omega (arith, at)))
+      f))
 
   of_sample : (x : Found) → x.section ≡ 1 → header ≡ [] → IsFirst x sample → IsFirst x (part_faults p)
   of_sample x at none f =
-      first_below x (header ++ sample ++ antecedent) consequent (later_than (x.section + 1) 3 consequent (all_section 3 p.header.atoms p.consequent) (omega (arith, at)))
-      (first_below x (header ++ sample) antecedent (later_than (x.section + 1) 2 antecedent (all_section 2 p.header.atoms p.antecedent) (omega (arith, at)))
+      first_below x (header ++ sample ++ antecedent) consequent
+      (later_than (x.section + 1) 3 consequent (all_section 3 p.header.atoms p.consequent) (omega (arith, at)))
+      (first_below x (header ++ sample) antecedent
+      (later_than (x.section + 1) 2 antecedent (all_section 2 p.header.atoms p.antecedent) (omega (arith, at)))
       (behind x header sample none f))
 
   both_none : (xs ys : List Found) → xs ≡ [] → ys ≡ [] → xs ++ ys ≡ []
   both_none xs ys a b = ap (λ zs. zs ++ ys) a ∙ b
 
-  of_antecedent : (x : Found) → x.section ≡ 2 → header ≡ [] → sample ≡ [] → IsFirst x antecedent → IsFirst x (part_faults p)
+  of_antecedent : (x : Found) → x.section ≡ 2 → header ≡ [] → sample ≡ [] → IsFirst x antecedent
+      → IsFirst x (part_faults p)
   of_antecedent x at none_h none_s f =
-      first_below x (header ++ sample ++ antecedent) consequent (later_than (x.section + 1) 3 consequent (all_section 3 p.header.atoms p.consequent) (omega (arith, at)))
+      first_below x (header ++ sample ++ antecedent) consequent
+      (later_than (x.section + 1) 3 consequent (all_section 3 p.header.atoms p.consequent) (omega (arith, at)))
       (behind x (header ++ sample) antecedent (both_none header sample none_h none_s) f)
 
-  of_consequent : (x : Found) → header ≡ [] → sample ≡ [] → antecedent ≡ [] → IsFirst x consequent → IsFirst x (part_faults p)
-  of_consequent x none_h none_s none_a f = behind x (header ++ sample ++ antecedent) consequent (both_none (header ++ sample) antecedent (both_none header sample none_h none_s) none_a) f
+  of_consequent : (x : Found) → header ≡ [] → sample ≡ [] → antecedent ≡ [] → IsFirst x consequent
+      → IsFirst x (part_faults p)
+  of_consequent x none_h none_s none_a f =
+      behind x (header ++ sample ++ antecedent) consequent
+      (both_none (header ++ sample) antecedent (both_none header sample none_h none_s) none_a) f
 
   -- as the code finds them
   pub refused_header : (r : Refusal) → Some r ≡ first_of (header_refusals p) → IsFirstRefusal r (part_faults p)
   refused_header r h =
       record {
         fault = found 0 0 r;
-        first = of_header (found 0 0 r) refl (head_first 0 0 251 (header_refusals p) r (header_climbs p) (λ x i. part_small x) (head_of r (header_refusals p) h));
+        first =
+            of_header (found 0 0 r) refl
+            (head_first 0 0 251 (header_refusals p) r (header_climbs p) (λ x i. part_small x)
+            (head_of r (header_refusals p) h));
         is = refl;
       }
 
@@ -87,28 +101,57 @@ module _ (p : ProgramData) where
   pub room : None ≡ first_of (header_refusals p) → HasRoom p
   room h = (header_clear p (none_first (header_refusals p) h)).0
 
-  pub refused_sample : (r : Refusal) → None ≡ first_of (header_refusals p) → (r ≡ Memory) ⊎ IsFirstRefusal r sample → (r ≡ Memory) ⊎ IsFirstRefusal r (part_faults p)
+  pub refused_sample : (r : Refusal) → None ≡ first_of (header_refusals p) → (r ≡ Memory) ⊎ IsFirstRefusal r sample
+      → (r ≡ Memory) ⊎ IsFirstRefusal r (part_faults p)
   refused_sample r none (inl m) = inl m
   refused_sample r none (inr f) =
       inr (record {
         fault = f.fault;
-        first = of_sample f.fault (all_code (sample_rules (frame_of p)) 0 p.sample f.fault f.first.stands) (header_none none) f.first;
+        first =
+            of_sample f.fault (all_code (sample_rules (frame_of p)) 0 p.sample f.fault f.first.stands)
+            (header_none none) f.first;
         is = f.is;
       })
 
-  pub refused_antecedent : (pc : ℕ) (r : Refusal) → None ≡ first_of (header_refusals p) → sample ≡ [] → IsFirstOf antecedent (Some (found 2 pc r)) → IsFirstRefusal r (part_faults p)
-  refused_antecedent pc r none none_s f = record { fault = found 2 pc r; first = of_antecedent (found 2 pc r) refl (header_none none) none_s f.0; is = refl }
+  pub refused_antecedent : (pc : ℕ) (r : Refusal) → None ≡ first_of (header_refusals p) → sample ≡ []
+      → IsFirstOf antecedent (Some (found 2 pc r)) → IsFirstRefusal r (part_faults p)
+  refused_antecedent pc r none none_s f =
+      record {
+        fault = found 2 pc r;
+        first = of_antecedent (found 2 pc r) refl (header_none none) none_s f.0;
+        is = refl;
+      }
 
-  pub refused_consequent : (pc : ℕ) (r : Refusal) → None ≡ first_of (header_refusals p) → sample ≡ [] → antecedent ≡ [] → IsFirstOf consequent (Some (found 3 pc r)) → IsFirstRefusal r (part_faults p)
-  refused_consequent pc r none none_s none_a f = record { fault = found 3 pc r; first = of_consequent (found 3 pc r) (header_none none) none_s none_a f.0; is = refl }
+  pub refused_consequent : (pc : ℕ) (r : Refusal) → None ≡ first_of (header_refusals p) → sample ≡ [] → antecedent ≡ []
+      → IsFirstOf consequent (Some (found 3 pc r)) → IsFirstRefusal r (part_faults p)
+  refused_consequent pc r none none_s none_a f =
+      record {
+        fault = found 3 pc r;
+        first = of_consequent (found 3 pc r) (header_none none) none_s none_a f.0;
+        is = refl;
+      }
 
-  pub no_part : None ≡ first_of (header_refusals p) → sample ≡ [] → antecedent ≡ [] → consequent ≡ [] → part_faults p ≡ []
-  no_part none none_s none_a none_c = both_none (header ++ sample ++ antecedent) consequent (both_none (header ++ sample) antecedent (both_none header sample (header_none none) none_s) none_a) none_c
+  pub no_part : None ≡ first_of (header_refusals p) → sample ≡ [] → antecedent ≡ [] → consequent ≡ []
+      → part_faults p ≡ []
+  no_part none none_s none_a none_c =
+      both_none (header ++ sample ++ antecedent) consequent
+      (both_none (header ++ sample) antecedent (both_none header sample (header_none none) none_s) none_a) none_c
 
   -- a fault of the parts comes before those of the limits
-  pub before_limits : (r : Refusal) → (r ≡ Memory) ⊎ IsFirstRefusal r (part_faults p) → (r ≡ Memory) ⊎ IsFirstRefusal r (all_faults p)
+  pub before_limits : (r : Refusal) → (r ≡ Memory) ⊎ IsFirstRefusal r (part_faults p) → (r ≡ Memory)
+      ⊎ IsFirstRefusal r (all_faults p)
   before_limits r (inl m) = inl m
-  before_limits r (inr f) = inr (record { fault = f.fault; first = first_below f.fault (part_faults p) (map (found 4 0) (limit_refusals p.header.limits (least_limits p))) (λ y i. omega (arith, all_found 4 0 (limit_refusals p.header.limits (least_limits p)) y i, low f.fault f.first.stands)) f.first; is = f.is })
+  before_limits r (inr f) =
+      inr (record {
+        fault = f.fault;
+        first = first_below f.fault (part_faults p) (map (found 4 0) (limit_refusals p.header.limits (least_limits p)))
+            (λ y i. omega (
+              arith,
+              all_found 4 0 (limit_refusals p.header.limits (least_limits p)) y i,
+              low f.fault f.first.stands,
+            )) f.first;
+        is = f.is;
+      })
     where
       low : (y : Found) → IsIn y (part_faults p) → y.section ≤ 3
       low y h =

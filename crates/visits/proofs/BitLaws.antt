@@ -1,5 +1,6 @@
 -- Bits of shifted numbers.
-use Rattle.std.proofs.Common.{◌≡◌, inl, inr, Bool, true, false, ◌&&◌, ℕ, ◌+◌, ◌-◌, ◌*◌, ◌/◌, ◌%◌, ◌^◌, ◌<◌, ◌≤◌, sym, ap, ◌∙◌, arith}
+use Rattle.std.proofs.Common.{◌≡◌, inl, inr, Bool, true, false, ◌&&◌, ℕ, ◌+◌, ◌-◌, ◌*◌, ◌/◌, ◌%◌, ◌^◌, ◌<◌, ◌≤◌, sym}
+use Rattle.std.proofs.Common.{ap, ◌∙◌, arith}
 use Rattle.std.specs.Int.{bit_at}
 use Rattle.std.proofs.lemmas.Nat.{shr-shr, pow_pos, div-add-mod'}
 use Rattle.std.proofs.lemmas.Nat.Bits.{bit_at-zero, bit_at_above, bit_at_cat_low, bit_at_cat_high}
@@ -37,10 +38,14 @@ module _ (awaited start now tick : ℕ) (began : start ≤ now) (before : tick �
   Told set = (bit_at set (127 - (now - tick)) == 1) ≡ (nat_le start tick && bit_at awaited (tick - start) == 1)
 
   not-yet : tick < start → (set : ℕ) → bit_at set (127 - (now - tick)) ≡ 0 → Told set
-  not-yet h set zero = ne_eqb (bit_at set (127 - (now - tick))) 1 (λ e. omega (arith, zero, e)) ∙ sym (and_left (nat_le start tick) (bit_at awaited (tick - start) == 1) (lt-leb start tick h))
+  not-yet h set zero =
+      ne_eqb (bit_at set (127 - (now - tick))) 1 (λ e. omega (arith, zero, e))
+      ∙ sym (and_left (nat_le start tick) (bit_at awaited (tick - start) == 1) (lt-leb start tick h))
 
   since-then : start ≤ tick → (set : ℕ) → bit_at set (127 - (now - tick)) ≡ bit_at awaited (tick - start) → Told set
-  since-then h set same = ap (λ n. n == 1) same ∙ sym (and_on (nat_le start tick) (bit_at awaited (tick - start) == 1) (le-leb start tick h))
+  since-then h set same =
+      ap (λ n. n == 1) same
+      ∙ sym (and_on (nat_le start tick) (bit_at awaited (tick - start) == 1) (le-leb start tick h))
 
   pub told-young : now - start ≤ 127 → Told (awaited * 2 ^ (127 - (now - start)) % 2 ^ 128)
   told-young young =
@@ -51,7 +56,8 @@ module _ (awaited start now tick : ℕ) (began : start ≤ now) (before : tick �
         | inl lt ↦ not-yet lt (awaited * 2 ^ k % 2 ^ 128) (cut ∙ bit_at-shl_low awaited k j (omega arith))
         | inr ge ↦
             let e : j - k ≡ tick - start = omega arith in
-            since-then ge (awaited * 2 ^ k % 2 ^ 128) (cut ∙ bit_at-shl awaited k j (omega arith) ∙ ap (bit_at awaited) e)
+            since-then ge (awaited * 2 ^ k % 2 ^ 128) (cut ∙ bit_at-shl awaited k j (omega arith)
+            ∙ ap (bit_at awaited) e)
       ]
 
   pub told-old : 127 < now - start → Told (awaited / 2 ^ (now - start - 127))
@@ -63,4 +69,5 @@ module _ (awaited start now tick : ℕ) (began : start ≤ now) (before : tick �
 
   pub told-none : awaited < 2 ^ 128 → 255 ≤ now - start → Told 0
   told-none small old =
-      since-then (omega arith) 0 (bit_at-zero (127 - (now - tick)) ∙ sym (bit_at_above awaited 128 (tick - start) small (omega arith)))
+      since-then (omega arith) 0 (bit_at-zero (127 - (now - tick))
+      ∙ sym (bit_at_above awaited 128 (tick - start) small (omega arith)))

@@ -3,4 +3,5 @@ use Rattle.assertions.proofs.EmptinessLaws.{degenerate-none, none-degenerate}
 use Rattle.assertions.proofs.laws.degenerate_law.Goals as goal
 
 pub returns : goal.returns
-returns c = λ true_one r ordered. (degenerate-none Boolean true_one r ordered, none-degenerate Boolean true_one r ordered)
+returns c =
+    λ true_one r ordered. (degenerate-none Boolean true_one r ordered, none-degenerate Boolean true_one r ordered)

@@ -6,4 +6,6 @@ use Rattle.assertions.proofs.WeightLaws.{weight_covers}
 use Rattle.assertions.proofs.laws.weight_law.Goals as goal
 
 pub returns : goal.returns
-returns c = λ holds true_one r i j ordered m. omega (arith, Matches-longest Boolean holds (kernel true_one r) i j m, weight_covers Boolean true_one r ordered)
+returns c =
+    λ holds true_one r i j ordered m. omega
+    (arith, Matches-longest Boolean holds (kernel true_one r) i j m, weight_covers Boolean true_one r ordered)

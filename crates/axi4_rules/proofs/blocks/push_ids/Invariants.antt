@@ -7,4 +7,7 @@ use Rattle.axi4_rules.specs.Wholes.{Adds}
 use Rattle.axi4_rules.proofs.blocks.push_ids.Given as goal
 
 abbrev pub invariant-loop-id : goal.invariant-loop-id
-invariant-loop-id l = Adds l.fn.text l.text (map (λ i. line_in l.form (of_port (port_data l.port) (decimal i)) (row_data l.row)) (take l.id-index l.port.watch.items))
+invariant-loop-id l =
+    Adds l.fn.text l.text
+    (map (λ i. line_in l.form (of_port (port_data l.port) (decimal i)) (row_data l.row))
+    (take l.id-index l.port.watch.items))

@@ -4,4 +4,5 @@ use Rattle.axi4_rules.specs.Wholes.{Adds}
 use Rattle.axi4_rules.proofs.blocks.push_rows.Given as goal
 
 abbrev pub invariant-loop-row : goal.invariant-loop-row
-invariant-loop-row l = Adds l.fn.text l.text (map (λ r. line_in l.form (fills l.filling) (row_data r)) (take l.row-index l.rows))
+invariant-loop-row l =
+    Adds l.fn.text l.text (map (λ r. line_in l.form (fills l.filling) (row_data r)) (take l.row-index l.rows))

@@ -8,4 +8,5 @@ use Rattle.axi4_rules.proofs.fill.push_all.Given as goal
 abbrev pub invariant-loop-word : goal.invariant-loop-word
 invariant-loop-word l =
     string_bytes l.line
-    ≡ string_bytes l.fn.line ++ flat_map (λ w. filled (fills l.filling) w ++ codes " ") (map (λ w. w.now) (take l.word-index l.words))
+    ≡ string_bytes l.fn.line ++ flat_map (λ w. filled (fills l.filling) w ++ codes " ")
+    (map (λ w. w.now) (take l.word-index l.words))

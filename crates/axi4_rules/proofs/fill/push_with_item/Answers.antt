@@ -6,12 +6,16 @@ use Rattle.axi4_rules.proofs.fill.push_with_item.Goals as goal
 
 pub returns-in_ok-push_str-in-Some-2 : goal.returns-in_ok-push_str-in-Some-2
 returns-in_ok-push_str-in-Some-2 c =
-    let parts = split_parts 63 c.args.text.now (Some (c.in-Some.front, c.in-Some.back)) c.in-Some.ensures.cases (lit< tt) in
+    let parts =
+    split_parts 63 c.args.text.now (Some (c.in-Some.front, c.in-Some.back)) c.in-Some.ensures.cases (lit< tt) in
     pushed c.push_str-in-Some-2.result _ _ _ _ c.push_str-in-Some-2.ensures.bytes
     (three_pieces _ _ _ _ _ _ c.in_ok-push_str-in-Some.ensures.bytes c.in_ok-push_str-in-Some-2.ensures.bytes
-    ∙ ap (λ l. string_bytes c.args.line.now ++ l) (sym (ap (with_item c.args.item.now) (parts.0) ∙ with_item-at c.args.item.now _ _ (parts.1))))
+    ∙ ap (λ l. string_bytes c.args.line.now ++ l)
+    (sym (ap (with_item c.args.item.now) (parts.0) ∙ with_item-at c.args.item.now _ _ (parts.1))))
 
 pub returns-in-None : goal.returns-in-None
 returns-in-None c =
     pushed c.push_str-in-None.result _ _ _ _ c.push_str-in-None.ensures.bytes
-    (ap (λ l. string_bytes c.args.line.now ++ l) (sym (with_item-none c.args.item.now c.args.text.now (split_parts 63 c.args.text.now None c.in-None.ensures.cases (lit< tt)))))
+    (ap (λ l. string_bytes c.args.line.now ++ l)
+    (sym (with_item-none c.args.item.now c.args.text.now
+    (split_parts 63 c.args.text.now None c.in-None.ensures.cases (lit< tt)))))

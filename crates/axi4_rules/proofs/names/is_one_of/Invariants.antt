@@ -4,4 +4,6 @@ use Rattle.std.specs.Str.{bytes_eq}
 use Rattle.axi4_rules.proofs.names.is_one_of.Given as goal
 
 abbrev pub invariant-loop-word : goal.invariant-loop-word
-invariant-loop-word l = list_any (bytes_eq l.text) (map (λ w. w.now) l.words) ≡ list_any (bytes_eq l.text) (map (λ w. w.now) (drop l.word-index l.words))
+invariant-loop-word l =
+    list_any (bytes_eq l.text) (map (λ w. w.now) l.words)
+    ≡ list_any (bytes_eq l.text) (map (λ w. w.now) (drop l.word-index l.words))

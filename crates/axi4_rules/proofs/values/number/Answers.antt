@@ -12,14 +12,20 @@ returns-then-is_empty c =
 pub returns-then-not-is_ascii_digit : goal.returns-then-not-is_ascii_digit
 returns-then-not-is_ascii_digit c =
     rw (← c.as_bytes-digits.ensures.value)
-    (sym (not_digits _ (c.loop-digit.invariant.all ∙ all_fails is_ascii_digit _ _ 0 c.loop-digit-test.true (sym c.is_ascii_digit.ensures.value ∙ c.if-not-is_ascii_digit.true))))
+    (sym (not_digits _
+    (c.loop-digit.invariant.all
+    ∙ all_fails is_ascii_digit _ _ 0 c.loop-digit-test.true (sym c.is_ascii_digit.ensures.value
+    ∙ c.if-not-is_ascii_digit.true))))
 
 pub loop-digit-preserved : goal.loop-digit-preserved
 loop-digit-preserved c = record {
   some = c.loop-digit.invariant.some;
-  all = c.loop-digit.invariant.all ∙ all_passes is_ascii_digit _ _ 0 c.loop-digit-test.true (sym c.is_ascii_digit.ensures.value ∙ c.if-not-is_ascii_digit.false);
+  all = c.loop-digit.invariant.all
+      ∙ all_passes is_ascii_digit _ _ 0 c.loop-digit-test.true (sym c.is_ascii_digit.ensures.value
+      ∙ c.if-not-is_ascii_digit.false);
   capped = omega (arith, c.min-number.ensures);
-  value = c.loop-digit.invariant.value ∙ digit_more _ _ _ _ _ c.loop-digit-test.true c.from.ensures c.min-number.ensures;
+  value =
+      c.loop-digit.invariant.value ∙ digit_more _ _ _ _ _ c.loop-digit-test.true c.from.ensures c.min-number.ensures;
 }
 
 pub returns : goal.returns

@@ -5,4 +5,6 @@ use Rattle.bytecode.proofs.LoopLaws.{Turns}
 use Rattle.bytecode.proofs.list_reading.blocks_at.Given as goal
 
 abbrev pub invariant-loop : goal.invariant-loop
-invariant-loop l = Turns (counted_at step_at) l.count l.counter (map items_of_block l.found.items) l.rest (many_at (counted_at step_at) l.count l.fn.bytes)
+invariant-loop l =
+    Turns (counted_at step_at) l.count l.counter (map items_of_block l.found.items) l.rest
+    (many_at (counted_at step_at) l.count l.fn.bytes)

@@ -5,4 +5,5 @@ use Rattle.bytecode.proofs.LoopLaws.{Turns}
 use Rattle.bytecode.proofs.list_reading.slots_at.Given as goal
 
 abbrev pub invariant-loop : goal.invariant-loop
-invariant-loop l = Turns slot_at l.count l.counter (map slot_data l.found.items) l.rest (many_at slot_at l.count l.fn.bytes)
+invariant-loop l =
+    Turns slot_at l.count l.counter (map slot_data l.found.items) l.rest (many_at slot_at l.count l.fn.bytes)

@@ -5,4 +5,7 @@ use Rattle.bytecode.specs.Views.{slot_data}
 use Rattle.bytecode.proofs.list_writing.put_slots.Given as goal
 
 abbrev pub invariant-loop-slot : goal.invariant-loop-slot
-invariant-loop-slot l = l.out.items ≡ l.fn.out.items ++ (two (length (map slot_data l.slots)) ++ flat_map slot_spelling (map slot_data (take l.slot-index l.slots)))
+invariant-loop-slot l =
+    l.out.items
+    ≡ l.fn.out.items
+    ++ (two (length (map slot_data l.slots)) ++ flat_map slot_spelling (map slot_data (take l.slot-index l.slots)))

@@ -4,4 +4,5 @@ use Rattle.bytecode.specs.Spelling.{two, byte}
 use Rattle.bytecode.proofs.list_writing.put_widths.Given as goal
 
 abbrev pub invariant-loop-width : goal.invariant-loop-width
-invariant-loop-width l = l.out.items ≡ l.fn.out.items ++ (two (length l.widths) ++ flat_map byte (take l.width-index l.widths))
+invariant-loop-width l =
+    l.out.items ≡ l.fn.out.items ++ (two (length l.widths) ++ flat_map byte (take l.width-index l.widths))

@@ -8,4 +8,5 @@ returns c =
     let given = c.value_parser-2.ensures.given in
     let made : c.range.result ≡ Unsigned 1 65536 = rw c.value_parser.ensures at c.range.ensures in
     c.value_parser-2.ensures.others
-    ∙ ap (λ (p : Option ValueParser). record c.args.option { value_parser = p }) (given.1 ∙ ap (λ (q : ValueParser). Some q) (given.2 ∙ made))
+    ∙ ap (λ (p : Option ValueParser). record c.args.option { value_parser = p })
+    (given.1 ∙ ap (λ (q : ValueParser). Some q) (given.2 ∙ made))

@@ -5,9 +5,11 @@ use Rattle.command_line.proofs.read.option_of.Goals as goal
 
 pub returns-in_ok-from_str-in-Some : goal.returns-in_ok-from_str-in-Some
 returns-in_ok-from_str-in-Some c =
-    sym (first_value-rows (found_of c.args.options.now) c.args.name.now) ∙ sym c.get_str.ensures ∙ ap (option_map (λ s. s.now)) c.in-Some.is
+    sym (first_value-rows (found_of c.args.options.now) c.args.name.now) ∙ sym c.get_str.ensures
+    ∙ ap (option_map (λ s. s.now)) c.in-Some.is
     ∙ ap (λ t. Some t) (sym c.in_ok-from_str-in-Some.ensures.ok)
 
 pub returns-in-None : goal.returns-in-None
 returns-in-None c =
-    sym (first_value-rows (found_of c.args.options.now) c.args.name.now) ∙ sym c.get_str.ensures ∙ ap (option_map (λ s. s.now)) c.in-None.is
+    sym (first_value-rows (found_of c.args.options.now) c.args.name.now) ∙ sym c.get_str.ensures
+    ∙ ap (option_map (λ s. s.now)) c.in-None.is

@@ -10,24 +10,29 @@ use Rattle.compiler.proofs.compilation.compile.Goals as goal
 
 pub accepted-requires-clause-formed : goal.accepted-requires-clause-formed
 accepted-requires-clause-formed c =
-    made.formed c.args.suite.now c.args.assertion.now c.requires c.in_ok-reading.reading.signals.items c.in_ok-reading.reading.counters.items
+    made.formed c.args.suite.now c.args.assertion.now c.requires c.in_ok-reading.reading.signals.items
+    c.in_ok-reading.reading.counters.items
     c.in_ok-reading.ensures.is (data_of c.in_ok-program.program) c.in_ok-program.ensures.made c.in_default.ensures
 
 pub accepted-requires-clause-room : goal.accepted-requires-clause-room
 accepted-requires-clause-room c =
-    made.roomy c.args.suite.now c.args.assertion.now c.requires c.in_ok-reading.reading.signals.items c.in_ok-reading.reading.counters.items
+    made.roomy c.args.suite.now c.args.assertion.now c.requires c.in_ok-reading.reading.signals.items
+    c.in_ok-reading.reading.counters.items
     c.in_ok-reading.ensures.is (data_of c.in_ok-program.program) c.in_ok-program.ensures.made c.in_default.ensures
 
 pub accepted-requires-clause-modest : goal.accepted-requires-clause-modest
 accepted-requires-clause-modest c =
-    made.modest c.args.suite.now c.args.assertion.now c.requires c.in_ok-reading.reading.signals.items c.in_ok-reading.reading.counters.items
+    made.modest c.args.suite.now c.args.assertion.now c.requires c.in_ok-reading.reading.signals.items
+    c.in_ok-reading.reading.counters.items
     c.in_ok-reading.ensures.is (data_of c.in_ok-program.program) c.in_ok-program.ensures.made c.in_default.ensures
 
 pub returns-clause-made : goal.returns-clause-made
 returns-clause-made c =
     subst (IsProgramOf c.args.suite.now c.args.assertion.now) (sym c.in_ok-accepted.ensures)
-    (made.declares c.args.suite.now c.args.assertion.now (data_of c.in_ok-program.program) (declared_from (least_limits (data_of c.in_ok-program.program)))
-    (made.program-of c.args.suite.now c.args.assertion.now c.requires c.in_ok-reading.reading.signals.items c.in_ok-reading.reading.counters.items
+    (made.declares c.args.suite.now c.args.assertion.now (data_of c.in_ok-program.program)
+    (declared_from (least_limits (data_of c.in_ok-program.program)))
+    (made.program-of c.args.suite.now c.args.assertion.now c.requires c.in_ok-reading.reading.signals.items
+    c.in_ok-reading.reading.counters.items
     c.in_ok-reading.ensures.is (data_of c.in_ok-program.program) c.in_ok-program.ensures.made))
 
 pub returns-clause-least : goal.returns-clause-least
@@ -36,5 +41,6 @@ returns-clause-least c =
 
 pub returns-clause-faultless : goal.returns-clause-faultless
 returns-clause-faultless c =
-    faultless c.args.suite.now c.args.assertion.now c.in_ok-reading.reading.signals.items c.in_ok-reading.reading.counters.items (data_of c.in_ok-program.program)
+    faultless c.args.suite.now c.args.assertion.now c.in_ok-reading.reading.signals.items
+    c.in_ok-reading.reading.counters.items (data_of c.in_ok-program.program)
     c.in_ok-reading.ensures.is c.in_default.ensures c.in_ok-program.ensures.made

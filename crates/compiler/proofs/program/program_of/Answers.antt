@@ -10,27 +10,34 @@ pub code_of-requires-clause-slots : goal.code_of-requires-clause-slots
 code_of-requires-clause-slots c =
     omega (
       arith,
-      marked-count c.args.reading.now.signals.items c.args.reading.now.signal_places.items c.requires.reading.signals_at,
-      marked-count c.args.reading.now.counters.items c.args.reading.now.counter_places.items c.requires.reading.counters_at,
+      marked-count c.args.reading.now.signals.items c.args.reading.now.signal_places.items
+          c.requires.reading.signals_at,
+      marked-count c.args.reading.now.counters.items c.args.reading.now.counter_places.items
+          c.requires.reading.counters_at,
       c.requires.counted.slots,
     )
 
 pub side_of-requires-clause-listed : goal.side_of-requires-clause-listed
 side_of-requires-clause-listed c =
-    listed-more (length c.args.assertion.now.booleans.items) 127 (written_form c.args.assertion.now.antecedent) c.requires.counted.atoms c.requires.fit.placed.antecedent
+    listed-more (length c.args.assertion.now.booleans.items) 127 (written_form c.args.assertion.now.antecedent)
+    c.requires.counted.atoms c.requires.fit.placed.antecedent
 
 pub side_of-requires-2-clause-listed : goal.side_of-requires-2-clause-listed
 side_of-requires-2-clause-listed c =
-    listed-more (length c.args.assertion.now.booleans.items) 127 (written_form c.args.assertion.now.consequent) c.requires.counted.atoms c.requires.fit.placed.consequent
+    listed-more (length c.args.assertion.now.booleans.items) 127 (written_form c.args.assertion.now.consequent)
+    c.requires.counted.atoms c.requires.fit.placed.consequent
 
 pub invariant_of-result : goal.invariant_of-result
 invariant_of-result c =
     record {
       fits =
-          program-fits c.args.suite.now c.args.assertion.now c.requires.fit c.args.reading.now.signals.items c.args.reading.now.counters.items c.requires.reading.is
+          program-fits c.args.suite.now c.args.assertion.now c.requires.fit c.args.reading.now.signals.items
+          c.args.reading.now.counters.items c.requires.reading.is
           c.requires.counted
-          (data_from c.undeclared.result c.disabling.result c.len.result c.in_ok-from_str.field-0 c.in_ok-from_str-2.field-0 c.in_ok-signal_slots.field-0
-          c.in_ok-counter_widths.field-0 c.in_ok-sample.sample c.in_ok-antecedent.antecedent c.in_ok-consequent.consequent)
+          (data_from c.undeclared.result c.disabling.result c.len.result c.in_ok-from_str.field-0
+          c.in_ok-from_str-2.field-0 c.in_ok-signal_slots.field-0
+          c.in_ok-counter_widths.field-0 c.in_ok-sample.sample c.in_ok-antecedent.antecedent
+          c.in_ok-consequent.consequent)
           (record {
             limits = c.undeclared.ensures;
             disable = c.disabling.ensures;
@@ -40,11 +47,13 @@ invariant_of-result c =
             signals_are =
                 c.in_ok-signal_slots.ensures
                 ∙ ap (λ xs. map (slot_at xs) c.as_slice-2.result.now) c.as_slice.ensures.value
-                ∙ ap (map (slot_at c.args.suite.now.names.items)) (c.as_slice-2.ensures.value ∙ c.requires.reading.signals_at);
+                ∙ ap (map (slot_at c.args.suite.now.names.items))
+                (c.as_slice-2.ensures.value ∙ c.requires.reading.signals_at);
             counters_are =
                 c.in_ok-counter_widths.ensures
                 ∙ ap (λ xs. map (width_at xs) c.as_slice-4.result.now) c.as_slice-3.ensures.value
-                ∙ ap (map (width_at c.args.suite.now.counters.items)) (c.as_slice-4.ensures.value ∙ c.requires.reading.counters_at);
+                ∙ ap (map (width_at c.args.suite.now.counters.items))
+                (c.as_slice-4.ensures.value ∙ c.requires.reading.counters_at);
             sample = c.in_ok-sample.ensures.made;
             antecedent = c.in_ok-antecedent.ensures.made;
             consequent = c.in_ok-consequent.ensures.made;

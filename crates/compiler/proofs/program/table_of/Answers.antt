@@ -26,8 +26,10 @@ slots_of-requires-2 c =
 
 pub returns-clause-counters : goal.returns-clause-counters
 returns-clause-counters c =
-    let count = marked-count c.args.reading.now.signals.items c.args.reading.now.signal_places.items c.requires.signals in
-    let first : 1 + c.len.result ≡ first_counter c.args.reading.now.signals.items = omega (arith, c.len.ensures, count) in
+    let count =
+    marked-count c.args.reading.now.signals.items c.args.reading.now.signal_places.items c.requires.signals in
+    let first : 1 + c.len.result ≡ first_counter c.args.reading.now.signals.items =
+    omega (arith, c.len.ensures, count) in
     c.in_ok-slots_of-2.ensures
     ∙ ap (λ marks. slots_from (1 + c.len.result) marks) c.as_slice-2.ensures.value
     ∙ ap (λ n. slots_from n c.args.reading.now.counters.items) first

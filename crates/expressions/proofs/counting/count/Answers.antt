@@ -8,6 +8,11 @@ loop-tick-preserved c =
     let table = c.loop-tick.rows.counters in
     record {
       signals = c.loop-tick.invariant.signals;
-      long = rw c.in_ok-push-2.ensures.ok (length-append table (c.in_ok-row.row.items ∷ []) ∙ ap (λ n. n + 1) c.loop-tick.invariant.long);
-      counted = rw c.in_ok-push-2.ensures.ok (table_grows c.args.signals c.args.all.now table c.in_ok-row.row.items c.loop-tick.tick c.loop-tick.invariant.long c.loop-tick.invariant.counted next);
+      long =
+          rw c.in_ok-push-2.ensures.ok (length-append table (c.in_ok-row.row.items ∷ [])
+          ∙ ap (λ n. n + 1) c.loop-tick.invariant.long);
+      counted =
+          rw c.in_ok-push-2.ensures.ok
+          (table_grows c.args.signals c.args.all.now table c.in_ok-row.row.items c.loop-tick.tick
+          c.loop-tick.invariant.long c.loop-tick.invariant.counted next);
     }

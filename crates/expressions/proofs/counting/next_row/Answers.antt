@@ -11,9 +11,14 @@ loop-place-preserved c =
     record {
       long = omega (arith, c.in_ok-push.ensures.len, c.loop-place.invariant.long);
       each = below_more _ _
-          (λ j below. rw c.in_ok-push.ensures.items (get_or-append c.loop-place.row.items _ 0 j (omega arith) ∙ c.loop-place.invariant.each j below))
-          (let found = slice_get_read c.args.all.now (length c.args.all.now) c.loop-place.place c.index-all-place.result refl (omega arith) c.index-all-place.is in
-          rw (c.in_ok-push.ensures.items, found) (get_or_end c.loop-place.row.items c.next.result 0 c.loop-place.place (sym long) ∙ rw c.cell-now.ensures at c.next.ensures));
+          (λ j below. rw c.in_ok-push.ensures.items (get_or-append c.loop-place.row.items _ 0 j (omega arith)
+          ∙ c.loop-place.invariant.each j below))
+          (let found =
+          slice_get_read c.args.all.now (length c.args.all.now) c.loop-place.place c.index-all-place.result refl
+          (omega arith) c.index-all-place.is in
+          rw (c.in_ok-push.ensures.items, found)
+          (get_or_end c.loop-place.row.items c.next.result 0 c.loop-place.place (sym long)
+          ∙ rw c.cell-now.ensures at c.next.ensures));
     }
 
 pub returns : goal.returns

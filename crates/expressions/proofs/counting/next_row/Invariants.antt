@@ -8,5 +8,6 @@ use Rattle.expressions.proofs.counting.next_row.Given as goal
 abbrev pub invariant-loop-place : goal.invariant-loop-place
 invariant-loop-place l = record {
   long : vec_len l.row ≡ l.place;
-  each : (j : ℕ) → j < l.place → get_or l.row.items j 0 ≡ next_of (samples_of l.rows) (slice_get l.all j) (cell l.rows.counters l.tick j) l.tick;
+  each : (j : ℕ) → j < l.place → get_or l.row.items j 0 ≡ next_of (samples_of l.rows) (slice_get l.all j)
+      (cell l.rows.counters l.tick j) l.tick;
 }

@@ -13,7 +13,8 @@ use Rattle.grammar.proofs.FilesSound.{file-found}
 use Rattle.grammar.proofs.laws.grammar_law.Goals as goal
 
 -- what was read is one thing
-same-read : {A : Type 0} (o : Option (A × List Token)) (a b : A) (us vs : List Token) → o ≡ Some (a, us) → o ≡ Some (b, vs) → a ≡ b
+same-read : {A : Type 0} (o : Option (A × List Token)) (a b : A) (us vs : List Token) → o ≡ Some (a, us)
+    → o ≡ Some (b, vs) → a ≡ b
 same-read {A = A} o a b us vs h k =
     let e : Some (a, us) ≡ Some (b, vs) = sym h ∙ k in
     let same : (a, us) ≡ (b, vs) = cc (e) in
@@ -22,7 +23,8 @@ same-read {A = A} o a b us vs h k =
 one-file : (xs ys : List ItemForm) (tokens : List Token) → ReadsFile xs tokens → ReadsFile ys tokens → xs ≡ ys
 one-file xs ys tokens a b = same-read (items tokens) xs ys (a.last ∷ []) (b.last ∷ []) a.read b.read
 
-expression-read : (d : ℕ) (e : Tree) (ts rest : List Token) → 10 < next_precedence rest → Spells d e ts rest → expression d ts ≡ Some (e, rest)
+expression-read : (d : ℕ) (e : Tree) (ts rest : List Token) → 10 < next_precedence rest → Spells d e ts rest
+    → expression d ts ≡ Some (e, rest)
 unfolding expression
 expression-read d e ts rest le s = spells-read s le
 
@@ -46,7 +48,9 @@ pub returns-clause-read_expression : goal.returns-clause-read_expression
 returns-clause-read_expression c = expression-sound
 
 pub returns-clause-one_expression : goal.returns-clause-one_expression
-returns-clause-one_expression c = λ d e f ts rest le s t. same-read (expression d ts) e f rest rest (expression-read d e ts rest le s) (expression-read d f ts rest le t)
+returns-clause-one_expression c =
+    λ d e f ts rest le s t. same-read (expression d ts) e f rest rest (expression-read d e ts rest le s)
+    (expression-read d f ts rest le t)
 
 pub returns-clause-spelled_sequence : goal.returns-clause-spelled_sequence
 returns-clause-spelled_sequence c = λ d s ts rest le w. whole-read w le

@@ -13,6 +13,8 @@ pub returns : goal.returns
 returns c =
     let e = ap (sameb the_type c.args.wanted) c.terminal_of.ensures in
     elim (tells (sameb the_type c.args.wanted (terminal c.args.token))) [
-      | inl h ↦ c.eq.ensures ∙ e ∙ h ∙ sym (true-is c.args.wanted c.args.token (sym (same_true the_type (search rules) _ _ h)))
-      | inr h ↦ c.eq.ensures ∙ e ∙ h ∙ sym (false-is c.args.wanted c.args.token (λ k. same_false the_type _ _ h (sym k)))
+      | inl h ↦ c.eq.ensures ∙ e ∙ h
+          ∙ sym (true-is c.args.wanted c.args.token (sym (same_true the_type (search rules) _ _ h)))
+      | inr h ↦ c.eq.ensures ∙ e ∙ h
+          ∙ sym (false-is c.args.wanted c.args.token (λ k. same_false the_type _ _ h (sym k)))
     ]

@@ -12,6 +12,8 @@ pub returns-then-is_empty-clause-refused : goal.returns-then-is_empty-clause-ref
 returns-then-is_empty-clause-refused c =
     inr (record {
       fault = found 1 0 NoHalt;
-      first = empty_first (sample_rules (frame_data c.args.frame.now)) 0 c.args.code.now (nil_from_length c.args.code.now (eqb-true _ 0 (sym c.is_empty.ensures ∙ c.if-is_empty.true)));
+      first =
+          empty_first (sample_rules (frame_data c.args.frame.now)) 0 c.args.code.now
+          (nil_from_length c.args.code.now (eqb-true _ 0 (sym c.is_empty.ensures ∙ c.if-is_empty.true)));
       is = refl;
     })

@@ -8,6 +8,7 @@ use Rattle.inference.proofs.sample_scan.scan.Given as goal
 abbrev pub invariant-code : goal.invariant-code
 invariant-code l =
     record {
-      read : HasRead (sample_rules (frame_data l.frame)) 0 l.code (HoldsFrom l.pc l.pending) l.longest (length l.code) l.pc l.pc;
+      read : HasRead (sample_rules (frame_data l.frame)) 0 l.code (HoldsFrom l.pc l.pending) l.longest (length l.code)
+          l.pc l.pc;
       long : length l.pending ≡ length l.code;
     }

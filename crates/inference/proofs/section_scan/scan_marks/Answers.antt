@@ -11,38 +11,58 @@ use Rattle.inference.proofs.section_scan.scan_marks.Goals as goal
 pub block-init : goal.block-init
 block-init c =
     record {
-      read = λ section. block_start section c.args.atoms c.args.positions c.args.p c.args.base c.args.block.now c.args.marks.now c.requires.some c.requires.entry;
+      read =
+          λ section. block_start section c.args.atoms c.args.positions c.args.p c.args.base c.args.block.now
+          c.args.marks.now c.requires.some c.requires.entry;
       long = c.requires.long;
     }
 
 pub returns-in-Some : goal.returns-in-Some
 returns-in-Some c = λ section.
-    block_refused section c.args.atoms c.args.positions c.args.p c.args.base c.args.block.now c.block.marks c.block.k _ (Unless 0 0) _ (c.block.invariant.read section) (omega arith) refl
-    (slice_get-get_or c.block.marks c.block.k false (omega (arith, c.block.invariant.long))) c.in-Some.refusal (sym c.in-Some.is ∙ c.block_fault.ensures section)
+    block_refused section c.args.atoms c.args.positions c.args.p c.args.base c.args.block.now c.block.marks c.block.k _
+    (Unless 0 0) _ (c.block.invariant.read section) (omega arith) refl
+    (slice_get-get_or c.block.marks c.block.k false (omega (arith, c.block.invariant.long))) c.in-Some.refusal
+    (sym c.in-Some.is ∙ c.block_fault.ensures section)
 
 pub mark_on-requires-clause-forward : goal.mark_on-requires-clause-forward
 mark_on-requires-clause-forward c =
-    let parts = block_parts 0 c.args.atoms c.args.positions c.args.p c.args.base c.args.block.now c.block.marks c.block.k _ (Unless 0 0) _ (c.block.invariant.read 0) (omega arith) refl
-    (slice_get-get_or c.block.marks c.block.k false (omega (arith, c.block.invariant.long))) (sym c.in-None.is ∙ c.block_fault.ensures 0) in
-    subst (λ (n : ℕ). jump_faults (c.args.base + n) (c.args.base + c.block.k) c.flow.result ≡ []) (sym c.block.invariant.long)
-    (subst (λ (f : Flow). jump_faults (c.args.base + length c.args.block.now) (c.args.base + c.block.k) f ≡ []) (sym c.flow.ensures) parts.0)
+    let parts =
+    block_parts 0 c.args.atoms c.args.positions c.args.p c.args.base c.args.block.now c.block.marks c.block.k _
+    (Unless 0 0) _ (c.block.invariant.read 0) (omega arith) refl
+    (slice_get-get_or c.block.marks c.block.k false (omega (arith, c.block.invariant.long)))
+    (sym c.in-None.is ∙ c.block_fault.ensures 0) in
+    subst (λ (n : ℕ). jump_faults (c.args.base + n) (c.args.base + c.block.k) c.flow.result ≡ [])
+    (sym c.block.invariant.long)
+    (subst (λ (f : Flow). jump_faults (c.args.base + length c.args.block.now) (c.args.base + c.block.k) f ≡ [])
+    (sym c.flow.ensures) parts.0)
 
 pub mark_on-requires-clause-ends : goal.mark_on-requires-clause-ends
 mark_on-requires-clause-ends c =
-    let parts = block_parts 0 c.args.atoms c.args.positions c.args.p c.args.base c.args.block.now c.block.marks c.block.k _ (Unless 0 0) _ (c.block.invariant.read 0) (omega arith) refl
-    (slice_get-get_or c.block.marks c.block.k false (omega (arith, c.block.invariant.long))) (sym c.in-None.is ∙ c.block_fault.ensures 0) in
-    subst (λ (n : ℕ). end_faults (c.args.base + n) (c.args.base + c.block.k) c.flow.result ≡ []) (sym c.block.invariant.long)
-    (subst (λ (f : Flow). end_faults (c.args.base + length c.args.block.now) (c.args.base + c.block.k) f ≡ []) (sym c.flow.ensures) parts.1)
+    let parts =
+    block_parts 0 c.args.atoms c.args.positions c.args.p c.args.base c.args.block.now c.block.marks c.block.k _
+    (Unless 0 0) _ (c.block.invariant.read 0) (omega arith) refl
+    (slice_get-get_or c.block.marks c.block.k false (omega (arith, c.block.invariant.long)))
+    (sym c.in-None.is ∙ c.block_fault.ensures 0) in
+    subst (λ (n : ℕ). end_faults (c.args.base + n) (c.args.base + c.block.k) c.flow.result ≡ [])
+    (sym c.block.invariant.long)
+    (subst (λ (f : Flow). end_faults (c.args.base + length c.args.block.now) (c.args.base + c.block.k) f ≡ [])
+    (sym c.flow.ensures) parts.1)
 
 pub block-preserved : goal.block-preserved
 block-preserved c =
     record {
       read = λ section.
-          block_step section c.args.atoms c.args.positions c.args.p c.args.base c.args.block.now c.block.marks c.block.k _ (Unless 0 0) _ (c.block.invariant.read section) (omega arith) refl
-          (slice_get-get_or c.block.marks c.block.k false (omega (arith, c.block.invariant.long))) c.mark_on.new.marks (sym c.in-None.is ∙ c.block_fault.ensures section)
-          (λ ms reached. subst (λ (f : Flow). Reached c.args.base c.mark_on.new.marks (sends (c.args.base + c.block.k) f [] ms)) c.flow.ensures (c.mark_on.ensures.marks ms reached));
+          block_step section c.args.atoms c.args.positions c.args.p c.args.base c.args.block.now c.block.marks c.block.k
+          _ (Unless 0 0) _ (c.block.invariant.read section) (omega arith) refl
+          (slice_get-get_or c.block.marks c.block.k false (omega (arith, c.block.invariant.long))) c.mark_on.new.marks
+          (sym c.in-None.is ∙ c.block_fault.ensures section)
+          (λ ms reached. subst
+          (λ (f : Flow). Reached c.args.base c.mark_on.new.marks (sends (c.args.base + c.block.k) f [] ms))
+          c.flow.ensures (c.mark_on.ensures.marks ms reached));
       long = c.mark_on.ensures.long ∙ c.block.invariant.long;
     }
 
 pub returns : goal.returns
-returns c = λ section. block_stop section c.args.atoms c.args.positions c.args.p c.args.base c.args.block.now c.block.marks c.block.k (c.block.invariant.read section) (omega arith)
+returns c =
+    λ section. block_stop section c.args.atoms c.args.positions c.args.p c.args.base c.args.block.now c.block.marks
+    c.block.k (c.block.invariant.read section) (omega arith)

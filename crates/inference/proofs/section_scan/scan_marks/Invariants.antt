@@ -7,6 +7,7 @@ use Rattle.inference.proofs.section_scan.scan_marks.Given as goal
 abbrev pub invariant-block : goal.invariant-block
 invariant-block l =
     record {
-      read : (section : ℕ) → HasRead (block_rules section l.atoms l.positions l.p) l.base l.block (Reached l.base l.marks) 0 (l.base + length l.block) (l.base + l.k) l.k;
+      read : (section : ℕ) → HasRead (block_rules section l.atoms l.positions l.p) l.base l.block
+          (Reached l.base l.marks) 0 (l.base + length l.block) (l.base + l.k) l.k;
       long : length l.marks ≡ length l.block;
     }

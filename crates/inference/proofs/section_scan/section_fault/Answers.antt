@@ -13,20 +13,36 @@ use Rattle.inference.proofs.section_scan.section_fault.Goals as goal
 pub each-init : goal.each-init
 each-init c =
     record {
-      seen = λ number. see_start number c.args.atoms (section_data c.args.section.now) (found_in number c.start_fault-first.result) (c.start_fault-first.ensures number);
+      seen =
+          λ number. see_start number c.args.atoms (section_data c.args.section.now)
+          (found_in number c.start_fault-first.result) (c.start_fault-first.ensures number);
       size = omega (arith, c.requires.size);
     }
 
 pub each-preserved : goal.each-preserved
 each-preserved c =
     let s = section_data c.args.section.now in
-    let below : c.each.p < length c.args.section.now.blocks.items = omega (arith, c.each-test.true, c.len-positions.ensures, c.args.section.now.blocks.ok.0) in
-    let many : c.len-positions.result ≡ length s.blocks = omega (arith, c.len-positions.ensures, c.args.section.now.blocks.ok.0, length-map c.args.section.now.blocks.items (λ b. b.items)) in
+    let below : c.each.p < length c.args.section.now.blocks.items =
+    omega (arith, c.each-test.true, c.len-positions.ensures, c.args.section.now.blocks.ok.0) in
+    let many : c.len-positions.result ≡ length s.blocks =
+    omega (
+      arith,
+      c.len-positions.ensures,
+      c.args.section.now.blocks.ok.0,
+      length-map c.args.section.now.blocks.items (λ b. b.items),
+    ) in
     let block : drop c.each.p s.blocks ≡ c.as_slice-block.result.now ∷ drop (c.each.p + 1) s.blocks =
-    blocks_at c.args.section.now.blocks.items c.each.p c.index.result.now below c.index.ensures ∙ ap (λ (b : List BlockInstr). b ∷ drop (c.each.p + 1) s.blocks) (sym c.as_slice-block.ensures.value) in
+    blocks_at c.args.section.now.blocks.items c.each.p c.index.result.now below c.index.ensures
+    ∙ ap (λ (b : List BlockInstr). b ∷ drop (c.each.p + 1) s.blocks) (sym c.as_slice-block.ensures.value) in
     record {
       seen = λ number.
-          see_block number c.args.atoms s (found_in number c.each.first) c.each.p c.each.base (c.each.invariant.seen number) c.as_slice-block.result.now (found_in number c.earlier-first.result) block
-          (λ xs first. c.earlier-first.ensures number xs _ first (subst (λ (n : ℕ). IsFirstOf (code_faults (block_rules number c.args.atoms n c.each.p) c.each.base c.as_slice-block.result.now) (found_in number c.in_ok-scan_block.field-0)) many (c.in_ok-scan_block.ensures number)));
+          see_block number c.args.atoms s (found_in number c.each.first) c.each.p c.each.base
+          (c.each.invariant.seen number) c.as_slice-block.result.now (found_in number c.earlier-first.result)
+          block
+          (λ xs first. c.earlier-first.ensures number xs _ first
+          (subst
+          (λ (n : ℕ). IsFirstOf
+          (code_faults (block_rules number c.args.atoms n c.each.p) c.each.base c.as_slice-block.result.now)
+          (found_in number c.in_ok-scan_block.field-0)) many (c.in_ok-scan_block.ensures number)));
       size = omega (arith, c.each.invariant.size, ap size_of block);
     }

@@ -14,21 +14,32 @@ returns-in-Some-clause-seen c =
     let places = c.args.assertion.now.booleans.items in
     let t = samples_of c.args.rows.now in
     let tick = c.loop-below.below - 1 in
-    seen_more all places t c.args.start tick c.loop-below.seen.values c.push.new.self c.in_ok-values.values.items c.loop-below.invariant.seen c.in_ok-push.ensures.ok (omega arith)
+    seen_more all places t c.args.start tick c.loop-below.seen.values c.push.new.self c.in_ok-values.values.items
+    c.loop-below.invariant.seen c.in_ok-push.ensures.ok (omega arith)
     (λ i. c.in_ok-values.ensures i
-    ∙ ap (λ (l : List Expr). is_true_at t (expression_at l (slice_get c.as_slice.result.now i)) tick) c.as_slice-all.ensures.value
+    ∙ ap (λ (l : List Expr). is_true_at t (expression_at l (slice_get c.as_slice.result.now i)) tick)
+    c.as_slice-all.ensures.value
     ∙ ap (λ (l : List ℕ). is_true_at t (expression_at all (slice_get l i)) tick) c.as_slice.ensures.value)
 
 pub returns-in-Some-clause-found : goal.returns-in-Some-clause-found
 returns-in-Some-clause-found c =
-    let value = value_in c.args.suite.now.booleans.items c.args.assertion.now.booleans.items (samples_of c.args.rows.now) in
+    let value =
+    value_in c.args.suite.now.booleans.items c.args.assertion.now.booleans.items (samples_of c.args.rows.now) in
     let r = shape c.args.assertion.now.antecedent in
     let s = shape c.args.assertion.now.consequent in
     let start = c.args.start in
     let below = c.loop-below.below in
-    let long : start + length c.push.new.self ≡ below = omega (arith, c.loop-below.invariant.long, ap (λ (l : List (List Bool)). length l) c.in_ok-push.ensures.ok, length-append c.loop-below.seen.values (c.in_ok-values.values.items ∷ [])) in
-    found_here (λ n. decision value r s n start) (start + 1) below (c.args.end + 1) c.in-Some.decision (omega arith) c.loop-below.invariant.found
-    (seen_decides value r s start below c.push.new.self c.in_ok-decision.field-0 (returns-in-Some-clause-seen c) long c.in_ok-decision.ensures ∙ c.in-Some.is)
+    let long : start + length c.push.new.self ≡ below =
+    omega (
+      arith,
+      c.loop-below.invariant.long,
+      ap (λ (l : List (List Bool)). length l) c.in_ok-push.ensures.ok,
+      length-append c.loop-below.seen.values (c.in_ok-values.values.items ∷ []),
+    ) in
+    found_here (λ n. decision value r s n start) (start + 1) below (c.args.end + 1) c.in-Some.decision (omega arith)
+    c.loop-below.invariant.found
+    (seen_decides value r s start below c.push.new.self c.in_ok-decision.field-0 (returns-in-Some-clause-seen c) long
+    c.in_ok-decision.ensures ∙ c.in-Some.is)
 
 pub loop-below-preserved : goal.loop-below-preserved
 loop-below-preserved c =
@@ -42,14 +53,25 @@ loop-below-preserved c =
     let below = c.loop-below.below in
     let tick = below - 1 in
     let seen : HasSeen value start c.push.new.self =
-    seen_more all places t start tick c.loop-below.seen.values c.push.new.self c.in_ok-values.values.items c.loop-below.invariant.seen c.in_ok-push.ensures.ok (omega arith)
+    seen_more all places t start tick c.loop-below.seen.values c.push.new.self c.in_ok-values.values.items
+    c.loop-below.invariant.seen c.in_ok-push.ensures.ok (omega arith)
     (λ i. c.in_ok-values.ensures i
-    ∙ ap (λ (l : List Expr). is_true_at t (expression_at l (slice_get c.as_slice.result.now i)) tick) c.as_slice-all.ensures.value
+    ∙ ap (λ (l : List Expr). is_true_at t (expression_at l (slice_get c.as_slice.result.now i)) tick)
+    c.as_slice-all.ensures.value
     ∙ ap (λ (l : List ℕ). is_true_at t (expression_at all (slice_get l i)) tick) c.as_slice.ensures.value) in
-    let long : start + length c.push.new.self ≡ below = omega (arith, c.loop-below.invariant.long, ap (λ (l : List (List Bool)). length l) c.in_ok-push.ensures.ok, length-append c.loop-below.seen.values (c.in_ok-values.values.items ∷ [])) in
+    let long : start + length c.push.new.self ≡ below =
+    omega (
+      arith,
+      c.loop-below.invariant.long,
+      ap (λ (l : List (List Bool)). length l) c.in_ok-push.ensures.ok,
+      length-append c.loop-below.seen.values (c.in_ok-values.values.items ∷ []),
+    ) in
     record {
       seen = seen;
       long = omega arith;
-      found = found_later (λ n. decision value r s n start) (start + 1) below (c.args.end + 1) (omega arith) c.loop-below.invariant.found
-          (seen_decides value r s start below c.push.new.self c.in_ok-decision.field-0 seen long c.in_ok-decision.ensures ∙ c.in_default.is);
+      found =
+          found_later (λ n. decision value r s n start) (start + 1) below (c.args.end + 1) (omega arith)
+          c.loop-below.invariant.found
+          (seen_decides value r s start below c.push.new.self c.in_ok-decision.field-0 seen long
+          c.in_ok-decision.ensures ∙ c.in_default.is);
     }

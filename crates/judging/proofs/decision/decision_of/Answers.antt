@@ -25,21 +25,37 @@ returns c =
     let within : n < count = omega arith in
     let long : longest r < count = omega arith in
     let wide : n + longest s < room = omega arith in
-    let start = subst (λ (l : List Bool). IsRelation (is_match h r) l c.in_ok-antecedents.antecedents) c.as_slice.ensures.value c.in_ok-antecedents.ensures in
-    let at = (first_row Boolean value n r count c.in_ok-start.start.items ends c.in_ok-antecedents.antecedents (omega arith) c.in_ok-start.ensures start c.row-ends.ensures).1 in
-    let obliged = subst (λ k. IsRow (λ e. nat_le (e + 1) k && marks ends (e + 1)) room c.in_ok-obligations.obligations.items) len c.in_ok-obligations.ensures in
-    let behind = subst (λ (l : List Bool). IsRelation (is_match h s) l consequents) c.as_slice-2.ensures.value c.in_ok-consequents.ensures in
+    let start =
+    subst (λ (l : List Bool). IsRelation (is_match h r) l c.in_ok-antecedents.antecedents)
+    c.as_slice.ensures.value c.in_ok-antecedents.ensures in
+    let at =
+    (first_row Boolean value n r count c.in_ok-start.start.items ends c.in_ok-antecedents.antecedents
+    (omega arith) c.in_ok-start.ensures start c.row-ends.ensures).1 in
+    let obliged =
+    subst (λ k. IsRow (λ e. nat_le (e + 1) k && marks ends (e + 1)) room c.in_ok-obligations.obligations.items)
+    len c.in_ok-obligations.ensures in
+    let behind =
+    subst (λ (l : List Bool). IsRelation (is_match h s) l consequents) c.as_slice-2.ensures.value
+    c.in_ok-consequents.ensures in
     let all = c.outlook_of-all.result in
     let on : c.some_mark-goes_on.result ≡ goes_on value r n 0 =
-    c.some_mark-goes_on.ensures ∙ ap (λ k. some_in (k + 1) count (marks ends)) len ∙ goes_on_law Boolean value n r s count room ends c.in_ok-obligations.obligations.items consequents within at long in
+    c.some_mark-goes_on.ensures ∙ ap (λ k. some_in (k + 1) count (marks ends)) len
+    ∙ goes_on_law Boolean value n r s count room ends c.in_ok-obligations.obligations.items consequents within at
+    long in
     let ended : all.ends ≡ has_end value r n 0 =
-    c.outlook_of-all.ensures.ends ∙ ap (λ k. some_in 0 k (λ e. marks ends (e + 1))) len ∙ has_end_law Boolean value n r s count room ends c.in_ok-obligations.obligations.items consequents within at in
+    c.outlook_of-all.ensures.ends ∙ ap (λ k. some_in 0 k (λ e. marks ends (e + 1))) len
+    ∙ has_end_law Boolean value n r s count room ends c.in_ok-obligations.obligations.items consequents within at
+    in
     let broken : all.broken ≡ is_failed value r s n 0 =
-    c.outlook_of-all.ensures.broken ∙ ap (λ k. some_in 0 k (λ e. marks ends (e + 1) && not (some_in e room (links consequents e)))) len
-    ∙ failed_law Boolean value n r s count room ends c.in_ok-obligations.obligations.items consequents within at wide obliged behind in
+    c.outlook_of-all.ensures.broken
+    ∙ ap (λ k. some_in 0 k (λ e. marks ends (e + 1) && not (some_in e room (links consequents e)))) len
+    ∙ failed_law Boolean value n r s count room ends c.in_ok-obligations.obligations.items consequents within at wide
+    obliged behind in
     let kept : all.kept ≡ all_kept value r s n 0 =
-    c.outlook_of-all.ensures.kept ∙ ap (λ k. each_in 0 k (λ e. not (marks ends (e + 1)) || some_in e (k + 1) (links consequents e))) len
-    ∙ kept_law Boolean value n r s count room ends c.in_ok-obligations.obligations.items consequents within at wide obliged behind in
+    c.outlook_of-all.ensures.kept
+    ∙ ap (λ k. each_in 0 k (λ e. not (marks ends (e + 1)) || some_in e (k + 1) (links consequents e))) len
+    ∙ kept_law Boolean value n r s count room ends c.in_ok-obligations.obligations.items consequents within at wide
+    obliged behind in
     c.choose.ensures
     ∙ ap (λ b. decide b c.some_mark-goes_on.result all.ends all.kept) broken
     ∙ ap (λ b. decide (is_failed value r s n 0) b all.ends all.kept) on

@@ -7,6 +7,8 @@ use Rattle.judging.proofs.outlook.outlook_of.Given as goal
 abbrev pub invariant-loop-tick : goal.invariant-loop-tick
 invariant-loop-tick l = record {
   ends : l.all.ends ≡ some_in 0 l.tick (λ (e : ℕ). marks l.ends (e + 1));
-  broken : l.all.broken ≡ some_in 0 l.tick (λ (e : ℕ). marks l.ends (e + 1) && not (some_in e l.count (links l.consequents e)));
-  kept : l.all.kept ≡ each_in 0 l.tick (λ (e : ℕ). not (marks l.ends (e + 1)) || some_in e (l.below + 1) (links l.consequents e));
+  broken : l.all.broken
+      ≡ some_in 0 l.tick (λ (e : ℕ). marks l.ends (e + 1) && not (some_in e l.count (links l.consequents e)));
+  kept : l.all.kept
+      ≡ each_in 0 l.tick (λ (e : ℕ). not (marks l.ends (e + 1)) || some_in e (l.below + 1) (links l.consequents e));
 }

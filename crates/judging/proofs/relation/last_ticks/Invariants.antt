@@ -4,4 +4,5 @@ use Rattle.judging.proofs.RowLaws.{IsRowsOf}
 use Rattle.judging.proofs.relation.last_ticks.Given as goal
 
 abbrev pub invariant-loop-place : goal.invariant-loop-place
-invariant-loop-place l = IsRowsOf (λ (i j : ℕ). l.wanted && (nat_le i j && links l.front i (j + 1))) l.starts l.place l.all
+invariant-loop-place l =
+    IsRowsOf (λ (i j : ℕ). l.wanted && (nat_le i j && links l.front i (j + 1))) l.starts l.place l.all

@@ -5,4 +5,6 @@ use Rattle.judging.proofs.RowLaws.{IsRowsOf}
 use Rattle.judging.proofs.relation.moved_places.Given as goal
 
 abbrev pub invariant-loop-place : goal.invariant-loop-place
-invariant-loop-place l = IsRowsOf (λ (i j : ℕ). some_in l.least l.end (λ (gap : ℕ). nat_le gap j && links l.front i (j - gap))) l.starts l.place l.all
+invariant-loop-place l =
+    IsRowsOf (λ (i j : ℕ). some_in l.least l.end (λ (gap : ℕ). nat_le gap j && links l.front i (j - gap))) l.starts
+    l.place l.all

@@ -4,4 +4,5 @@ use Rattle.judging.proofs.RowLaws.{IsRowsOf}
 use Rattle.judging.proofs.relation.next.Given as goal
 
 abbrev pub invariant-loop-place : goal.invariant-loop-place
-invariant-loop-place l = IsRowsOf (λ (i j : ℕ). (j == i + 1) && held_at l.seen.values l.boolean i) l.starts l.place l.all
+invariant-loop-place l =
+    IsRowsOf (λ (i j : ℕ). (j == i + 1) && held_at l.seen.values l.boolean i) l.starts l.place l.all

@@ -5,4 +5,5 @@ use Rattle.judging.proofs.RowLaws.{IsRowsOf}
 use Rattle.judging.proofs.relation.places_throughout.Given as goal
 
 abbrev pub invariant-loop-place : goal.invariant-loop-place
-invariant-loop-place l = IsRowsOf (λ (i j : ℕ). links l.body i j && each_in i j (held_at l.seen.values l.boolean)) l.starts l.place l.all
+invariant-loop-place l =
+    IsRowsOf (λ (i j : ℕ). links l.body i j && each_in i j (held_at l.seen.values l.boolean)) l.starts l.place l.all

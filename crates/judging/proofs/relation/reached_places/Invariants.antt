@@ -6,5 +6,6 @@ use Rattle.judging.proofs.relation.reached_places.Given as goal
 abbrev pub invariant-loop-place : goal.invariant-loop-place
 invariant-loop-place l = record {
   long : length l.all.items ≡ length l.starts;
-  each : (i j : ℕ) → i < l.place → IsTrue (marks l.starts i) → j < length l.starts → IsTrue (links l.table i j) → IsTrue (marks l.all.items j);
+  each : (i j : ℕ) → i < l.place → IsTrue (marks l.starts i) → j < length l.starts → IsTrue (links l.table i j)
+      → IsTrue (marks l.all.items j);
 }

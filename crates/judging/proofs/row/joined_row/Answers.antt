@@ -12,4 +12,5 @@ loop-place-preserved-then-not-front-place c =
 pub loop-place-preserved : goal.loop-place-preserved
 loop-place-preserved c =
     let on : marks c.args.front.now c.loop-place.place ≡ true = grind (arith, common_steps) in
-    join_more _ _ _ _ _ _ _ _ c.loop-place.invariant on c.row.ensures c.merge_from.ensures.long c.merge_from.ensures.each
+    join_more _ _ _ _ _ _ _ _ c.loop-place.invariant on c.row.ensures c.merge_from.ensures.long
+    c.merge_from.ensures.each

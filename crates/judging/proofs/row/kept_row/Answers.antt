@@ -11,6 +11,9 @@ loop-place-preserved c =
     let holds = c.loop-place.holds in
     record {
       row = row_more _ _ _ _ _ c.loop-place.invariant.row c.in_ok-push.ensures.items
-          (ap (λ b. b && holds) c.is_marked.ensures ∙ ap (λ b. marks c.args.body.now j && b) c.loop-place.invariant.goes);
-      goes = holds_on h start j holds (holds && c.holds_from-holds.result) c.loop-place.invariant.goes (ap (λ b. holds && b) c.holds_from-holds.ensures);
+          (ap (λ b. b && holds) c.is_marked.ensures
+          ∙ ap (λ b. marks c.args.body.now j && b) c.loop-place.invariant.goes);
+      goes =
+          holds_on h start j holds (holds && c.holds_from-holds.result) c.loop-place.invariant.goes
+          (ap (λ b. holds && b) c.holds_from-holds.ensures);
     }

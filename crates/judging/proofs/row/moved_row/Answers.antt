@@ -7,7 +7,8 @@ loop-gap-init c = record { row = moved_none _ _ _ _ c.in_ok-row.ensures; upto = 
 
 pub loop-gap-preserved : goal.loop-gap-preserved
 loop-gap-preserved c = record {
-  row = moved_more _ _ _ _ _ _ c.loop-gap.invariant.row (omega arith) c.merge_behind.ensures.long c.merge_behind.ensures.each;
+  row = moved_more _ _ _ _ _ _ c.loop-gap.invariant.row (omega arith) c.merge_behind.ensures.long
+      c.merge_behind.ensures.each;
   upto = omega arith;
 }
 

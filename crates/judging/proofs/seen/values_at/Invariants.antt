@@ -8,5 +8,6 @@ use Rattle.judging.proofs.seen.values_at.Given as goal
 abbrev pub invariant-loop-place : goal.invariant-loop-place
 invariant-loop-place l = record {
   long : length l.values.items ≡ l.place-index;
-  each : (i : ℕ) → i < l.place-index → marks l.values.items i ≡ is_true_at (samples_of l.rows) (expression_at l.all (slice_get l.places i)) l.tick;
+  each : (i : ℕ) → i < l.place-index → marks l.values.items i
+      ≡ is_true_at (samples_of l.rows) (expression_at l.all (slice_get l.places i)) l.tick;
 }

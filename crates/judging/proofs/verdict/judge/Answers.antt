@@ -16,9 +16,12 @@ use Rattle.judging.proofs.DecisionLaws.{verdict_seen}
 use Rattle.judging.proofs.verdict.judge.Goals as goal
 
 -- from the course of an attempt that goes as far as the rows
-verdict_found : (all : List Expr) (places : List ℕ) (t : Samples) (d : Option Boolean) (r s : Seq Boolean) (rows end c : ℕ) (values : List (List Bool)) (found : Option (ℕ × Decision)) (v : Verdict) → end ≡ rows
+verdict_found : (all : List Expr) (places : List ℕ) (t : Samples) (d : Option Boolean) (r s : Seq Boolean)
+    (rows end c : ℕ) (values : List (List Bool)) (found : Option (ℕ × Decision)) (v : Verdict) → end ≡ rows
     → HasSeen (value_in all places t) c values → c + length values ≡ last_of end found
-    → found ≡ first_in (c + 1) (end + 1) (λ n. decision (value_in all places t) r s n c) → v ≡ verdict_by (off_at values d c) c end found → v ≡ verdict (value_in all places t) (off_in all places t d) r s rows c
+    → found ≡ first_in (c + 1) (end + 1) (λ n. decision (value_in all places t) r s n c)
+    → v ≡ verdict_by (off_at values d c) c end found → v ≡ verdict (value_in all places t) (off_in all places t d)
+    r s rows c
 verdict_found all places t d r s rows end c values found v len seen long is at =
     subst (λ k. v ≡ verdict (value_in all places t) (off_in all places t d) r s k c) len
     (at ∙ verdict_seen all places t c end values d found seen long ∙ ap (verdict_by (off_in all places t d) c end) is)
@@ -27,4 +30,6 @@ pub returns : goal.returns
 returns c =
     let ensured = c.in_ok-course.ensures in
     verdict_over c.args.suite.now c.args.rows.now c.args.assertion.now c.args.tick _ c.requires.counted
-    (IsVerdict-at Boolean _ _ _ _ _ _ _ (verdict_found _ _ _ _ _ _ _ _ _ _ _ _ c.len-end.ensures.len ensured.seen ensured.long ensured.found c.verdict_from.ensures))
+    (IsVerdict-at Boolean _ _ _ _ _ _ _
+    (verdict_found _ _ _ _ _ _ _ _ _ _ _ _ c.len-end.ensures.len ensured.seen ensured.long ensured.found
+    c.verdict_from.ensures))

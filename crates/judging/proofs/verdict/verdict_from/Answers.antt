@@ -11,4 +11,6 @@ pub returns-in-Some : goal.returns-in-Some
 returns-in-Some c =
     rw c.in-Some.is
     (c.unless_disabled-in-Some.ensures
-    ∙ ap (disabled_or (first_true c.args.start c.in-Some.below (off_at c.args.course.now.seen.values c.args.assertion.now.disabling c.args.start))) c.verdict_at.ensures)
+    ∙ ap (disabled_or
+    (first_true c.args.start c.in-Some.below
+    (off_at c.args.course.now.seen.values c.args.assertion.now.disabling c.args.start))) c.verdict_at.ensures)

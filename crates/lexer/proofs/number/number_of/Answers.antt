@@ -18,12 +18,18 @@ returns-then-text-quote-eq1 c =
 pub returns-in_default : goal.returns-in_default
 returns-in_default c =
     let at : c.run_end-quote.result ≡ run is_digit_part c.args.text.now = omega (arith, c.run_end-quote.ensures.run) in
-    sym (number_of-based c.args.text.now _ at (omega arith) ∙ ap (option_and_then (λ s. number_in_base s (drop (c.run_end-quote.result + 2) c.args.text.now) (base_of (get_or c.args.text.now (c.run_end-quote.result + 1) 0)))) (sym c.in_default.ensures.value))
+    sym (number_of-based c.args.text.now _ at (omega arith)
+    ∙ ap (option_and_then
+    (λ s. number_in_base s (drop (c.run_end-quote.result + 2) c.args.text.now)
+    (base_of (get_or c.args.text.now (c.run_end-quote.result + 1) 0)))) (sym c.in_default.ensures.value))
 
 pub returns : goal.returns
 returns c =
     let at : c.run_end-quote.result ≡ run is_digit_part c.args.text.now = omega (arith, c.run_end-quote.ensures.run) in
     let base = base_of (get_or c.args.text.now (c.run_end-quote.result + 1) 0) in
     c.number_in_base.ensures
-    ∙ ap (λ (ds : List ℕ). number_in_base c.in-Some.size ds base) (tail-whole (c.run_end-quote.result + 2) c.args.text.now)
-    ∙ sym (number_of-based c.args.text.now _ at (omega arith) ∙ ap (option_and_then (λ s. number_in_base s (drop (c.run_end-quote.result + 2) c.args.text.now) base)) (sym c.in-Some.ensures.value))
+    ∙ ap (λ (ds : List ℕ). number_in_base c.in-Some.size ds base)
+    (tail-whole (c.run_end-quote.result + 2) c.args.text.now)
+    ∙ sym (number_of-based c.args.text.now _ at (omega arith)
+    ∙ ap (option_and_then (λ s. number_in_base s (drop (c.run_end-quote.result + 2) c.args.text.now) base))
+    (sym c.in-Some.ensures.value))

@@ -5,7 +5,8 @@ use Rattle.lexer.proofs.scan.lex.Given as goal
 
 abbrev pub invariant-cuts : goal.invariant-cuts
 invariant-cuts l =
-    (l.at ≤ length l.bytes) × (turns : ℕ) × (length (drop l.at l.bytes) ≤ turns) × (tokens_of l.bytes ≡ cuts_behind l.tokens.items (cuts turns l.at (drop l.at l.bytes)))
+    (l.at ≤ length l.bytes) × (turns : ℕ) × (length (drop l.at l.bytes) ≤ turns)
+    × (tokens_of l.bytes ≡ cuts_behind l.tokens.items (cuts turns l.at (drop l.at l.bytes)))
 
 abbrev pub decreases-cuts : goal.decreases-cuts
 decreases-cuts l = length l.bytes - l.at

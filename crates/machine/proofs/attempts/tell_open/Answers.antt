@@ -19,13 +19,25 @@ get-start-requires c =
     steps.live c.args.pool.now c.loop-at.at c.in-Some.slot i.before i.rest i.stands c.in-Some.is
 
 pub push-requires : goal.push-requires
-push-requires c = (omega arith, laws.has_place c.args.pool.now c.loop-at.at c.loop-at.out.items c.args.out.now.items c.loop-at.invariant c.in-Some.slot c.in-Some.is c.get-start.result c.get-start.ensures)
+push-requires c = (
+  omega arith,
+  laws.has_place c.args.pool.now c.loop-at.at c.loop-at.out.items c.args.out.now.items c.loop-at.invariant
+      c.in-Some.slot c.in-Some.is c.get-start.result c.get-start.ensures,
+)
 
 pub loop-at-smaller : goal.loop-at-smaller
-loop-at-smaller c = (laws.tells-next c.args.pool.now c.loop-at.at c.loop-at.out.items c.args.out.now.items c.loop-at.invariant c.in-Some.slot c.in-Some.is c.get-start.result c.get-start.ensures c.next-at.result c.next-at.ensures c.push.new.self.items c.push.ensures.items).1
+loop-at-smaller c =
+    (laws.tells-next c.args.pool.now c.loop-at.at c.loop-at.out.items c.args.out.now.items c.loop-at.invariant
+    c.in-Some.slot c.in-Some.is c.get-start.result c.get-start.ensures c.next-at.result c.next-at.ensures
+    c.push.new.self.items c.push.ensures.items).1
 
 pub loop-at-preserved : goal.loop-at-preserved
-loop-at-preserved c = (laws.tells-next c.args.pool.now c.loop-at.at c.loop-at.out.items c.args.out.now.items c.loop-at.invariant c.in-Some.slot c.in-Some.is c.get-start.result c.get-start.ensures c.next-at.result c.next-at.ensures c.push.new.self.items c.push.ensures.items).0
+loop-at-preserved c =
+    (laws.tells-next c.args.pool.now c.loop-at.at c.loop-at.out.items c.args.out.now.items c.loop-at.invariant
+    c.in-Some.slot c.in-Some.is c.get-start.result c.get-start.ensures c.next-at.result c.next-at.ensures
+    c.push.new.self.items c.push.ensures.items).0
 
 pub returns : goal.returns
-returns c = laws.telling-last c.args.pool.now c.loop-at.at c.loop-at.out.items c.args.out.now.items c.loop-at.invariant c.in_default.is
+returns c =
+    laws.telling-last c.args.pool.now c.loop-at.at c.loop-at.out.items c.args.out.now.items c.loop-at.invariant
+    c.in_default.is

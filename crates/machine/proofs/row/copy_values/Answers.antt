@@ -7,5 +7,7 @@ loop-index-preserved c =
     let i = c.loop-index.invariant in
     record {
       long = length-set c.loop-index.row _ _ ∙ i.long;
-      copied = row-more c.args.at c.loop-index.index c.args.values.now c.args.row.now c.loop-index.row c.loop-index-test.true c.requires i.long i.copied;
+      copied =
+          row-more c.args.at c.loop-index.index c.args.values.now c.args.row.now c.loop-index.row
+          c.loop-index-test.true c.requires i.long i.copied;
     }

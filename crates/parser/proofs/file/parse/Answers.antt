@@ -13,10 +13,13 @@ pub returns-in_default-clause-err : goal.returns-in_default-clause-err
 returns-in_default-clause-err c = no-end _ _ _ c.in_ok-items.ensures.read _ c.in_default.ensures
 
 pub returns-then-not-is-clause-err : goal.returns-then-not-is-clause-err
-returns-then-not-is-clause-err c = other-end _ _ _ c.in_ok-items.ensures.read _ _ c.in-Some.ensures _ c.if-not-is.ensures
+returns-then-not-is-clause-err c =
+    other-end _ _ _ c.in_ok-items.ensures.read _ _ c.in-Some.ensures _ c.if-not-is.ensures
 
 pub returns-in-Some-first-clause-err : goal.returns-in-Some-first-clause-err
-returns-in-Some-first-clause-err c = behind-end _ _ _ c.in_ok-items.ensures.read _ _ c.in-Some.ensures _ (λ none. let more = sym c.in-Some-first.ensures ∙ none in absurd cc)
+returns-in-Some-first-clause-err c =
+    behind-end _ _ _ c.in_ok-items.ensures.read _ _ c.in-Some.ensures _
+    (λ none. let more = sym c.in-Some-first.ensures ∙ none in absurd cc)
 
 pub returns-then-not-asserted-clause-err : goal.returns-then-not-asserted-clause-err
 returns-then-not-asserted-clause-err c =

@@ -44,13 +44,17 @@ abbrev pub decreases-read_unary : goal.decreases-read_unary
 decreases-read_unary l = 100 * l.depth
 
 abbrev pub invariant-read_links-links : goal.invariant-read_links-links
-invariant-read_links-links l = (length l.left ≤ length l.tokens) × Turns (is_infix (suc l.level)) (link_reader (operand l.depth l.level)) l.tokens (map link_of l.found.items) l.left
+invariant-read_links-links l =
+    (length l.left ≤ length l.tokens) × Turns (is_infix (suc l.level)) (link_reader (operand l.depth l.level))
+    l.tokens (map link_of l.found.items) l.left
 
 abbrev pub decreases-read_links-links : goal.decreases-read_links-links
 decreases-read_links-links l = length l.left
 
 abbrev pub invariant-read_parts-parts : goal.invariant-read_parts-parts
-invariant-read_parts-parts l = (length l.left ≤ length l.tokens) × Turns (is Comma) (λ comma. expression l.depth) l.tokens (map tree_of l.found.items) l.left
+invariant-read_parts-parts l =
+    (length l.left ≤ length l.tokens)
+    × Turns (is Comma) (λ comma. expression l.depth) l.tokens (map tree_of l.found.items) l.left
 
 abbrev pub decreases-read_parts-parts : goal.decreases-read_parts-parts
 decreases-read_parts-parts l = length l.left

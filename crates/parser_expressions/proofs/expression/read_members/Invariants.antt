@@ -7,7 +7,8 @@ use Rattle.parser_expressions.proofs.LoopLaws.{Turns}
 use Rattle.parser_expressions.proofs.expression.read_members.Given as goal
 
 abbrev pub invariant-members : goal.invariant-members
-invariant-members l = (length l.left ≤ length l.tokens) × Turns (is Dot) (λ dot. pick word_of) l.tokens l.found.items l.left
+invariant-members l =
+    (length l.left ≤ length l.tokens) × Turns (is Dot) (λ dot. pick word_of) l.tokens l.found.items l.left
 
 abbrev pub decreases-members : goal.decreases-members
 decreases-members l = length l.left

@@ -7,72 +7,129 @@ use Rattle.grammar.specs.ReadSequences.{sequences, late_part, during_with, conju
 use Rattle.text_trees.specs.declared.sequence.SequenceTree.{SequenceTree}
 use Rattle.text_trees.specs.Views.{sequence_of, delay_step_of}
 use Rattle.parser_expressions.proofs.Steps.{gives-as}
-use Rattle.parser_sequences.proofs.Steps.{delayed-fails, delayed-ok, conjunction-fails, conjunction-ok, with-during, with-fails, alternatives-fails, alternatives-ok, behind-ok}
-use Rattle.parser_expressions.proofs.LoopLaws.{Turns, turns-init, turns-stop, turns-fail, turns-next, expect-lead, map-push}
+use Rattle.parser_sequences.proofs.Steps.{delayed-fails, delayed-ok, conjunction-fails, conjunction-ok, with-during}
+use Rattle.parser_sequences.proofs.Steps.{with-fails, alternatives-fails, alternatives-ok, behind-ok}
+use Rattle.parser_expressions.proofs.LoopLaws.{Turns, turns-init, turns-stop, turns-fail, turns-next, expect-lead}
+use Rattle.parser_expressions.proofs.LoopLaws.{map-push}
 use Rattle.parser_sequences.proofs.sequence.+sequences.Goals as goal
 
 pub read_alternatives-alternatives-init : goal.read_alternatives-alternatives-init
-read_alternatives-alternatives-init t c = (omega arith, subst (λ (xs : List (SequenceTree)). Turns (is Or) (λ t. conjunction_with c.args.depth (sequences c.args.depth)) c.args.tokens.now (map sequence_of xs) c.args.tokens.now) (sym c.new-found.ensures.items) (turns-init (is Or) (λ t. conjunction_with c.args.depth (sequences c.args.depth)) c.args.tokens.now))
+read_alternatives-alternatives-init t c = (
+  omega arith,
+  subst (λ (xs : List (SequenceTree)). Turns (is Or) (λ t. conjunction_with c.args.depth (sequences c.args.depth))
+      c.args.tokens.now (map sequence_of xs) c.args.tokens.now) (sym c.new-found.ensures.items)
+      (turns-init (is Or) (λ t. conjunction_with c.args.depth (sequences c.args.depth)) c.args.tokens.now),
+)
 
 pub read_alternatives-returns-in_default-clause-read : goal.read_alternatives-returns-in_default-clause-read
 read_alternatives-returns-in_default-clause-read t c =
     gives-as _ _ _ _
-    (alternatives-ok _ _ _ _ _ (turns-stop (is Or) (λ t. conjunction_with c.args.depth (sequences c.args.depth)) _ _ _ c.alternatives.invariant.1 (expect-lead Or _ _ c.in_default.ensures.token)))
+    (alternatives-ok _ _ _ _ _
+    (turns-stop (is Or) (λ t. conjunction_with c.args.depth (sequences c.args.depth)) _ _ _
+    c.alternatives.invariant.1 (expect-lead Or _ _ c.in_default.ensures.token)))
     c.with_others.ensures.read
 
 pub read_alternatives-returns-in-Err-clause-read : goal.read_alternatives-returns-in-Err-clause-read
-read_alternatives-returns-in-Err-clause-read t c = alternatives-fails _ _ _ _ (turns-fail (is Or) (λ t. conjunction_with c.args.depth (sequences c.args.depth)) _ _ _ c.alternatives.invariant.1 _ _ (expect-lead Or _ _ c.in-Some.ensures.token) c.in-Some.ensures.shorter _ c.in-Err.ensures.read)
+read_alternatives-returns-in-Err-clause-read t c =
+    alternatives-fails _ _ _ _
+    (turns-fail (is Or) (λ t. conjunction_with c.args.depth (sequences c.args.depth)) _ _ _ c.alternatives.invariant.1
+    _ _ (expect-lead Or _ _ c.in-Some.ensures.token) c.in-Some.ensures.shorter _ c.in-Err.ensures.read)
 
 pub read_alternatives-alternatives-preserved : goal.read_alternatives-alternatives-preserved
 read_alternatives-alternatives-preserved t c = (
-  omega (arith, ap length c.same-left.ensures, c.in-Ok.ensures.shorter, c.in-Some.ensures.shorter, c.alternatives.invariant.0),
-  subst (λ (ts : List Token). Turns (is Or) (λ t. conjunction_with c.args.depth (sequences c.args.depth)) c.args.tokens.now (map sequence_of c.push_sequence.new.found.items) ts) (sym c.same-left.ensures)
-      (turns-next (is Or) (λ t. conjunction_with c.args.depth (sequences c.args.depth)) _ _ _ c.alternatives.invariant.1 _ _ (expect-lead Or _ _ c.in-Some.ensures.token) c.in-Some.ensures.shorter _ _ _ (omega (arith, c.in-Ok.ensures.shorter))
+  omega (
+    arith,
+    ap length c.same-left.ensures,
+    c.in-Ok.ensures.shorter,
+    c.in-Some.ensures.shorter,
+    c.alternatives.invariant.0,
+  ),
+  subst (λ (ts : List Token). Turns (is Or) (λ t. conjunction_with c.args.depth (sequences c.args.depth))
+      c.args.tokens.now (map sequence_of c.push_sequence.new.found.items) ts) (sym c.same-left.ensures)
+      (turns-next (is Or) (λ t. conjunction_with c.args.depth (sequences c.args.depth)) _ _ _ c.alternatives.invariant.1
+      _ _ (expect-lead Or _ _ c.in-Some.ensures.token) c.in-Some.ensures.shorter _ _ _
+      (omega (arith, c.in-Ok.ensures.shorter))
       c.in-Ok.ensures.read (ap (map sequence_of) c.in-Ok-push_sequence.ensures.ok ∙ map-push sequence_of _ _)),
 )
 
 pub read_conjunction-conjuncts-init : goal.read_conjunction-conjuncts-init
-read_conjunction-conjuncts-init t c = (omega arith, subst (λ (xs : List (SequenceTree)). Turns (is And) (λ t. during_with c.args.depth (sequences c.args.depth)) c.args.tokens.now (map sequence_of xs) c.args.tokens.now) (sym c.new-found.ensures.items) (turns-init (is And) (λ t. during_with c.args.depth (sequences c.args.depth)) c.args.tokens.now))
+read_conjunction-conjuncts-init t c = (
+  omega arith,
+  subst (λ (xs : List (SequenceTree)). Turns (is And) (λ t. during_with c.args.depth (sequences c.args.depth))
+      c.args.tokens.now (map sequence_of xs) c.args.tokens.now) (sym c.new-found.ensures.items)
+      (turns-init (is And) (λ t. during_with c.args.depth (sequences c.args.depth)) c.args.tokens.now),
+)
 
 pub read_conjunction-returns-in_default-clause-read : goal.read_conjunction-returns-in_default-clause-read
 read_conjunction-returns-in_default-clause-read t c =
     gives-as _ _ _ _
-    (conjunction-ok _ _ _ _ _ (turns-stop (is And) (λ t. during_with c.args.depth (sequences c.args.depth)) _ _ _ c.conjuncts.invariant.1 (expect-lead And _ _ c.in_default.ensures.token)))
+    (conjunction-ok _ _ _ _ _
+    (turns-stop (is And) (λ t. during_with c.args.depth (sequences c.args.depth)) _ _ _ c.conjuncts.invariant.1
+    (expect-lead And _ _ c.in_default.ensures.token)))
     c.with_others.ensures.read
 
 pub read_conjunction-returns-in-Err-clause-read : goal.read_conjunction-returns-in-Err-clause-read
-read_conjunction-returns-in-Err-clause-read t c = conjunction-fails _ _ _ _ (turns-fail (is And) (λ t. during_with c.args.depth (sequences c.args.depth)) _ _ _ c.conjuncts.invariant.1 _ _ (expect-lead And _ _ c.in-Some.ensures.token) c.in-Some.ensures.shorter _ (with-fails _ _ _ c.in-Err.ensures.read))
+read_conjunction-returns-in-Err-clause-read t c =
+    conjunction-fails _ _ _ _
+    (turns-fail (is And) (λ t. during_with c.args.depth (sequences c.args.depth)) _ _ _ c.conjuncts.invariant.1 _ _
+    (expect-lead And _ _ c.in-Some.ensures.token) c.in-Some.ensures.shorter _
+    (with-fails _ _ _ c.in-Err.ensures.read))
 
 pub read_conjunction-conjuncts-preserved : goal.read_conjunction-conjuncts-preserved
 read_conjunction-conjuncts-preserved t c = (
-  omega (arith, ap length c.same-left.ensures, c.in-Ok.ensures.shorter, c.in-Some.ensures.shorter, c.conjuncts.invariant.0),
-  subst (λ (ts : List Token). Turns (is And) (λ t. during_with c.args.depth (sequences c.args.depth)) c.args.tokens.now (map sequence_of c.push_sequence.new.found.items) ts) (sym c.same-left.ensures)
-      (turns-next (is And) (λ t. during_with c.args.depth (sequences c.args.depth)) _ _ _ c.conjuncts.invariant.1 _ _ (expect-lead And _ _ c.in-Some.ensures.token) c.in-Some.ensures.shorter _ _ _ (omega (arith, c.in-Ok.ensures.shorter))
-      (with-during _ _ _ c.in-Ok.ensures.read) (ap (map sequence_of) c.in-Ok-push_sequence.ensures.ok ∙ map-push sequence_of _ _)),
+  omega (
+    arith,
+    ap length c.same-left.ensures,
+    c.in-Ok.ensures.shorter,
+    c.in-Some.ensures.shorter,
+    c.conjuncts.invariant.0,
+  ),
+  subst (λ (ts : List Token). Turns (is And) (λ t. during_with c.args.depth (sequences c.args.depth)) c.args.tokens.now
+      (map sequence_of c.push_sequence.new.found.items) ts) (sym c.same-left.ensures)
+      (turns-next (is And) (λ t. during_with c.args.depth (sequences c.args.depth)) _ _ _ c.conjuncts.invariant.1 _ _
+      (expect-lead And _ _ c.in-Some.ensures.token) c.in-Some.ensures.shorter _ _ _
+      (omega (arith, c.in-Ok.ensures.shorter))
+      (with-during _ _ _ c.in-Ok.ensures.read) (ap (map sequence_of) c.in-Ok-push_sequence.ensures.ok
+      ∙ map-push sequence_of _ _)),
 )
 
 pub read_delayed-steps-init : goal.read_delayed-steps-init
-read_delayed-steps-init t c = (omega arith, subst (λ (xs : List (Range × SequenceTree)). Turns (is Delay) (λ t. late_part c.args.depth (sequences c.args.depth)) c.args.tokens.now (map delay_step_of xs) c.args.tokens.now) (sym c.new-found.ensures.items) (turns-init (is Delay) (λ t. late_part c.args.depth (sequences c.args.depth)) c.args.tokens.now))
+read_delayed-steps-init t c = (
+  omega arith,
+  subst (λ (xs : List (Range × SequenceTree)). Turns (is Delay)
+      (λ t. late_part c.args.depth (sequences c.args.depth)) c.args.tokens.now (map delay_step_of xs) c.args.tokens.now)
+      (sym c.new-found.ensures.items)
+      (turns-init (is Delay) (λ t. late_part c.args.depth (sequences c.args.depth)) c.args.tokens.now),
+)
 
 pub read_delayed-returns-in_default-clause-read : goal.read_delayed-returns-in_default-clause-read
 read_delayed-returns-in_default-clause-read t c =
     gives-as _ _ _ _
-    (delayed-ok _ _ _ _ _ (turns-stop (is Delay) (λ t. late_part c.args.depth (sequences c.args.depth)) _ _ _ c.steps.invariant.1 (expect-lead Delay _ _ c.in_default.ensures.token)))
+    (delayed-ok _ _ _ _ _
+    (turns-stop (is Delay) (λ t. late_part c.args.depth (sequences c.args.depth)) _ _ _ c.steps.invariant.1
+    (expect-lead Delay _ _ c.in_default.ensures.token)))
     c.with_steps.ensures.read
 
 pub read_delayed-returns-in-Err-clause-read : goal.read_delayed-returns-in-Err-clause-read
-read_delayed-returns-in-Err-clause-read t c = delayed-fails _ _ _ _ (turns-fail (is Delay) (λ t. late_part c.args.depth (sequences c.args.depth)) _ _ _ c.steps.invariant.1 _ _ (expect-lead Delay _ _ c.in-Some.ensures.token) c.in-Some.ensures.shorter _ c.in-Err.ensures.read)
+read_delayed-returns-in-Err-clause-read t c =
+    delayed-fails _ _ _ _
+    (turns-fail (is Delay) (λ t. late_part c.args.depth (sequences c.args.depth)) _ _ _ c.steps.invariant.1 _ _
+    (expect-lead Delay _ _ c.in-Some.ensures.token) c.in-Some.ensures.shorter _ c.in-Err.ensures.read)
 
 pub read_delayed-steps-preserved : goal.read_delayed-steps-preserved
 read_delayed-steps-preserved t c = (
   omega (arith, ap length c.same-left.ensures, c.in-Ok.ensures.shorter, c.in-Some.ensures.shorter, c.steps.invariant.0),
-  subst (λ (ts : List Token). Turns (is Delay) (λ t. late_part c.args.depth (sequences c.args.depth)) c.args.tokens.now (map delay_step_of c.push_step.new.found.items) ts) (sym c.same-left.ensures)
-      (turns-next (is Delay) (λ t. late_part c.args.depth (sequences c.args.depth)) _ _ _ c.steps.invariant.1 _ _ (expect-lead Delay _ _ c.in-Some.ensures.token) c.in-Some.ensures.shorter _ _ _ (omega (arith, c.in-Ok.ensures.shorter))
+  subst (λ (ts : List Token). Turns (is Delay) (λ t. late_part c.args.depth (sequences c.args.depth)) c.args.tokens.now
+      (map delay_step_of c.push_step.new.found.items) ts) (sym c.same-left.ensures)
+      (turns-next (is Delay) (λ t. late_part c.args.depth (sequences c.args.depth)) _ _ _ c.steps.invariant.1 _ _
+      (expect-lead Delay _ _ c.in-Some.ensures.token) c.in-Some.ensures.shorter _ _ _
+      (omega (arith, c.in-Ok.ensures.shorter))
       c.in-Ok.ensures.read (ap (map delay_step_of) c.in-Ok-push_step.ensures.ok ∙ map-push delay_step_of _ _)),
 )
 
 pub read_behind-returns-clause-read : goal.read_behind-returns-clause-read
 read_behind-returns-clause-read t c =
     gives-as _ _ _ _
-    (behind-ok _ _ _ _ _ _ _ _ _ c.in-Ok.ensures.side.0 c.in-Ok.ensures.side.1 c.in-Ok-deeper.ensures.some c.in-Ok-read_during.ensures.read)
+    (behind-ok _ _ _ _ _ _ _ _ _ c.in-Ok.ensures.side.0 c.in-Ok.ensures.side.1 c.in-Ok-deeper.ensures.some
+    c.in-Ok-read_during.ensures.read)
     c.throughout.ensures.read

@@ -34,19 +34,25 @@ abbrev pub decreases-read_sequence : goal.decreases-read_sequence
 decreases-read_sequence l = 10 * l.depth + 8
 
 abbrev pub invariant-read_delayed-steps : goal.invariant-read_delayed-steps
-invariant-read_delayed-steps l = (length l.left ≤ length l.tokens) × Turns (is Delay) (λ t. late_part l.depth (sequences l.depth)) l.tokens (map delay_step_of l.found.items) l.left
+invariant-read_delayed-steps l =
+    (length l.left ≤ length l.tokens) × Turns (is Delay) (λ t. late_part l.depth (sequences l.depth)) l.tokens
+    (map delay_step_of l.found.items) l.left
 
 abbrev pub decreases-read_delayed-steps : goal.decreases-read_delayed-steps
 decreases-read_delayed-steps l = length l.left
 
 abbrev pub invariant-read_conjunction-conjuncts : goal.invariant-read_conjunction-conjuncts
-invariant-read_conjunction-conjuncts l = (length l.left ≤ length l.tokens) × Turns (is And) (λ t. during_with l.depth (sequences l.depth)) l.tokens (map sequence_of l.found.items) l.left
+invariant-read_conjunction-conjuncts l =
+    (length l.left ≤ length l.tokens) × Turns (is And) (λ t. during_with l.depth (sequences l.depth)) l.tokens
+    (map sequence_of l.found.items) l.left
 
 abbrev pub decreases-read_conjunction-conjuncts : goal.decreases-read_conjunction-conjuncts
 decreases-read_conjunction-conjuncts l = length l.left
 
 abbrev pub invariant-read_alternatives-alternatives : goal.invariant-read_alternatives-alternatives
-invariant-read_alternatives-alternatives l = (length l.left ≤ length l.tokens) × Turns (is Or) (λ t. conjunction_with l.depth (sequences l.depth)) l.tokens (map sequence_of l.found.items) l.left
+invariant-read_alternatives-alternatives l =
+    (length l.left ≤ length l.tokens) × Turns (is Or) (λ t. conjunction_with l.depth (sequences l.depth)) l.tokens
+    (map sequence_of l.found.items) l.left
 
 abbrev pub decreases-read_alternatives-alternatives : goal.decreases-read_alternatives-alternatives
 decreases-read_alternatives-alternatives l = length l.left

@@ -5,7 +5,8 @@ use Rattle.positions.proofs.SequenceLaws.{gap-placed, gap-length}
 use Rattle.positions.proofs.delay.apart.Goals as goal
 
 -- a joining, by what its parts are known to be
-linked : (f f' a a' : Bool) (t g g' u : TableData) → f ≡ f' → a ≡ a' → g ≡ g' → link_data f a t g u ≡ link_data f' a' t g' u
+linked : (f f' a a' : Bool) (t g g' u : TableData) → f ≡ f' → a ≡ a' → g ≡ g' → link_data f a t g u
+    ≡ link_data f' a' t g' u
 linked f f' a a' t g g' u is_f is_a is_g =
     ap (λ b. link_data b a t g u) is_f ∙ ap (λ b. link_data f' b t g u) is_a ∙ ap (λ x. link_data f' a' t x u) is_g
 

@@ -8,4 +8,5 @@ pub returns-clause-err : goal.returns-clause-err
 returns-clause-err c =
     let same = ap (λ (t : TableData). rows_size (repeat_data t c.args.least c.args.most).rows) c.in_ok-tick.ensures in
     let few = c.requires in
-    never_long c.repeat-2.result _ c.repeat-2.ensures.err (omega (arith, same, few, ticks-short c.args.least c.args.most))
+    never_long c.repeat-2.result _ c.repeat-2.ensures.err
+    (omega (arith, same, few, ticks-short c.args.least c.args.most))

@@ -16,7 +16,8 @@ put_rows-requires-clause-near c =
 pub put_rows-requires-2-clause-near : goal.put_rows-requires-2-clause-near
 put_rows-requires-2-clause-near c =
     let by = ap (λ (x : ChangeData). x.by) c.in_ok-change.ensures in
-    near_rows c.in_ok-change.change.by c.rows-2.result.now c.args.between.now c.rows-2.ensures.rows c.requires.between_placed
+    near_rows c.in_ok-change.change.by c.rows-2.result.now c.args.between.now c.rows-2.ensures.rows
+    c.requires.between_placed
     (let few = c.requires.few in omega (arith, by))
 
 pub put_rows-requires-3-clause-near : goal.put_rows-requires-3-clause-near
@@ -33,10 +34,12 @@ returns-in_err-put_rows-2-clause-err c =
     let by : ℕ = c.len.result + c.len-2.result in
     let past : by ≡ length t.rows + length g.rows = omega (arith, c.len.ensures, c.len-2.ensures) in
     long_on _ _ _ _ c.from_residual-in_err-put_rows-2.ensures.1 c.in_err-put_rows-2.ensures.err
-    (between-within (first_rows c.args.fuses c.args.follows t g u) (between_rows c.args.fuses c.args.follows t g u) (second_rows c.args.fuses c.args.follows t g u) c.new-draft.result c.put_rows.new.draft
+    (between-within (first_rows c.args.fuses c.args.follows t g u) (between_rows c.args.fuses c.args.follows t g u)
+    (second_rows c.args.fuses c.args.follows t g u) c.new-draft.result c.put_rows.new.draft
     (leads c.args.fuses c.args.follows t g u (change_data c.in_ok-leading.field-0) by (rows_data c.rows.result.now))
     c.new-draft.ensures c.in_ok-put_rows.ensures.ok
-    (firsts-made c.args.fuses c.args.follows t g u (change_data c.in_ok-leading.field-0) by (rows_data c.rows.result.now) c.in_ok-leading.ensures past c.rows.ensures.rows)
+    (firsts-made c.args.fuses c.args.follows t g u (change_data c.in_ok-leading.field-0) by
+    (rows_data c.rows.result.now) c.in_ok-leading.ensures past c.rows.ensures.rows)
     (change_all (change_data c.in_ok-change.change) (rows_data c.rows-2.result.now))
     (changed-made _ _ _ _ c.in_ok-change.ensures c.rows-2.ensures.rows))
 
@@ -48,10 +51,12 @@ returns-in_err-put_rows-3-clause-err c =
     let by : ℕ = c.len.result + c.len-2.result in
     let past : by ≡ length t.rows + length g.rows = omega (arith, c.len.ensures, c.len-2.ensures) in
     long_on _ _ _ _ c.from_residual-in_err-put_rows-3.ensures.1 c.in_err-put_rows-3.ensures.err
-    (second-within (first_rows c.args.fuses c.args.follows t g u) (between_rows c.args.fuses c.args.follows t g u) (second_rows c.args.fuses c.args.follows t g u) c.new-draft.result c.put_rows.new.draft
+    (second-within (first_rows c.args.fuses c.args.follows t g u) (between_rows c.args.fuses c.args.follows t g u)
+    (second_rows c.args.fuses c.args.follows t g u) c.new-draft.result c.put_rows.new.draft
     (leads c.args.fuses c.args.follows t g u (change_data c.in_ok-leading.field-0) by (rows_data c.rows.result.now))
     c.new-draft.ensures c.in_ok-put_rows.ensures.ok
-    (firsts-made c.args.fuses c.args.follows t g u (change_data c.in_ok-leading.field-0) by (rows_data c.rows.result.now) c.in_ok-leading.ensures past c.rows.ensures.rows)
+    (firsts-made c.args.fuses c.args.follows t g u (change_data c.in_ok-leading.field-0) by
+    (rows_data c.rows.result.now) c.in_ok-leading.ensures past c.rows.ensures.rows)
     c.put_rows-2.new.self
     (change_all (change_data c.in_ok-change.change) (rows_data c.rows-2.result.now))
     c.in_ok-put_rows-2.ensures.ok
@@ -66,10 +71,13 @@ returns-clause-ok c =
     let u : TableData = c.args.second.now in
     let by : ℕ = c.len.result + c.len-2.result in
     let past : by ≡ length t.rows + length g.rows = omega (arith, c.len.ensures, c.len-2.ensures) in
-    let rows = all-made (first_rows c.args.fuses c.args.follows t g u) (between_rows c.args.fuses c.args.follows t g u) (second_rows c.args.fuses c.args.follows t g u) c.new-draft.result c.put_rows.new.draft
+    let rows =
+    all-made (first_rows c.args.fuses c.args.follows t g u) (between_rows c.args.fuses c.args.follows t g u)
+    (second_rows c.args.fuses c.args.follows t g u) c.new-draft.result c.put_rows.new.draft
     (leads c.args.fuses c.args.follows t g u (change_data c.in_ok-leading.field-0) by (rows_data c.rows.result.now))
     c.new-draft.ensures c.in_ok-put_rows.ensures.ok
-    (firsts-made c.args.fuses c.args.follows t g u (change_data c.in_ok-leading.field-0) by (rows_data c.rows.result.now) c.in_ok-leading.ensures past c.rows.ensures.rows)
+    (firsts-made c.args.fuses c.args.follows t g u (change_data c.in_ok-leading.field-0) by
+    (rows_data c.rows.result.now) c.in_ok-leading.ensures past c.rows.ensures.rows)
     c.put_rows-2.new.self
     (change_all (change_data c.in_ok-change.change) (rows_data c.rows-2.result.now))
     c.in_ok-put_rows-2.ensures.ok

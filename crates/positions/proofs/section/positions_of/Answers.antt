@@ -14,4 +14,5 @@ returns-in_err-table-clause-err c =
 
 pub section_at-requires : goal.section_at-requires
 section_at-requires c =
-    subst IsPlaced (sym c.in_ok-table.ensures.ok) (placed-for (written_form c.args.sequence.now) c.requires.ordered c.requires.bound)
+    subst IsPlaced (sym c.in_ok-table.ensures.ok)
+    (placed-for (written_form c.args.sequence.now) c.requires.ordered c.requires.bound)

@@ -9,7 +9,8 @@ pub returns-in-Join-clause-operands : goal.returns-in-Join-clause-operands
 returns-in-Join-clause-operands c = λ f same. rw c.in-Join.is (c.join.ensures f (sample_of c.args.ring.now.rows))
 
 pub returns-in-Compare-clause-operands : goal.returns-in-Compare-clause-operands
-returns-in-Compare-clause-operands c = λ f same. rw c.in-Compare.is (c.compare.ensures f (sample_of c.args.ring.now.rows))
+returns-in-Compare-clause-operands c =
+    λ f same. rw c.in-Compare.is (c.compare.ensures f (sample_of c.args.ring.now.rows))
 
 pub returns-in-Shift-clause-operands : goal.returns-in-Shift-clause-operands
 returns-in-Shift-clause-operands c = λ f same. rw c.in-Shift.is (c.shift.ensures f (sample_of c.args.ring.now.rows))
@@ -33,10 +34,13 @@ pub returns-in-Mux-clause-operands : goal.returns-in-Mux-clause-operands
 returns-in-Mux-clause-operands c = λ f same. rw c.in-Mux.is (c.choose.ensures f (sample_of c.args.ring.now.rows))
 
 pub returns-in-SetAtom-clause-operands : goal.returns-in-SetAtom-clause-operands
-returns-in-SetAtom-clause-operands c = λ f same. rw c.in-SetAtom.is (c.set_atom.ensures.operands f (sample_of c.args.ring.now.rows))
+returns-in-SetAtom-clause-operands c =
+    λ f same. rw c.in-SetAtom.is (c.set_atom.ensures.operands f (sample_of c.args.ring.now.rows))
 
 pub returns-in-Store-clause-operands : goal.returns-in-Store-clause-operands
-returns-in-Store-clause-operands c = λ f same. rw c.in-Store.is (c.store.ensures.operands f (sample_of c.args.ring.now.rows))
+returns-in-Store-clause-operands c =
+    λ f same. rw c.in-Store.is (c.store.ensures.operands f (sample_of c.args.ring.now.rows))
 
 pub returns-in-JumpIfZero-clause-operands : goal.returns-in-JumpIfZero-clause-operands
-returns-in-JumpIfZero-clause-operands c = λ f same. rw c.in-JumpIfZero.is (c.jump_if_zero.ensures.operands f (sample_of c.args.ring.now.rows))
+returns-in-JumpIfZero-clause-operands c =
+    λ f same. rw c.in-JumpIfZero.is (c.jump_if_zero.ensures.operands f (sample_of c.args.ring.now.rows))

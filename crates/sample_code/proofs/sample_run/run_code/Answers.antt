@@ -23,7 +23,9 @@ obey-requires c =
     let code = c.as_slice-code.result.now in
     let l = c.loop-next in
     let pc = c.in-Some.pc in
-    let s = Stands-at p c.args.ring.now.rows c.args.counters.now l.next pc l.ticks l.stack l.atoms l.counters l.invariant c.in-Some.is in
+    let s =
+    Stands-at p c.args.ring.now.rows c.args.counters.now l.next pc l.ticks l.stack l.atoms l.counters l.invariant
+    c.in-Some.is in
     let i = slice_index_or code pc (Push 0 0) in
     let here = read-at code p.sample pc i c.as_slice-code.ensures.value s.inside refl in
     Stands-ready s i here c.args.widths.now c.args.ring.now c.args.program.now.fits c.requires.rows
@@ -34,7 +36,9 @@ loop-next-smaller c =
     let code = c.as_slice-code.result.now in
     let l = c.loop-next in
     let pc = c.in-Some.pc in
-    let s = Stands-at p c.args.ring.now.rows c.args.counters.now l.next pc l.ticks l.stack l.atoms l.counters l.invariant c.in-Some.is in
+    let s =
+    Stands-at p c.args.ring.now.rows c.args.counters.now l.next pc l.ticks l.stack l.atoms l.counters l.invariant
+    c.in-Some.is in
     let i = slice_index_or code pc (Push 0 0) in
     let here = read-at code p.sample pc i c.as_slice-code.ensures.value s.inside refl in
     omega (arith, Stands-tick s i here)
@@ -45,7 +49,9 @@ loop-next-preserved c =
     let code = c.as_slice-code.result.now in
     let l = c.loop-next in
     let pc = c.in-Some.pc in
-    let s = Stands-at p c.args.ring.now.rows c.args.counters.now l.next pc l.ticks l.stack l.atoms l.counters l.invariant c.in-Some.is in
+    let s =
+    Stands-at p c.args.ring.now.rows c.args.counters.now l.next pc l.ticks l.stack l.atoms l.counters l.invariant
+    c.in-Some.is in
     let i = slice_index_or code pc (Push 0 0) in
     let here = read-at code p.sample pc i c.as_slice-code.ensures.value s.inside refl in
     IsAt-after s i here c.obey.new.next c.obey.ensures.next c.obey.new.stack

@@ -6,4 +6,5 @@ use Rattle.text_depths.proofs.laws.depth_law.Goals as goal
 
 pub returns : goal.returns
 returns c = λ s columns items tokens file.
-    of-items (MeansShallow s columns) (λ d t ts rest spelled low e is. let deep = spells-open s columns spelled e is in record { shallow = omega (arith, deep.within, low); near = deep.near }) file.spelled
+    of-items (MeansShallow s columns) (λ d t ts rest spelled low e is. let deep = spells-open s columns spelled e is in
+    record { shallow = omega (arith, deep.within, low); near = deep.near }) file.spelled

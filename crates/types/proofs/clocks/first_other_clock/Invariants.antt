@@ -6,4 +6,5 @@ use Rattle.types.proofs.clocks.first_other_clock.Given as goal
 
 abbrev pub invariant-loop-item : goal.invariant-loop-item
 invariant-loop-item l =
-    earlier l.fault (least (clocks_unlike l.clock (assertions_of (map item_of (drop l.item-index l.items))))) ≡ least (clocks_unlike l.clock (assertions_of (map item_of l.items)))
+    earlier l.fault (least (clocks_unlike l.clock (assertions_of (map item_of (drop l.item-index l.items)))))
+    ≡ least (clocks_unlike l.clock (assertions_of (map item_of l.items)))

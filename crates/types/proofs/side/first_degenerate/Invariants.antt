@@ -4,4 +4,6 @@ use Rattle.types.specs.Sides.{places_where, is_degenerate}
 use Rattle.types.proofs.side.first_degenerate.Given as goal
 
 abbrev pub invariant-loop-side : goal.invariant-loop-side
-invariant-loop-side l = earlier l.fault (least (places_where is_degenerate (drop l.side-index l.sides))) ≡ least (places_where is_degenerate l.sides)
+invariant-loop-side l =
+    earlier l.fault (least (places_where is_degenerate (drop l.side-index l.sides)))
+    ≡ least (places_where is_degenerate l.sides)

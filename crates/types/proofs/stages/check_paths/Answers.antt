@@ -12,4 +12,5 @@ returns-in_err-first_fault-clause-err c =
 pub returns-in-Some-clause-err : goal.returns-in-Some-clause-err
 returns-in-Some-clause-err c =
     first_1 (scope_of c.args.scope.now) (map item_of c.args.items.now) c.in-Some.at
-    (clear_start (scope_of c.args.scope.now) (map item_of c.args.items.now)) (sym c.in_ok-first_fault.ensures ∙ c.in-Some.is)
+    (clear_start (scope_of c.args.scope.now) (map item_of c.args.items.now)) (sym c.in_ok-first_fault.ensures
+    ∙ c.in-Some.is)

@@ -12,20 +12,27 @@ returns-in-Some-clause-err c = λ s items clear sides consequents.
 pub returns-in-Some-first_degenerate-clause-err : goal.returns-in-Some-first_degenerate-clause-err
 returns-in-Some-first_degenerate-clause-err c = λ s items clear sides consequents.
     first_8 s items c.args.sides.now sides c.in-Some-first_degenerate.at
-    (clear_7 s items c.args.sides.now sides clear (sym c.first_wide.ensures ∙ c.in_default.is)) (sym c.first_degenerate.ensures ∙ c.in-Some-first_degenerate.is)
+    (clear_7 s items c.args.sides.now sides clear (sym c.first_wide.ensures ∙ c.in_default.is))
+    (sym c.first_degenerate.ensures ∙ c.in-Some-first_degenerate.is)
 
 pub returns-in-Some-first_empty-clause-err : goal.returns-in-Some-first_empty-clause-err
 returns-in-Some-first_empty-clause-err c = λ s items clear sides consequents.
     first_9 s items c.args.consequents.now consequents c.in-Some-first_empty.at
-    (clear_8 s items c.args.sides.now sides (clear_7 s items c.args.sides.now sides clear (sym c.first_wide.ensures ∙ c.in_default.is)) (sym c.first_degenerate.ensures ∙ c.in_default-first_degenerate.is))
+    (clear_8 s items c.args.sides.now sides
+    (clear_7 s items c.args.sides.now sides clear (sym c.first_wide.ensures ∙ c.in_default.is))
+    (sym c.first_degenerate.ensures ∙ c.in_default-first_degenerate.is))
     (sym c.first_empty.ensures ∙ c.in-Some-first_empty.is)
 
 pub returns-clause-ok : goal.returns-clause-ok
 returns-clause-ok c = λ s items clear sides consequents.
     clear_all s items
     (clear_9 s items c.args.consequents.now consequents
-    (clear_8 s items c.args.sides.now sides (clear_7 s items c.args.sides.now sides clear (sym c.first_wide.ensures ∙ c.in_default.is)) (sym c.first_degenerate.ensures ∙ c.in_default-first_degenerate.is))
+    (clear_8 s items c.args.sides.now sides
+    (clear_7 s items c.args.sides.now sides clear (sym c.first_wide.ensures ∙ c.in_default.is))
+    (sym c.first_degenerate.ensures ∙ c.in_default-first_degenerate.is))
     (sym c.first_empty.ensures ∙ c.in_default-first_empty.is))
 
 pub returns-clause-light : goal.returns-clause-light
-returns-clause-light c = all_light c.args.sides.now (nowhere (places_where is_wide c.args.sides.now) (sym c.first_wide.ensures ∙ c.in_default.is))
+returns-clause-light c =
+    all_light c.args.sides.now
+    (nowhere (places_where is_wide c.args.sides.now) (sym c.first_wide.ensures ∙ c.in_default.is))

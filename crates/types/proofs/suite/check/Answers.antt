@@ -13,16 +13,21 @@ pub returns-in_err-scope-clause-refused : goal.returns-in_err-scope-clause-refus
 returns-in_err-scope-clause-refused c = refused_memory _ _ c.from_residual.result c.from_residual.ensures.1
 
 pub returns-in_err-clock-clause-refused : goal.returns-in_err-clock-clause-refused
-returns-in_err-clock-clause-refused c = refused_memory _ _ c.from_residual-in_err-clock.result c.from_residual-in_err-clock.ensures.1
+returns-in_err-clock-clause-refused c =
+    refused_memory _ _ c.from_residual-in_err-clock.result c.from_residual-in_err-clock.ensures.1
 
 pub suite_of-requires-clause-declared : goal.suite_of-requires-clause-declared
 suite_of-requires-clause-declared c = λ t p h.
-    named_below (map item_of c.as_slice-items.result.now) (widths_in c.args.paths) t p (ap (λ (x : Scope). sequence_named x t) (sym c.in_ok-scope.ensures) ∙ h)
+    named_below (map item_of c.as_slice-items.result.now) (widths_in c.args.paths) t p
+    (ap (λ (x : Scope). sequence_named x t) (sym c.in_ok-scope.ensures) ∙ h)
 
 pub returns-clause-faultless : goal.returns-clause-faultless
 returns-clause-faultless c =
     let is = c.in_ok-scope.ensures ∙ ap (λ (us : List ItemForm). scope_for us (widths_in c.args.paths)) items in
-    when_ok c.suite_of.result (λ x h. subst (λ (z : Scope). IsFaultless z (items_of c.args.file.now)) is (subst (λ (us : List ItemForm). IsFaultless (scope_of c.in_ok-scope.scope) us) items h)) c.suite_of.ensures.faultless
+    when_ok c.suite_of.result
+    (λ x h. subst (λ (z : Scope). IsFaultless z (items_of c.args.file.now)) is
+    (subst (λ (us : List ItemForm). IsFaultless (scope_of c.in_ok-scope.scope) us) items h))
+    c.suite_of.ensures.faultless
   where
     items : map item_of c.as_slice-items.result.now ≡ items_of c.args.file.now
     items = ap (map item_of) c.as_slice-items.ensures.value

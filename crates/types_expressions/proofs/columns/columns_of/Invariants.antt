@@ -5,4 +5,6 @@ use Rattle.types_expressions.specs.Views.{scope_of, columns_in}
 use Rattle.types_expressions.proofs.columns.columns_of.Given as goal
 
 abbrev pub invariant-loop-item : goal.invariant-loop-item
-invariant-loop-item l = with_paths (columns_in l.columns) (file_signals (scope_of l.scope) (map item_of (drop l.item-index l.items))) ≡ columns_of (scope_of l.scope) (map item_of l.items)
+invariant-loop-item l =
+    with_paths (columns_in l.columns) (file_signals (scope_of l.scope) (map item_of (drop l.item-index l.items)))
+    ≡ columns_of (scope_of l.scope) (map item_of l.items)

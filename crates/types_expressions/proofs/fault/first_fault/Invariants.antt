@@ -5,4 +5,6 @@ use Rattle.types_expressions.specs.Views.{scope_of}
 use Rattle.types_expressions.proofs.fault.first_fault.Given as goal
 
 abbrev pub invariant-loop-item : goal.invariant-loop-item
-invariant-loop-item l = earlier l.fault (least (file_faults (scope_of l.scope) l.sought (map item_of (drop l.item-index l.items)))) ≡ least (file_faults (scope_of l.scope) l.sought (map item_of l.items))
+invariant-loop-item l =
+    earlier l.fault (least (file_faults (scope_of l.scope) l.sought (map item_of (drop l.item-index l.items))))
+    ≡ least (file_faults (scope_of l.scope) l.sought (map item_of l.items))

@@ -6,4 +6,6 @@ use Rattle.types_expressions.proofs.path.push_words.Given as goal
 
 -- the words so far
 abbrev pub invariant-loop-word : goal.invariant-loop-word
-invariant-loop-word l = string_bytes l.text ++ flat_map (λ (w : Token). codes "." ++ w.text.now) (drop l.word-index l.words) ≡ string_bytes l.fn.text ++ flat_map (λ (w : Token). codes "." ++ w.text.now) l.words
+invariant-loop-word l =
+    string_bytes l.text ++ flat_map (λ (w : Token). codes "." ++ w.text.now) (drop l.word-index l.words)
+    ≡ string_bytes l.fn.text ++ flat_map (λ (w : Token). codes "." ++ w.text.now) l.words

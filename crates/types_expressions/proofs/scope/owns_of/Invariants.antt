@@ -10,5 +10,8 @@ abbrev pub invariant-loop-item : goal.invariant-loop-item
 invariant-loop-item l = record {
   counters : l.counters ≤ l.item-index;
   sequences : l.sequences ≤ l.item-index;
-  left : (q : List ℕ) → first_of (look_up (entries_in l.names) q) (look_up (owns_from l.counters l.sequences (map item_of (drop l.item-index l.items))) q) ≡ look_up (owns (map item_of l.items)) q;
+  left : (q : List ℕ)
+      → first_of (look_up (entries_in l.names) q)
+      (look_up (owns_from l.counters l.sequences (map item_of (drop l.item-index l.items))) q)
+      ≡ look_up (owns (map item_of l.items)) q;
 }

@@ -4,4 +4,5 @@ use Rattle.types_expressions.proofs.ColumnLaws.{column-there}
 use Rattle.types_expressions.proofs.terms.signal_name.Goals as goal
 
 pub unreachable-requires : goal.unreachable-requires
-unreachable-requires c = column-there (columns_in c.args.columns.now) c.args.text.now c.requires.listed (sym c.in-None.ensures)
+unreachable-requires c =
+    column-there (columns_in c.args.columns.now) c.args.text.now c.requires.listed (sym c.in-None.ensures)

@@ -12,4 +12,6 @@ pushed n p xs below h = by_place (cases_eq p n)
     by_place (inr d) = in_front p xs (n ∷ []) (below p (omega (arith, h, d)))
 
 pub loop-place-preserved : goal.loop-place-preserved
-loop-place-preserved c = λ p h. subst (λ (xs : List ℕ). IsIn p xs) (sym c.in_ok-push.ensures.items) (pushed c.loop-place.place p c.loop-place.places.items c.loop-place.invariant h)
+loop-place-preserved c =
+    λ p h. subst (λ (xs : List ℕ). IsIn p xs) (sym c.in_ok-push.ensures.items)
+    (pushed c.loop-place.place p c.loop-place.places.items c.loop-place.invariant h)

@@ -14,20 +14,37 @@ sweeps-init c =
       covers = λ p h. inr (c.in_ok-left.ensures p h);
     }
 
-read_mark : (marks : List Bool) (p : ℕ) (found want : Bool) → p < length marks → found ≡ get_or marks p found → found ≡ want → mark_at marks p ≡ want
+read_mark : (marks : List Bool) (p : ℕ) (found want : Bool) → p < length marks → found ≡ get_or marks p found
+    → found ≡ want → mark_at marks p ≡ want
 read_mark marks p found want h e w = get_or_default marks p false found h ∙ sym e ∙ w
 
 pub returns-then-index : goal.returns-then-index
-returns-then-index c = (λ t. c.sweep.ensures.sound c.sweeps.invariant.sound c.args.goal (read_mark c.sweep.new.marks.items c.args.goal c.index.result.now true (omega (arith, c.requires, c.sweep.ensures.long, c.sweeps.invariant.long)) c.index.ensures c.if-index.true), λ cyclic. search rules)
+returns-then-index c = (
+  λ t. c.sweep.ensures.sound c.sweeps.invariant.sound c.args.goal (read_mark c.sweep.new.marks.items c.args.goal
+      c.index.result.now true (omega (arith, c.requires, c.sweep.ensures.long, c.sweeps.invariant.long)) c.index.ensures
+      c.if-index.true),
+  λ cyclic. search rules,
+)
 
 pub returns-then-len-before : goal.returns-then-len-before
 returns-then-len-before c = (
   λ t. search (rules, t),
   λ cyclic.
-      elim (false≢true (sym (read_mark c.sweep.new.marks.items c.args.goal c.index.result.now false (omega (arith, c.requires, c.sweep.ensures.long, c.sweeps.invariant.long)) c.index.ensures c.if-index.false)
+      elim (false≢true
+      (sym (read_mark c.sweep.new.marks.items c.args.goal c.index.result.now false
+      (omega (arith, c.requires, c.sweep.ensures.long, c.sweeps.invariant.long)) c.index.ensures c.if-index.false)
       ∙ all_marked (map draft_of c.args.bodies.now) c.args.goal c.sweep.new.marks.items c.in_ok-left-2.left.items
-      (c.in_ok-left-2.ensures.quiet (omega (arith, c.len.ensures, c.if-len-before.true, c.len-before.ensures, c.in_ok-left-2.left.ok, c.sweeps.left.ok)))
-      (λ p h. let d = inside p h in c.in_ok-left-2.ensures.covers p d (c.sweeps.invariant.covers p d)) cyclic.0 c.args.goal cyclic.1)) [ ],
+      (c.in_ok-left-2.ensures.quiet
+      (omega (
+        arith,
+        c.len.ensures,
+        c.if-len-before.true,
+        c.len-before.ensures,
+        c.in_ok-left-2.left.ok,
+        c.sweeps.left.ok,
+      )))
+      (λ p h. let d = inside p h in c.in_ok-left-2.ensures.covers p d (c.sweeps.invariant.covers p d)) cyclic.0
+      c.args.goal cyclic.1)) [ ],
 )
   where
     inside : (p : ℕ) → p < length (map draft_of c.args.bodies.now) → p < length c.args.bodies.now

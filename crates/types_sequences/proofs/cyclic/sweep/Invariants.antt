@@ -6,7 +6,8 @@ use Rattle.types_sequences.proofs.cyclic.sweep.Given as goal
 abbrev pub invariant-places : goal.invariant-places
 invariant-places l =
     record {
-      state : State (map draft_of l.bodies) l.goal l.initial.marks.items l.fn.places.items l.marks.items l.left.items l.still.items;
+      state : State (map draft_of l.bodies) l.goal l.initial.marks.items l.fn.places.items l.marks.items l.left.items
+          l.still.items;
       long : length l.marks.items ≡ length l.bodies;
     }
 

@@ -6,4 +6,6 @@ use Rattle.types_sequences.specs.Marks.{all_below}
 use Rattle.types_sequences.proofs.declared.are_declared.Given as goal
 
 abbrev pub invariant-loop-draft : goal.invariant-loop-draft
-invariant-loop-draft l = (k : ℕ) (d : Draft) → k < l.draft-index → all_below (length l.bodies) (uses (draft_of (get_or l.bodies k d))) ≡ true
+invariant-loop-draft l =
+    (k : ℕ) (d : Draft) → k < l.draft-index → all_below (length l.bodies) (uses (draft_of (get_or l.bodies k d)))
+    ≡ true

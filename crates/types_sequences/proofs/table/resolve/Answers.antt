@@ -17,9 +17,18 @@ sweeps-init c =
 pub returns-then-len-before-clause-cyclic : goal.returns-then-len-before-clause-cyclic
 returns-then-len-before-clause-cyclic c = λ p h none.
     let bodies = map draft_of c.args.bodies.now in
-    let same : length c.in_ok-left-2.left.items ≡ length c.sweeps.left.items = omega (arith, c.len.ensures, c.if-len-before.true, c.len-before.ensures, c.in_ok-left-2.left.ok, c.sweeps.left.ok) in
+    let same : length c.in_ok-left-2.left.items ≡ length c.sweeps.left.items =
+    omega (
+      arith,
+      c.len.ensures,
+      c.if-len-before.true,
+      c.len-before.ensures,
+      c.in_ok-left-2.left.ok,
+      c.sweeps.left.ok,
+    ) in
     stuck_reaches bodies c.sweep.new.table.items
-    (left_are_stuck bodies c.sweep.new.table.items c.in_ok-left-2.left.items c.requires (c.in_ok-left-2.ensures.lacking same)
+    (left_are_stuck bodies c.sweep.new.table.items c.in_ok-left-2.left.items c.requires
+    (c.in_ok-left-2.ensures.lacking same)
     (λ q k. let d = inside q k in c.in_ok-left-2.ensures.accounts q d (c.sweeps.invariant.accounts q d)))
     p (record { declared = rw (length-map c.args.bodies.now draft_of) h; lacking = none })
   where

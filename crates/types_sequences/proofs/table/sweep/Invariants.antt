@@ -6,7 +6,8 @@ use Rattle.types_sequences.proofs.table.sweep.Given as goal
 abbrev pub invariant-places : goal.invariant-places
 invariant-places l =
     record {
-      state : State (map draft_of l.bodies) l.initial.table.items l.fn.places.items l.table.items l.left.items l.still.items;
+      state : State (map draft_of l.bodies) l.initial.table.items l.fn.places.items l.table.items l.left.items
+          l.still.items;
       long : length l.table.items ≡ length l.bodies;
     }
 

@@ -14,5 +14,7 @@ abbrev pub invariant-loop-item : goal.invariant-loop-item
 invariant-loop-item l = record {
   ready : AreReadyItems (scope_of l.scope) (columns_in l.columns) (map item_of (drop l.item-index l.items));
   grows : Extends l.fn.booleans.items l.booleans.items;
-  read : Seen declarations_of (λ ds. AllRead (scope_of l.scope) (columns_in l.columns) l.booleans.items (bodies_in ds) (map draft_of l.bodies.items)) (map item_of l.items) (map item_of (drop l.item-index l.items));
+  read : Seen declarations_of
+      (λ ds. AllRead (scope_of l.scope) (columns_in l.columns) l.booleans.items (bodies_in ds)
+      (map draft_of l.bodies.items)) (map item_of l.items) (map item_of (drop l.item-index l.items));
 }

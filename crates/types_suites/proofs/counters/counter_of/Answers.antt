@@ -4,7 +4,11 @@ use Rattle.types_suites.proofs.CounterLaws.{ready-counter}
 use Rattle.types_suites.proofs.counters.counter_of.Goals as goal
 
 pub condition_of-requires-clause-sound : goal.condition_of-requires-clause-sound
-condition_of-requires-clause-sound c = (ready-counter (scope_of c.args.scope.now) (columns_in c.args.columns.now) (counter_of c.args.counter.now) c.requires.sound c.requires.listed).0.sound
+condition_of-requires-clause-sound c =
+    (ready-counter (scope_of c.args.scope.now) (columns_in c.args.columns.now) (counter_of c.args.counter.now)
+    c.requires.sound c.requires.listed).0.sound
 
 pub condition_of-requires-clause-listed : goal.condition_of-requires-clause-listed
-condition_of-requires-clause-listed c = (ready-counter (scope_of c.args.scope.now) (columns_in c.args.columns.now) (counter_of c.args.counter.now) c.requires.sound c.requires.listed).0.listed
+condition_of-requires-clause-listed c =
+    (ready-counter (scope_of c.args.scope.now) (columns_in c.args.columns.now) (counter_of c.args.counter.now)
+    c.requires.sound c.requires.listed).0.listed

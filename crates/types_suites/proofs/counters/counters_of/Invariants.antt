@@ -7,5 +7,6 @@ use Rattle.types_suites.proofs.counters.counters_of.Given as goal
 abbrev pub invariant-loop-item : goal.invariant-loop-item
 invariant-loop-item l = record {
   ready : AreReadyItems (scope_of l.scope) (columns_in l.columns) (map item_of (drop l.item-index l.items));
-  made : Completes (scope_of l.scope) (columns_in l.columns) (map item_of l.items) (map item_of (drop l.item-index l.items)) l.counters.items;
+  made : Completes (scope_of l.scope) (columns_in l.columns) (map item_of l.items)
+      (map item_of (drop l.item-index l.items)) l.counters.items;
 }

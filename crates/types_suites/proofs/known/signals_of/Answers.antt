@@ -10,7 +10,10 @@ use Rattle.types_suites.proofs.known.signals_of.Goals as goal
 pub unreachable-requires : goal.unreachable-requires
 unreachable-requires c =
     let s = scope_of c.args.scope.now in
-    let known = subst (AreKnown s) (drop_next (columns_in c.args.columns.now) c.loop-column.column c.path-path.result.now (sym c.path-path.ensures)) c.loop-column.invariant.known in
+    let known =
+    subst (AreKnown s)
+    (drop_next (columns_in c.args.columns.now) c.loop-column.column c.path-path.result.now
+    (sym c.path-path.ensures)) c.loop-column.invariant.known in
     none-some known.0.0 (c.in_default.ensures ∙ known.0.1)
 
 pub loop-column-preserved : goal.loop-column-preserved
@@ -24,5 +27,6 @@ loop-column-preserved c =
       known = rw add-one (subst (AreKnown s) (drop_next columns i p at) c.loop-column.invariant.known).1;
       made = rw (add-one, take_next columns i p at)
           (subst (λ (xs : List Signal). AreSignals s (take i columns ++ p ∷ []) xs) (sym c.in_ok-push.ensures.items)
-          (signal_more s (take i columns) c.loop-column.signals.items p _ c.loop-column.invariant.made c.in_ok-from_str.ensures.ok (sym c.in-Some.ensures)));
+          (signal_more s (take i columns) c.loop-column.signals.items p _ c.loop-column.invariant.made
+          c.in_ok-from_str.ensures.ok (sym c.in-Some.ensures)));
     }

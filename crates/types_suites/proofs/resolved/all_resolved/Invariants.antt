@@ -14,5 +14,7 @@ invariant-loop-item l = record {
   ready : AreReadyItems (scope_of l.scope) (columns_in l.columns) (map item_of (drop l.item-index l.items));
   grows : Extends l.fn.booleans.items l.booleans.items;
   made : (bodies : Bodies) → IsTable bodies l.table →
-      Seen assertions_of (λ us. AreResolved (scope_of l.scope) (columns_in l.columns) l.booleans.items bodies 0 us l.resolved.items) (map item_of l.items) (map item_of (drop l.item-index l.items));
+      Seen assertions_of
+      (λ us. AreResolved (scope_of l.scope) (columns_in l.columns) l.booleans.items bodies 0 us l.resolved.items)
+      (map item_of l.items) (map item_of (drop l.item-index l.items));
 }

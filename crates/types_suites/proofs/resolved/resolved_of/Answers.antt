@@ -7,13 +7,18 @@ use Rattle.types_suites.proofs.resolved.resolved_of.Goals as goal
 
 pub entry_in-requires : goal.entry_in-requires
 entry_in-requires c = λ p i.
-    c.requires.entries p (antecedent_below (scope_of c.args.scope.now) (columns_in c.args.columns.now) c.drawn_of.new.booleans.items (length c.args.table.now) c.requires.declared (property_of c.args.assertion.now.property)
+    c.requires.entries p
+    (antecedent_below (scope_of c.args.scope.now) (columns_in c.args.columns.now) c.drawn_of.new.booleans.items
+    (length c.args.table.now) c.requires.declared (property_of c.args.assertion.now.property)
     (draft_of c.in_ok-drawn.drawn.antecedent.value) c.in_ok-drawn.ensures.drawn.antecedent p (rw c.deref.ensures at i))
 
 pub entry_in-requires-2 : goal.entry_in-requires-2
 entry_in-requires-2 c = λ p i.
-    c.requires.entries p (consequent_below (scope_of c.args.scope.now) (columns_in c.args.columns.now) c.drawn_of.new.booleans.items (length c.args.table.now) c.requires.declared (property_of c.args.assertion.now.property)
-    (draft_of c.in_ok-drawn.drawn.consequent.value) c.in_ok-drawn.ensures.drawn.consequent p (rw c.deref-2.ensures at i))
+    c.requires.entries p
+    (consequent_below (scope_of c.args.scope.now) (columns_in c.args.columns.now) c.drawn_of.new.booleans.items
+    (length c.args.table.now) c.requires.declared (property_of c.args.assertion.now.property)
+    (draft_of c.in_ok-drawn.drawn.consequent.value) c.in_ok-drawn.ensures.drawn.consequent p
+    (rw c.deref-2.ensures at i))
 
 pub returns-clause-resolved : goal.returns-clause-resolved
 returns-clause-resolved c = λ bodies table.

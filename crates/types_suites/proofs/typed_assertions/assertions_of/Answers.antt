@@ -11,10 +11,15 @@ loop-one-preserved c =
     record {
       fit = (subst AreFitting cut c.loop-one.invariant.fit).1;
       made = λ s columns booleans bodies all h.
-          half_more s columns booleans bodies all _ m (drop (c.loop-one.one-index + 1) c.args.resolved.now) c.loop-one.assertions.items c.push.new.self.items c.in_ok-assertion_of.field-0 cut c.in_ok-push.ensures.items
-          (λ before a r. c.in_ok-assertion_of.ensures s columns booleans bodies before a r) (c.loop-one.invariant.made s columns booleans bodies all h);
+          half_more s columns booleans bodies all _ m (drop (c.loop-one.one-index + 1) c.args.resolved.now)
+          c.loop-one.assertions.items c.push.new.self.items c.in_ok-assertion_of.field-0 cut
+          c.in_ok-push.ensures.items
+          (λ before a r. c.in_ok-assertion_of.ensures s columns booleans bodies before a r)
+          (c.loop-one.invariant.made s columns booleans bodies all h);
     }
 
 pub returns : goal.returns
 returns c = λ s columns booleans bodies all h.
-    half_all s columns booleans bodies all _ c.loop-one.assertions.items (drop_all c.loop-one.one-index c.args.resolved.now c.loop-one-test.false) (c.loop-one.invariant.made s columns booleans bodies all h)
+    half_all s columns booleans bodies all _ c.loop-one.assertions.items
+    (drop_all c.loop-one.one-index c.args.resolved.now c.loop-one-test.false)
+    (c.loop-one.invariant.made s columns booleans bodies all h)

@@ -10,7 +10,8 @@ returns-clause-meant c = λ booleans more w h.
     side_of booleans c.place_sequence.new.places.items more c.args.entry.now c.in-Some.sequence w
     (written_form b.value) c.requires.light c.in-Some.is h
     (rw c.deref.ensures at p.0) p.1)
-    (ok_both _ _ c.place_sequence.result (c.place_sequence.ensures.placed booleans more) c.place_sequence.ensures.listed)
+    (ok_both _ _ c.place_sequence.result (c.place_sequence.ensures.placed booleans more)
+    c.place_sequence.ensures.listed)
 
 pub returns-clause-used : goal.returns-clause-used
 returns-clause-used c = λ w h.

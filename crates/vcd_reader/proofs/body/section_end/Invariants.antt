@@ -7,7 +7,9 @@ abbrev pub invariant-sections : goal.invariant-sections
 invariant-sections l = record {
   low : l.start ≤ l.at;
   high : l.at ≤ length l.bytes;
-  same : (declared : List (List ℕ)) (len count now : ℕ) → section declared len count now l.word (tokens_at l.bytes l.start) ≡ section declared len count now l.word (tokens_at l.bytes l.at);
+  same : (declared : List (List ℕ)) (len count now : ℕ)
+      → section declared len count now l.word (tokens_at l.bytes l.start)
+      ≡ section declared len count now l.word (tokens_at l.bytes l.at);
 }
 
 abbrev pub decreases-sections : goal.decreases-sections

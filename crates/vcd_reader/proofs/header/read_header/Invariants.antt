@@ -11,7 +11,8 @@ invariant-sections l = record {
   high : l.at ≤ length l.bytes;
   tree : IsTree l.scopes.items;
   inside : l.scope ≤ length l.scopes.items;
-  same : (more : List Scope) → header [] [] (tokens_at l.bytes 0) ≡ header (open_scopes l.scopes.items l.scope) (map (declaration_of (l.scopes.items ++ more)) l.variables.items) (tokens_at l.bytes l.at);
+  same : (more : List Scope) → header [] [] (tokens_at l.bytes 0) ≡ header (open_scopes l.scopes.items l.scope)
+      (map (declaration_of (l.scopes.items ++ more)) l.variables.items) (tokens_at l.bytes l.at);
 }
 
 abbrev pub decreases-sections : goal.decreases-sections

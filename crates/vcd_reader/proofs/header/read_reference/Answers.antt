@@ -23,15 +23,22 @@ words-init c = record {
 }
 
 pub returns-in_default-clause-reference : goal.returns-in_default-clause-reference
-returns-in_default-clause-reference c = λ opener scopes vars h. c.words.invariant.same opener scopes vars h ∙ more-none scopes vars _ h _ _ c.in_default.ensures.tokens
+returns-in_default-clause-reference c =
+    λ opener scopes vars h. c.words.invariant.same opener scopes vars h
+    ∙ more-none scopes vars _ h _ _ c.in_default.ensures.tokens
 
 pub returns-then-is_section_end-clause-reference : goal.returns-then-is_section_end-clause-reference
-returns-then-is_section_end-clause-reference c = λ opener scopes vars h. c.words.invariant.same opener scopes vars h ∙ more-end scopes vars _ h _ _ _ c.in-Some.from _ c.in-Some.ensures.tokens (sym c.if-is_section_end.ensures)
+returns-then-is_section_end-clause-reference c =
+    λ opener scopes vars h. c.words.invariant.same opener scopes vars h
+    ∙ more-end scopes vars _ h _ _ _ c.in-Some.from _ c.in-Some.ensures.tokens (sym c.if-is_section_end.ensures)
 
 pub words-preserved : goal.words-preserved
 words-preserved c = record {
   low = omega (arith, c.in-Some.ensures.some.0, c.in-Some.ensures.some.1);
   high = c.in-Some.ensures.some.2;
-  same = λ opener scopes vars h. c.words.invariant.same opener scopes vars h ∙ more-more scopes vars _ h _ _ _ c.in-Some.from _ c.in-Some.ensures.tokens (sym c.if-is_section_end.ensures)
-      ∙ ap (λ (ts : List ℕ). var_more scopes vars (record { text = opener; at = c.args.word }) h ts (tokens_at c.args.bytes.now c.in-Some.end)) (sym c.in_ok-extend_from_slice.ensures.items);
+  same =
+      λ opener scopes vars h. c.words.invariant.same opener scopes vars h
+      ∙ more-more scopes vars _ h _ _ _ c.in-Some.from _ c.in-Some.ensures.tokens (sym c.if-is_section_end.ensures)
+      ∙ ap (λ (ts : List ℕ). var_more scopes vars (record { text = opener; at = c.args.word }) h ts
+      (tokens_at c.args.bytes.now c.in-Some.end)) (sym c.in_ok-extend_from_slice.ensures.items);
 }

@@ -8,7 +8,8 @@ abbrev pub invariant-words : goal.invariant-words
 invariant-words l = record {
   low : l.start < l.at;
   high : l.at ≤ length l.bytes;
-  same : (opener : List ℕ) (scopes : List (List ℕ)) (vars : List variables.Declared) (h : Head) → var_reference scopes vars (record { text = opener; at = l.word }) h (tokens_at l.bytes l.start)
+  same : (opener : List ℕ) (scopes : List (List ℕ)) (vars : List variables.Declared) (h : Head)
+      → var_reference scopes vars (record { text = opener; at = l.word }) h (tokens_at l.bytes l.start)
       ≡ var_more scopes vars (record { text = opener; at = l.word }) h l.text.items (tokens_at l.bytes l.at);
 }
 

@@ -8,7 +8,8 @@ abbrev pub invariant-words : goal.invariant-words
 invariant-words l = record {
   low : l.start ≤ l.at;
   high : l.at ≤ length l.bytes;
-  same : (opener : List ℕ) (scopes : List (List ℕ)) (vars : List variables.Declared) → skipped_section scopes vars (record { text = opener; at = l.word }) (tokens_at l.bytes l.start)
+  same : (opener : List ℕ) (scopes : List (List ℕ)) (vars : List variables.Declared)
+      → skipped_section scopes vars (record { text = opener; at = l.word }) (tokens_at l.bytes l.start)
       ≡ skipped_section scopes vars (record { text = opener; at = l.word }) (tokens_at l.bytes l.at);
 }
 

@@ -14,32 +14,43 @@ returns-in_err-scopes c =
     rw (p.1, p.2) (header-fails c.args.bytes.now _ c.in_err-scopes.ensures.header)
 
 pub read_steps-requires-clause-index : goal.read_steps-requires-clause-index
-read_steps-requires-clause-index c = subst (λ (vs : List Variable). IsIndex (codes_in vs) c.in_ok-codes.codes) (c.deref-4.ensures.value ∙ sym c.deref-5.ensures.value) c.in_ok-codes.ensures
+read_steps-requires-clause-index c =
+    subst (λ (vs : List Variable). IsIndex (codes_in vs) c.in_ok-codes.codes)
+    (c.deref-4.ensures.value ∙ sym c.deref-5.ensures.value) c.in_ok-codes.ensures
 
 pub returns-in_err-steps : goal.returns-in_err-steps
 returns-in_err-steps c =
     let p = err_from_is_err_and c.from_residual-in_err-steps.result c.from_residual-in_err-steps.ensures.1 in
     let d = c.in_ok-scopes.field-0 in
-    rw (p.1, p.2) (dump-fails c.args.bytes.now d.scopes.items d.variables.items _ c.in_ok-scopes.ensures.header _ (rw c.deref-5.ensures.value at c.in_err-steps.ensures))
+    rw (p.1, p.2) (dump-fails c.args.bytes.now d.scopes.items d.variables.items _ c.in_ok-scopes.ensures.header _
+    (rw c.deref-5.ensures.value at c.in_err-steps.ensures))
 
 pub returns : goal.returns
 unfolding variables_of steps_in high_of
 returns c =
     let d = c.in_ok-scopes.field-0 in
-    let s = dump-says c.args.bytes.now d.scopes.items d.variables.items _ c.in_ok-scopes.ensures.header _ (rw c.deref-5.ensures.value at c.in_ok-steps.ensures) in
+    let s =
+    dump-says c.args.bytes.now d.scopes.items d.variables.items _ c.in_ok-scopes.ensures.header _
+    (rw c.deref-5.ensures.value at c.in_ok-steps.ensures) in
     (s.contents, s.read, record { variables = s.variables; steps = s.steps })
 
 pub invariant_of-result-clause-code_index : goal.invariant_of-result-clause-code_index
-invariant_of-result-clause-code_index c = subst (λ (vs : List Variable). IsIndex (codes_in vs) c.in_ok-codes.codes) c.deref-4.ensures.value c.in_ok-codes.ensures
+invariant_of-result-clause-code_index c =
+    subst (λ (vs : List Variable). IsIndex (codes_in vs) c.in_ok-codes.codes) c.deref-4.ensures.value
+    c.in_ok-codes.ensures
 
 pub invariant_of-result-clause-path_index : goal.invariant_of-result-clause-path_index
 invariant_of-result-clause-path_index c =
     let d = c.in_ok-scopes.field-0 in
-    subst (λ (vs : List Variable). IsIndex (texts_in Path d.scopes.items vs) c.in_ok-paths.paths) c.deref-2.ensures.value
-    (subst (λ (ss : List Scope). IsIndex (texts_in Path ss c.deref-2.result.now) c.in_ok-paths.paths) c.deref.ensures.value c.in_ok-paths.ensures)
+    subst (λ (vs : List Variable). IsIndex (texts_in Path d.scopes.items vs) c.in_ok-paths.paths)
+    c.deref-2.ensures.value
+    (subst (λ (ss : List Scope). IsIndex (texts_in Path ss c.deref-2.result.now) c.in_ok-paths.paths)
+    c.deref.ensures.value c.in_ok-paths.ensures)
 
 pub invariant_of-result-clause-says : goal.invariant_of-result-clause-says
 invariant_of-result-clause-says c =
     let d = c.in_ok-scopes.field-0 in
-    let s = dump-says c.args.bytes.now d.scopes.items d.variables.items _ c.in_ok-scopes.ensures.header _ (rw c.deref-5.ensures.value at c.in_ok-steps.ensures) in
+    let s =
+    dump-says c.args.bytes.now d.scopes.items d.variables.items _ c.in_ok-scopes.ensures.header _
+    (rw c.deref-5.ensures.value at c.in_ok-steps.ensures) in
     ∣ (s.contents, record { same_variables = s.variables; same_steps = s.steps }) ∣₁

@@ -15,5 +15,6 @@ returns-else-eq-clause-same c = λ xs ys.
     let m = length c.args.left.now - c.min-size.result in
     let n = length c.args.right.now - c.min-size.result in
     let other = rw (take_rest c.args.left.now m, take_rest c.args.right.now n) at c.if-eq.ensures in
-    let long : length (drop m c.args.left.now) ≡ length (drop n c.args.right.now) = omega (arith, length-drop m c.args.left.now, length-drop n c.args.right.now) in
+    let long : length (drop m c.args.left.now) ≡ length (drop n c.args.right.now) =
+    omega (arith, length-drop m c.args.left.now, length-drop n c.args.right.now) in
     common-none xs ys c.args.left.now c.args.right.now m n long (sym other)

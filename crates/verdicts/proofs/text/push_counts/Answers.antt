@@ -6,5 +6,8 @@ pub returns : goal.returns
 unfolding counts_text
 returns c =
     and_then
-    (and_then (and_then (and_then (and_then c.in_ok-push_field.ensures c.in_ok-push_field-2.ensures) c.in_ok-push_field-3.ensures) c.in_ok-push_field-4.ensures) c.in_ok-push_field-5.ensures)
+    (and_then
+    (and_then
+    (and_then (and_then c.in_ok-push_field.ensures c.in_ok-push_field-2.ensures) c.in_ok-push_field-3.ensures)
+    c.in_ok-push_field-4.ensures) c.in_ok-push_field-5.ensures)
     c.in_ok-push_text.ensures

@@ -5,4 +5,7 @@ use Rattle.verdicts.proofs.text.push_failure.Goals as goal
 pub returns : goal.returns
 unfolding fail_text
 returns c =
-    and_then (and_then (and_then (and_then c.in_ok-push_text.ensures c.in_ok-push_text-2.ensures) c.in_ok-push_field.ensures) c.in_ok-push_field-2.ensures) c.in_ok-push_text-3.ensures
+    and_then
+    (and_then
+    (and_then (and_then c.in_ok-push_text.ensures c.in_ok-push_text-2.ensures) c.in_ok-push_field.ensures)
+    c.in_ok-push_field-2.ensures) c.in_ok-push_text-3.ensures

@@ -7,4 +7,6 @@ use Rattle.verdicts.proofs.text.push_line.Given as goal
 -- the line and the failures so far
 abbrev pub invariant-loop-failure : goal.invariant-loop-failure
 invariant-loop-failure l =
-    Grows (string_bytes l.fn.text) (string_bytes l.text) ((codes "monitor " ++ l.name ++ counts_text l.fn.of.counts) ++ flat_map (fail_text l.name) (take l.failure-index l.failure-items))
+    Grows (string_bytes l.fn.text) (string_bytes l.text)
+    ((codes "monitor " ++ l.name ++ counts_text l.fn.of.counts) ++ flat_map (fail_text l.name)
+    (take l.failure-index l.failure-items))

@@ -8,20 +8,28 @@ use Rattle.verdicts.proofs.Pieces.{and_then, and_none, from_empty, piece_more, p
 use Rattle.verdicts.proofs.text.text_of.Goals as goal
 
 pub loop-line-init : goal.loop-line-init
-loop-line-init c = from_empty c.new-text.ensures.bytes (and_none (λ (x : Line). line_text (line x)) (and_then c.in_ok-push_field.ensures c.in_ok-push_text.ensures))
+loop-line-init c =
+    from_empty c.new-text.ensures.bytes
+    (and_none (λ (x : Line). line_text (line x)) (and_then c.in_ok-push_field.ensures c.in_ok-push_text.ensures))
 
 pub loop-line-preserved : goal.loop-line-preserved
 loop-line-preserved c =
     let item = c.line-item.result in
-    let grown = subst (λ (x : Line). Grows (string_bytes c.loop-line.text) (string_bytes c.push_line.new.text) (line_text (line x))) c.line-item.is c.in_ok-push_line.ensures in
-    piece_more (λ (x : Line). line_text (line x)) c.deref-line-items.result.now c.loop-line.line-index item _ _ _ (field_text (codes "svamon 1\nclocks ") c.args.report.now.clocks ++ codes "\n") c.loop-line-test.true c.loop-line.invariant grown
+    let grown =
+    subst (λ (x : Line). Grows (string_bytes c.loop-line.text) (string_bytes c.push_line.new.text)
+    (line_text (line x))) c.line-item.is c.in_ok-push_line.ensures in
+    piece_more (λ (x : Line). line_text (line x)) c.deref-line-items.result.now c.loop-line.line-index item _ _ _
+    (field_text (codes "svamon 1\nclocks ") c.args.report.now.clocks ++ codes "\n") c.loop-line-test.true
+    c.loop-line.invariant grown
 
 pub returns : goal.returns
 unfolding report_text
 returns c =
     let head = field_text (codes "svamon 1\nclocks ") c.args.report.now.clocks ++ codes "\n" in
     let done : c.loop-line.line-index ≡ length c.deref-line-items.result.now = omega arith in
-    let all = pieces_all (λ (x : Line). line_text (line x)) c.deref-line-items.result.now c.loop-line.line-index [] (string_bytes c.loop-line.text) head done c.loop-line.invariant in
+    let all =
+    pieces_all (λ (x : Line). line_text (line x)) c.deref-line-items.result.now c.loop-line.line-index []
+    (string_bytes c.loop-line.text) head done c.loop-line.invariant in
     let whole = (and_then (and_then all c.in_ok-push_text-2.ensures) c.in_ok-push_counts.ensures).is in
     let tail = codes "total" in
     let end = counts_text c.args.report.now.total in

@@ -9,4 +9,6 @@ use Rattle.verdicts.proofs.text.text_of.Given as goal
 -- the head and the lines so far
 abbrev pub invariant-loop-line : goal.invariant-loop-line
 invariant-loop-line l =
-    Grows [] (string_bytes l.text) ((field_text (codes "svamon 1\nclocks ") l.fn.report.clocks ++ codes "\n") ++ flat_map (λ (x : Line). line_text (line x)) (take l.line-index l.line-items))
+    Grows [] (string_bytes l.text)
+    ((field_text (codes "svamon 1\nclocks ") l.fn.report.clocks ++ codes "\n")
+    ++ flat_map (λ (x : Line). line_text (line x)) (take l.line-index l.line-items))

@@ -11,7 +11,8 @@ use Rattle.verifier.proofs.VerifyLaws.{refused_consequent, no_part}
 use Rattle.verifier.proofs.accept.longest_list.Goals as goal
 
 pub returns-in-Some-clause-refused : goal.returns-in-Some-clause-refused
-returns-in-Some-clause-refused c = inr (refused_header (data_of c.args.program.now) c.in-Some.refusal (sym c.in-Some.is ∙ c.header_fault.ensures))
+returns-in-Some-clause-refused c =
+    inr (refused_header (data_of c.args.program.now) c.in-Some.refusal (sym c.in-Some.is ∙ c.header_fault.ensures))
 
 pub returns-in_err-longest-clause-refused : goal.returns-in_err-longest-clause-refused
 returns-in_err-longest-clause-refused c =
@@ -27,14 +28,17 @@ section_fault-requires-clause-few c =
     omega (arith, r.antecedent_positions, length-map c.args.program.now.antecedent.blocks.items (λ b. b.items))
 
 pub section_fault-requires-clause-size : goal.section_fault-requires-clause-size
-section_fault-requires-clause-size c = (room (data_of c.args.program.now) (sym c.in-None.is ∙ c.header_fault.ensures)).antecedent_code
+section_fault-requires-clause-size c =
+    (room (data_of c.args.program.now) (sym c.in-None.is ∙ c.header_fault.ensures)).antecedent_code
 
 pub returns-in-Some-2-clause-refused : goal.returns-in-Some-2-clause-refused
 returns-in-Some-2-clause-refused c =
     let p = data_of c.args.program.now in
     let none_s = c.in_ok-longest.ensures.ok in
-    inr (refused_antecedent p c.in-Some-2.fault.pc c.in-Some-2.fault.refusal (sym c.in-None.is ∙ c.header_fault.ensures) none_s
-    (subst (λ (o : Option Fault). IsFirstOf (section_faults 2 p.header.atoms p.antecedent) (found_in 2 o)) c.in-Some-2.is (c.in_ok-fault.ensures 2)))
+    inr (refused_antecedent p c.in-Some-2.fault.pc c.in-Some-2.fault.refusal (sym c.in-None.is ∙ c.header_fault.ensures)
+    none_s
+    (subst (λ (o : Option Fault). IsFirstOf (section_faults 2 p.header.atoms p.antecedent) (found_in 2 o))
+    c.in-Some-2.is (c.in_ok-fault.ensures 2)))
 
 pub section_fault-requires-2-clause-few : goal.section_fault-requires-2-clause-few
 section_fault-requires-2-clause-few c =
@@ -42,22 +46,31 @@ section_fault-requires-2-clause-few c =
     omega (arith, r.consequent_positions, length-map c.args.program.now.consequent.blocks.items (λ b. b.items))
 
 pub section_fault-requires-2-clause-size : goal.section_fault-requires-2-clause-size
-section_fault-requires-2-clause-size c = (room (data_of c.args.program.now) (sym c.in-None.is ∙ c.header_fault.ensures)).consequent_code
+section_fault-requires-2-clause-size c =
+    (room (data_of c.args.program.now) (sym c.in-None.is ∙ c.header_fault.ensures)).consequent_code
 
 pub returns-in-Some-3-clause-refused : goal.returns-in-Some-3-clause-refused
 returns-in-Some-3-clause-refused c =
     let p = data_of c.args.program.now in
     let none_s = c.in_ok-longest.ensures.ok in
-    let none_a = subst (λ (o : Option Fault). IsFirstOf (section_faults 2 p.header.atoms p.antecedent) (found_in 2 o)) c.in-None-2.is (c.in_ok-fault.ensures 2) in
-    inr (refused_consequent p c.in-Some-3.fault.pc c.in-Some-3.fault.refusal (sym c.in-None.is ∙ c.header_fault.ensures) none_s none_a
-    (subst (λ (o : Option Fault). IsFirstOf (section_faults 3 p.header.atoms p.consequent) (found_in 3 o)) c.in-Some-3.is (c.in_ok-fault-2.ensures 3)))
+    let none_a =
+    subst (λ (o : Option Fault). IsFirstOf (section_faults 2 p.header.atoms p.antecedent) (found_in 2 o))
+    c.in-None-2.is (c.in_ok-fault.ensures 2) in
+    inr (refused_consequent p c.in-Some-3.fault.pc c.in-Some-3.fault.refusal (sym c.in-None.is ∙ c.header_fault.ensures)
+    none_s none_a
+    (subst (λ (o : Option Fault). IsFirstOf (section_faults 3 p.header.atoms p.consequent) (found_in 3 o))
+    c.in-Some-3.is (c.in_ok-fault-2.ensures 3)))
 
 pub returns-in-None-3-clause-ok : goal.returns-in-None-3-clause-ok
 returns-in-None-3-clause-ok c =
     let p = data_of c.args.program.now in
     let none_s = c.in_ok-longest.ensures.ok in
-    let none_a = subst (λ (o : Option Fault). IsFirstOf (section_faults 2 p.header.atoms p.antecedent) (found_in 2 o)) c.in-None-2.is (c.in_ok-fault.ensures 2) in
-    let none_c = subst (λ (o : Option Fault). IsFirstOf (section_faults 3 p.header.atoms p.consequent) (found_in 3 o)) c.in-None-3.is (c.in_ok-fault-2.ensures 3) in
+    let none_a =
+    subst (λ (o : Option Fault). IsFirstOf (section_faults 2 p.header.atoms p.antecedent) (found_in 2 o))
+    c.in-None-2.is (c.in_ok-fault.ensures 2) in
+    let none_c =
+    subst (λ (o : Option Fault). IsFirstOf (section_faults 3 p.header.atoms p.consequent) (found_in 3 o))
+    c.in-None-3.is (c.in_ok-fault-2.ensures 3) in
     no_part p (sym c.in-None.is ∙ c.header_fault.ensures) none_s none_a none_c
 
 pub returns-in-None-3-clause-room : goal.returns-in-None-3-clause-room

@@ -14,16 +14,27 @@ pub returns-clause-ok : goal.returns-clause-ok
 returns-clause-ok c =
     let p = data_of c.args.program.now in
     subst (λ (f : FrameData). OnOk c.infer.result (code_faults (sample_rules f) 0 p.sample ≡ [])) c.in_ok-frame.ensures
-    (subst (λ (is : List SampleInstr). OnOk c.infer.result (code_faults (sample_rules (frame_data c.in_ok-frame.frame)) 0 is ≡ [])) c.deref.ensures.value c.infer.ensures.ok)
+    (subst
+    (λ (is : List SampleInstr). OnOk c.infer.result
+    (code_faults (sample_rules (frame_data c.in_ok-frame.frame)) 0 is ≡ [])) c.deref.ensures.value
+    c.infer.ensures.ok)
 
 pub returns-clause-longest : goal.returns-clause-longest
 returns-clause-longest c =
     let p = data_of c.args.program.now in
-    subst (λ (f : FrameData). IfOk c.infer.result (λ longest. longest ≡ entry_longest (sample_rules f) p.sample)) c.in_ok-frame.ensures
-    (subst (λ (is : List SampleInstr). IfOk c.infer.result (λ longest. longest ≡ entry_longest (sample_rules (frame_data c.in_ok-frame.frame)) is)) c.deref.ensures.value c.infer.ensures.longest)
+    subst (λ (f : FrameData). IfOk c.infer.result (λ longest. longest ≡ entry_longest (sample_rules f) p.sample))
+    c.in_ok-frame.ensures
+    (subst
+    (λ (is : List SampleInstr). IfOk c.infer.result
+    (λ longest. longest ≡ entry_longest (sample_rules (frame_data c.in_ok-frame.frame)) is)) c.deref.ensures.value
+    c.infer.ensures.longest)
 
 pub returns-clause-refused : goal.returns-clause-refused
 returns-clause-refused c =
     let p = data_of c.args.program.now in
-    subst (λ (f : FrameData). IfErr c.infer.result (λ r. (r ≡ Memory) ⊎ IsFirstRefusal r (code_faults (sample_rules f) 0 p.sample))) c.in_ok-frame.ensures
-    (subst (λ (is : List SampleInstr). IfErr c.infer.result (λ r. (r ≡ Memory) ⊎ IsFirstRefusal r (code_faults (sample_rules (frame_data c.in_ok-frame.frame)) 0 is))) c.deref.ensures.value c.infer.ensures.refused)
+    subst (λ (f : FrameData). IfErr c.infer.result
+    (λ r. (r ≡ Memory) ⊎ IsFirstRefusal r (code_faults (sample_rules f) 0 p.sample))) c.in_ok-frame.ensures
+    (subst
+    (λ (is : List SampleInstr). IfErr c.infer.result
+    (λ r. (r ≡ Memory) ⊎ IsFirstRefusal r (code_faults (sample_rules (frame_data c.in_ok-frame.frame)) 0 is)))
+    c.deref.ensures.value c.infer.ensures.refused)

@@ -16,12 +16,16 @@ returns c =
     let before = c.in_ok-before.before in
     let after = c.in_ok-after.after in
     let history : c.farthest.result ≡ farthest p.sample = c.farthest.ensures ∙ ap farthest c.deref.ensures.value in
-    let attempts : before + after - 1 ≡ least_attempts p = ap (λ (n : ℕ). n + after - 1) c.in_ok-before.ensures.life ∙ ap (λ (n : ℕ). start_life p.antecedent + n - 1) c.in_ok-after.ensures.life in
+    let attempts : before + after - 1 ≡ least_attempts p =
+    ap (λ (n : ℕ). n + after - 1) c.in_ok-before.ensures.life
+    ∙ ap (λ (n : ℕ). start_life p.antecedent + n - 1) c.in_ok-after.ensures.life in
     let obligations : after ≡ least_obligations p = c.in_ok-after.ensures.life in
     let budget : c.in_ok-budget.budget ≡ least_budget p =
     c.in_ok-budget.ensures
-    ∙ ap (λ (n : ℕ). longest_path 0 (map sample_flow p.sample) + n * (2 + path_sum 0 p.antecedent.blocks) + after * (1 + path_sum 0 p.consequent.blocks)) attempts
-    ∙ ap (λ (n : ℕ). longest_path 0 (map sample_flow p.sample) + least_attempts p * (2 + path_sum 0 p.antecedent.blocks) + n * (1 + path_sum 0 p.consequent.blocks)) obligations in
+    ∙ ap (λ (n : ℕ). longest_path 0 (map sample_flow p.sample) + n * (2 + path_sum 0 p.antecedent.blocks) + after
+    * (1 + path_sum 0 p.consequent.blocks)) attempts
+    ∙ ap (λ (n : ℕ). longest_path 0 (map sample_flow p.sample) + least_attempts p * (2 + path_sum 0 p.antecedent.blocks)
+    + n * (1 + path_sum 0 p.consequent.blocks)) obligations in
     ap (λ (n : ℕ). made n c.args.longest (before + after - 1) after c.in_ok-budget.budget) history
     ∙ ap (λ (n : ℕ). made (farthest p.sample) n (before + after - 1) after c.in_ok-budget.budget) c.requires.longest
     ∙ ap (λ (n : ℕ). made (farthest p.sample) (least_stack p) n after c.in_ok-budget.budget) attempts

@@ -17,12 +17,17 @@ blocks_left-preserved c =
     let below : k - 1 < length lives = omega (arith, p_below, inv.long) in
     let next : k ≡ k - 1 + 1 = omega (arith, c.blocks_left-test.true) in
     let block : drop (k - 1) bs ≡ c.as_slice.result.now ∷ drop (k - 1 + 1) bs =
-    blocks_at c.args.blocks.now (k - 1) c.index-blocks-k.result p_below c.index-blocks-k.is ∙ ap (λ (b : List BlockInstr). b ∷ drop (k - 1 + 1) bs) (sym c.as_slice.ensures.value) in
+    blocks_at c.args.blocks.now (k - 1) c.index-blocks-k.result p_below c.index-blocks-k.is
+    ∙ ap (λ (b : List BlockInstr). b ∷ drop (k - 1 + 1) bs) (sym c.as_slice.ensures.value) in
     let most = c.longest_entered-life.ensures.few (length c.args.blocks.now - k) inv.few in
-    let life : 1 + c.longest_entered-life.result ≤ length c.args.blocks.now - (k - 1) = omega (arith, most, c.blocks_left-test.true, inv.low) in
+    let life : 1 + c.longest_entered-life.result ≤ length c.args.blocks.now - (k - 1) =
+    omega (arith, most, c.blocks_left-test.true, inv.low) in
     record {
-      left = lives_step lives bs k (k - 1) (1 + c.longest_entered-life.result) c.as_slice.result.now next below inv.left block (ap (λ (n : ℕ). 1 + n) c.longest_entered-life.ensures.life);
+      left =
+          lives_step lives bs k (k - 1) (1 + c.longest_entered-life.result) c.as_slice.result.now next below inv.left
+          block (ap (λ (n : ℕ). 1 + n) c.longest_entered-life.ensures.life);
       long = length-set lives (k - 1) (1 + c.longest_entered-life.result) ∙ inv.long;
       low = omega (arith, inv.low);
-      few = few_step lives (k - 1) (1 + c.longest_entered-life.result) (length c.args.blocks.now - (k - 1)) below life (λ j. let f = inv.few j in omega (arith, f));
+      few = few_step lives (k - 1) (1 + c.longest_entered-life.result) (length c.args.blocks.now - (k - 1)) below life
+          (λ j. let f = inv.few j in omega (arith, f));
     }

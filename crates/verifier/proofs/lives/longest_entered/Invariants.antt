@@ -5,6 +5,7 @@ use Rattle.verifier.proofs.lives.longest_entered.Given as goal
 abbrev pub invariant-block : goal.invariant-block
 invariant-block l =
     record {
-      left : max l.most (longest_entered l.next (drop l.next l.lives) (drop l.k l.block)) ≡ longest_entered l.next (drop l.next l.lives) l.block;
+      left : max l.most (longest_entered l.next (drop l.next l.lives) (drop l.k l.block))
+          ≡ longest_entered l.next (drop l.next l.lives) l.block;
       few : (m : ℕ) → ((j : ℕ) → slice_index l.lives j ≤ m) → l.most ≤ m;
     }

@@ -8,5 +8,7 @@ lives-preserved c =
     let e = ap (most_in c.args.set c.lives.p) (drop_more c.args.lives.now c.lives.p 0 c.lives-test.true) in
     record {
       left = omega (arith, e, c.lives.invariant.left, c.larger-most.ensures, c.life_in.ensures.life);
-      few = λ m all. let a = c.lives.invariant.few m all in let b = all c.lives.p in omega (arith, a, b, c.larger-most.ensures, c.life_in.ensures.few);
+      few = λ m all. let a =
+          c.lives.invariant.few m all in let b = all c.lives.p in
+          omega (arith, a, b, c.larger-most.ensures, c.life_in.ensures.few);
     }

@@ -89,7 +89,8 @@ slid-ahead d k w same c h end le inside =
     (same.before c n h nle (subst (λ (xs : List ℕ). n < length xs) is nlt)))
 
 slid-rows : (d : Dump) (k : Clocks) (w : Window) → IsWindowOf w d k → (end : ℕ) (new ticks : List ℕ)
-    (vs : List VarId) → vs ≡ w.columns.shared.variables.items → w.end ≤ end → end ≤ length k.ticks.items → ticks ≡ slice_range k.ticks.items w.end end
+    (vs : List VarId) → vs ≡ w.columns.shared.variables.items → w.end ≤ end → end ≤ length k.ticks.items
+    → ticks ≡ slice_range k.ticks.items w.end end
     → ((c : Contents) → HoldsContents d c → AreAhead w.cursor.at (length (steps_in d)) ticks
     → new ≡ flat_map (row_of c (places vs)) ticks)
     → AreRowsOf w.columns.dump.now w.columns.code (places w.columns.shared.variables.items) w.end

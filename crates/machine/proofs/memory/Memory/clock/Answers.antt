@@ -24,14 +24,26 @@ run-ticks-requires-clause-rows c =
     let p = data_of c.args.program.now in
     let s = state_of c.args.self.now in
     let counters = c.as_slice-counters.ensures.value in
-    let pushed-is : c.push_row.new.history ≡ pushed c.args.self.now.history (1 ∷ (c.args.signals.now ++ c.args.self.now.counters.items)) = c.push_row.ensures ∙ ap (λ l. pushed c.args.self.now.history (1 ∷ (c.args.signals.now ++ l))) counters in
-    let here = whole-row p c.args.signals.now c.args.self.now.counters.items c.requires.row c.requires.memory.counters in
+    let pushed-is : c.push_row.new.history
+    ≡ pushed c.args.self.now.history (1 ∷ (c.args.signals.now ++ c.args.self.now.counters.items)) =
+    c.push_row.ensures ∙ ap (λ l. pushed c.args.self.now.history (1 ∷ (c.args.signals.now ++ l))) counters in
+    let here =
+    whole-row p c.args.signals.now c.args.self.now.counters.items c.requires.row c.requires.memory.counters in
     let widths = c.args.self.now.frame.slots.items in
-    let rows = subst (AreRows p widths) (sym pushed-is) (AreRows-pushed p widths c.args.self.now.history (1 ∷ (c.args.signals.now ++ c.args.self.now.counters.items)) (subst (λ ws. AreValues ws (1 ∷ (c.args.signals.now ++ c.args.self.now.counters.items))) (sym c.requires.memory.history.slots) here) c.requires.memory.history) in
+    let rows =
+    subst (AreRows p widths) (sym pushed-is)
+    (AreRows-pushed p widths c.args.self.now.history (1 ∷ (c.args.signals.now ++ c.args.self.now.counters.items))
+    (subst (λ ws. AreValues ws (1 ∷ (c.args.signals.now ++ c.args.self.now.counters.items)))
+    (sym c.requires.memory.history.slots) here) c.requires.memory.history) in
     subst (λ ws. AreRows p ws c.push_row.new.history) (sym c.as_slice.ensures.value) rows
 
 pub overflow_sub-left : goal.overflow_sub-left
-overflow_sub-left c = omega (arith, c.from-budget.ensures, laws.within (data_of c.args.program.now) c.requires.accepted c.run-ticks.result c.run-ticks.ensures.ticks)
+overflow_sub-left c =
+    omega (
+      arith,
+      c.from-budget.ensures,
+      laws.within (data_of c.args.program.now) c.requires.accepted c.run-ticks.result c.run-ticks.ensures.ticks,
+    )
 
 pub overflow_sub-result : goal.overflow_sub-result
 overflow_sub-result c = omega (arith, c.clock.ensures.fewer)
@@ -41,27 +53,55 @@ returns-clause-memory c =
     let p = data_of c.args.program.now in
     let s = state_of c.args.self.now in
     let counters = c.as_slice-counters.ensures.value in
-    let pushed-is : c.push_row.new.history ≡ pushed c.args.self.now.history (1 ∷ (c.args.signals.now ++ c.args.self.now.counters.items)) = c.push_row.ensures ∙ ap (λ l. pushed c.args.self.now.history (1 ∷ (c.args.signals.now ++ l))) counters in
-    let here = whole-row p c.args.signals.now c.args.self.now.counters.items c.requires.row c.requires.memory.counters in
+    let pushed-is : c.push_row.new.history
+    ≡ pushed c.args.self.now.history (1 ∷ (c.args.signals.now ++ c.args.self.now.counters.items)) =
+    c.push_row.ensures ∙ ap (λ l. pushed c.args.self.now.history (1 ∷ (c.args.signals.now ++ l))) counters in
+    let here =
+    whole-row p c.args.signals.now c.args.self.now.counters.items c.requires.row c.requires.memory.counters in
     let widths = c.args.self.now.frame.slots.items in
-    let rows = subst (AreRows p widths) (sym pushed-is) (AreRows-pushed p widths c.args.self.now.history (1 ∷ (c.args.signals.now ++ c.args.self.now.counters.items)) (subst (λ ws. AreValues ws (1 ∷ (c.args.signals.now ++ c.args.self.now.counters.items))) (sym c.requires.memory.history.slots) here) c.requires.memory.history) in
-    let is-rows : c.push_row.new.history.rows ≡ with_row p c.args.signals.now s = ap (λ h. h.rows) pushed-is ∙ ap (λ d. (1 ∷ (c.args.signals.now ++ c.args.self.now.counters.items)) ∷ take d c.args.self.now.history.rows) c.requires.memory.history.depth in
+    let rows =
+    subst (AreRows p widths) (sym pushed-is)
+    (AreRows-pushed p widths c.args.self.now.history (1 ∷ (c.args.signals.now ++ c.args.self.now.counters.items))
+    (subst (λ ws. AreValues ws (1 ∷ (c.args.signals.now ++ c.args.self.now.counters.items)))
+    (sym c.requires.memory.history.slots) here) c.requires.memory.history) in
+    let is-rows : c.push_row.new.history.rows ≡ with_row p c.args.signals.now s =
+    ap (λ h. h.rows) pushed-is
+    ∙ ap (λ d. (1 ∷ (c.args.signals.now ++ c.args.self.now.counters.items)) ∷ take d c.args.self.now.history.rows)
+    c.requires.memory.history.depth in
     let budget : c.from-budget.result ≡ p.header.limits.budget = c.from-budget.ensures in
-    let ran = subst (λ old. HasRun p c.push_row.new.history.rows old c.run-ticks.result c.run-ticks.new.atoms c.run-ticks.new.counters) c.as_mut_slice-2.ensures.value c.run-ticks.ensures.ran in
+    let ran =
+    subst (λ old. HasRun p c.push_row.new.history.rows old c.run-ticks.result c.run-ticks.new.atoms
+    c.run-ticks.new.counters) c.as_mut_slice-2.ensures.value c.run-ticks.ensures.ran in
     let atoms-long = c.run-ticks.auto.atoms ∙ c.as_mut_slice.ensures.len ∙ vec-long c.args.self.now.atoms in
     let counters-long = c.run-ticks.auto.counters ∙ c.as_mut_slice-2.ensures.len ∙ vec-long c.args.self.now.counters in
     let new = standing_of c.clock.new.self.now c.clock.new.self.attempts c.clock.new.self.obligations in
-    let on = subst (λ b. HasAdvanced p s.standing c.run-ticks.new.atoms (b - c.run-ticks.result) c.args.out.now.items new c.clock.new.left c.clock.new.out.items) budget (subst (λ bits. HasAdvanced p s.standing bits (c.from-budget.result - c.run-ticks.result) c.args.out.now.items new c.clock.new.left c.clock.new.out.items) (c.as_slice-atoms.ensures.value ∙ refilled c.args.self.now.atoms c.run-ticks.new.atoms atoms-long) c.clock.ensures.advanced) in
+    let on =
+    subst (λ b. HasAdvanced p s.standing c.run-ticks.new.atoms (b - c.run-ticks.result) c.args.out.now.items new
+    c.clock.new.left c.clock.new.out.items) budget
+    (subst (λ bits. HasAdvanced p s.standing bits (c.from-budget.result - c.run-ticks.result) c.args.out.now.items
+    new c.clock.new.left c.clock.new.out.items) (c.as_slice-atoms.ensures.value
+    ∙ refilled c.args.self.now.atoms c.run-ticks.new.atoms atoms-long) c.clock.ensures.advanced) in
     let row-long = c.push_row.auto.row ∙ c.as_mut_slice-row.ensures.len ∙ vec-long c.args.self.now.row in
-    let reached = laws.reached-next p c.requires.accepted s c.args.signals.now c.push_row.new.history.rows is-rows c.run-ticks.result c.run-ticks.new.atoms c.run-ticks.new.counters ran c.args.out.now.items new c.clock.new.left c.clock.new.out.items on c.requires.memory.reached in
+    let reached =
+    laws.reached-next p c.requires.accepted s c.args.signals.now c.push_row.new.history.rows is-rows
+    c.run-ticks.result c.run-ticks.new.atoms c.run-ticks.new.counters ran c.args.out.now.items new
+    c.clock.new.left c.clock.new.out.items on c.requires.memory.reached in
     record {
       bases = c.requires.memory.bases;
       history = rows;
       row = ap length (refilled c.args.self.now.row c.push_row.new.row row-long) ∙ row-long ∙ c.requires.memory.row;
-      atoms = ap length (refilled c.args.self.now.atoms c.run-ticks.new.atoms atoms-long) ∙ atoms-long ∙ c.requires.memory.atoms;
-      counters = subst (AreValues p.counters) (sym (refilled c.args.self.now.counters c.run-ticks.new.counters counters-long)) c.run-ticks.ensures.kept;
+      atoms =
+          ap length (refilled c.args.self.now.atoms c.run-ticks.new.atoms atoms-long) ∙ atoms-long
+          ∙ c.requires.memory.atoms;
+      counters =
+          subst (AreValues p.counters)
+          (sym (refilled c.args.self.now.counters c.run-ticks.new.counters counters-long)) c.run-ticks.ensures.kept;
       pools = c.clock.ensures.pools;
-      few = omega (arith, counted (λ e. attempt_of e.1) c.clock.new.self.attempts.live, laws.few-live p c.requires.accepted new reached);
+      few = omega (
+        arith,
+        counted (λ e. attempt_of e.1) c.clock.new.self.attempts.live,
+        laws.few-live p c.requires.accepted new reached,
+      );
       reached = reached;
     }
 
@@ -70,22 +110,53 @@ returns-clause-clock c =
     let p = data_of c.args.program.now in
     let s = state_of c.args.self.now in
     let counters = c.as_slice-counters.ensures.value in
-    let pushed-is : c.push_row.new.history ≡ pushed c.args.self.now.history (1 ∷ (c.args.signals.now ++ c.args.self.now.counters.items)) = c.push_row.ensures ∙ ap (λ l. pushed c.args.self.now.history (1 ∷ (c.args.signals.now ++ l))) counters in
-    let here = whole-row p c.args.signals.now c.args.self.now.counters.items c.requires.row c.requires.memory.counters in
+    let pushed-is : c.push_row.new.history
+    ≡ pushed c.args.self.now.history (1 ∷ (c.args.signals.now ++ c.args.self.now.counters.items)) =
+    c.push_row.ensures ∙ ap (λ l. pushed c.args.self.now.history (1 ∷ (c.args.signals.now ++ l))) counters in
+    let here =
+    whole-row p c.args.signals.now c.args.self.now.counters.items c.requires.row c.requires.memory.counters in
     let widths = c.args.self.now.frame.slots.items in
-    let rows = subst (AreRows p widths) (sym pushed-is) (AreRows-pushed p widths c.args.self.now.history (1 ∷ (c.args.signals.now ++ c.args.self.now.counters.items)) (subst (λ ws. AreValues ws (1 ∷ (c.args.signals.now ++ c.args.self.now.counters.items))) (sym c.requires.memory.history.slots) here) c.requires.memory.history) in
-    let is-rows : c.push_row.new.history.rows ≡ with_row p c.args.signals.now s = ap (λ h. h.rows) pushed-is ∙ ap (λ d. (1 ∷ (c.args.signals.now ++ c.args.self.now.counters.items)) ∷ take d c.args.self.now.history.rows) c.requires.memory.history.depth in
+    let rows =
+    subst (AreRows p widths) (sym pushed-is)
+    (AreRows-pushed p widths c.args.self.now.history (1 ∷ (c.args.signals.now ++ c.args.self.now.counters.items))
+    (subst (λ ws. AreValues ws (1 ∷ (c.args.signals.now ++ c.args.self.now.counters.items)))
+    (sym c.requires.memory.history.slots) here) c.requires.memory.history) in
+    let is-rows : c.push_row.new.history.rows ≡ with_row p c.args.signals.now s =
+    ap (λ h. h.rows) pushed-is
+    ∙ ap (λ d. (1 ∷ (c.args.signals.now ++ c.args.self.now.counters.items)) ∷ take d c.args.self.now.history.rows)
+    c.requires.memory.history.depth in
     let budget : c.from-budget.result ≡ p.header.limits.budget = c.from-budget.ensures in
-    let ran = subst (λ old. HasRun p c.push_row.new.history.rows old c.run-ticks.result c.run-ticks.new.atoms c.run-ticks.new.counters) c.as_mut_slice-2.ensures.value c.run-ticks.ensures.ran in
+    let ran =
+    subst (λ old. HasRun p c.push_row.new.history.rows old c.run-ticks.result c.run-ticks.new.atoms
+    c.run-ticks.new.counters) c.as_mut_slice-2.ensures.value c.run-ticks.ensures.ran in
     let atoms-long = c.run-ticks.auto.atoms ∙ c.as_mut_slice.ensures.len ∙ vec-long c.args.self.now.atoms in
     let counters-long = c.run-ticks.auto.counters ∙ c.as_mut_slice-2.ensures.len ∙ vec-long c.args.self.now.counters in
     let new = standing_of c.clock.new.self.now c.clock.new.self.attempts c.clock.new.self.obligations in
-    let on = subst (λ b. HasAdvanced p s.standing c.run-ticks.new.atoms (b - c.run-ticks.result) c.args.out.now.items new c.clock.new.left c.clock.new.out.items) budget (subst (λ bits. HasAdvanced p s.standing bits (c.from-budget.result - c.run-ticks.result) c.args.out.now.items new c.clock.new.left c.clock.new.out.items) (c.as_slice-atoms.ensures.value ∙ refilled c.args.self.now.atoms c.run-ticks.new.atoms atoms-long) c.clock.ensures.advanced) in
+    let on =
+    subst (λ b. HasAdvanced p s.standing c.run-ticks.new.atoms (b - c.run-ticks.result) c.args.out.now.items new
+    c.clock.new.left c.clock.new.out.items) budget
+    (subst (λ bits. HasAdvanced p s.standing bits (c.from-budget.result - c.run-ticks.result) c.args.out.now.items
+    new c.clock.new.left c.clock.new.out.items) (c.as_slice-atoms.ensures.value
+    ∙ refilled c.args.self.now.atoms c.run-ticks.new.atoms atoms-long) c.clock.ensures.advanced) in
     record {
       program = refl;
       decided = on.decided;
       left = c.clock.new.left;
-      ran = laws.came p c.requires.accepted s c.args.signals.now c.push_row.new.history.rows is-rows c.run-ticks.result c.run-ticks.new.atoms c.run-ticks.new.counters ran c.args.out.now.items new c.clock.new.left c.clock.new.out.items on ∙ ap (λ cs. done (record { state = record { standing = new; rows = c.push_row.new.history.rows; counters = cs }; decided = on.decided }) c.clock.new.left) (sym (refilled c.args.self.now.counters c.run-ticks.new.counters counters-long));
+      ran = laws.came p c.requires.accepted s c.args.signals.now c.push_row.new.history.rows is-rows c.run-ticks.result
+          c.run-ticks.new.atoms c.run-ticks.new.counters ran c.args.out.now.items new c.clock.new.left
+          c.clock.new.out.items on
+          ∙ ap (λ cs.
+          done (record {
+            state = record { standing = new; rows = c.push_row.new.history.rows; counters = cs };
+            decided = on.decided;
+          }) c.clock.new.left)
+          (sym (refilled c.args.self.now.counters c.run-ticks.new.counters counters-long));
       told = on.told;
-      spent = omega (arith, c.clock.ensures.fewer, budget, laws.within p c.requires.accepted c.run-ticks.result c.run-ticks.ensures.ticks);
+      spent =
+          omega (
+            arith,
+            c.clock.ensures.fewer,
+            budget,
+            laws.within p c.requires.accepted c.run-ticks.result c.run-ticks.ensures.ticks,
+          );
     }

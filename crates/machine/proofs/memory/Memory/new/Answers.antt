@@ -29,17 +29,31 @@ pub returns-clause-memory : goal.returns-clause-memory
 returns-clause-memory c =
     let p = data_of c.args.program.now in
     let slots = ap (λ f. f.slots) c.in_ok-frame.ensures in
-    let long : c.len-slots.result ≡ length (frame_of p).slots = c.len-slots.ensures ∙ vec-long c.in_ok-frame.frame.slots ∙ ap length slots in
+    let long : c.len-slots.result ≡ length (frame_of p).slots =
+    c.len-slots.ensures ∙ vec-long c.in_ok-frame.frame.slots ∙ ap length slots in
     let first = c.in_ok-live.ensures in
     let attempts = ap (λ (q : Pooled AttemptRecord). attempts_in q.live) first.attempts in
     let obligations = ap (λ (q : Pooled ObligationRecord). obligations_in q.live) first.obligations in
     record {
       bases = c.in_ok-bases.ensures;
-      history = subst (AreRows p c.in_ok-frame.frame.slots.items) (sym (c.in_ok-history.ensures ∙ ap (cleared p.header.limits.history) long)) (AreRows-cleared p c.in_ok-frame.frame.slots.items slots);
+      history =
+          subst (AreRows p c.in_ok-frame.frame.slots.items)
+          (sym (c.in_ok-history.ensures ∙ ap (cleared p.header.limits.history) long))
+          (AreRows-cleared p c.in_ok-frame.frame.slots.items slots);
       row = sym (vec-long c.in_ok-row.row) ∙ c.in_ok-row.ensures.len ∙ long;
       atoms = sym (vec-long c.in_ok-atoms.atoms) ∙ c.in_ok-atoms.ensures.len;
-      counters = zeros-fit p.counters c.in_ok-counters.counters.items (c.in_ok-counters.ensures.items_if_clones_equal (λ y e. e) ∙ ap (λ n. replicate n 0) (c.len.ensures ∙ vec-long c.args.program.now.counters));
-      pools = record { attempts = ap (λ (q : Pooled AttemptRecord). q.cap) first.attempts; obligations = ap (λ (q : Pooled ObligationRecord). q.cap) first.obligations };
+      counters =
+          zeros-fit p.counters c.in_ok-counters.counters.items
+          (c.in_ok-counters.ensures.items_if_clones_equal (λ y e. e)
+          ∙ ap (λ n. replicate n 0) (c.len.ensures ∙ vec-long c.args.program.now.counters));
+      pools =
+          record {
+            attempts = ap (λ (q : Pooled AttemptRecord). q.cap) first.attempts;
+            obligations = ap (λ (q : Pooled ObligationRecord). q.cap) first.obligations;
+          };
       few = omega (arith, ap (λ (q : Pooled AttemptRecord). length q.live) first.attempts);
-      reached = subst (IsReached p) (λ j. record { now = sym first.now j; attempts = sym attempts j; obligations = sym obligations j }) (record { attempts = omega arith; obligations = omega arith });
+      reached =
+          subst (IsReached p)
+          (λ j. record { now = sym first.now j; attempts = sym attempts j; obligations = sym obligations j })
+          (record { attempts = omega arith; obligations = omega arith });
     }

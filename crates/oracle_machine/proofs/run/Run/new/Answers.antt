@@ -15,5 +15,6 @@ invariant_of-result c =
           c.in_ok-widths.ensures
           ∙ sym (map-twice _ (λ s. s.width) c.program.result.now.signals.items)
           ∙ ap (λ (p : ProgramData). map (λ s. s.width) p.signals) (c.program.ensures.same ∙ sym whole);
-      few = subst (λ (p : ProgramData). p.header.limits.attempts ≤ 1024) (sym whole) c.program.ensures.accepted.room.attempts;
+      few = subst (λ (p : ProgramData). p.header.limits.attempts ≤ 1024) (sym whole)
+          c.program.ensures.accepted.room.attempts;
     }

@@ -6,5 +6,6 @@ use Rattle.positions.proofs.lead.Lead.put_rows.Given as goal
 
 abbrev pub invariant-loop-row : goal.invariant-loop-row
 invariant-loop-row l =
-    l.draft ≡ with_rows l.fn.draft (map (flat_map (lead_data l.self.fuses (change_data l.self.change) l.self.by l.second))
+    l.draft
+    ≡ with_rows l.fn.draft (map (flat_map (lead_data l.self.fuses (change_data l.self.change) l.self.by l.second))
     (rows_data (take l.row-index l.rows)))

@@ -7,4 +7,5 @@ use Rattle.positions.proofs.pairing.Pairing.put_all.Given as goal
 abbrev pub invariant-loop-edges : goal.invariant-loop-edges
 invariant-loop-edges l =
     l.draft ≡ with_rows l.fn.draft
-    (flat_map (λ es. map (pair_row l.self.first l.self.second es) (rows_data l.seconds)) (rows_data (take l.edges-index l.firsts)))
+    (flat_map (λ es. map (pair_row l.self.first l.self.second es) (rows_data l.seconds))
+    (rows_data (take l.edges-index l.firsts)))

@@ -5,4 +5,6 @@ use Rattle.positions.proofs.pairing.Pairing.put_edge.Given as goal
 
 abbrev pub invariant-loop-other : goal.invariant-loop-other
 invariant-loop-other l =
-    l.draft ≡ with_edges l.fn.draft (map (paired_data l.self.first l.self.second (edge_data l.edge)) (map edge_data (take l.other-index l.row)))
+    l.draft
+    ≡ with_edges l.fn.draft
+    (map (paired_data l.self.first l.self.second (edge_data l.edge)) (map edge_data (take l.other-index l.row)))

@@ -5,4 +5,6 @@ use Rattle.positions.proofs.pairing.Pairing.put_row.Given as goal
 
 abbrev pub invariant-loop-edge : goal.invariant-loop-edge
 invariant-loop-edge l =
-    l.draft ≡ with_edges l.fn.draft (pair_row l.self.first l.self.second (map edge_data (take l.edge-index l.edges)) (map edge_data l.row))
+    l.draft
+    ≡ with_edges l.fn.draft
+    (pair_row l.self.first l.self.second (map edge_data (take l.edge-index l.edges)) (map edge_data l.row))

@@ -5,4 +5,6 @@ use Rattle.positions.proofs.pairing.Pairing.put_rows.Given as goal
 
 abbrev pub invariant-loop-row : goal.invariant-loop-row
 invariant-loop-row l =
-    l.draft ≡ with_rows l.fn.draft (map (pair_row l.self.first l.self.second (map edge_data l.edges)) (rows_data (take l.row-index l.rows)))
+    l.draft
+    ≡ with_rows l.fn.draft
+    (map (pair_row l.self.first l.self.second (map edge_data l.edges)) (rows_data (take l.row-index l.rows)))

@@ -3,4 +3,8 @@ use Rattle.types_sequences.proofs.entry.Entry.boolean.Goals as goal
 
 pub returns : goal.returns
 returns c =
-    record { ordered = tt; facts = c.boolean.ensures c.args.which; same = λ h. rw c.in_ok-leaf.ensures.ok (says_boolean c.args.which) }
+    record {
+      ordered = tt;
+      facts = c.boolean.ensures c.args.which;
+      same = λ h. rw c.in_ok-leaf.ensures.ok (says_boolean c.args.which);
+    }
