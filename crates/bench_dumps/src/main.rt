@@ -1,4 +1,20 @@
-//! Reads a dump and builds its rows, and prints how long each took: `bench_dumps FILE CLOCK`.
+//! Times the reader of dumps and the making of rows, for `bench/run`, `bench/shapes` and
+//! `bench/check`.
+//!
+//! ```text
+//! bench_dumps FILE          read 139042 us steps 115849 changes 2231402
+//! bench_dumps FILE CLOCK    .. and rows 91210 us ticks 57924
+//! ```
+//!
+//! The first line says how long `vcd_reader::read_dump` took, with how many steps and changes it
+//! found; the second, how long it took to go through the rows of all signals whose paths are text,
+//! at the ticks of the clock, by windows of 1,024 of them. Times are in microseconds of a clock on
+//! the wall. With no word it says how it is called, and that is what the gate runs.
+//!
+//! What is read is said by the contracts of `vcd_reader` and `cycle_window`, whose definitions
+//! stand in their `specs/`. The comparison with the plain C baseline is that of `bench/run`.
+//!
+//! Not promised: a speed. A fault of the dump or of the clock ends it with that fault's text.
 #![tactic(auto)]
 
 use anyhow::{Result, bail};

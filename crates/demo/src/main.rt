@@ -1,5 +1,24 @@
 //! Prints the report of each example: its assertions, or the rules of its port, judged over its
 //! dump.
+//!
+//! The examples lie in `data/`, a folder each with `dump.vcd`, `assertion.sva` and, where they are
+//! the rules of an AXI4 port, `ports.txt`; `data/README.md` says what each shows. Of each it prints
+//! the name, the text or the ports, the report as `svamon judge` writes it, and the status:
+//!
+//! ```text
+//! == fails_at_its_tick
+//! r: assert property (@(posedge top.clk) top.x |-> top.y);
+//! svamon 1
+//! clocks 1
+//! monitor r holds 0 vacuous 0 fails 1 disabled 0 open 0
+//! ..
+//! ```
+//!
+//! `make demo` runs it without proof (`rt try`), for a first look; the gate proves it, and compares
+//! what it prints with `stdout`, which `scripts/judge_examples.py` worked out from the definition
+//! by trying all matches. The definitions are those of `cli::judge_one` (`cli/specs`).
+//!
+//! Not promised: that the files are there; an error of a file ends the program with that error.
 #![tactic(auto)]
 
 use axi4_rules::{joined_text, port_rules};

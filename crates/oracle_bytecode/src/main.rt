@@ -1,8 +1,23 @@
-//! Reads the files of `cases.txt`, one a line in hexadecimal digits, and prints of each whether
-//! it is a program, or else the fault. Of a file behind the sign `=` it prints what the program
-//! holds. A program is written again, by itself and by its copy, and the bytes are to be the
-//! same. With a file's name as its word it prints how long reading and writing that file took at
-//! best.
+//! Tells which files are programs, and writes programs again, against answers from outside.
+//!
+//! The file `data/cases.txt` has files, one a line in hexadecimal digits. Of each it prints whether
+//! it is a program, or else the fault; of one behind the sign `=` also what the program holds. A
+//! program is written again, by itself and by its copy, and the bytes are to be the same.
+//!
+//! ```text
+//! 5356414d01000000010001..    program
+//! 5356414d                   B3 Truncated 4
+//! ```
+//!
+//! The gate compares what it prints with `stdout`; `scripts/bytecode_cases.py` made files and
+//! answers, with a reader of its own, and `scripts/random_bytecode.py` compares random mutants in a
+//! `cases.txt` of theirs. With a file's name as its word it prints how long reading and writing
+//! that file took at best (`bench/bytecode`).
+//!
+//! What is answered is said by the contracts of `bytecode::decode` and `encode`; the definitions
+//! stand in `bytecode/specs` (`Spelling.antt`, `Values.antt`).
+//!
+//! Not promised: that a program is accepted, which is `oracle_verifier`'s.
 #![tactic(auto)]
 
 ghost use Rattle.std.specs.Prelude.{◌<◌};

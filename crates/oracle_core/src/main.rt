@@ -1,12 +1,27 @@
-//! Drives cores by lists of steps, allowed or not, and prints their replies and their boards.
+//! Drives cores by lists of steps, allowed or not, and prints their replies and their boards,
+//! against answers from outside.
 //!
 //! Standard input has cases, between which byte 1 stands, each of four parts, between which byte 2
 //! stands: a dump, whose clock is `clk`; files of bytecode in hexadecimal digits, one a line; a
-//! line with the number of workers and the most clocks of a window; and the steps, one a line. Of
-//! each case it prints the replies, a letter for each step, and the board: its batches, or, behind
-//! a thousand steps and more, a sum of their lines. A step for which there was no memory is made
-//! once more. A script (`scripts/core_cases.py`) made the cases, with the answers of a core of its
-//! own.
+//! line with the number of workers and the most clocks of a window; and the steps, one a line:
+//!
+//! ```text
+//! slide
+//! claim 0
+//! advance 0 3
+//! publish 0
+//! gather
+//! ```
+//!
+//! Of each case it prints the replies, a letter for each step, and the board: its batches, or,
+//! behind a thousand steps and more, a sum of their lines. A step for which there was no memory is
+//! made once more, so `make allocations` can refuse each allocation in turn.
+//!
+//! The gate compares that with `stdout`; `scripts/core_cases.py` made the cases, with the answers
+//! of a core of its own. What a step does is said by the contract of `workers::Core::step`; the
+//! definitions stand in `workers/specs` (`States.antt`, `Floors.antt`).
+//!
+//! Not promised: that each list of steps occurs.
 #![tactic(auto)]
 
 mod job;

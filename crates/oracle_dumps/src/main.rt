@@ -1,6 +1,22 @@
-//! Reads dumps that real simulators wrote, and prints what is in them. The file traces.txt has a
-//! line for each dump: its file, its clock's path, and the paths whose values are printed at some
-//! ticks.
+//! Reads dumps that real simulators wrote, and prints what is in them, against counts from
+//! outside.
+//!
+//! The file `data/traces.txt` has a line for each dump: its file, its clock's path, and the paths
+//! whose values are printed at some ticks.
+//!
+//! ```text
+//! fifo_arb_bug1.vcd tb.clk tb.dout tb.t0
+//! ```
+//!
+//! Of each it prints how many paths can be bound, how many steps, changes and ticks there are, or
+//! the fault of the dump or of the clock; then the values of the paths at the first two ticks, the
+//! middle one and the last. The gate compares that with `stdout`, which
+//! `scripts/reference_counts.py` counted with a reader of its own.
+//!
+//! What is read is said by the contracts of `vcd_reader` and `cycle_window`; the definitions stand
+//! in their `specs/`: `Dump.antt` of what a dump says, `Ticks.antt` of its ticks and rows.
+//!
+//! Not promised: that each form of a dump occurs; `dump_trials` and `oracle_reports` have others.
 #![tactic(auto)]
 
 ghost use Rattle.cycle_window.specs.Held.{AreClocksOf};
@@ -16,13 +32,13 @@ use vcd_reader::{Dump, VcdFault, read_dump};
 
 /// A line of traces.txt.
 #[derive(Drop)]
-struct Trace<'a> {
+struct StoredDump<'a> {
     file: &'a str,
     clock: &'a str,
     paths: Vec<&'a str>,
 }
 
-fn trace_of<'a>(alloc: Global, line: &'a str) -> Result<Trace<'a>> {
+fn stored_dump<'a>(alloc: Global, line: &'a str) -> Result<StoredDump<'a>> {
     let mut words = line.split_whitespace();
     let Some(file) = words.next() else {
         bail!("no file");
@@ -34,7 +50,7 @@ fn trace_of<'a>(alloc: Global, line: &'a str) -> Result<Trace<'a>> {
     for path in words {
         paths.push(path)?;
     }
-    Ok(Trace { file, clock, paths })
+    Ok(StoredDump { file, clock, paths })
 }
 
 /// How many changes a dump has.
@@ -73,13 +89,13 @@ fn print_row<R: Print>(rt: &R, file: &str, tick: u64, paths: &[&str], row: &[u12
 /// Prints the values of paths at the first two ticks, the middle one and the last.
 fn print_rows<R: Print + AllocGlobal>(
     rt: &R,
-    trace: &Trace<'_>,
+    stored: &StoredDump<'_>,
     dump: &Dump,
     clocks: &Clocks,
 ) -> Result<()>
     requires { AreClocksOf dump.now clocks.now }
 {
-    let signals = signals_of(rt.alloc(), dump, &trace.paths)?;
+    let signals = signals_of(rt.alloc(), dump, &stored.paths)?;
     let columns = match Columns::bind(rt.alloc(), dump, clocks, &signals) {
         Ok(columns) => columns,
         Err(fault) => bail!("{fault}"),
@@ -99,24 +115,24 @@ fn print_rows<R: Print + AllocGlobal>(
     for tick in [0, 1, ticks / 2, ticks - 1] {
         if tick >= next && tick < end {
             let row = window.row(rt.alloc(), tick)?;
-            print_row(rt, trace.file, tick, &trace.paths, row.as_slice())?;
+            print_row(rt, stored.file, tick, &stored.paths, row.as_slice())?;
             next = tick + 1;
         }
     }
     Ok(())
 }
 
-fn print_dump<R: Print + AllocGlobal>(rt: &R, trace: &Trace<'_>, dump: &Dump) -> Result<()> {
-    let file = trace.file;
+fn print_dump<R: Print + AllocGlobal>(rt: &R, stored: &StoredDump<'_>, dump: &Dump) -> Result<()> {
+    let file = stored.file;
     let names = dump.names(rt.alloc())?;
     let names = names.len();
     let steps = dump.steps().len();
     let changes = changes_of(dump);
-    match Clocks::of(rt.alloc(), dump, trace.clock) {
+    match Clocks::of(rt.alloc(), dump, stored.clock) {
         Ok(clocks) => {
             let ticks = clocks.len();
             println!(rt; "{file} names {names} steps {steps} changes {changes} ticks {ticks}")?;
-            print_rows(rt, trace, dump, &clocks)
+            print_rows(rt, stored, dump, &clocks)
         }
         Err(fault) => {
             println!(rt; "{file} names {names} steps {steps} changes {changes} {fault}")?;
@@ -125,11 +141,11 @@ fn print_dump<R: Print + AllocGlobal>(rt: &R, trace: &Trace<'_>, dump: &Dump) ->
     }
 }
 
-fn print_trace<R: Files + Print + AllocGlobal>(rt: &R, trace: &Trace<'_>) -> Result<()> {
-    let file = trace.file;
+fn print_stored<R: Files + Print + AllocGlobal>(rt: &R, stored: &StoredDump<'_>) -> Result<()> {
+    let file = stored.file;
     let mut source = Counted::new(File::open(rt, file)?);
     match read_dump(rt.alloc(), &mut source) {
-        Ok(dump) => print_dump(rt, trace, &dump),
+        Ok(dump) => print_dump(rt, stored, &dump),
         Err(fault) => {
             println!(rt; "{file} {fault}")?;
             Ok(())
@@ -140,8 +156,8 @@ fn print_trace<R: Files + Print + AllocGlobal>(rt: &R, trace: &Trace<'_>) -> Res
 fn main(rt: HostRuntime) -> Result<()> {
     let text = fs::read_to_string(&rt, "traces.txt")?;
     for line in text.lines() {
-        let trace = trace_of(rt.alloc(), line)?;
-        print_trace(&rt, &trace)?;
+        let stored = stored_dump(rt.alloc(), line)?;
+        print_stored(&rt, &stored)?;
     }
     Ok(())
 }

@@ -1,13 +1,28 @@
-//! Runs programs over rows, and prints what each clock came to.
+//! Runs programs over rows, and prints what each clock came to, against answers from outside.
 //!
 //! Standard input has cases: a line `case NAME`, a line `program HEX` of a file of bytecode, and
-//! for each clock a line `row V V ..` of the signals' values. Of each case it prints `case NAME`,
-//! for each clock a line `ticks T (START VERDICT CLOCK) ..`, and a line `open START ..` of the
-//! attempts that are live behind the last clock. A script (`scripts/machine_cases.py`) made the
-//! cases, with the answers of a machine of its own.
+//! for each clock a line `row V V ..` of the signals' values.
+//!
+//! ```text
+//! case two_positions
+//! ticks 10
+//! ticks 19 (0 Holds 1)
+//! ..
+//! ```
+//!
+//! Of each case it prints its line, for each clock a line `ticks T (START VERDICT CLOCK) ..`, and a
+//! line `open START ..` of the attempts that are live behind the last clock. The gate compares that
+//! with `stdout`; `scripts/machine_cases.py` made the cases, with the answers of a machine of its
+//! own (`scripts/machine_model.py`).
 //!
 //! With a file of hexadecimal digits and a number of clocks as its words it runs the program of
-//! that file over so many clocks of a made-up trace, and prints how long they took.
+//! that file over so many clocks of a made-up trace, and prints how long they took, for
+//! `bench/machine`.
+//!
+//! What a clock comes to is said by the contract of `machine::Machine::clock`; the definitions
+//! stand in `checked_machine/specs` (`Machine.antt`).
+//!
+//! Not promised: a speed, nor that each program occurs.
 #![tactic(auto)]
 
 mod cases;

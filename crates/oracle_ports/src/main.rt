@@ -1,7 +1,25 @@
-//! Prints, of each port of `ports.txt`, how many assertions and tokens its rules have, and a sum of
-//! the tokens; and of each small port file of `faults.txt`, between which byte 1 stands, how many
-//! ports it has, or its fault. With a file's name as its word it prints the rules of that port
-//! file.
+//! Tells what rules AXI4 ports have, and which port files are refused, against answers from
+//! outside.
+//!
+//! Of each port of `data/ports.txt` it prints how many assertions and tokens its rules have, and a
+//! sum of the tokens; and of each small port file of `data/faults.txt`, between which byte 1
+//! stands, how many ports it has, or its fault.
+//!
+//! ```text
+//! port p0 clock=t.clk ..    p0 assertions 56 tokens 1742 sum 33ac26ef20cce6a4
+//! part q                    X4 BadLine 1
+//! ```
+//!
+//! The gate compares that with `stdout`; `scripts/axi4_rules.py` made ports and answers, with a
+//! reader and a table of its own. With a file's name as its word it prints the rules of the ports
+//! of that file, for the scripts that judge them.
+//!
+//! What is answered is said by the contracts of `axi4_rules::read_ports` and `rules`; the
+//! definitions stand in `axi4_rules/specs`. The table is the project's own choice, written after
+//! Arm IHI 0022; `docs/AXI4.md` has it in words.
+//!
+//! Not promised: that the rules are all of AXI4, nor what they mean on a trace: see
+//! `scripts/axi4_judge.py`.
 #![tactic(auto)]
 
 mod count;

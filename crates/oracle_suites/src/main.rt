@@ -1,7 +1,24 @@
-//! Checks the texts of `suites.txt`, one a line, over a few signals, and prints of each how many
-//! assertions its suite has, or else its first fault. Then it prints the verdicts on the assertions
-//! of `verdicts.txt`. With two files' names as its words it checks the second file as one text over
-//! the paths of the first, a path and a width a line, and prints how long that took.
+//! Tells which texts say a suite, and what their assertions come to, against answers from outside.
+//!
+//! Of each text of `data/suites.txt`, one a line, over the signals of `data/names.txt`, it prints
+//! how many assertions its suite has, or else its first fault. Then it prints the verdicts, each
+//! with its clock, on the assertions of `data/verdicts.txt` over the rows that stand there.
+//!
+//! ```text
+//! r: assert property (@(posedge top.clk) top.a |-> top.b);    assertions 1
+//! sequence s; top.y endsequence r: assert ..                  Y1 UnknownName 12
+//! ```
+//!
+//! The gate compares that with `stdout`: `scripts/texts_with_faults.py` made texts with their
+//! faults, and the verdicts were worked out by hand from IEEE 1800-2017, 16.9 to 16.12. With two
+//! files' names as its words it checks the second file as one text over the paths of the first, a
+//! path and a width a line, and prints how long that took (`bench/suites`).
+//!
+//! What is answered is said by the contracts of `types::check` and `judging::judge`; the
+//! definitions stand in `types/specs` (`Faults.antt`), `types_suites/specs` (`Suites.antt`) and
+//! `assertions/specs` (`Verdicts.antt`).
+//!
+//! Not promised: which of several faults of one kind is told but the one at the lowest byte.
 #![tactic(auto)]
 
 mod verdicts;

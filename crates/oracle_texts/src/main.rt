@@ -1,9 +1,25 @@
-//! Reads the texts of `texts.txt`, one a line, and prints of each whether it is a file, or else its
-//! fault. Then it reads what is asserted on each line of `roots.txt`, and prints the sign or word
-//! at the root of the tree and how many parts it has, worked out by hand from the standard's table
-//! of precedence (IEEE 1800-2017, table 11-2, and 16.9 for sequences). With a file's name as its
-//! word it reads that file as one text, and prints how long cutting it into tokens and reading them
-//! took.
+//! Tells which texts are files, and what stands at the roots of trees, against answers from
+//! outside.
+//!
+//! Of each text of `data/texts.txt`, one a line, it prints whether it is a file, or else its fault.
+//! Of what is asserted on each line of `data/roots.txt` it prints the sign or word at the root of
+//! the tree, and how many parts it has.
+//!
+//! ```text
+//! assert property (@(posedge c) a |-> ##[3:1] b);    1 P4 BadBound 41
+//! a || b && c                                        root || 2
+//! ```
+//!
+//! The gate compares that with `stdout`. `scripts/reference_parser.py`, an Earley recogniser over
+//! the grammar as `docs/DEFINITIONS.md` has it, worked out which texts are files and where others
+//! go wrong; the roots were worked out by hand from the standard's table of precedence (IEEE
+//! 1800-2017, table 11-2, and 16.9 for sequences). With a file's name as its word it reads that
+//! file as one text, and prints how long cutting it into tokens and reading them took.
+//!
+//! What is answered is said by the contracts of `lexer::lex` and `parser::parse`; the definitions
+//! stand in `lexer/specs` and in `grammar/specs`.
+//!
+//! Not promised by any contract, and so shown here: which fault of P a text has, and where.
 #![tactic(auto)]
 
 mod roots;

@@ -1,5 +1,23 @@
-//! Reads expressions and prints their values: for each line `value`, the own width and the value at
-//! each tick.
+//! Prints the values of expressions and counters, against values from outside.
+//!
+//! The file `data/expressions.txt` has traces, each behind a line `trace`: lines `row` with the
+//! values of the signals at a tick, lines `counter` with the width and the clauses of a counter,
+//! and lines `value` with the context's width (0: the own one) and an expression, operands before
+//! their operator.
+//!
+//! ```text
+//! row 255 1
+//! counter 8 signal:1:1 signal:0:8 load
+//! value 0 signal:0:8 8'1 +
+//! ```
+//!
+//! Of each line `value` it prints the own width and the value at each tick. The gate compares that
+//! with `stdout`; `scripts/reference_values.py` made traces and values, by an evaluator of its own.
+//!
+//! What is printed is said by the contracts of `expressions::value` and `count`; the definitions
+//! stand in `expressions/specs` (`Terms.antt`, `Counters.antt`).
+//!
+//! Not promised: that each pair of operators occurs.
 #![tactic(auto)]
 
 mod words;

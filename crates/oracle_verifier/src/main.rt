@@ -1,7 +1,22 @@
-//! Reads the files of `cases.txt`, one a line in hexadecimal digits, and prints of each the least
-//! limits and the lives of a program that is accepted, or else the fault. An accepted program and
-//! its copy are to say the same as the file, and `least_limits` the same of it before it is
-//! verified. With a file's name as its word it prints how long verifying that file took at best.
+//! Tells which programs are accepted, and by which limits, against answers from outside.
+//!
+//! Of each file of `data/cases.txt`, one a line in hexadecimal digits, it prints the least limits
+//! and the lives of a program that is accepted, or else the fault. An accepted program and its copy
+//! are to say the same as the file, and `least_limits` the same of it before it is verified.
+//!
+//! ```text
+//! 5356414d01..  accepted history 0 stack 1 attempts 1 obligations 1 budget 14 lives 1 1
+//! 5356414d01..  F11 StackTooShort 1
+//! ```
+//!
+//! The gate compares that with `stdout`; `scripts/verifier_cases.py` and
+//! `scripts/verifier_model.py`, a verifier of their own, made files and answers. With a file's name
+//! as its word it prints how long verifying that file took at best (`bench/verifier`).
+//!
+//! What is answered is said by the contracts of `verifier::verify` and `least_limits`; the
+//! definitions stand in `verifier/specs` and `inference/specs`.
+//!
+//! Not promised: what an accepted program is meant to check.
 #![tactic(auto)]
 
 ghost use Rattle.std.specs.Prelude.{◌<◌};

@@ -1,4 +1,25 @@
 //! The program `svamon`: checks SystemVerilog assertions over recorded waveforms.
+//!
+//! ```text
+//! svamon check --vcd top.vcd --sva rules.sva [--axi ports.txt] [--window 1024]
+//! svamon judge --vcd top.vcd --sva rules.sva [--axi ports.txt]
+//! svamon build --vcd top.vcd --sva rules.sva [--axi ports.txt] --name r --out r.svm
+//! svamon run --vcd top.vcd --code r.svm [--window 1024]
+//! svamon verify r.svm
+//! svamon rules --axi ports.txt
+//! ```
+//!
+//! A report goes to standard output, a fault as one line to standard error. The status is 0 where
+//! no attempt failed, 1 where some did, 2 for input or words that are refused, 3 for want of
+//! memory, and 4 for a file that can't be opened, read or written.
+//!
+//! It opens files and hands over what is in them; what a command answers is said by the contracts
+//! of `cli` (`check_one`, `judge_one`, `build_one`, `verify_code`), of `cli_runs` (`run_code`) and
+//! of `axi4_rules` (`port_rules`, `joined_text`), whose definitions stand in their `specs/`.
+//!
+//! Not promised: what a file holds, that the line of a fault reaches anyone, and that the process
+//! ends with the status: these are tested (`docs/TESTED.md`). `docs/USING.md` goes through the
+//! commands and each fault.
 #![tactic(auto)]
 
 mod assertions_text;
