@@ -96,6 +96,7 @@ random: svamon oracle_bytecode oracle_verifier oracle_machine
 	scripts/edge_ports.py crates/svamon/out/svamon
 	scripts/least_axi4.py crates/svamon/out/svamon
 	scripts/same_reports.py crates/svamon/out/svamon
+	scripts/long_chains.py crates/svamon/out/svamon
 	scripts/random_axi4.py crates/svamon/out/svamon 100 $(SEED)
 
 .PHONY: help demo try test test-all edits install svamon oracle_bytecode oracle_verifier oracle_machine oracle_core bench allocations random

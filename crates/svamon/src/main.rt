@@ -27,7 +27,19 @@ mod files;
 mod serve;
 
 use std::process::ExitCode;
+use std::thread::Builder;
 
+/// Sizes of a stack in bytes, which are tried in this order. A chain of sequences is resolved part
+/// inside part, which takes some 900 bytes of stack for each part; what isn't used takes no memory.
+const STACKS: [usize; 4] = [1 << 32, 1 << 30, 1 << 28, 1 << 26];
+
+/// Answers the words on the largest stack that the system gives, or else on the process's own.
 fn main(rt: HostRuntime) -> ExitCode {
+    for size in STACKS {
+        let worker = Builder::new().stack_size(size);
+        if let Ok(thread) = worker.spawn(&rt, move || serve::answer(&rt)) {
+            return ExitCode::from(thread.join(&rt));
+        }
+    }
     ExitCode::from(serve::answer(&rt))
 }
