@@ -1,3 +1,4 @@
+#!/usr/bin/env python3
 """Stamps that say that a crate's must-fail edits were tried (crates/NAME/must-fail/TRIED.md).
 
 `scripts/stamps.py NAME ..` writes those of crates whose edits a green run of `make test` tried, on this very text, or
