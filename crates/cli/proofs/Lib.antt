@@ -3,6 +3,7 @@ pub mod PushLaws
 pub mod SampledLaws
 pub mod ReportLaws
 pub mod RunLaws
+pub mod PathLaws
 pub mod TextLaws
 pub mod VerifyLaws
 pub mod ProgramLaws

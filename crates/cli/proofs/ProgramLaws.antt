@@ -35,7 +35,7 @@ use Rattle.verdicts.specs.Lines.{LineData, ReportData, report_of}
 use Rattle.suite_facts.specs.Laws.{SuitesFit}
 use Rattle.compiler.specs.Conditions.{IsFit}
 use Rattle.compiled_lines.specs.Lines.{IsWatched, AreVariables, rows_at, IsLineOf}
-use Rattle.types_expressions.specs.Dumps.{width_named}
+use Rattle.cli.specs.Dumps.{width_named}
 use Rattle.cli.specs.Named.{AreNamed}
 use Rattle.cli.specs.Judged.{AreLinesOver}
 use Rattle.cli.specs.Reported.{OverRows, Reports, HasItems, IsTyped}

@@ -38,8 +38,9 @@ use Rattle.parser.specs.Faults as parser_faults
 use Rattle.grammar.specs.Trees.{ItemForm}
 use Rattle.assertions.specs.declared.signal.Signal.{Signal}
 use Rattle.assertions.specs.declared.suite.Suite.{Suite}
-use Rattle.types_expressions.specs.Dumps.{width_named}
-use Rattle.types_expressions.specs.Columns.{columns_of}
+use Rattle.cli.specs.Dumps.{width_named}
+use Rattle.text_names.specs.Columns.{columns_of, is_listed}
+use Rattle.text_names.specs.Asked.{asked}
 use Rattle.types.specs.declared.fault.TypeFault.{TypeFault}
 use Rattle.types.specs.declared.fault.TypeFault.TheVariants as types
 use Rattle.types.specs.Faults as faults
@@ -167,7 +168,8 @@ named_all vs items [] (x ∷ xs) h = elim h [ ]
 named_all vs items (p ∷ ps) [] h = elim h [ ]
 named_all vs items (p ∷ ps) (x ∷ xs) h =
     let at : width_named vs (string_bytes x.path) ≡ Some x.width =
-    ap (width_named vs) h.0.0 ∙ h.0.1 in (
+    ap (width_named vs) h.0.0
+    ∙ text_named (is_listed (asked items) p) (width_named vs p) x.width h.0.1 in (
       text_named (is_utf8 (string_bytes x.path))
           (option_map (size_of vs) (variable_named vs (string_bytes x.path))) x.width at,
       named_all vs items ps xs h.1,

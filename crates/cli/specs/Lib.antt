@@ -1,3 +1,4 @@
+pub mod Dumps
 pub mod Named
 pub mod Judged
 pub mod Reported

@@ -3,8 +3,9 @@ use Rattle.std.specs.Prelude.{◌≡◌, ℕ, List, [], ◌∷◌, Some, string_
 use Rattle.std.specs.Option.{option_map}
 use Rattle.grammar.specs.Trees.{ItemForm}
 use Rattle.assertions.specs.declared.signal.Signal.{Signal}
-use Rattle.types_expressions.specs.Scopes.{Scope, scope_for}
-use Rattle.types_expressions.specs.Dumps.{width_named}
+use Rattle.text_names.specs.Scopes.{Scope}
+use Rattle.text_names.specs.Asked.{scope_for}
+use Rattle.cli.specs.Dumps.{width_named}
 use Rattle.vcd_reader.specs.Variables.{Declared, variable_named, size_of}
 use Rattle.cycle_window.specs.Bound.{Wanted}
 

@@ -25,6 +25,7 @@ mod build;
 mod check;
 mod checked;
 mod code_lines;
+mod dump_widths;
 mod fault;
 mod lines;
 mod programs;

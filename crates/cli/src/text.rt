@@ -7,12 +7,13 @@ ghost use Rattle.vcd_reader.specs.Held.{HoldsContents};
 ghost use Rattle.cli.specs.Reported.{HasItems, IsTyped};
 ghost use Rattle.cli.specs.Outcomes.{WhyNoItems, WhyNotTyped};
 
+use crate::dump_widths::DumpWidths;
 use crate::fault::Fault;
 use assertions::Suite;
 use lexer::lex;
 use parser::{File, parse};
 use std::alloc::Global;
-use types::{Paths, TypeFault, check};
+use types::{TypeFault, check};
 use vcd_reader::Dump;
 
 /// The items of a text.
@@ -31,5 +32,5 @@ pub(crate) fn suite_of(alloc: Global, dump: &Dump, file: &File) -> Result<Suite,
     ensures err { (c : Contents) → HoldsContents dump.now c
         → IfErr result (WhyNotTyped c (items_of file.now)) }
 {
-    check(alloc, file, Paths::Dump(dump))
+    check(alloc, file, &DumpWidths { dump })
 }

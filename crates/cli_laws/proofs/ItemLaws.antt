@@ -21,17 +21,19 @@ use Rattle.grammar.specs.Files.{IsFile}
 use Rattle.grammar.specs.ReadFiles.{items}
 use Rattle.grammar.proofs.FilesComplete.{file-read}
 use Rattle.assertions.specs.declared.suite.Suite.{Suite}
-use Rattle.types_expressions.specs.declared.own.Own.{Own}
-use Rattle.types_expressions.specs.Scopes.{Scope, look_up}
+use Rattle.text_names.specs.declared.own.Own.{Own}
+use Rattle.text_names.specs.Scopes.{Scope, look_up, owns}
+use Rattle.text_names.specs.Columns.{columns_of}
+use Rattle.text_names.specs.Asked.{widths_among, scope_over_any}
 use Rattle.types.specs.declared.fault.TypeFault.{TypeFault}
 use Rattle.types.specs.Faults.{FaultStands}
 use Rattle.types_suites.specs.Suites.{IsSuite}
 use Rattle.types_laws.proofs.MovedTrees.{moved_item}
 use Rattle.types_laws.proofs.MovedFiles.{file-moved}
-use Rattle.types_laws.proofs.MovedSuites.{owns-moved, suite-moved}
+use Rattle.types_laws.proofs.MovedSuites.{owns-moved, columns-moved, suite-moved}
 use Rattle.types_laws.proofs.MovedFaults.{stands-moved}
 use Rattle.vcd_reader.specs.Variables.{Declared}
-use Rattle.types_expressions.specs.Dumps.{width_named}
+use Rattle.cli.specs.Dumps.{width_named}
 use Rattle.cli.specs.Named.{scope_over}
 use Rattle.cli.specs.Reported.{AreTokens, HasItems}
 use Rattle.cli_laws.proofs.TokenLaws.{lies_in, moved_tokens}
@@ -74,8 +76,14 @@ moved_items text xs ys h k =
 module _ (lies : ℕ → ℕ × ℕ) (vs : List Declared) where
   scope-moved : (xs : List ItemForm) → scope_over vs xs ≡ scope_over vs (map (moved_item lies) xs)
   scope-moved xs =
-      ap (λ (os : List (List ℕ × Own)). record { own = look_up os; dump = width_named vs })
-      (sym (owns-moved lies 0 0 xs))
+      ap (λ (os : List (List ℕ × Own)). record {
+        own = look_up os;
+        dump = widths_among (columns_of (record { own = look_up os; dump = λ p. Some 1 }) xs) (width_named vs);
+      }) (sym (owns-moved lies 0 0 xs))
+      ∙ ap (λ (cs : List (List ℕ)). record {
+        own = look_up (owns (map (moved_item lies) xs));
+        dump = widths_among cs (width_named vs);
+      }) (sym (columns-moved lies (scope_over_any (map (moved_item lies) xs)) xs))
 
   suite_over-moved : (xs : List ItemForm) (suite : Suite) → IsSuite (scope_over vs xs) xs suite
       → IsSuite (scope_over vs (map (moved_item lies) xs)) (map (moved_item lies) xs) suite

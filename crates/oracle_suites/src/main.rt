@@ -29,7 +29,7 @@ use parser::{File, parse};
 use std::alloc::{AllocError, Global};
 use std::time::Instant;
 use std::{env, fs};
-use types::{Names, Paths, TypeFault, check};
+use types::{Names, TypeFault, check};
 
 /// Paths with their widths, one a line.
 fn names_of(alloc: Global, lines: &str) -> Result<Names> {
@@ -46,7 +46,7 @@ fn names_of(alloc: Global, lines: &str) -> Result<Names> {
 
 /// How many assertions the suite of a file has, or its first fault.
 fn count_of(alloc: Global, names: &Names, file: &File) -> Result<usize, TypeFault> {
-    match check(alloc, file, Paths::Listed(names)) {
+    match check(alloc, file, names) {
         Ok(suite) => Ok(suite.assertions.len()),
         Err(fault) => Err(fault),
     }

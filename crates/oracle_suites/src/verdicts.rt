@@ -12,7 +12,7 @@ use parser::parse;
 use signals::Verdict;
 use std::alloc::Global;
 use std::io::Print;
-use types::{Names, Paths, check};
+use types::{Names, check};
 
 /// The suite of a text, if it has one.
 fn checked(alloc: Global, names: &Names, text: &str) -> Option<Suite> {
@@ -22,7 +22,7 @@ fn checked(alloc: Global, names: &Names, text: &str) -> Option<Suite> {
     let Ok(file) = parse(alloc, tokens.as_slice()) else {
         return None;
     };
-    check(alloc, &file, Paths::Listed(names)).ok()
+    check(alloc, &file, names).ok()
 }
 
 /// The suite of an assertion over signals of one bit.

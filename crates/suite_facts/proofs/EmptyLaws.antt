@@ -22,7 +22,7 @@ use Rattle.types_sequences.specs.Placed.{atom_true, IsPlaced}
 use Rattle.types_sequences.proofs.AlikeLaws.{alike_one, alike_one_of, alike_after, alike_later}
 use Rattle.types_sequences.proofs.AlikeLaws.{alike_times, alike_either, alike_both, alike_during}
 use Rattle.types_sequences.proofs.MapLaws.{spells_map}
-use Rattle.types_expressions.specs.Scopes.{Scope}
+use Rattle.text_names.specs.Scopes.{Scope}
 use Rattle.types_suites.specs.Texts.{declarations_of, assertions_of}
 use Rattle.types_suites.specs.Readings.{Dot, dot, AllRead}
 use Rattle.types_suites.specs.Suites.{ReadsConsequent, IsMeant}

@@ -24,10 +24,11 @@ use Rattle.expression_code.specs.Samples.{clear_terms, rule_terms}
 use Rattle.expression_code.proofs.NarrowLaws.{expression-narrow}
 use Rattle.types_sequences.specs.Drafts.{Draft, IsIn}
 use Rattle.types_sequences.proofs.UsedLaws.{each_used}
-use Rattle.types_expressions.specs.declared.own.Own.TheVariants as own
-use Rattle.types_expressions.specs.Scopes.{Scope, scope_for}
-use Rattle.types_expressions.specs.Columns.{is_listed, with_path, with_paths, columns_of}
-use Rattle.types_expressions.specs.Columns.{file_signals}
+use Rattle.text_names.specs.declared.own.Own.TheVariants as own
+use Rattle.text_names.specs.Scopes.{Scope}
+use Rattle.text_names.specs.Asked.{scope_for}
+use Rattle.text_names.specs.Columns.{is_listed, with_path, with_paths, columns_of}
+use Rattle.text_names.specs.Columns.{file_signals}
 use Rattle.types_expressions.specs.Meanings.{Means}
 use Rattle.types_suites.specs.Texts.{declarations_of, counters_of, assertions_of, clock_of}
 use Rattle.types_suites.specs.Texts.{label_text}

@@ -20,7 +20,7 @@ use Rattle.grammar.specs.declared.operator.Implication.TheVariants.{Overlapped}
 use Rattle.grammar.specs.declared.operator.Implication.TheVariants.{NonOverlapped}
 use Rattle.types_sequences.specs.Drafts as drafts
 use Rattle.types_sequences.specs.Drafts.{Draft, both_there, spelling_of, named_within, Spells}
-use Rattle.types_expressions.specs.Scopes.{Scope, sequence_named}
+use Rattle.text_names.specs.Scopes.{Scope, sequence_named}
 use Rattle.types_suites.specs.Texts.{declarations_of}
 use Rattle.types_suites.specs.Readings.{least_of, extra_of, IsAtom, ReadsBoolean, Reads, ReadsSteps}
 use Rattle.types_suites.specs.Readings.{joined_by, ReadsOthers, AllRead}

@@ -18,19 +18,19 @@ use Rattle.expressions.specs.Terms as terms
 use Rattle.expressions.specs.Terms.{Term}
 use Rattle.assertions.specs.declared.signal.Signal.{Signal}
 use Rattle.assertions.specs.declared.suite.Suite.{Suite}
-use Rattle.types_expressions.specs.declared.own.Own.{Own}
-use Rattle.types_expressions.specs.declared.own.Own.TheVariants as own
-use Rattle.types_expressions.specs.declared.operator.Binary.{Binary}
-use Rattle.types_expressions.specs.declared.operator.Binary.TheVariants.{Arithmetic, Shift}
-use Rattle.types_expressions.specs.declared.operator.Binary.TheVariants.{Comparison, Connective}
-use Rattle.types_expressions.specs.declared.operator.Unary.{Unary}
-use Rattle.types_expressions.specs.declared.operator.Unary.TheVariants as unaries
-use Rattle.types_expressions.specs.declared.operator.Call.{Call}
-use Rattle.types_expressions.specs.declared.operator.Call.TheVariants as calls
-use Rattle.types_expressions.specs.Scopes.{Scope, path_text, meaning, meaning_by, look_up}
-use Rattle.types_expressions.specs.Scopes.{owns_from, width_in}
-use Rattle.types_expressions.specs.Columns.{column_of}
-use Rattle.types_expressions.specs.Widths.{binary_of, unary_of, call_of, ticks_of}
+use Rattle.text_names.specs.declared.own.Own.{Own}
+use Rattle.text_names.specs.declared.own.Own.TheVariants as own
+use Rattle.text_names.specs.declared.operator.Binary.{Binary}
+use Rattle.text_names.specs.declared.operator.Binary.TheVariants.{Arithmetic, Shift}
+use Rattle.text_names.specs.declared.operator.Binary.TheVariants.{Comparison, Connective}
+use Rattle.text_names.specs.declared.operator.Unary.{Unary}
+use Rattle.text_names.specs.declared.operator.Unary.TheVariants as unaries
+use Rattle.text_names.specs.declared.operator.Call.{Call}
+use Rattle.text_names.specs.declared.operator.Call.TheVariants as calls
+use Rattle.text_names.specs.Scopes.{Scope, path_text, meaning, meaning_by, look_up}
+use Rattle.text_names.specs.Scopes.{owns_from, width_in}
+use Rattle.text_names.specs.Columns.{column_of}
+use Rattle.text_names.specs.Widths.{binary_of, unary_of, call_of, ticks_of}
 use Rattle.types_expressions.specs.Meanings.{binary_term, unary_term, call_term, IsName, IsNameOf}
 use Rattle.types_expressions.specs.Meanings.{IsRead, Means, Chains, Joins, JoinsMore}
 use Rattle.types_suites.specs.Texts.{counters_of}

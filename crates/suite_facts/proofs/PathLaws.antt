@@ -31,14 +31,14 @@ use Rattle.grammar.specs.Files.{IsDisable, no_disable, disable, IsLabel, no_labe
 use Rattle.grammar.specs.Files.{SpellsAssertion, is_assertion, SpellsItem, a_counter, a_declaration}
 use Rattle.grammar.specs.Files.{an_assertion, AreItems, no_item, one_item, IsFile}
 use Rattle.bytecode.specs.Texts as texts
-use Rattle.types_expressions.specs.declared.own.Meaning.{Meaning}
-use Rattle.types_expressions.specs.declared.own.Meaning.TheVariants.{Signal, Own as Declared}
-use Rattle.types_expressions.specs.Scopes.{Scope, path_text, meaning}
-use Rattle.types_expressions.specs.Columns.{path_signals, signals, link_signals, part_signals}
-use Rattle.types_expressions.specs.Columns.{sequence_signals, step_signals, other_signals}
-use Rattle.types_expressions.specs.Columns.{property_signals, optional_signals, clause_signals}
-use Rattle.types_expressions.specs.Columns.{counter_signals, assertion_signals}
-use Rattle.types_expressions.specs.Columns.{file_signals}
+use Rattle.text_names.specs.declared.own.Meaning.{Meaning}
+use Rattle.text_names.specs.declared.own.Meaning.TheVariants.{Signal, Own as Declared}
+use Rattle.text_names.specs.Scopes.{Scope, path_text, meaning}
+use Rattle.text_names.specs.Columns.{path_signals, signals, link_signals, part_signals}
+use Rattle.text_names.specs.Columns.{sequence_signals, step_signals, other_signals}
+use Rattle.text_names.specs.Columns.{property_signals, optional_signals, clause_signals}
+use Rattle.text_names.specs.Columns.{counter_signals, assertion_signals}
+use Rattle.text_names.specs.Columns.{file_signals}
 use Rattle.types_suites.specs.Texts.{assertions_of}
 use Rattle.suite_facts.proofs.WordLaws.{AreWorded, AreWords, name_word, words_path}
 

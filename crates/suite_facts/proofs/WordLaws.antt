@@ -27,7 +27,7 @@ use Rattle.grammar.specs.declared.terminal.Terminal.{Terminal}
 use Rattle.grammar.specs.declared.terminal.Terminal.TheVariants as terminals
 use Rattle.grammar.specs.Terminals.{kind_terminal, symbol_terminal, system_terminal, names, is_name}
 use Rattle.grammar.specs.Terminals.{is_word_kind, is_word}
-use Rattle.types_expressions.specs.Scopes.{path_text}
+use Rattle.text_names.specs.Scopes.{path_text}
 use Rattle.bytecode.specs.Texts as texts
 use Rattle.bytecode.specs.Texts.{is_first, is_later, goes_on, begins}
 

@@ -6,7 +6,7 @@ use Rattle.lexer.specs.Cutting.{cut_of, tokens_of}
 use Rattle.grammar.specs.Trees.{ItemForm}
 use Rattle.grammar.specs.Files.{IsFile}
 use Rattle.assertions.specs.declared.suite.Suite.{Suite}
-use Rattle.types_expressions.specs.Scopes.{scope_for}
+use Rattle.text_names.specs.Asked.{scope_for}
 use Rattle.types_suites.specs.Suites.{IsSuite}
 use Rattle.types.specs.Faults.{IsFaultless}
 use Rattle.compiler.specs.Conditions.{IsFit}

@@ -23,14 +23,14 @@ use Rattle.expressions.specs.declared.operator.Reduction.{Reduction}
 use Rattle.expressions.specs.declared.operator.Reduction.TheVariants as reductions
 use Rattle.expressions.specs.Terms as terms
 use Rattle.expressions.specs.Terms.{Term}
-use Rattle.types_expressions.specs.declared.own.Meaning.{Meaning}
-use Rattle.types_expressions.specs.declared.operator.Binary.{Binary}
-use Rattle.types_expressions.specs.declared.operator.Binary.TheVariants.{Arithmetic, Shift, Comparison, Connective}
-use Rattle.types_expressions.specs.declared.operator.Unary.{Unary}
-use Rattle.types_expressions.specs.declared.operator.Unary.TheVariants as unaries
-use Rattle.types_expressions.specs.Scopes.{Scope, meaning, path_text}
-use Rattle.types_expressions.specs.Columns.{column_of}
-use Rattle.types_expressions.specs.Widths.{binary_of, unary_of, call_of, ticks_of}
+use Rattle.text_names.specs.declared.own.Meaning.{Meaning}
+use Rattle.text_names.specs.declared.operator.Binary.{Binary}
+use Rattle.text_names.specs.declared.operator.Binary.TheVariants.{Arithmetic, Shift, Comparison, Connective}
+use Rattle.text_names.specs.declared.operator.Unary.{Unary}
+use Rattle.text_names.specs.declared.operator.Unary.TheVariants as unaries
+use Rattle.text_names.specs.Scopes.{Scope, meaning, path_text}
+use Rattle.text_names.specs.Columns.{column_of}
+use Rattle.text_names.specs.Widths.{binary_of, unary_of, call_of, ticks_of}
 use Rattle.types_expressions.specs.Meanings.{binary_term, unary_term, call_term, IsRead, Means, Chains, Joins}
 use Rattle.types_expressions.specs.Meanings.{JoinsMore}
 use Rattle.expression_code.specs.Laws.{Each}

@@ -3,9 +3,9 @@ use Rattle.std.proofs.Common.{◌≡◌, ℕ, refl}
 use Rattle.grammar.specs.declared.operator.Infix.{Infix}
 use Rattle.grammar.specs.declared.operator.Infix.TheVariants as infixes
 use Rattle.grammar.specs.Operators.{infix_level}
-use Rattle.types_expressions.specs.declared.operator.Binary.{Binary}
-use Rattle.types_expressions.specs.declared.operator.Binary.TheVariants.{Arithmetic, Shift, Comparison, Connective}
-use Rattle.types_expressions.specs.Widths.{binary_of}
+use Rattle.text_names.specs.declared.operator.Binary.{Binary}
+use Rattle.text_names.specs.declared.operator.Binary.TheVariants.{Arithmetic, Shift, Comparison, Connective}
+use Rattle.text_names.specs.Widths.{binary_of}
 use Rattle.expression_code.specs.Depths.{arithmetic_level, comparison_level, connective_level}
 
 abbrev pub binary_level : Binary → ℕ

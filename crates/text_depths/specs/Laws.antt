@@ -4,7 +4,7 @@ use Rattle.lexer.specs.declared.token.Token.{Token}
 use Rattle.grammar.specs.Trees.{Tree, ItemForm}
 use Rattle.grammar.specs.Files.{IsFile, most_open}
 use Rattle.expressions.specs.Terms.{Term}
-use Rattle.types_expressions.specs.Scopes.{Scope}
+use Rattle.text_names.specs.Scopes.{Scope}
 use Rattle.types_expressions.specs.Meanings.{Means}
 use Rattle.expression_code.specs.Laws.{Each}
 use Rattle.expression_code.specs.Depths.{depth, IsShortPast}

@@ -1,7 +1,7 @@
 //! The trees of a text in memory: of expressions, sequences, properties, items and files.
 //!
-//! `parser` makes them, and `types_expressions` and what stands above it look at them; both stand
-//! on this crate and not on one another, so that they are proved side by side. Brackets are not
+//! `parser` makes them, and `text_names` and what stands above it look at them; both stand on
+//! this crate and not on one another, so that they are proved side by side. Brackets are not
 //! kept, and what groups to the left on one level is one node. Tokens, and with them the bytes
 //! where a part of the text begins, stand where faults are told by them.
 //!

@@ -7,13 +7,13 @@
 //! ```text
 //! let tokens = lex(rt.alloc(), "counter n [2]; assert property (@(posedge c) n[2]);")?;
 //! let file = parse(rt.alloc(), tokens.as_slice())?;
-//! let scope = Scope::of(rt.alloc(), Paths::Listed(&names), &file.items)?;
+//! let scope = scope_for(rt.alloc(), &names, &file.items)?;
 //! let fault = first_fault(rt.alloc(), &scope, Sought::OutOfRange, &file.items)?;
 //! ```
 //!
 //! `rt test` in this crate proves the tests and runs them. The definitions that the contracts cite
 //! stand in the crates that are tested: of trees in `grammar`, of names and widths in
-//! `types_expressions`, of suites in `types_suites`, each in its `specs/`.
+//! `text_names`, of suites in `types_suites`, each in its `specs/`.
 //!
 //! Not promised: that each fault of a text occurs here; this crate has no public functions.
 #![tactic(auto)]

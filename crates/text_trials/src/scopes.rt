@@ -5,9 +5,10 @@ use lexer::lex;
 use parser::{ExprTree, File, ItemTree, PropertyTree, SequenceTree, parse};
 use std::alloc::{AllocError, Global};
 use std::test::Fail;
-use types_expressions::{
-    Names, Paths, Scope, SignalPaths, Sought, columns_of, first_fault, meaning_law,
-};
+use text_names::{Names, PathWidths, Scope, SignalPaths, Sought};
+use text_signals::{columns_of, scope_for};
+use types_expressions::meaning_law;
+use types_faults::first_fault;
 
 /// The paths of a dump.
 fn dump(alloc: Global) -> Result<Names, AllocError> {
@@ -35,7 +36,7 @@ fn faults_of(
 /// The faults of a file.
 fn faults_of_file(alloc: Global, file: &File) -> Result<[Option<usize>; 3], AllocError> {
     let names = dump(alloc)?;
-    let scope = Scope::of(alloc, Paths::Listed(&names), &file.items)?;
+    let scope = scope_for(alloc, &names, &file.items)?;
     faults_of(alloc, &scope, &file.items)
 }
 
@@ -89,7 +90,7 @@ fn first_boolean<'t, 'a>(file: &'t File<'a>) -> Option<&'t ExprTree<'a>> {
 /// Whether the boolean that is asserted last names the sequence of this place.
 fn names_sequence(alloc: Global, file: &File, place: Option<usize>) -> Result<bool, AllocError> {
     let names = dump(alloc)?;
-    let scope = Scope::of(alloc, Paths::Listed(&names), &file.items)?;
+    let scope = scope_for(alloc, &names, &file.items)?;
     Ok(match first_boolean(file) {
         Some(expr) => scope.sequence_named(expr) == place,
         None => false,
@@ -136,7 +137,7 @@ fn are_in_order(found: &SignalPaths) -> bool {
 /// Whether these are the columns of a file.
 fn has_columns(alloc: Global, file: &File) -> Result<bool, AllocError> {
     let names = dump(alloc)?;
-    let scope = Scope::of(alloc, Paths::Listed(&names), &file.items)?;
+    let scope = scope_for(alloc, &names, &file.items)?;
     let found = columns_of(alloc, &scope, &file.items)?;
     Ok(are_in_order(&found))
 }

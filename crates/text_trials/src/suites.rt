@@ -5,7 +5,7 @@ use lexer::lex;
 use parser::{File, parse};
 use std::alloc::{AllocError, Global};
 use std::test::Fail;
-use types::{Names, Paths, check};
+use types::{Names, check};
 
 /// Whether the suite has so many counters, signals and assertions, and this clock.
 fn has_parts(suite: &Suite, counters: usize, signals: usize, assertions: usize) -> bool {
@@ -18,7 +18,7 @@ fn has_parts(suite: &Suite, counters: usize, signals: usize, assertions: usize) 
 /// Whether the suite of a file has two counters, one signal and one assertion.
 fn is_checked(alloc: Global, file: &File) -> Result<bool, AllocError> {
     let names = Names::of(alloc, &[("top.clk", 1), ("top.a", 1), ("top.b", 1)])?;
-    Ok(match check(alloc, file, Paths::Listed(&names)) {
+    Ok(match check(alloc, file, &names) {
         Ok(suite) => has_parts(&suite, 2, 1, 1),
         Err(_) => false,
     })

@@ -14,7 +14,7 @@ use Rattle.types_sequences.specs.Entries.{IsTable, has_entry, is_entry}
 use Rattle.types_sequences.proofs.MapLaws.{cyclic_map, map_cyclic}
 use Rattle.types_sequences.proofs.AcyclicLaws.{named_acyclic}
 use Rattle.types_sequences.proofs.CyclicLaws.{declared_by_reach}
-use Rattle.types_expressions.specs.Scopes.{Scope}
+use Rattle.text_names.specs.Scopes.{Scope}
 use Rattle.types.specs.declared.fault.TypeFault.TheVariants.{CyclicSequence}
 use Rattle.types.specs.declared.fault.TypeFault.{TypeFault}
 use Rattle.types_suites.specs.Readings.{Dot, dot}

@@ -30,8 +30,8 @@ use Rattle.std.specs.Prelude.{bytes_eq, if◌then◌else◌}
 use Rattle.std.specs.List.{list_any}
 use Rattle.std.specs.String.{string_eq}
 use Rattle.indexmap.specs.IndexSet.{insert_key}
-use Rattle.types_expressions.specs.Faults.{earlier, least}
-use Rattle.types_expressions.proofs.FaultLaws.{earlier-assoc}
+use Rattle.text_names.specs.Faults.{earlier, least}
+use Rattle.text_names.proofs.FaultLaws.{earlier-assoc}
 use Rattle.types_suites.specs.Texts.{is_among, repeated_names, assertions_after}
 use Rattle.grammar.specs.Trees.{ItemForm, counter, declaration, assertion}
 

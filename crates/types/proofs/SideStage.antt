@@ -3,8 +3,8 @@ use Rattle.std.proofs.Common.{◌≡◌, ℕ, ◌<◌, ◌≤◌, List, Some, No
 use Rattle.grammar.specs.Trees.{ItemForm}
 use Rattle.assertions.specs.Segments.{IsDegenerate, AdmitsEmpty}
 use Rattle.assertions.specs.Written.{kernel, weight}
-use Rattle.types_expressions.specs.Scopes.{Scope}
-use Rattle.types_expressions.specs.Faults.{least}
+use Rattle.text_names.specs.Scopes.{Scope}
+use Rattle.text_names.specs.Faults.{least}
 use Rattle.types.specs.declared.side.Side.{Side}
 use Rattle.types.specs.declared.fault.TypeFault.{TypeFault}
 use Rattle.types.specs.declared.fault.TypeFault.TheVariants.{UnknownName, Duplicate, WiderThan128, SliceRange}

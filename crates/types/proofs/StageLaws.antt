@@ -6,10 +6,10 @@ use Rattle.std.proofs.lemmas.Option.{none-some}
 use Rattle.std.proofs.lemmas.Bool.{cases_eq, cases_lt}
 use Rattle.grammar.specs.Trees.{ItemForm}
 use Rattle.types_sequences.specs.Drafts.{IsIn}
-use Rattle.types_expressions.specs.declared.own.Sought.{Sought}
-use Rattle.types_expressions.specs.declared.own.Sought.TheVariants.{Unknown, Wide, OutOfRange}
-use Rattle.types_expressions.specs.Scopes.{Scope}
-use Rattle.types_expressions.specs.Faults.{file_faults, earlier, least}
+use Rattle.text_names.specs.declared.own.Sought.{Sought}
+use Rattle.text_names.specs.declared.own.Sought.TheVariants.{Unknown, Wide, OutOfRange}
+use Rattle.text_names.specs.Scopes.{Scope}
+use Rattle.text_names.specs.Faults.{file_faults, earlier, least}
 use Rattle.types.specs.declared.fault.TypeFault.{TypeFault}
 use Rattle.types.specs.declared.fault.TypeFault.TheVariants.{UnknownName, Duplicate, WiderThan128, SliceRange}
 use Rattle.types.specs.declared.fault.TypeFault.TheVariants.{Degenerate, AdmitsEmpty as Empty, OtherClock}

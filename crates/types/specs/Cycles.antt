@@ -7,7 +7,7 @@ use Rattle.types_sequences.specs.Drafts.{Draft, IsCyclic}
 use Rattle.types_sequences.specs.Outlines.{map_draft}
 use Rattle.types_sequences.specs.declared.entry.Entry.{Entry}
 use Rattle.types_sequences.specs.Entries.{has_entry}
-use Rattle.types_expressions.specs.Scopes.{Scope}
+use Rattle.text_names.specs.Scopes.{Scope}
 use Rattle.types_suites.specs.Readings.{dot}
 use Rattle.types_suites.specs.Texts.{declarations_of}
 use Rattle.types_suites.specs.Readings.{outlines_of}

@@ -6,9 +6,9 @@ use Rattle.assertions.specs.Segments.{IsDegenerate, AdmitsEmpty}
 use Rattle.assertions.specs.Written.{Written, kernel, weight}
 use Rattle.types_sequences.specs.Drafts.{Draft, IsIn, Spells, IsCyclic}
 use Rattle.types_sequences.specs.Implications.{rewritten_antecedent}
-use Rattle.types_expressions.specs.declared.own.Sought.TheVariants.{Unknown, Wide, OutOfRange}
-use Rattle.types_expressions.specs.Scopes.{Scope}
-use Rattle.types_expressions.specs.Faults.{file_faults}
+use Rattle.text_names.specs.declared.own.Sought.TheVariants.{Unknown, Wide, OutOfRange}
+use Rattle.text_names.specs.Scopes.{Scope}
+use Rattle.text_names.specs.Faults.{file_faults}
 use Rattle.grammar.specs.declared.operator.Implication.{Implication}
 use Rattle.types.specs.declared.fault.TypeFault.{TypeFault}
 use Rattle.types.specs.declared.fault.TypeFault.TheVariants.{UnknownName, Duplicate, WiderThan128}

@@ -2,13 +2,14 @@
 
 ghost use Rattle.std.specs.Prelude.{◌≡◌, map, IfOk, string_bytes};
 ghost use Rattle.text_trees.specs.Views.{path_of, item_of};
-ghost use Rattle.types_expressions.specs.Faults.{least};
-ghost use Rattle.types_expressions.specs.Scopes.{first_byte};
+ghost use Rattle.text_names.specs.Faults.{least};
+ghost use Rattle.text_names.specs.Scopes.{first_byte};
 ghost use Rattle.types_suites.specs.Texts.{assertions_of, clocks_unlike, clock_of};
 
 use std::alloc::{AllocError, Global};
+use text_names::path_string;
 use text_trees::{ItemTree, Path};
-use types_expressions::{earlier, path_string};
+use types_faults::earlier;
 
 /// The path of the first assertion's clock, and no text where there is no assertion.
 pub(crate) fn first_clock(alloc: Global, items: &[ItemTree]) -> Result<String, AllocError>

@@ -1,15 +1,17 @@
 //! Names, widths and types of a text: the suite that it says, or the first fault in it.
 //!
-//! `check` takes the tree of a text's items and the paths of a dump, of which it asks for one at a
-//! time. A text in which no fault stands has a suite: the path of its clock, the signals that it
-//! reads, its counters, its typed expressions and its assertions, with named sequences written out.
-//! Any other is refused with its first fault, by kind, in the order Y1, Y2, Y3, Y4, Y7, Y8, Y9, Y5,
-//! Y6, then by the byte where it stands.
+//! `check` takes the tree of a text's items and anything that tells the widths of paths
+//! (`PathWidths`), as a dump or a list (`Names`), which it asks for the paths of the text alone. A
+//! text in which no fault stands has a suite: the path of its clock, the signals that it reads, its
+//! counters, its typed expressions and its assertions, with named sequences written out. Any other
+//! is refused with its first fault, by kind, in the order Y1, Y2, Y3, Y4, Y7, Y8, Y9, Y5, Y6, then
+//! by the byte where it stands.
 //!
 //! ```text
 //! let tokens = lex(alloc, text)?;
 //! let file = parse(alloc, tokens.as_slice())?;
-//! let suite = check(alloc, &file, Paths::Dump(&dump))?;    // or TypeFault::UnknownName(31), ..
+//! let names = Names::of(alloc, &[("top.clk", 1), ("top.v", 8)])?;
+//! let suite = check(alloc, &file, &names)?;    // or TypeFault::UnknownName(31), ..
 //! ```
 //!
 //! `TypeFault` says what each kind is, and which byte is told. Want of memory is a fault, too, and
@@ -20,7 +22,7 @@
 //! (`IsFaultless`, `IsTypeFault`); behind it are `specs/Cycles.antt`, of sequences that reach
 //! themselves, and `specs/Sides.antt`, of what is known of antecedents and consequents. The suite
 //! that a text says is that of `types_suites`, in its `specs/Suites.antt` (`IsSuite`); scopes and
-//! the faults of expressions are those of `types_expressions`, and named sequences those of
+//! the faults of expressions are those of `text_names`, and named sequences those of
 //! `types_sequences`. `types_laws` has the law that suites of one text mean the same.
 //!
 //! Not promised: that the clock's path is among the dump's, how the expressions of a suite are laid
@@ -39,4 +41,4 @@ mod suite;
 pub use assertions::{Assertion, Suite};
 pub use fault::TypeFault;
 pub use suite::check;
-pub use types_expressions::{Names, Paths, path_string};
+pub use text_names::{Names, PathWidths, Width, path_string};

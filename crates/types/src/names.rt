@@ -3,13 +3,13 @@
 ghost use Rattle.std.specs.Prelude.{◌≡◌, ◌<◌, ◌++◌, ◌+◌, map, IfOk, OnOk, string_bytes, option_map};
 ghost use Rattle.std.specs.Prelude.{codes};
 ghost use Rattle.text_trees.specs.Views.{assertion_of, item_of};
-ghost use Rattle.types_expressions.specs.Faults.{least};
+ghost use Rattle.text_names.specs.Faults.{least};
 ghost use Rattle.types_suites.specs.Texts.{label_byte, name_made, assertions_after, duplicates};
 
 use indexmap::IndexSet;
 use std::alloc::{AllocError, Global};
 use text_trees::{AssertionTree, ItemTree};
-use types_expressions::earlier;
+use types_faults::earlier;
 use types_suites::label_string;
 
 /// A name with the byte where it stands.

@@ -1,11 +1,11 @@
 //! Sides of assertions, and what is wrong with them.
 
 ghost use Rattle.std.specs.Prelude.{◌≡◌};
-ghost use Rattle.types_expressions.specs.Faults.{least};
+ghost use Rattle.text_names.specs.Faults.{least};
 ghost use Rattle.types.specs.Sides.{places_where, is_wide, is_degenerate, is_empty};
 
 use assertions::HEAVIEST;
-use types_expressions::earlier;
+use types_faults::earlier;
 use types_sequences::Facts;
 
 /// What is known of an antecedent or a consequent, with the byte of its first token but brackets.

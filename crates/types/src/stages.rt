@@ -2,7 +2,7 @@
 
 ghost use Rattle.std.specs.Prelude.{◌≡◌, ◌<◌, ℕ, true, false, map, length, IfOk, IfErr};
 ghost use Rattle.text_trees.specs.Views.{item_of};
-ghost use Rattle.types_expressions.specs.Views.{scope_of};
+ghost use Rattle.text_names.specs.Views.{scope_of};
 ghost use Rattle.types_suites.specs.Texts.{assertions_of, clock_of};
 ghost use Rattle.types_suites.specs.Readings.{Where, outlines_of};
 ghost use Rattle.types.specs.Faults.{Text, sides_of, consequents_of, ClearTo, IsFaultless};
@@ -19,8 +19,9 @@ use crate::fault::TypeFault;
 use crate::names::first_duplicate;
 use crate::side::{Side, first_degenerate, first_empty, first_wide};
 use std::alloc::Global;
+use text_names::{Scope, Sought};
 use text_trees::ItemTree;
-use types_expressions::{Scope, Sought, first_fault};
+use types_faults::first_fault;
 use types_sequences::{Draft, Entry};
 
 /// Looks for unknown names (Y1).

@@ -5,11 +5,12 @@ ghost use Rattle.std.specs.Prelude.{IfErr, OnOk, IsTrue};
 ghost use Rattle.grammar.specs.Trees.{Tree};
 ghost use Rattle.text_trees.specs.Views.{item_of, items_of};
 ghost use Rattle.types_sequences.specs.Entries.{has_entry};
-ghost use Rattle.types_expressions.specs.declared.own.Sought.{Sought};
-ghost use Rattle.types_expressions.specs.Scopes.{sequence_named, scope_for};
-ghost use Rattle.types_expressions.specs.Columns.{all_listed, file_signals};
-ghost use Rattle.types_expressions.specs.Faults.{file_faults};
-ghost use Rattle.types_expressions.specs.Views.{scope_of, columns_in, widths_in};
+ghost use Rattle.text_names.specs.declared.own.Sought.{Sought};
+ghost use Rattle.text_names.specs.Scopes.{sequence_named};
+ghost use Rattle.text_names.specs.Asked.{scope_for};
+ghost use Rattle.text_names.specs.Columns.{all_listed, file_signals};
+ghost use Rattle.text_names.specs.Faults.{file_faults};
+ghost use Rattle.text_names.specs.Views.{scope_of, columns_in};
 ghost use Rattle.types_sequences.specs.Placed.{Extends};
 ghost use Rattle.types_suites.specs.Texts.{declarations_of, assertions_of, clock_of};
 ghost use Rattle.types_suites.specs.Readings.{Where, outlines_of};
@@ -26,8 +27,9 @@ use crate::sides::{all_consequents, all_sides};
 use crate::stages::{check_cycles, check_expressions, check_sides};
 use assertions::Suite;
 use std::alloc::Global;
+use text_names::{PathWidths, Scope, SignalPaths};
+use text_signals::{columns_of, scope_for};
 use text_trees::{File, ItemTree};
-use types_expressions::{Paths, Scope, SignalPaths, columns_of};
 use types_sequences::{Entry, resolve};
 use types_suites::{
     Resolved, all_resolved, assertions_of, bodies_of, counters_of, name_bytes, signals_of,
@@ -124,12 +126,26 @@ fn suite_of(
     })
 }
 
-/// The suite that a text spells over the paths of a dump: its clock, the signals that it reads, its
+/// The suite of items in their scope, or the first fault of the text.
+fn suite_in(alloc: Global, scope: &Scope, items: &[ItemTree]) -> Result<Suite, TypeFault>
+    requires declared { (t : Tree) (p : ℕ) → sequence_named (scope_of scope.now) t ≡ Some p
+        → p < length (declarations_of (map item_of items.now)) }
+    ensures faultless { IfOk result
+        (λ _. IsFaultless (scope_of scope.now) (map item_of items.now)) }
+    ensures suite { IfOk result (IsSuite (scope_of scope.now) (map item_of items.now)) }
+    ensures refused { IfErr result (IsTypeFault (scope_of scope.now) (map item_of items.now)) }
+{
+    let clock = first_clock(alloc, items)?;
+    check_expressions(alloc, scope, items, clock.as_str())?;
+    suite_of(alloc, scope, items, clock)
+}
+
+/// The suite that a text spells over paths with widths: its clock, the signals that it reads, its
 /// counters, its typed expressions and its assertions, with named sequences written out.
 ///
-/// The clock's path is not looked up among the dump's. A text's own names come before the dump's
-/// paths, which are looked up one by one. The cost is about linear in the text, but for names of
-/// sequences that are declared in an adversarial order.
+/// The clock's path is not looked up. A text's own names come before paths, of which only those
+/// that the text reads are asked for, each once. The cost is about linear in the text, but for
+/// names of sequences that are declared in an adversarial order.
 ///
 /// # Errors
 ///
@@ -138,17 +154,15 @@ fn suite_of(
 /// are looked at too, but for Y9, Y5 and Y6, which are of antecedents and consequents.
 ///
 /// IEEE 1800-2017, clauses 11.6 to 11.8, 16.6 to 16.9, 16.12.7, 16.12.22.
-pub fn check(alloc: Global, file: &File, paths: Paths) -> Result<Suite, TypeFault>
+pub fn check<W: PathWidths>(alloc: Global, file: &File, paths: &W) -> Result<Suite, TypeFault>
     ensures faultless { IfOk result (λ _.
-        IsFaultless (scope_for (items_of file.now) (widths_in paths.entry)) (items_of file.now)) }
+        IsFaultless (scope_for (items_of file.now) (W.widths paths.now)) (items_of file.now)) }
     ensures suite { IfOk result
-        (IsSuite (scope_for (items_of file.now) (widths_in paths.entry)) (items_of file.now)) }
+        (IsSuite (scope_for (items_of file.now) (W.widths paths.now)) (items_of file.now)) }
     ensures refused { IfErr result
-        (IsTypeFault (scope_for (items_of file.now) (widths_in paths.entry)) (items_of file.now)) }
+        (IsTypeFault (scope_for (items_of file.now) (W.widths paths.now)) (items_of file.now)) }
 {
     let items = file.items.as_slice();
-    let scope = Scope::of(alloc, paths, items)?;
-    let clock = first_clock(alloc, items)?;
-    check_expressions(alloc, &scope, items, clock.as_str())?;
-    suite_of(alloc, &scope, items, clock)
+    let scope = scope_for(alloc, paths, items)?;
+    suite_in(alloc, &scope, items)
 }

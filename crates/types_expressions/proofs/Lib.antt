@@ -1,12 +1,3 @@
-pub mod PathLaws
-pub mod EntryLaws
-pub mod FaultLaws
-pub mod Lists
-pub mod WidthLaws
-pub mod SeeLaws
-pub mod TreeSteps
-pub mod ColumnLaws
-pub mod SequenceLaws
 pub mod MeaningLaws
 pub mod TypedLaws
 pub mod OneMeaning

@@ -20,22 +20,22 @@ use Rattle.expressions.specs.Terms as terms
 use Rattle.expressions.specs.Terms.{Term, width_of}
 use Rattle.expressions.specs.declared.name.Name.{Name}
 use Rattle.expressions.specs.declared.slice.Slice.{Slice}
-use Rattle.types_expressions.specs.declared.own.Own.TheVariants.{Counter, Sequence}
-use Rattle.types_expressions.specs.declared.own.Meaning.{Meaning}
-use Rattle.types_expressions.specs.declared.own.Meaning.TheVariants.{Signal, Own as Declared}
-use Rattle.types_expressions.specs.declared.own.Sought.{Sought}
-use Rattle.types_expressions.specs.declared.own.Sought.TheVariants.{Unknown, Wide, OutOfRange}
-use Rattle.types_expressions.specs.Scopes.{Scope, path_text, first_byte, meaning, bits_of}
-use Rattle.types_expressions.specs.Widths.{binary_of, unary_of, call_of, literal_width, literal_value, ticks_of}
-use Rattle.types_expressions.specs.Widths.{high_of, low_of, own_width, parts_width}
-use Rattle.types_expressions.specs.Faults.{unless, has_bits, path_faults, wide_faults, faults, link_faults, part_faults}
-use Rattle.types_expressions.specs.Faults.{IsSound}
-use Rattle.types_expressions.specs.Columns.{signals, link_signals, part_signals, path_signals, all_listed, column_of}
-use Rattle.types_expressions.specs.Columns.{HasColumns}
+use Rattle.text_names.specs.declared.own.Own.TheVariants.{Counter, Sequence}
+use Rattle.text_names.specs.declared.own.Meaning.{Meaning}
+use Rattle.text_names.specs.declared.own.Meaning.TheVariants.{Signal, Own as Declared}
+use Rattle.text_names.specs.declared.own.Sought.{Sought}
+use Rattle.text_names.specs.declared.own.Sought.TheVariants.{Unknown, Wide, OutOfRange}
+use Rattle.text_names.specs.Scopes.{Scope, path_text, first_byte, meaning, bits_of}
+use Rattle.text_names.specs.Widths.{binary_of, unary_of, call_of, literal_width, literal_value, ticks_of}
+use Rattle.text_names.specs.Widths.{high_of, low_of, own_width, parts_width}
+use Rattle.text_names.specs.Faults.{unless, has_bits, path_faults, wide_faults, faults, link_faults, part_faults}
+use Rattle.text_names.specs.Faults.{IsSound}
+use Rattle.text_names.specs.Columns.{signals, link_signals, part_signals, path_signals, all_listed, column_of}
+use Rattle.text_names.specs.Columns.{HasColumns}
 use Rattle.types_expressions.specs.Meanings.{binary_term, unary_term, call_term, IsNameOf, IsRead, Means, Chains, Joins}
 use Rattle.types_expressions.specs.Meanings.{JoinsMore}
-use Rattle.types_expressions.proofs.FaultLaws.{no_faults-parts}
-use Rattle.types_expressions.proofs.ColumnLaws.{listed-parts}
+use Rattle.text_names.proofs.FaultLaws.{no_faults-parts}
+use Rattle.text_names.proofs.ColumnLaws.{listed-parts}
 use Rattle.types_expressions.proofs.MeaningLaws.{mean-width}
 
 unless-true : (b : Bool) (at : ℕ) → unless b at ≡ [] → b ≡ true

@@ -2,8 +2,8 @@
 use Rattle.std.specs.Prelude.{◌≡◌, ℕ, List}
 use Rattle.grammar.specs.Trees.{Tree}
 use Rattle.expressions.specs.Terms.{Term, Samples, width_of, value_of}
-use Rattle.types_expressions.specs.Scopes.{Scope}
-use Rattle.types_expressions.specs.Widths.{own_width}
+use Rattle.text_names.specs.Scopes.{Scope}
+use Rattle.text_names.specs.Widths.{own_width}
 use Rattle.types_expressions.specs.Meanings.{Means}
 
 -- What an expression means has the expression's own width.

@@ -1,9 +1,2 @@
-pub mod Scopes
-pub mod Dumps
-pub mod Widths
-pub mod Faults
-pub mod Columns
 pub mod Meanings
-pub mod Entries
 pub mod Laws
-pub mod Views

@@ -11,21 +11,21 @@ use Rattle.expressions.specs.declared.name.Name.{Name}
 use Rattle.expressions.specs.declared.slice.Slice.{Slice}
 use Rattle.expressions.specs.Terms as terms
 use Rattle.expressions.specs.Terms.{Term}
-use Rattle.types_expressions.specs.declared.own.Own.TheVariants.{Counter, Sequence}
-use Rattle.types_expressions.specs.declared.own.Meaning.{Meaning}
-use Rattle.types_expressions.specs.declared.own.Meaning.TheVariants.{Signal, Own as Declared}
-use Rattle.types_expressions.specs.declared.operator.Binary.{Binary}
-use Rattle.types_expressions.specs.declared.operator.Binary.TheVariants.{Arithmetic, Shift}
-use Rattle.types_expressions.specs.declared.operator.Binary.TheVariants.{Comparison, Connective}
-use Rattle.types_expressions.specs.declared.operator.Unary.{Unary}
-use Rattle.types_expressions.specs.declared.operator.Unary.TheVariants as unaries
-use Rattle.types_expressions.specs.declared.operator.Call.{Call}
-use Rattle.types_expressions.specs.declared.operator.Call.TheVariants as calls
-use Rattle.types_expressions.specs.Scopes.{Scope, path_text, meaning}
-use Rattle.types_expressions.specs.Widths.{binary_of, unary_of, call_of, literal_width}
-use Rattle.types_expressions.specs.Widths.{literal_value}
-use Rattle.types_expressions.specs.Widths.{high_of, low_of, ticks_of}
-use Rattle.types_expressions.specs.Columns.{column_of}
+use Rattle.text_names.specs.declared.own.Own.TheVariants.{Counter, Sequence}
+use Rattle.text_names.specs.declared.own.Meaning.{Meaning}
+use Rattle.text_names.specs.declared.own.Meaning.TheVariants.{Signal, Own as Declared}
+use Rattle.text_names.specs.declared.operator.Binary.{Binary}
+use Rattle.text_names.specs.declared.operator.Binary.TheVariants.{Arithmetic, Shift}
+use Rattle.text_names.specs.declared.operator.Binary.TheVariants.{Comparison, Connective}
+use Rattle.text_names.specs.declared.operator.Unary.{Unary}
+use Rattle.text_names.specs.declared.operator.Unary.TheVariants as unaries
+use Rattle.text_names.specs.declared.operator.Call.{Call}
+use Rattle.text_names.specs.declared.operator.Call.TheVariants as calls
+use Rattle.text_names.specs.Scopes.{Scope, path_text, meaning}
+use Rattle.text_names.specs.Widths.{binary_of, unary_of, call_of, literal_width}
+use Rattle.text_names.specs.Widths.{literal_value}
+use Rattle.text_names.specs.Widths.{high_of, low_of, ticks_of}
+use Rattle.text_names.specs.Columns.{column_of}
 
 -- an operator with its operands
 abbrev pub binary_term : Binary → Term → Term → Term

@@ -11,7 +11,7 @@ use Rattle.expressions.specs.declared.counter.Counter.{Counter}
 use Rattle.expressions.specs.Terms.{Term, Samples, width_of, value_of, is_true}
 use Rattle.expressions.specs.Expressions.{term_of}
 use Rattle.expressions.specs.Counters.{holds, rule_value, next_count, next_of, counts_to}
-use Rattle.types_expressions.specs.Scopes.{Scope}
+use Rattle.text_names.specs.Scopes.{Scope}
 use Rattle.types_expressions.specs.Meanings.{Means}
 use Rattle.types_expressions.proofs.OneMeaning.{one-meaning}
 use Rattle.types_suites.specs.Suites.{IsCondition, IsRule, IsCounter, AreCounters}

@@ -11,13 +11,13 @@ use Rattle.grammar.specs.Trees.{CounterForm, DeclarationForm, AssertionForm, Ite
 use Rattle.assertions.specs.Written.{Written}
 use Rattle.types_sequences.specs.Drafts as drafts
 use Rattle.types_sequences.specs.Drafts.{Draft, IsIn, IsCyclic}
-use Rattle.types_expressions.specs.declared.own.Sought.{Sought}
-use Rattle.types_expressions.specs.Scopes.{Scope, path_text, first_byte, bits_of, meaning, sequence_named}
-use Rattle.types_expressions.specs.Widths.{own_width, chain_width, parts_width, path_width_by, unary_width, unary_of}
-use Rattle.types_expressions.specs.Widths.{binary_width, binary_of}
-use Rattle.types_expressions.specs.Faults.{path_faults, wide_faults, faults, link_faults, part_faults, boolean_faults}
-use Rattle.types_expressions.specs.Faults.{sequence_faults, step_faults, other_faults, property_faults, optional_faults}
-use Rattle.types_expressions.specs.Faults.{clause_faults, counter_faults, assertion_faults, item_faults, file_faults}
+use Rattle.text_names.specs.declared.own.Sought.{Sought}
+use Rattle.text_names.specs.Scopes.{Scope, path_text, first_byte, bits_of, meaning, sequence_named}
+use Rattle.text_names.specs.Widths.{own_width, chain_width, parts_width, path_width_by, unary_width, unary_of}
+use Rattle.text_names.specs.Widths.{binary_width, binary_of}
+use Rattle.text_names.specs.Faults.{path_faults, wide_faults, faults, link_faults, part_faults, boolean_faults}
+use Rattle.text_names.specs.Faults.{sequence_faults, step_faults, other_faults, property_faults, optional_faults}
+use Rattle.text_names.specs.Faults.{clause_faults, counter_faults, assertion_faults, item_faults, file_faults}
 use Rattle.types.specs.declared.fault.TypeFault.{TypeFault}
 use Rattle.types.specs.declared.fault.TypeFault.TheVariants.{UnknownName, Duplicate, WiderThan128, SliceRange}
 use Rattle.types.specs.declared.fault.TypeFault.TheVariants.{Degenerate, AdmitsEmpty as Empty, OtherClock}

@@ -12,9 +12,9 @@ use Rattle.expressions.specs.declared.expr.Expr.{Expr}
 use Rattle.expressions.specs.Terms.{Term}
 use Rattle.assertions.specs.declared.sequence.Boolean.{Boolean}
 use Rattle.types_sequences.specs.Drafts.{Draft}
-use Rattle.types_expressions.specs.Scopes.{Scope, path_text, meaning_by, meaning, meaning_place, sequence_named}
-use Rattle.types_expressions.specs.Columns.{path_signals, signals, link_signals, part_signals, sequence_signals}
-use Rattle.types_expressions.specs.Columns.{step_signals, other_signals, column_of}
+use Rattle.text_names.specs.Scopes.{Scope, path_text, meaning_by, meaning, meaning_place, sequence_named}
+use Rattle.text_names.specs.Columns.{path_signals, signals, link_signals, part_signals, sequence_signals}
+use Rattle.text_names.specs.Columns.{step_signals, other_signals, column_of}
 use Rattle.types_expressions.specs.Meanings.{IsRead, Means, Chains, Joins, JoinsMore}
 use Rattle.types_suites.specs.Readings.{IsAtom, ReadsBoolean, Reads, ReadsSteps, ReadsOthers}
 use Rattle.types_laws.proofs.MovedTrees.{moved, moved_tree, moved_links, moved_parts, moved_sequence, moved_steps}

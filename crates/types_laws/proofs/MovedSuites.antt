@@ -14,11 +14,11 @@ use Rattle.assertions.specs.Written.{Written}
 use Rattle.assertions.specs.declared.assertion.Assertion.{Assertion}
 use Rattle.assertions.specs.declared.suite.Suite.{Suite}
 use Rattle.types_sequences.specs.Drafts.{Draft}
-use Rattle.types_expressions.specs.declared.own.Own.{Own}
-use Rattle.types_expressions.specs.declared.own.Own.TheVariants as own
-use Rattle.types_expressions.specs.Scopes.{Scope, width_in, owns_from}
-use Rattle.types_expressions.specs.Columns.{signals, sequence_signals, property_signals, optional_signals}
-use Rattle.types_expressions.specs.Columns.{clause_signals, item_signals, file_signals, with_paths, columns_of}
+use Rattle.text_names.specs.declared.own.Own.{Own}
+use Rattle.text_names.specs.declared.own.Own.TheVariants as own
+use Rattle.text_names.specs.Scopes.{Scope, width_in, owns_from}
+use Rattle.text_names.specs.Columns.{signals, sequence_signals, property_signals, optional_signals}
+use Rattle.text_names.specs.Columns.{clause_signals, item_signals, file_signals, with_paths, columns_of}
 use Rattle.types_suites.specs.Texts.{label_text, declarations_of, counters_of, assertions_of, clock_of}
 use Rattle.types_suites.specs.Readings.{AllRead}
 use Rattle.types_suites.specs.Suites.{AreSignals, IsCondition, IsRule, IsCounter, AreCounters, ReadsAntecedent}
@@ -88,7 +88,7 @@ module _ (lies : ℕ → ℕ × ℕ) where
         both_same (item_signals s (moved_item lies i)) (item_signals s i)
         (file_signals s (map (moved_item lies) items)) (file_signals s items) (item-moved i) (file-moved items)
 
-    columns-moved : (items : List ItemForm) → columns_of s (map (moved_item lies) items) ≡ columns_of s items
+    pub columns-moved : (items : List ItemForm) → columns_of s (map (moved_item lies) items) ≡ columns_of s items
     columns-moved items = ap (with_paths []) (file-moved items)
 
     module _ (cs : List (List ℕ)) where

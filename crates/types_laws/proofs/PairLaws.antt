@@ -14,7 +14,7 @@ use Rattle.types_sequences.specs.Drafts as drafts
 use Rattle.types_sequences.specs.Drafts.{Draft}
 use Rattle.types_sequences.specs.Outlines.{map_draft}
 use Rattle.types_sequences.specs.Placed.{atom_true}
-use Rattle.types_expressions.specs.Scopes.{Scope, sequence_named}
+use Rattle.text_names.specs.Scopes.{Scope, sequence_named}
 use Rattle.types_expressions.specs.Meanings.{Means}
 use Rattle.types_expressions.proofs.OneMeaning.{one-meaning}
 use Rattle.types_suites.specs.Readings.{least_of, extra_of, IsAtom, ReadsBoolean, joined_by, Reads, ReadsSteps}

@@ -18,8 +18,8 @@ use Rattle.assertions.specs.Shapes.{shape, written_form, value_in, off_in}
 use Rattle.types_sequences.specs.Drafts as drafts
 use Rattle.types_sequences.specs.Drafts.{Draft}
 use Rattle.types_sequences.specs.Placed.{atom_true}
-use Rattle.types_expressions.specs.Scopes.{Scope}
-use Rattle.types_expressions.specs.Columns.{columns_of}
+use Rattle.text_names.specs.Scopes.{Scope}
+use Rattle.text_names.specs.Columns.{columns_of}
 use Rattle.types_suites.specs.Texts.{declarations_of, counters_of, assertions_of}
 use Rattle.types_suites.specs.Suites.{AreSignals, before_by, ReadsAntecedent, ReadsConsequent, IsMeant, IsDisabling}
 use Rattle.types_suites.specs.Suites.{IsAssertion, AreAssertions, IsSuite}

@@ -2,7 +2,7 @@
 use Rattle.std.specs.Prelude.{List}
 use Rattle.grammar.specs.Trees.{ItemForm}
 use Rattle.assertions.specs.declared.suite.Suite.{Suite}
-use Rattle.types_expressions.specs.Scopes.{Scope}
+use Rattle.text_names.specs.Scopes.{Scope}
 use Rattle.types_suites.specs.Suites.{IsSuite}
 use Rattle.types_laws.specs.Same.{SaySame}
 

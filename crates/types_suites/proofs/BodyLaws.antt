@@ -7,7 +7,7 @@ use Rattle.assertions.specs.declared.sequence.Boolean.{Boolean}
 use Rattle.types_sequences.specs.declared.draft.Draft.{Draft as Tree}
 use Rattle.types_sequences.specs.Drafts.{Draft}
 use Rattle.types_sequences.specs.Views.{draft_of}
-use Rattle.types_expressions.specs.Scopes.{Scope}
+use Rattle.text_names.specs.Scopes.{Scope}
 use Rattle.types_sequences.specs.Placed.{Extends}
 use Rattle.types_suites.specs.Readings.{Dot, outline, Reads, AllRead}
 use Rattle.types_suites.specs.Texts.{declarations_of}

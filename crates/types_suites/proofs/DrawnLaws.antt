@@ -5,7 +5,7 @@ use Rattle.expressions.specs.declared.expr.Expr.{Expr}
 use Rattle.assertions.specs.declared.sequence.Boolean.{Boolean}
 use Rattle.assertions.specs.declared.sequence.Boolean.TheVariants.{Listed}
 use Rattle.types_sequences.specs.Drafts.{Draft}
-use Rattle.types_expressions.specs.Scopes.{Scope}
+use Rattle.text_names.specs.Scopes.{Scope}
 use Rattle.types_sequences.specs.Placed.{Extends}
 use Rattle.types_suites.specs.Suites.{ReadsAntecedent, ReadsConsequent}
 use Rattle.types_suites.specs.Drawn.{IsDisabledBy, IsDrawn}

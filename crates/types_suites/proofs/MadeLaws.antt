@@ -22,7 +22,7 @@ use Rattle.types_sequences.specs.Entries.{HasEntry, HasSame, SaysSame, IsUsedOrO
 use Rattle.types_sequences.specs.Placed.{IsPlaced, IsPlacedBoolean, atom_true, Extends, AllListed, Adds}
 use Rattle.types_sequences.proofs.UsedLaws.{each_used}
 use Rattle.types_sequences.proofs.PlacedLaws.{listed_on}
-use Rattle.types_expressions.specs.Scopes.{Scope}
+use Rattle.text_names.specs.Scopes.{Scope}
 use Rattle.types_suites.specs.declared.resolved.Resolved.{Resolved}
 use Rattle.types_suites.specs.Suites.{IsMeant, IsDisabling, IsDisablingPlace, IsAssertion, AreAssertions}
 use Rattle.types_suites.specs.Drawn.{IsDisabledBy}

@@ -12,10 +12,11 @@ use Rattle.types_sequences.specs.Drafts as drafts
 use Rattle.types_sequences.specs.Drafts.{Draft, IsIn, uses, uses_at, AllDeclared}
 use Rattle.types_sequences.specs.Outlines.{map_draft}
 use Rattle.types_sequences.proofs.InLaws.{in_either, in_only}
-use Rattle.types_expressions.specs.declared.own.Own.{Own}
-use Rattle.types_expressions.specs.declared.own.Own.TheVariants as own
-use Rattle.types_expressions.specs.Scopes.{Scope, sequence_named, meaning_place, meaning_by, path_text, owns_from, owns}
-use Rattle.types_expressions.specs.Scopes.{look_up, scope_for, width_in}
+use Rattle.text_names.specs.declared.own.Own.{Own}
+use Rattle.text_names.specs.declared.own.Own.TheVariants as own
+use Rattle.text_names.specs.Scopes.{Scope, sequence_named, meaning_place, meaning_by, path_text, owns_from, owns}
+use Rattle.text_names.specs.Scopes.{look_up, width_in}
+use Rattle.text_names.specs.Asked.{scope_for}
 use Rattle.types_sequences.specs.Placed.{Extends}
 use Rattle.types_suites.specs.Texts.{declarations_of}
 use Rattle.types_suites.specs.Readings.{least_of, extra_of, joined_by, Reads, ReadsBoolean, ReadsSteps, ReadsOthers}
@@ -162,7 +163,8 @@ named_below items widths (path (w ∷ []) None) p h =
     omega (
       arith,
       owns_below items (path_text (w ∷ [])) 0 0 p
-          (place_sequence (look_up (owns items) (path_text (w ∷ []))) (widths (path_text (w ∷ []))) p h),
+          (place_sequence (look_up (owns items) (path_text (w ∷ [])))
+          ((scope_for items widths).dump (path_text (w ∷ []))) p h),
     )
 named_below items widths t p h = absurd cc
 

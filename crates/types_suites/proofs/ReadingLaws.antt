@@ -13,14 +13,14 @@ use Rattle.assertions.specs.declared.sequence.Boolean.{Boolean}
 use Rattle.assertions.specs.declared.sequence.Boolean.TheVariants.{Listed}
 use Rattle.types_sequences.specs.Drafts as drafts
 use Rattle.types_sequences.specs.Drafts.{Draft}
-use Rattle.types_expressions.specs.declared.own.Sought.{Sought}
-use Rattle.types_expressions.specs.Scopes.{Scope, sequence_named}
-use Rattle.types_expressions.specs.Faults.{faults, boolean_faults, sequence_faults, step_faults, other_faults}
-use Rattle.types_expressions.specs.Columns.{HasColumns, all_listed, signals, sequence_signals, step_signals}
-use Rattle.types_expressions.specs.Columns.{other_signals}
+use Rattle.text_names.specs.declared.own.Sought.{Sought}
+use Rattle.text_names.specs.Scopes.{Scope, sequence_named}
+use Rattle.text_names.specs.Faults.{faults, boolean_faults, sequence_faults, step_faults, other_faults}
+use Rattle.text_names.specs.Columns.{HasColumns, all_listed, signals, sequence_signals, step_signals}
+use Rattle.text_names.specs.Columns.{other_signals}
 use Rattle.types_expressions.specs.Meanings.{Means}
-use Rattle.types_expressions.proofs.FaultLaws.{no_faults-parts}
-use Rattle.types_expressions.proofs.ColumnLaws.{listed-parts}
+use Rattle.text_names.proofs.FaultLaws.{no_faults-parts}
+use Rattle.text_names.proofs.ColumnLaws.{listed-parts}
 use Rattle.types_expressions.proofs.TypedLaws.{IsReady}
 use Rattle.types_sequences.specs.Placed.{Extends}
 use Rattle.types_suites.specs.Readings.{least_of, extra_of, IsAtom, ReadsBoolean, joined_by, Reads, ReadsSteps}

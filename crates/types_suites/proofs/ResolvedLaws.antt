@@ -8,7 +8,7 @@ use Rattle.grammar.specs.declared.operator.Implication.{Implication}
 use Rattle.grammar.specs.declared.operator.Implication.TheVariants.{Overlapped, NonOverlapped}
 use Rattle.assertions.specs.declared.sequence.Boolean.{Boolean}
 use Rattle.types_sequences.specs.Drafts.{Draft, IsIn, uses}
-use Rattle.types_expressions.specs.Scopes.{Scope, sequence_named}
+use Rattle.text_names.specs.Scopes.{Scope, sequence_named}
 use Rattle.types_suites.specs.declared.resolved.Resolved.{Resolved}
 use Rattle.types_sequences.specs.Placed.{Extends}
 use Rattle.types_suites.specs.Suites.{before_by, ReadsAntecedent, ReadsConsequent}

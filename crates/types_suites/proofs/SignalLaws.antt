@@ -8,12 +8,12 @@ use Rattle.grammar.specs.Trees.{Parts, no_part, part, SequenceForm, boolean, rep
 use Rattle.grammar.specs.Trees.{joined, Steps, no_step, step, Others, no_other, other, PropertyForm, plain, implication}
 use Rattle.grammar.specs.Trees.{ItemForm, counter, declaration, assertion}
 use Rattle.assertions.specs.declared.signal.Signal.{Signal}
-use Rattle.types_expressions.specs.declared.own.Own.{Own}
-use Rattle.types_expressions.specs.Scopes.{Scope, path_text, meaning_by}
-use Rattle.types_expressions.specs.Columns.{path_signals, signals, link_signals, part_signals, sequence_signals}
-use Rattle.types_expressions.specs.Columns.{step_signals, other_signals, property_signals, optional_signals}
-use Rattle.types_expressions.specs.Columns.{clause_signals, item_signals, file_signals, is_listed, with_path}
-use Rattle.types_expressions.specs.Columns.{with_paths, columns_of}
+use Rattle.text_names.specs.declared.own.Own.{Own}
+use Rattle.text_names.specs.Scopes.{Scope, path_text, meaning_by}
+use Rattle.text_names.specs.Columns.{path_signals, signals, link_signals, part_signals, sequence_signals}
+use Rattle.text_names.specs.Columns.{step_signals, other_signals, property_signals, optional_signals}
+use Rattle.text_names.specs.Columns.{clause_signals, item_signals, file_signals, is_listed, with_path}
+use Rattle.text_names.specs.Columns.{with_paths, columns_of}
 use Rattle.types_suites.specs.Signals.{IsKnown, AreKnown}
 use Rattle.types_suites.specs.Suites.{AreSignals}
 

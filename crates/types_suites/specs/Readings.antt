@@ -15,7 +15,7 @@ use Rattle.assertions.specs.declared.sequence.Boolean.{Boolean}
 use Rattle.assertions.specs.declared.sequence.Boolean.TheVariants.{Listed}
 use Rattle.types_sequences.specs.Drafts as drafts
 use Rattle.types_sequences.specs.Drafts.{Draft}
-use Rattle.types_expressions.specs.Scopes.{Scope, sequence_named}
+use Rattle.text_names.specs.Scopes.{Scope, sequence_named}
 use Rattle.types_expressions.specs.Meanings.{Means}
 use Rattle.types_suites.specs.Texts.{declarations_of}
 

@@ -21,8 +21,8 @@ use Rattle.types_sequences.specs.Drafts as drafts
 use Rattle.types_sequences.specs.Implications.{rewritten_antecedent}
 use Rattle.types_sequences.specs.Drafts.{Draft, Spells, IsIn}
 use Rattle.types_sequences.specs.Placed.{IsPlaced, IsPlacedBoolean, AllListed}
-use Rattle.types_expressions.specs.Scopes.{Scope, width_in}
-use Rattle.types_expressions.specs.Columns.{columns_of}
+use Rattle.text_names.specs.Scopes.{Scope, width_in}
+use Rattle.text_names.specs.Columns.{columns_of}
 use Rattle.types_expressions.specs.Meanings.{Means}
 use Rattle.types_suites.specs.Options.{OptionZip}
 use Rattle.types_suites.specs.Readings.{IsAtom, Reads, AllRead}

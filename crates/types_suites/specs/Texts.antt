@@ -8,7 +8,7 @@ use Rattle.grammar.specs.Trees.{Tree, number, path, concatenation, past, call, u
 use Rattle.grammar.specs.Trees.{SequenceForm, boolean, repeated, late, delayed, throughout, joined}
 use Rattle.grammar.specs.Trees.{CounterForm, DeclarationForm, AssertionForm, ItemForm}
 use Rattle.grammar.specs.Trees.{counter, declaration, assertion}
-use Rattle.types_expressions.specs.Scopes.{path_text, first_byte}
+use Rattle.text_names.specs.Scopes.{path_text, first_byte}
 
 -- the items of each kind, in the order of the text
 abbrev pub declarations_of : List ItemForm → List DeclarationForm

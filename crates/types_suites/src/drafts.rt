@@ -6,21 +6,22 @@ ghost use Rattle.text_trees.specs.Views.{tree_of, sequence_of, delay_step_of};
 ghost use Rattle.assertions.specs.declared.sequence.Boolean.TheVariants.{Listed};
 ghost use Rattle.types_sequences.specs.Drafts.{name, delay, lead, repeat, throughout};
 ghost use Rattle.types_sequences.specs.Views.{draft_of};
-ghost use Rattle.types_expressions.specs.declared.own.Sought.{Sought};
-ghost use Rattle.types_expressions.specs.Scopes.{sequence_named};
-ghost use Rattle.types_expressions.specs.Faults.{IsSound, boolean_faults, sequence_faults};
-ghost use Rattle.types_expressions.specs.Faults.{step_faults, other_faults};
-ghost use Rattle.types_expressions.specs.Columns.{HasColumns, all_listed, sequence_signals};
-ghost use Rattle.types_expressions.specs.Columns.{step_signals, other_signals};
-ghost use Rattle.types_expressions.specs.Views.{scope_of, columns_in};
+ghost use Rattle.text_names.specs.declared.own.Sought.{Sought};
+ghost use Rattle.text_names.specs.Scopes.{sequence_named};
+ghost use Rattle.text_names.specs.Faults.{IsSound, boolean_faults, sequence_faults};
+ghost use Rattle.text_names.specs.Faults.{step_faults, other_faults};
+ghost use Rattle.text_names.specs.Columns.{HasColumns, all_listed, sequence_signals};
+ghost use Rattle.text_names.specs.Columns.{step_signals, other_signals};
+ghost use Rattle.text_names.specs.Views.{scope_of, columns_in};
 ghost use Rattle.types_suites.specs.Readings.{least_of, extra_of, IsAtom, ReadsBoolean, Reads};
 ghost use Rattle.types_suites.specs.Readings.{joined_by, ReadsSteps, ReadsOthers};
 ghost use Rattle.types_sequences.specs.Placed.{Extends};
 
 use grammar::{Junction, Range};
 use std::alloc::{AllocError, Global};
+use text_names::{Scope, SignalPaths};
 use text_trees::{ExprTree, SequenceTree};
-use types_expressions::{Scope, SignalPaths, typed_expression};
+use types_expressions::typed_expression;
 use types_sequences::Draft;
 
 /// The least count of a range, and by how many its largest is more.

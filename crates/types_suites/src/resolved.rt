@@ -6,19 +6,19 @@ ghost use Rattle.text_trees.specs.Views.{assertion_of, item_of};
 ghost use Rattle.types_sequences.specs.Drafts.{IsIn, uses};
 ghost use Rattle.types_sequences.specs.Entries.{Bodies, HasEntry, IsTable, has_entry};
 ghost use Rattle.types_sequences.specs.Views.{draft_of};
-ghost use Rattle.types_expressions.specs.declared.own.Sought.{Sought};
-ghost use Rattle.types_expressions.specs.Scopes.{sequence_named};
-ghost use Rattle.types_expressions.specs.Columns.{all_listed, assertion_signals, file_signals};
-ghost use Rattle.types_expressions.specs.Faults.{assertion_faults, file_faults};
-ghost use Rattle.types_expressions.specs.Views.{scope_of, columns_in};
+ghost use Rattle.text_names.specs.declared.own.Sought.{Sought};
+ghost use Rattle.text_names.specs.Scopes.{sequence_named};
+ghost use Rattle.text_names.specs.Columns.{all_listed, assertion_signals, file_signals};
+ghost use Rattle.text_names.specs.Faults.{assertion_faults, file_faults};
+ghost use Rattle.text_names.specs.Views.{scope_of, columns_in};
 ghost use Rattle.types_sequences.specs.Placed.{Extends};
 ghost use Rattle.types_suites.specs.Texts.{assertions_of};
 ghost use Rattle.types_suites.specs.Resolved.{IsResolved, AreResolved};
 
 use crate::drawn::drawn_of;
 use std::alloc::{AllocError, Global};
+use text_names::{Scope, SignalPaths};
 use text_trees::{AssertionTree, ItemTree};
-use types_expressions::{Scope, SignalPaths};
 use types_sequences::{Draft, Entry, entry_of};
 
 /// An assertion with the entries of its sides, names written out.

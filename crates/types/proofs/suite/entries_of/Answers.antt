@@ -3,7 +3,7 @@ use Rattle.std.proofs.lemmas.List.{length-map}
 use Rattle.grammar.specs.Trees.{DeclarationForm}
 use Rattle.text_trees.specs.Views.{item_of}
 use Rattle.types_sequences.specs.Views.{draft_of}
-use Rattle.types_expressions.specs.Views.{scope_of, columns_in}
+use Rattle.text_names.specs.Views.{scope_of, columns_in}
 use Rattle.types_suites.specs.Texts.{declarations_of}
 use Rattle.types.specs.Cycles.{AreOutlined}
 use Rattle.types_suites.proofs.BodyLaws.{bodies_in, outlined, body_count}

@@ -1,7 +1,7 @@
 use Rattle.std.proofs.Common.{ℕ, List, length, map, ap, arith, subst}
 use Rattle.text_trees.specs.Views.{item_of}
-use Rattle.types_expressions.specs.Views.{scope_of, columns_in}
-use Rattle.types_expressions.proofs.ColumnLaws.{columns-all}
+use Rattle.text_names.specs.Views.{scope_of, columns_in}
+use Rattle.text_names.proofs.ColumnLaws.{columns-all}
 use Rattle.types_suites.specs.Readings.{AllRead}
 use Rattle.types.specs.Sides.{sides_in, consequents_in}
 use Rattle.types_suites.specs.Resolved.{AreResolved}

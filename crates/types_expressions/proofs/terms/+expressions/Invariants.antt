@@ -3,12 +3,12 @@ use Rattle.grammar.specs.ReadExpressions.{links_of, parts_of}
 use Rattle.text_trees.specs.Views.{tree_of, link_of}
 use Rattle.expressions.specs.Terms.{Term, width_of}
 use Rattle.expressions.specs.Expressions.{term_of}
-use Rattle.types_expressions.specs.declared.own.Sought.{Sought}
-use Rattle.types_expressions.specs.Widths.{parts_width}
-use Rattle.types_expressions.specs.Faults.{link_faults, part_faults}
-use Rattle.types_expressions.specs.Columns.{all_listed, link_signals, part_signals}
+use Rattle.text_names.specs.declared.own.Sought.{Sought}
+use Rattle.text_names.specs.Widths.{parts_width}
+use Rattle.text_names.specs.Faults.{link_faults, part_faults}
+use Rattle.text_names.specs.Columns.{all_listed, link_signals, part_signals}
 use Rattle.types_expressions.specs.Meanings.{Chains, JoinsMore}
-use Rattle.types_expressions.specs.Views.{scope_of, columns_in}
+use Rattle.text_names.specs.Views.{scope_of, columns_in}
 use Rattle.types_expressions.proofs.terms.+expressions.Given as goal
 
 abbrev pub invariant-chain-loop-link : goal.invariant-chain-loop-link

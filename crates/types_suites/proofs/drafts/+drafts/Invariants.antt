@@ -5,7 +5,7 @@ use Rattle.expressions.specs.declared.expr.Expr.{Expr}
 use Rattle.assertions.specs.declared.sequence.Boolean.{Boolean}
 use Rattle.types_sequences.specs.Drafts.{Draft}
 use Rattle.types_sequences.specs.Views.{draft_of}
-use Rattle.types_expressions.specs.Views.{scope_of, columns_in}
+use Rattle.text_names.specs.Views.{scope_of, columns_in}
 use Rattle.types_suites.specs.Readings.{ReadsSteps, ReadsOthers}
 use Rattle.types_sequences.specs.Placed.{Extends}
 use Rattle.types_suites.proofs.ReadingLaws.{AreReadySteps, AreReadyOthers}

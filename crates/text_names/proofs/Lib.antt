@@ -1,0 +1,5 @@
+pub mod EntryLaws
+pub mod FaultLaws
+pub mod Lists
+pub mod TreeSteps
+pub mod ColumnLaws

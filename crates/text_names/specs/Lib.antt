@@ -1,0 +1,7 @@
+pub mod Scopes
+pub mod Widths
+pub mod Faults
+pub mod Columns
+pub mod Asked
+pub mod Entries
+pub mod Views

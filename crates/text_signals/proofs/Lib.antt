@@ -1,0 +1,3 @@
+pub mod ListingLaws
+pub mod AskedLaws
+pub mod ReadLaws

@@ -1,9 +1,0 @@
-use Rattle.std.proofs.Common.{sym, ap, ◌∙◌, option_map}
-use Rattle.types_expressions.specs.declared.width.Width.{Width}
-use Rattle.types_expressions.proofs.EntryLaws.{found-text}
-use Rattle.types_expressions.proofs.names.Names.width.Goals as goal
-
-pub returns : goal.returns
-returns c =
-    ap (option_map (λ (w : Width). w.bits)) (c.copied.ensures ∙ c.get.ensures.value)
-    ∙ sym (found-text (λ (w : Width). w.bits) c.args.self.now.widths c.args.path.now)
