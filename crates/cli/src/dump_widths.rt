@@ -8,6 +8,7 @@ use types::{PathWidths, Width};
 use vcd_reader::Dump;
 
 /// The paths of a dump's variables that can be bound; the dump looks each up, and lists none.
+#[derive(Clone, Copy)]
 pub(crate) struct DumpWidths<'d> {
     pub(crate) dump: &'d Dump,
 }

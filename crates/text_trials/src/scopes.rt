@@ -6,7 +6,7 @@ use parser::{ExprTree, File, ItemTree, PropertyTree, SequenceTree, parse};
 use std::alloc::{AllocError, Global};
 use std::test::Fail;
 use text_names::{Names, PathWidths, Scope, SignalPaths, Sought};
-use text_signals::{columns_of, scope_for};
+use text_signals::{asked_law, columns_of, scope_for};
 use types_expressions::meaning_law;
 use types_faults::first_fault;
 
@@ -168,5 +168,6 @@ fn paths_with_widths(rt: HostRuntime) -> Result<(), Fail> {
     assert!(rt; has_width(&names, "x", 1) && has_width(&names, "y.z", 128));
     assert!(rt; names.width("y").is_none());
     meaning_law();
+    asked_law();
     Ok(())
 }
