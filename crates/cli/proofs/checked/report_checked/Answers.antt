@@ -5,12 +5,22 @@ use Rattle.vcd_reader.specs.Held.{variables_of}
 use Rattle.cycle_window.specs.Bound.{IsClock, IsClockFault}
 use Rattle.cycle_window.specs.Held.{code_in}
 use Rattle.verdicts.specs.Shown.{data_of}
-use Rattle.cli.specs.Faults.{window_fault, lines_fault}
+use Rattle.cli.specs.Faults.{type_fault, window_fault, lines_fault}
 use Rattle.cli.specs.Reported.{SaysSuite}
 use Rattle.cli.specs.Outcomes.{WhyNoneByPrograms}
-use Rattle.cli.proofs.TextLaws.{are_named, unclocked, uncompiled, none_by_programs, err_is}
+use Rattle.cli.proofs.TextLaws.{are_named, untyped, unclocked, uncompiled, none_by_programs, err_is}
 use Rattle.cli.proofs.ProgramLaws.{all_watched, all_fit, has_clock, clock_of, reports_by}
 use Rattle.cli.proofs.checked.report_checked.Goals as goal
+
+pub returns-in_err-suite-clause-err : goal.returns-in_err-suite-clause-err
+returns-in_err-suite-clause-err c = λ k holds.
+    let text = c.args.text.now in
+    let fault = c.in_err-suite.field-0.0 in
+    err_is c.from_residual-in_err-suite.result (type_fault fault) (WhyNoneByPrograms k text)
+    c.from_residual-in_err-suite.ensures.1
+    (none_by_programs k text (type_fault fault)
+    (untyped k text (items_of c.in_ok-file.file) fault c.in_ok-file.ensures.ok
+    (c.in_err-suite.ensures.err k holds)))
 
 pub returns-in_err-clocks-clause-err : goal.returns-in_err-clocks-clause-err
 returns-in_err-clocks-clause-err c = λ k holds.

@@ -1,9 +1,9 @@
 use Rattle.text_trees.specs.Views.{items_of}
 use Rattle.vcd_reader.specs.Held.{variables_of}
-use Rattle.cli.specs.Faults.{window_fault}
+use Rattle.cli.specs.Faults.{type_fault, window_fault}
 use Rattle.cli.specs.Reported.{SaysSuite}
 use Rattle.cli.specs.Outcomes.{WhyNoReport}
-use Rattle.cli.proofs.TextLaws.{are_named, unclocked, err_is}
+use Rattle.cli.proofs.TextLaws.{are_named, untyped, unclocked, err_is}
 use Rattle.cli.proofs.run.report_judged.Goals as goal
 
 pub report_on-requires-clause-named : goal.report_on-requires-clause-named
@@ -12,6 +12,15 @@ report_on-requires-clause-named c =
     let holds = c.requires.held.1 in
     are_named k (variables_of c.args.dump.now) (items_of c.in_ok-file.file) c.in_ok-suite.suite
     holds.variables (c.in_ok-suite.ensures.ok k holds)
+
+pub returns-in_err-suite-clause-err : goal.returns-in_err-suite-clause-err
+returns-in_err-suite-clause-err c = λ k holds.
+    let text = c.args.text.now in
+    let fault = c.in_err-suite.field-0.0 in
+    err_is c.from_residual-in_err-suite.result (type_fault fault) (WhyNoReport k text)
+    c.from_residual-in_err-suite.ensures.1
+    (untyped k text (items_of c.in_ok-file.file) fault c.in_ok-file.ensures.ok
+    (c.in_err-suite.ensures.err k holds))
 
 pub returns-in_err-report_on-clause-err : goal.returns-in_err-report_on-clause-err
 returns-in_err-report_on-clause-err c = λ k holds.
