@@ -25,7 +25,7 @@ const PROGRAM: [u8; 114] = [
 ];
 
 /// The program with other bytes from a place on.
-fn changed(alloc: Global, place: usize, bytes: &[u8]) -> Result<Vec<u8>, AllocError> {
+fn changed_bytes(alloc: Global, place: usize, bytes: &[u8]) -> Result<Vec<u8>, AllocError> {
     let mut code = Vec::with_capacity(alloc, 114)?;
     for (at, byte) in PROGRAM.as_slice().iter().enumerate() {
         let other = at
@@ -71,7 +71,7 @@ fn report_of_a_program(rt: HostRuntime) -> Result<(), Fail> {
 
 /// Whether this is told of the program with other bytes from a place on.
 fn is_told(alloc: Global, place: usize, bytes: &[u8], line: &str) -> Result<bool, Fail> {
-    let code = changed(alloc, place, bytes)?;
+    let code = changed_bytes(alloc, place, bytes)?;
     Ok(line_of(alloc, code.as_slice())?.as_str() == line)
 }
 
@@ -176,7 +176,7 @@ fn cut_and_longer_programs(rt: HostRuntime) -> Result<(), Fail> {
     for end in 0..114 {
         assert!(rt; is_cut(alloc, end)?, "cut at {end}");
     }
-    let mut longer = changed(alloc, 114, [].as_slice())?;
+    let mut longer = changed_bytes(alloc, 114, [].as_slice())?;
     longer.push(0)?;
     let line = line_of(alloc, longer.as_slice())?;
     assert!(rt; line.as_str() == "svamon: B6 TrailingBytes 114");

@@ -12,7 +12,7 @@ use crate::case::Case;
 use crate::mode::Mode;
 use crate::paths::{Paths, paths_in};
 use crate::sizes::{Sizes, sizes_in};
-use crate::values::{case_named, mode_named, optional, watched};
+use crate::values::{case_named, mode_named, optional, watched_ids};
 use std::alloc::{AllocError, Global};
 
 /// A port and its mode, as a line has them.
@@ -79,7 +79,7 @@ fn watched_in(alloc: Global, fields: &[&str]) -> Result<Option<Vec<u32>>, AllocE
     ensures { IfOk result (λ o. items_in o ≡ watched_in (texts_of fields.now)) }
 {
     match optional(fields, "watch=") {
-        Some(text) => watched(alloc, text),
+        Some(text) => watched_ids(alloc, text),
         None => Ok(None),
     }
 }

@@ -6,7 +6,7 @@ ghost use Rattle.axi4_rules.specs.Lines.{paths_in};
 ghost use Rattle.axi4_rules.specs.Drafts.{path_data};
 ghost use Rattle.axi4_rules.specs.Views.{texts_of};
 
-use crate::values::required;
+use crate::values::required_value;
 
 /// The paths of a port, as a line has them.
 #[derive(Clone, Copy)]
@@ -21,9 +21,9 @@ pub(crate) struct Paths<'t> {
 pub(crate) fn paths_in<'t>(fields: &[&'t str]) -> Option<Paths<'t>>
     ensures { option_map path_data result ≡ paths_in (texts_of fields.now) }
 {
-    let clock = required(fields, "clock=")?;
-    let reset = required(fields, "reset=")?;
-    let prefix = required(fields, "prefix=")?;
+    let clock = required_value(fields, "clock=")?;
+    let reset = required_value(fields, "reset=")?;
+    let prefix = required_value(fields, "prefix=")?;
     Some(Paths {
         clock,
         reset,

@@ -6,7 +6,7 @@ ghost use Rattle.axi4_rules.specs.Lines.{required_number, optional_number, sizes
 ghost use Rattle.axi4_rules.specs.Drafts.{size_data};
 ghost use Rattle.axi4_rules.specs.Views.{texts_of};
 
-use crate::values::{number, number_or, optional, required};
+use crate::values::{number, number_or, optional, required_value};
 
 /// The numbers of a port, as a line has them.
 #[derive(Clone, Copy)]
@@ -21,7 +21,7 @@ pub(crate) struct Sizes {
 fn required_number(fields: &[&str], key: &str) -> Option<u32>
     ensures { result ≡ required_number key.now (texts_of fields.now) }
 {
-    number(required(fields, key)?)
+    number(required_value(fields, key)?)
 }
 
 /// The number behind the key, or another.

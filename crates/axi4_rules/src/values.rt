@@ -33,7 +33,7 @@ pub(crate) fn optional<'t>(fields: &[&'t str], key: &str) -> Option<Option<&'t s
 
 /// What stands behind the key, which stands once.
 #[tactic(auto, unfolding(crate::specs::Lines::required))]
-pub(crate) fn required<'t>(fields: &[&'t str], key: &str) -> Option<&'t str>
+pub(crate) fn required_value<'t>(fields: &[&'t str], key: &str) -> Option<&'t str>
     ensures { text_in result ≡ required key.now (texts_of fields.now) }
 {
     optional(fields, key)?
@@ -121,7 +121,7 @@ fn numbers(alloc: Global, texts: &[&str]) -> Result<Option<Vec<u32>>, AllocError
 
 /// The numbers between commas, or `None` where one is none.
 #[tactic(auto, unfolding(crate::specs::Lines::watched))]
-pub(crate) fn watched(alloc: Global, text: Option<&str>) -> Result<Option<Vec<u32>>, AllocError>
+pub(crate) fn watched_ids(alloc: Global, text: Option<&str>) -> Result<Option<Vec<u32>>, AllocError>
     ensures { IfOk result (λ o. items_in o ≡ watched (text_in text.entry)) }
 {
     match text {

@@ -37,7 +37,7 @@ fn check_line(rt: &impl AllocGlobal, dump: &str, text: &str) -> Result<String, F
 }
 
 /// Pieces from a place up to another, each made from its place, with a word between two.
-fn joined(
+fn joined_pieces(
     rt: &impl AllocGlobal,
     places: std::ops::Range<usize>,
     between: &str,
@@ -65,27 +65,27 @@ fn is_told(rt: &impl AllocGlobal, dump: &str, text: &str, line: &str) -> Result<
 
 /// An assertion with so many booleans, 64 of them in its antecedent.
 fn of_booleans(rt: &impl AllocGlobal, count: usize) -> Result<String, AllocError> {
-    let antecedent = joined(rt, 0..64, " ##1 ", "v == 8'd")?;
-    let consequent = joined(rt, 64..count, " ##1 ", "v == 8'd")?;
+    let antecedent = joined_pieces(rt, 0..64, " ##1 ", "v == 8'd")?;
+    let consequent = joined_pieces(rt, 64..count, " ##1 ", "v == 8'd")?;
     let property = format!(in rt.alloc(); "{antecedent} |-> {consequent}")?;
     assertion(rt, "r", property.as_str())
 }
 
 /// An assertion of so many signals of one bit.
 fn of_signals(rt: &impl AllocGlobal, count: usize) -> Result<String, AllocError> {
-    let property = joined(rt, 0..count, " ^ ", "s_")?;
+    let property = joined_pieces(rt, 0..count, " ^ ", "s_")?;
     assertion(rt, "r", property.as_str())
 }
 
 /// An assertion with a name of so many bytes.
 fn of_name(rt: &impl AllocGlobal, length: usize) -> Result<String, AllocError> {
-    let name = joined(rt, 0..length, "", "n")?;
+    let name = joined_pieces(rt, 0..length, "", "n")?;
     assertion(rt, name.as_str(), "x |-> y")
 }
 
 /// So many assertions.
 fn of_assertions(rt: &impl AllocGlobal, count: usize) -> Result<String, AllocError> {
-    joined(
+    joined_pieces(
         rt,
         0..count,
         "",
@@ -249,7 +249,7 @@ fn has_length(
 
 /// `x ^ x ^ .. |-> y` with so many operands, and a sign before them.
 fn of_operands(rt: &impl AllocGlobal, before: &str, count: usize) -> Result<String, AllocError> {
-    let joined = joined(rt, 0..count, " ^ ", "x")?;
+    let joined = joined_pieces(rt, 0..count, " ^ ", "x")?;
     format!(in rt.alloc(); "{before}({joined}) |-> y")
 }
 
@@ -269,10 +269,10 @@ fn first_fault_of_a_program(rt: HostRuntime) -> Result<(), Fail> {
     let text = of_booleans(&rt, 128)?;
     let no_clock = "$var wire 8 v v $end\n$enddefinitions $end\n";
     assert!(rt; is_told(&rt, no_clock, text.as_str(), "svamon: C1 NoClock")?);
-    let antecedent = joined(&rt, 0..64, " ##1 ", "v == 8'd")?;
-    let consequent = joined(&rt, 64..128, " ##1 ", "v == 8'd")?;
+    let antecedent = joined_pieces(&rt, 0..64, " ##1 ", "v == 8'd")?;
+    let consequent = joined_pieces(&rt, 64..128, " ##1 ", "v == 8'd")?;
     let property = format!(in rt.alloc(); "{antecedent} |-> {consequent}")?;
-    let name = joined(&rt, 0..65_536, "", "n")?;
+    let name = joined_pieces(&rt, 0..65_536, "", "n")?;
     let text = assertion(&rt, name.as_str(), property.as_str())?;
     assert!(rt; is_told(&rt, DUMP, text.as_str(), "svamon: K1 TooManyAtoms")?);
     Ok(())

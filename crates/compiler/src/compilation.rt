@@ -9,7 +9,7 @@ ghost use Rattle.compiler.specs.Programs.{IsProgramOf};
 ghost use Rattle.verifier.specs.Programs.{IsAccepted, least_limits};
 
 use crate::fault::CompileFault;
-use crate::limits::accepted;
+use crate::limits::accepted_program;
 use crate::program::program_of;
 use crate::reading::Reading;
 use crate::texts::has_long_text;
@@ -65,5 +65,5 @@ pub fn compile(
         return Err(fault);
     }
     let program = program_of(alloc, assertion, suite, &reading)?;
-    Ok(accepted(alloc, program)?)
+    Ok(accepted_program(alloc, program)?)
 }

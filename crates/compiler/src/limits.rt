@@ -21,7 +21,7 @@ fn want_of_memory(refusal: Refusal) -> AllocError
 }
 
 /// The least limits, declared.
-fn declared(least: LeastLimits) -> Limits
+fn declared_limits(least: LeastLimits) -> Limits
     requires { AreModest least }
     ensures { result ≡ declared_from least }
 {
@@ -35,7 +35,7 @@ fn declared(least: LeastLimits) -> Limits
 }
 
 /// The same program, which declares these limits.
-fn declaring(program: Program, least: LeastLimits) -> Program
+fn declaring_program(program: Program, least: LeastLimits) -> Program
     requires { AreModest least }
     ensures { data_of result ≡ with_limits (data_of program) (declared_from least) }
 {
@@ -52,7 +52,7 @@ fn declaring(program: Program, least: LeastLimits) -> Program
         ..
     } = program;
     Program {
-        limits: declared(least),
+        limits: declared_limits(least),
         disable,
         atoms,
         name,
@@ -79,7 +79,7 @@ fn least_of(alloc: Global, program: &Program) -> Result<LeastLimits, AllocError>
 }
 
 /// A program that has no fault, accepted with the least limits that serve it.
-pub(crate) fn accepted(alloc: Global, program: Program) -> Result<Verified, AllocError>
+pub(crate) fn accepted_program(alloc: Global, program: Program) -> Result<Verified, AllocError>
     requires formed { IsWellFormed (data_of program) }
     requires room { HasRoom (data_of program) }
     requires modest { AreModest (least_limits (data_of program)) }
@@ -88,7 +88,7 @@ pub(crate) fn accepted(alloc: Global, program: Program) -> Result<Verified, Allo
 {
     let least = least_of(alloc, &program)?;
     // An arm knows that it is want of memory, as `want_of_memory` asks; a `From` can't ask it.
-    match verify(alloc, declaring(program, least)) {
+    match verify(alloc, declaring_program(program, least)) {
         Ok(verified) => Ok(verified),
         Err(refusal) => Err(want_of_memory(refusal)),
     }

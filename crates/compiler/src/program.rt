@@ -98,7 +98,7 @@ fn side_of(alloc: Global, side: &Sequence) -> Result<Section, CompileFault>
 }
 
 /// The atom of the disabling boolean, if there is one.
-fn disabling(boolean: Option<Boolean>) -> Option<u8>
+fn disabling_atom(boolean: Option<Boolean>) -> Option<u8>
     requires { IsListedOption 127 boolean }
     ensures { result ≡ disabling_atom boolean }
 {
@@ -110,7 +110,7 @@ fn disabling(boolean: Option<Boolean>) -> Option<u8>
 }
 
 /// No limits yet.
-fn undeclared() -> Limits
+fn undeclared_limits() -> Limits
     ensures { result ≡ no_limits }
 {
     Limits {
@@ -142,8 +142,8 @@ pub(crate) fn program_of(
     let antecedent = side_of(alloc, &assertion.antecedent)?;
     let consequent = side_of(alloc, &assertion.consequent)?;
     Ok(Program {
-        limits: undeclared(),
-        disable: disabling(assertion.disabling),
+        limits: undeclared_limits(),
+        disable: disabling_atom(assertion.disabling),
         atoms: assertion.booleans.len() as u8,
         name: String::from_str(alloc, assertion.name.as_str())?,
         clock: String::from_str(alloc, suite.clock.as_str())?,

@@ -20,7 +20,7 @@ pub(crate) struct LineSoFar {
 }
 
 /// The counts with one more verdict.
-fn counted(counts: Counts, verdict: Verdict) -> Counts
+fn counts_with(counts: Counts, verdict: Verdict) -> Counts
     requires { attempts_of counts + 1 < 2 ^ 64 }
     ensures all { attempts_of result ≡ attempts_of counts + 1 }
     ensures tally { (before : List Verdict) → counts ≡ tally_of before
@@ -89,7 +89,7 @@ impl LineSoFar {
             → OnOk result (TookIn self.new (before ++ one ∷ [])) }
     {
         push_failure(&mut self.fails, one)?;
-        self.counts = counted(self.counts, one.verdict);
+        self.counts = counts_with(self.counts, one.verdict);
         Ok(())
     }
 

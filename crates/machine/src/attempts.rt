@@ -43,7 +43,7 @@ pub(crate) fn visit_attempts(
         let attempt = pool.get(slot);
         *left -= 1;
         let made = visit_positions(&program.antecedent, bases, atoms, attempt.positions, left);
-        pool.set(slot, attempt.visited(made, now));
+        pool.set(slot, attempt.visited_record(made, now));
         accepted |= made.accepted;
     }
     accepted

@@ -49,7 +49,7 @@ pub(crate) fn visit_obligations(
         if obligation.is_ended(made) {
             pool.retire(slot);
         } else {
-            pool.set(slot, obligation.visited(made));
+            pool.set(slot, obligation.visited_record(made));
         }
     }
     fates

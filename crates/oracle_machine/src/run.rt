@@ -69,13 +69,13 @@ impl Run {
     }
 
     /// What the last clock decided.
-    pub fn decided(&self) -> &[Decided] {
+    pub fn decisions(&self) -> &[Decided] {
         self.out.as_slice()
     }
 
     /// The ticks of the last clock.
-    pub fn spent(&self) -> u64 {
-        self.machine.spent()
+    pub fn ticks_spent(&self) -> u64 {
+        self.machine.ticks_spent()
     }
 
     /// The attempts that are live, each with `Open`.

@@ -79,10 +79,10 @@ fn sums_of(run: &mut Run, trace: &[Vec<u128>], clocks: u64) -> Result<Sums> {
     for clock in 0..clocks {
         let row = trace.get((clock % ROWS) as usize).context("no row")?;
         run.clock(row.as_slice())?;
-        for decided in run.decided() {
+        for decided in run.decisions() {
             sums.verdicts = sums.verdicts.wrapping_add(worth(decided));
         }
-        sums.ticks = sums.ticks.wrapping_add(run.spent());
+        sums.ticks = sums.ticks.wrapping_add(run.ticks_spent());
     }
     Ok(sums)
 }

@@ -7,7 +7,7 @@
 //! watched IDs. Of each case a line is printed: how many bytes the report has, and their sum.
 //! `scripts/edge_ports.py --write` writes the cases, and what must be printed.
 
-use crate::runs::{Answer, checked, judged};
+use crate::runs::{Answer, checked_answer, judged_answer};
 use anyhow::{Context, Result, bail};
 use axi4_rules::port_rules;
 use std::alloc::Global;
@@ -45,8 +45,8 @@ fn line_of(alloc: Global, case: &str) -> Result<String> {
     let Ok(rules) = port_rules(alloc, ports) else {
         bail!("a port file has a fault");
     };
-    let check = summary(alloc, checked(alloc, dump, rules.as_str(), WINDOW)?)?;
-    let judge = summary(alloc, judged(alloc, dump, rules.as_str())?)?;
+    let check = summary(alloc, checked_answer(alloc, dump, rules.as_str(), WINDOW)?)?;
+    let judge = summary(alloc, judged_answer(alloc, dump, rules.as_str())?)?;
     Ok(format!(in alloc; "check {check} judge {judge}\n")?)
 }
 

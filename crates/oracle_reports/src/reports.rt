@@ -1,7 +1,7 @@
 //! Texts over dumps. The table has dumps, each behind a line that begins with `== dump`, and behind
 //! a dump texts, each behind a line `== ` with its title: they are run over that dump.
 
-use crate::runs::{Answer, checked, judged};
+use crate::runs::{Answer, checked_answer, judged_answer};
 use anyhow::{Result, bail};
 use std::alloc::Global;
 use std::io::Print;
@@ -11,9 +11,9 @@ const WINDOWS: [u64; 4] = [1, 2, 1000, 65_536];
 
 /// What `judge` tells of a text over a dump, and `check` with it, whatever the window.
 fn told(alloc: Global, dump: &str, text: &str) -> Result<Answer> {
-    let judge = judged(alloc, dump, text)?;
+    let judge = judged_answer(alloc, dump, text)?;
     for window in WINDOWS {
-        let check = checked(alloc, dump, text, window)?;
+        let check = checked_answer(alloc, dump, text, window)?;
         if check.text != judge.text || check.status != judge.status {
             bail!("check and judge tell different things");
         }

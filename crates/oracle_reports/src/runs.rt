@@ -30,7 +30,7 @@ fn told_by(alloc: Global, answer: &Result<[u64; 5], Fault>, written: &[u8]) -> R
 }
 
 /// What `check` tells of a text over a dump, through windows of so many clocks.
-pub fn checked(alloc: Global, dump: &str, text: &str, window: u64) -> Result<Answer> {
+pub fn checked_answer(alloc: Global, dump: &str, text: &str, window: u64) -> Result<Answer> {
     let mut source = Counted::new(dump.as_bytes());
     let mut out = Counted::new(CutWriter::new(alloc, ROOM)?);
     let answer = check_one(alloc, &mut source, text, window, &mut out);
@@ -38,7 +38,7 @@ pub fn checked(alloc: Global, dump: &str, text: &str, window: u64) -> Result<Ans
 }
 
 /// What `judge` tells of a text over a dump.
-pub fn judged(alloc: Global, dump: &str, text: &str) -> Result<Answer> {
+pub fn judged_answer(alloc: Global, dump: &str, text: &str) -> Result<Answer> {
     let mut source = Counted::new(dump.as_bytes());
     let mut out = Counted::new(CutWriter::new(alloc, ROOM)?);
     let answer = judge_one(alloc, &mut source, text, &mut out);

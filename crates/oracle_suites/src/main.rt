@@ -53,7 +53,7 @@ fn count_of(alloc: Global, names: &Names, file: &File) -> Result<usize, TypeFaul
 }
 
 /// The same of a text, if it is read.
-fn counted(alloc: Global, names: &Names, text: &str) -> Option<Result<usize, TypeFault>> {
+fn count_in(alloc: Global, names: &Names, text: &str) -> Option<Result<usize, TypeFault>> {
     let Ok(tokens) = lex(alloc, text) else {
         return None;
     };
@@ -73,7 +73,7 @@ fn told(alloc: Global, counted: Result<usize, TypeFault>) -> Result<String, Allo
 
 /// What is told of a text.
 fn verdict(alloc: Global, names: &Names, text: &str) -> Result<String> {
-    let counted = counted(alloc, names, text).context("a text is not read")?;
+    let counted = count_in(alloc, names, text).context("a text is not read")?;
     Ok(told(alloc, counted)?)
 }
 

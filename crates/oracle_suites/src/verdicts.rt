@@ -15,7 +15,7 @@ use std::io::Print;
 use types::{Names, check};
 
 /// The suite of a text, if it has one.
-fn checked(alloc: Global, names: &Names, text: &str) -> Option<Suite> {
+fn checked_suite(alloc: Global, names: &Names, text: &str) -> Option<Suite> {
     let Ok(tokens) = lex(alloc, text) else {
         return None;
     };
@@ -30,7 +30,7 @@ fn suite_of(alloc: Global, property: &str) -> Result<Suite> {
     let text = format!(in alloc; "assert property (@(posedge clk) {property});")?;
     let paths = [("a", 1), ("b", 1), ("c", 1), ("d", 1), ("e", 1), ("f", 1)];
     let names = Names::of(alloc, &paths)?;
-    match checked(alloc, &names, text.as_str()) {
+    match checked_suite(alloc, &names, text.as_str()) {
         Some(suite) => Ok(suite),
         None => bail!("{property}: it has no suite"),
     }

@@ -65,7 +65,7 @@ fn is_copied(alloc: Global, verified: &Verified, declared: Limits, bytes: &[u8])
 }
 
 /// The least limits and the lives of a program that was accepted.
-fn accepted(alloc: Global, verified: &Verified) -> Result<String> {
+fn accepted_line(alloc: Global, verified: &Verified) -> Result<String> {
     let least = verified.least_limits();
     let (history, stack, budget) = (least.history, least.stack, least.budget);
     let (attempts, obligations) = (least.attempts, least.obligations);
@@ -93,7 +93,7 @@ fn told(
     if !is_copied(alloc, verified, declared, bytes)? {
         return Ok(String::from_str(alloc, "another copy")?);
     }
-    accepted(alloc, verified)
+    accepted_line(alloc, verified)
 }
 
 /// What `verify` answers for a program of these bytes.

@@ -176,7 +176,7 @@ fn walk_that_retires_some(rt: HostRuntime) -> Result<(), Fail> {
 }
 
 #[test]
-fn filled(rt: HostRuntime) -> Result<(), Fail> {
+fn filled_pool(rt: HostRuntime) -> Result<(), Fail> {
     let mut pool = pair_of(rt.alloc(), 3, &[5])?.pool;
     assert!(rt; pool.cap() == 3);
     fill(&mut pool, 9);

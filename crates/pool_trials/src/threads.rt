@@ -5,7 +5,7 @@ ghost use Rattle.std.specs.Prelude.{◌≡◌};
 use attempt_pool::Pool;
 
 /// Takes what may move to another thread.
-fn moved<T: Send>(value: T) -> T
+fn moved_value<T: Send>(value: T) -> T
     ensures { result ≡ value }
 {
     value
@@ -15,5 +15,5 @@ fn moved<T: Send>(value: T) -> T
 pub fn moved_pool<T: Copy + Send>(pool: Pool<T>) -> Pool<T>
     ensures { result ≡ pool }
 {
-    moved(pool)
+    moved_value(pool)
 }

@@ -60,9 +60,9 @@ pub(crate) fn both(alloc: Global, first: &Table, second: &Table) -> Result<Table
     let seconds = second.rows();
     let mut draft = Draft::new(alloc);
     pairing.put_all(alloc, &mut draft, firsts, seconds)?;
-    let first_alone = Change::moved(alloc, pairing.first_alone());
+    let first_alone = Change::by_places(alloc, pairing.first_alone());
     draft.put_rows(alloc, firsts, &first_alone)?;
-    let second_alone = Change::moved(alloc, pairing.second_alone());
+    let second_alone = Change::by_places(alloc, pairing.second_alone());
     draft.put_rows(alloc, seconds, &second_alone)?;
     let starts = starts(alloc, &pairing, first, second)?;
     let empty = admits_empty(first, second);

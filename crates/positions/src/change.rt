@@ -21,7 +21,7 @@ pub(crate) struct Change {
 
 impl Change {
     /// All that it enters is so much further on.
-    pub fn moved(alloc: Global, by: usize) -> Change
+    pub fn by_places(alloc: Global, by: usize) -> Change
         ensures { change_data result ≡ moved by }
     {
         Change {

@@ -101,7 +101,7 @@ impl Draft {
             + edges_size (map (changed (change_data change.now)) (map edge_data row.now)))) }
     {
         for edge in row {
-            self.put(edge.changed(alloc, change)?)?;
+            self.put(edge.changed_edge(alloc, change)?)?;
         }
         Ok(())
     }

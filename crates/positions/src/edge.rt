@@ -28,7 +28,7 @@ impl Edge {
     }
 
     /// What becomes of it.
-    pub fn changed(&self, alloc: Global, change: &Change) -> Result<Edge, AllocError>
+    pub fn changed_edge(&self, alloc: Global, change: &Change) -> Result<Edge, AllocError>
         requires { IsNear change.now.by self.now }
         ensures { IfOk result
             (λ e. edge_data e ≡ changed (change_data change.now) (edge_data self.now)) }
@@ -51,7 +51,7 @@ impl Edge {
     }
 
     /// It does at its tick what another does, whose positions are so much further on.
-    pub fn joined(&self, alloc: Global, other: &Edge, by: usize) -> Result<Edge, AllocError>
+    pub fn joined_edge(&self, alloc: Global, other: &Edge, by: usize) -> Result<Edge, AllocError>
         requires { IsNear by other.now }
         ensures { IfOk result
             (λ e. edge_data e ≡ joined_data by (edge_data self.now) (edge_data other.now)) }

@@ -43,8 +43,8 @@ pub(crate) fn either(alloc: Global, first: &Table, second: &Table) -> Result<Tab
     ensures err { IfErr result (IsLong (rows_size (either_data first.now second.now).rows)) }
 {
     let mut draft = Draft::new(alloc);
-    draft.put_rows(alloc, first.rows(), &Change::moved(alloc, 0))?;
-    draft.put_rows(alloc, second.rows(), &Change::moved(alloc, first.len()))?;
+    draft.put_rows(alloc, first.rows(), &Change::by_places(alloc, 0))?;
+    draft.put_rows(alloc, second.rows(), &Change::by_places(alloc, first.len()))?;
     let mut starts = Vec::from_slice(alloc, first.starts())?;
     put_moved(&mut starts, second.starts(), first.len())?;
     Ok(draft.table(starts, first.admits_empty() || second.admits_empty()))

@@ -29,7 +29,7 @@ fn is_moving(first: Extent, second: Extent) -> bool
 }
 
 /// A delay between two parts.
-fn delayed(first: Extent, least: u8, most: u8, second: Extent) -> Extent
+fn delayed_extent(first: Extent, least: u8, most: u8, second: Extent) -> Extent
     ensures empty { result.empty
         ≡ ((nat_le least 1 && nat_le 1 most) && (first.empty && second.empty)) }
     ensures ticks { result.ticks ≡ ((nat_le least 0 && (first.ticks && second.ticks))
@@ -48,7 +48,7 @@ fn delayed(first: Extent, least: u8, most: u8, second: Extent) -> Extent
 }
 
 /// A delay before a body.
-fn led(least: u8, most: u8, body: Extent) -> Extent
+fn led_extent(least: u8, most: u8, body: Extent) -> Extent
     ensures empty { result.empty ≡ (nat_le least 0 && body.empty) }
     ensures ticks { result.ticks
         ≡ ((nat_le least 0 && body.ticks) || (nat_le 1 most && (body.empty || body.ticks))) }
@@ -61,7 +61,7 @@ fn led(least: u8, most: u8, body: Extent) -> Extent
 }
 
 /// A repetition.
-fn repeated(body: Extent, least: u8, most: u8) -> Extent
+fn repeated_extent(body: Extent, least: u8, most: u8) -> Extent
     ensures empty { result.empty ≡ (nat_le least 0 || body.empty) }
     ensures ticks { result.ticks ≡ (nat_le 1 most && body.ticks) }
 {
@@ -105,10 +105,10 @@ pub(crate) fn extent_of(sequence: &Sequence) -> Extent
             ticks: true,
         },
         Sequence::Delay(first, least, most, second) => {
-            delayed(extent_of(first), *least, *most, extent_of(second))
+            delayed_extent(extent_of(first), *least, *most, extent_of(second))
         }
-        Sequence::Lead(least, most, body) => led(*least, *most, extent_of(body)),
-        Sequence::Repeat(body, least, most) => repeated(extent_of(body), *least, *most),
+        Sequence::Lead(least, most, body) => led_extent(*least, *most, extent_of(body)),
+        Sequence::Repeat(body, least, most) => repeated_extent(extent_of(body), *least, *most),
         Sequence::Or(first, second) => either(extent_of(first), extent_of(second)),
         Sequence::And(first, second) => both(extent_of(first), extent_of(second)),
         Sequence::Throughout(_, body) => extent_of(body),

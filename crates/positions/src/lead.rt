@@ -41,7 +41,7 @@ fn put_joined(
         + edges_size (map (joined_data by (edge_data edge.now)) (map edge_data row.now)))) }
 {
     for other in row {
-        draft.put(edge.joined(alloc, other, by)?)?;
+        draft.put(edge.joined_edge(alloc, other, by)?)?;
     }
     Ok(())
 }
@@ -86,7 +86,7 @@ impl Lead {
             (lead_data self.now.fuses (change_data self.now.change) self.now.by second.now
             (edge_data edge.now)))) }
     {
-        draft.put(edge.changed(alloc, &self.change)?)?;
+        draft.put(edge.changed_edge(alloc, &self.change)?)?;
         if edge.accepts && self.fuses {
             put_fused(alloc, draft, edge, second, self.by)?;
         }

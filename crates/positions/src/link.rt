@@ -17,7 +17,7 @@ use std::alloc::{AllocError, Global};
 
 /// What comes after a match of the first part: the first positions of what lies between, and past
 /// it where it may be empty those of the second part.
-fn onward(
+fn onward_places(
     alloc: Global,
     first: &Table,
     between: &Table,
@@ -37,7 +37,7 @@ fn onward(
 }
 
 /// What becomes of the edges of the first part.
-fn leading(
+fn leading_change(
     alloc: Global,
     follows: bool,
     first: &Table,
@@ -51,7 +51,7 @@ fn leading(
         (λ c. change_data c ≡ leading_data follows first.now between.now second.now) }
 {
     let onward = if follows {
-        onward(alloc, first, between, second)?
+        onward_places(alloc, first, between, second)?
     } else {
         Vec::new(alloc)
     };
@@ -64,7 +64,7 @@ fn leading(
 }
 
 /// What becomes of the edges of what lies between.
-fn crossing(
+fn crossing_change(
     alloc: Global,
     first: &Table,
     between: &Table,
@@ -100,7 +100,7 @@ fn starts(
 {
     let mut list = Vec::from_slice(alloc, first.starts())?;
     if follows && first.admits_empty() {
-        let more = onward(alloc, first, between, second)?;
+        let more = onward_places(alloc, first, between, second)?;
         list.extend_from_slice(&more)?;
     }
     Ok(list)
@@ -133,15 +133,15 @@ pub(crate) fn link(
 {
     let by = first.len() + between.len();
     let lead = Lead {
-        change: leading(alloc, follows, first, between, second)?,
+        change: leading_change(alloc, follows, first, between, second)?,
         fuses,
         by,
     };
     let mut draft = Draft::new(alloc);
     lead.put_rows(alloc, &mut draft, first.rows(), second)?;
-    let change = crossing(alloc, first, between, second)?;
+    let change = crossing_change(alloc, first, between, second)?;
     draft.put_rows(alloc, between.rows(), &change)?;
-    draft.put_rows(alloc, second.rows(), &Change::moved(alloc, by))?;
+    draft.put_rows(alloc, second.rows(), &Change::by_places(alloc, by))?;
     let starts = starts(alloc, follows, first, between, second)?;
     let empty = admits_empty(follows, first, between, second);
     Ok(draft.table(starts, empty))

@@ -52,7 +52,7 @@ impl Pairing {
     }
 
     /// Two edges at once.
-    fn paired(&self, alloc: Global, edge: &Edge, other: &Edge) -> Result<Edge, AllocError>
+    fn paired_edge(&self, alloc: Global, edge: &Edge, other: &Edge) -> Result<Edge, AllocError>
         requires first { IsBelow self.now.first edge.now }
         requires second { IsBelow self.now.second other.now }
         ensures { IfOk result (λ e. edge_data e
@@ -93,7 +93,7 @@ impl Pairing {
             (map edge_data row.now)))) }
     {
         for other in row {
-            draft.put(self.paired(alloc, edge, other)?)?;
+            draft.put(self.paired_edge(alloc, edge, other)?)?;
         }
         Ok(())
     }

@@ -18,7 +18,7 @@ fn row_of(alloc: Global, push: u64, slots: usize) -> Result<Vec<u128>, AllocErro
 }
 
 /// The value by the list of all rows, or 0 before the first.
-fn wanted(rows: &[Vec<u128>], back: usize, slot: usize) -> u128 {
+fn wanted_value(rows: &[Vec<u128>], back: usize, slot: usize) -> u128 {
     if back < rows.len() {
         rows[rows.len() - 1 - back].get(slot).copied().unwrap_or(0)
     } else {
@@ -32,7 +32,7 @@ fn holds_row(ring: &Ring, rows: &[Vec<u128>], back: usize, slots: usize) -> bool
     requires slots { ring.now.slots ≡ slots }
 {
     for slot in 0..slots {
-        if ring.get(back, slot) != wanted(rows, back, slot) {
+        if ring.get(back, slot) != wanted_value(rows, back, slot) {
             return false;
         }
     }
@@ -97,7 +97,7 @@ fn is_cleared(alloc: Global, depth: usize, slots: usize) -> Result<bool, AllocEr
 }
 
 /// Takes what may move to another thread.
-fn moved<T: Send>(value: T) -> T
+fn moved_value<T: Send>(value: T) -> T
     ensures { result ≡ value }
 {
     value
@@ -151,7 +151,7 @@ fn at_most_one_refused(rt: HostRuntime) -> Result<(), Fail> {
 
 #[test]
 fn moves(rt: HostRuntime) -> Result<(), Fail> {
-    let ring = moved(Ring::new(rt.alloc(), 1, 1)?);
+    let ring = moved_value(Ring::new(rt.alloc(), 1, 1)?);
     assert!(rt; ring.get(1, 0) == 0);
     Ok(())
 }

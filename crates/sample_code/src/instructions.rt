@@ -8,7 +8,7 @@ ghost use Rattle.sample_code.specs.Operands.{operands, HasOne, HasTwo, HasThree}
 ghost use Rattle.sample_code.specs.Steps.{IsValue, IsHeld, IsReady, Leaves, LeavesAny};
 ghost use Rattle.sample_code.specs.Steps.{next_after, atoms_after, counters_after};
 
-use crate::operators::{compared, joined, reduced, shifted};
+use crate::operators::{compared_value, joined_value, reduced_value, shifted_value};
 use crate::stack::Stack;
 use bytecode::{CompareOperator, JoinOperator, ReduceOperator, SampleInstr, ShiftOperator};
 use history_ring::Ring;
@@ -66,7 +66,7 @@ fn join(stack: &mut Stack, operator: JoinOperator)
     ensures { LeavesAny (SampleInstr.Join operator) stack.old stack.new }
 {
     let (left, right) = stack.pop_two();
-    let value = joined(operator, left, right);
+    let value = joined_value(operator, left, right);
     stack.push(Bits {
         width: left.width,
         value,
@@ -80,7 +80,7 @@ fn compare(stack: &mut Stack, operator: CompareOperator)
     ensures { LeavesAny (SampleInstr.Compare operator) stack.old stack.new }
 {
     let (left, right) = stack.pop_two();
-    let value = compared(operator, left, right);
+    let value = compared_value(operator, left, right);
     stack.push(Bits { width: 1, value });
 }
 
@@ -91,7 +91,7 @@ fn shift(stack: &mut Stack, operator: ShiftOperator)
     ensures { LeavesAny (SampleInstr.Shift operator) stack.old stack.new }
 {
     let (moved, count) = stack.pop_two();
-    let value = shifted(operator, moved, count);
+    let value = shifted_value(operator, moved, count);
     stack.push(Bits {
         width: moved.width,
         value,
@@ -115,7 +115,7 @@ fn reduce(stack: &mut Stack, operator: ReduceOperator)
     ensures { LeavesAny (SampleInstr.Reduce operator) stack.old stack.new }
 {
     let operand = stack.pop();
-    let value = reduced(operator, operand);
+    let value = reduced_value(operator, operand);
     stack.push(Bits { width: 1, value });
 }
 

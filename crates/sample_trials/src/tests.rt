@@ -158,7 +158,7 @@ fn reads(alloc: Global, bytes: &[u8], value: u128) -> Result<bool, AllocError> {
 }
 
 /// `Push 1 bit, Push 8 3, Push 8 9, Mux`.
-fn chosen(alloc: Global, bit: u128, value: u128) -> Result<bool, AllocError> {
+fn chosen_value(alloc: Global, bit: u128, value: u128) -> Result<bool, AllocError> {
     let mut code = Vec::new(alloc);
     put_push(&mut code, 1, bit)?;
     put_push(&mut code, 8, 3)?;
@@ -169,7 +169,7 @@ fn chosen(alloc: Global, bit: u128, value: u128) -> Result<bool, AllocError> {
 }
 
 /// `Push 1 bit, JumpIfZero 4, Push 8 3, Jump 5, Push 8 9` and then `Zext 128, Store 0, Halt`.
-fn jumped(alloc: Global, bit: u128) -> Result<Option<Outcome>, AllocError> {
+fn jump_outcome(alloc: Global, bit: u128) -> Result<Option<Outcome>, AllocError> {
     let mut code = Vec::new(alloc);
     put_push(&mut code, 1, bit)?;
     put(&mut code, &[0x31, 0, 4])?;
@@ -237,15 +237,15 @@ fn rows_and_choices(rt: HostRuntime) -> Result<(), Fail> {
         assert!(rt; reads(rt.alloc(), bytes, value)?);
     }
     assert!(rt; makes(rt.alloc(), 8, 255, &[0x27, 9], 255)?);
-    assert!(rt; chosen(rt.alloc(), 1, 3)?);
-    assert!(rt; chosen(rt.alloc(), 0, 9)?);
+    assert!(rt; chosen_value(rt.alloc(), 1, 3)?);
+    assert!(rt; chosen_value(rt.alloc(), 0, 9)?);
     Ok(())
 }
 
 #[test]
 fn ways_and_ticks(rt: HostRuntime) -> Result<(), Fail> {
-    assert!(rt; jumped(rt.alloc(), 1)? == left(3, false, 7));
-    assert!(rt; jumped(rt.alloc(), 0)? == left(9, false, 6));
+    assert!(rt; jump_outcome(rt.alloc(), 1)? == left(3, false, 7));
+    assert!(rt; jump_outcome(rt.alloc(), 0)? == left(9, false, 6));
     assert!(rt; atom_set(rt.alloc(), 1)? == left(9, true, 3));
     assert!(rt; atom_set(rt.alloc(), 0)? == left(9, false, 3));
     assert!(rt; outcome_of(rt.alloc(), 1, &[0x34])? == left(9, false, 1));

@@ -22,7 +22,7 @@ pub struct AttemptRecord {
 
 impl AttemptRecord {
     /// The attempt after its visit at the tick `now`.
-    pub fn visited(self, visit: Visit, now: u64) -> AttemptRecord
+    pub fn visited_record(self, visit: Visit, now: u64) -> AttemptRecord
         requires started { self.start ≤ now }
         requires young { visit.accepted ≡ true → now < self.start + 128 }
         ensures { attempt_of result ≡ visited now (attempt_of self) (made_by visit) }

@@ -8,7 +8,7 @@
 //! ```text
 //! let bases = bases_of(alloc, &program.antecedent)?;
 //! let visit = visit_positions(&program.antecedent, &bases, &atoms, attempt.positions, &mut left);
-//! let attempt = attempt.visited(visit, now);
+//! let attempt = attempt.visited_record(visit, now);
 //! let verdict = attempt.verdict(fates, now);
 //! ```
 //!

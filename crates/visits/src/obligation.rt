@@ -24,7 +24,7 @@ impl ObligationRecord {
     }
 
     /// The obligation after a visit that left it open.
-    pub fn visited(self, visit: Visit) -> ObligationRecord
+    pub fn visited_record(self, visit: Visit) -> ObligationRecord
         ensures { obligation_of result ≡ left_open (fate_of self visit) }
     {
         ObligationRecord {

@@ -13,7 +13,7 @@ use crate::job::Job;
 use crate::look::{are_at, are_free, are_idle, held_by, is_free_worker, stands_below};
 use crate::monitor::Monitor;
 use crate::opening::{idle_workers, monitors_of, numbers_below, window_of};
-use crate::order::{empty_done, gathered};
+use crate::order::{empty_done, numbers_of};
 use crate::step::Reply;
 use crate::worker::{Worker, put_down};
 use batches::Batch;
@@ -156,7 +156,7 @@ impl<'j> Floor<'j> {
         if !self.waiting.is_empty() || !are_free(self.workers.as_slice()) {
             return Reply::Refused;
         }
-        match gathered(alloc, self.workers.as_slice()) {
+        match numbers_of(alloc, self.workers.as_slice()) {
             Err(_) => Reply::Memory,
             Ok(all) => {
                 self.waiting = all;

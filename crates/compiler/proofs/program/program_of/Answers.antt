@@ -34,13 +34,13 @@ invariant_of-result c =
           program-fits c.args.suite.now c.args.assertion.now c.requires.fit c.args.reading.now.signals.items
           c.args.reading.now.counters.items c.requires.reading.is
           c.requires.counted
-          (data_from c.undeclared.result c.disabling.result c.len.result c.in_ok-from_str.field-0
+          (data_from c.undeclared_limits.result c.disabling_atom.result c.len.result c.in_ok-from_str.field-0
           c.in_ok-from_str-2.field-0 c.in_ok-signal_slots.field-0
           c.in_ok-counter_widths.field-0 c.in_ok-sample.sample c.in_ok-antecedent.antecedent
           c.in_ok-consequent.consequent)
           (record {
-            limits = c.undeclared.ensures;
-            disable = c.disabling.ensures;
+            limits = c.undeclared_limits.ensures;
+            disable = c.disabling_atom.ensures;
             atoms = c.len.ensures ∙ c.args.assertion.now.booleans.ok.0;
             name = c.in_ok-from_str.ensures.ok ∙ c.as_str.ensures.value;
             clock = c.in_ok-from_str-2.ensures.ok ∙ c.as_str-2.ensures.value;

@@ -60,14 +60,14 @@ set-requires c =
     let i = c.loop-at.invariant in
     steps.live c.loop-at.pool c.loop-at.at c.in-Some.slot i.before i.rest i.stands c.in-Some.is
 
-pub visited-requires-clause-started : goal.visited-requires-clause-started
-visited-requires-clause-started c =
+pub visited_record-requires-clause-started : goal.visited_record-requires-clause-started
+visited_record-requires-clause-started c =
     laws.started (data_of c.args.program.now) c.args.atoms.now c.args.now c.loop-at.pool c.loop-at.at c.loop-at.left
     c.loop-at.accepted c.args.pool.now c.args.left.now c.loop-at.invariant c.in-Some.slot c.in-Some.is
     c.get-attempt.result c.get-attempt.ensures
 
-pub visited-requires-clause-young : goal.visited-requires-clause-young
-visited-requires-clause-young c =
+pub visited_record-requires-clause-young : goal.visited_record-requires-clause-young
+visited_record-requires-clause-young c =
     let p = data_of c.args.program.now in
     laws.young (data_of c.args.program.now) c.args.atoms.now c.args.now c.loop-at.pool c.loop-at.at c.loop-at.left
     c.loop-at.accepted c.args.pool.now c.args.left.now c.loop-at.invariant c.in-Some.slot c.in-Some.is
@@ -83,7 +83,7 @@ loop-at-smaller c =
     c.get-attempt.result c.get-attempt.ensures
     (needs.antecedent (data_of c.args.program.now) c.requires.accepted c.args.atoms.now c.requires.atoms)
     (made_by c.visit_positions-made.result) c.visit_positions-made.new.left c.visit_positions-made.ensures
-    c.next-at.result c.next-at.ensures c.set.new.self c.visited.result c.visited.ensures c.set.ensures
+    c.next-at.result c.next-at.ensures c.set.new.self c.visited_record.result c.visited_record.ensures c.set.ensures
     (c.loop-at.accepted || c.visit_positions-made.result.accepted) refl).1
 
 pub loop-at-preserved : goal.loop-at-preserved
@@ -93,7 +93,7 @@ loop-at-preserved c =
     c.get-attempt.result c.get-attempt.ensures
     (needs.antecedent (data_of c.args.program.now) c.requires.accepted c.args.atoms.now c.requires.atoms)
     (made_by c.visit_positions-made.result) c.visit_positions-made.new.left c.visit_positions-made.ensures
-    c.next-at.result c.next-at.ensures c.set.new.self c.visited.result c.visited.ensures c.set.ensures
+    c.next-at.result c.next-at.ensures c.set.new.self c.visited_record.result c.visited_record.ensures c.set.ensures
     (c.loop-at.accepted || c.visit_positions-made.result.accepted) refl).0
 
 pub returns : goal.returns

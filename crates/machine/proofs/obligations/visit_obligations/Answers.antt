@@ -104,8 +104,9 @@ loop-at-smaller c =
     c.get-obligation.result c.get-obligation.ensures
     (needs.consequent (data_of c.args.program.now) c.requires.accepted c.args.atoms.now c.requires.atoms)
     (made_by c.visit_positions-made.result) c.visit_positions-made.new.left c.visit_positions-made.ensures
-    (sym c.is_ended.ensures ∙ c.if-is_ended.false) c.next-at.result c.next-at.ensures c.set.new.self c.visited.result
-    c.visited.ensures c.set.ensures c.note.new.self c.note.ensures.open c.note.ensures.broken).1
+    (sym c.is_ended.ensures ∙ c.if-is_ended.false) c.next-at.result c.next-at.ensures c.set.new.self
+    c.visited_record.result
+    c.visited_record.ensures c.set.ensures c.note.new.self c.note.ensures.open c.note.ensures.broken).1
 
 pub loop-at-preserved : goal.loop-at-preserved
 loop-at-preserved c =
@@ -114,8 +115,9 @@ loop-at-preserved c =
     c.get-obligation.result c.get-obligation.ensures
     (needs.consequent (data_of c.args.program.now) c.requires.accepted c.args.atoms.now c.requires.atoms)
     (made_by c.visit_positions-made.result) c.visit_positions-made.new.left c.visit_positions-made.ensures
-    (sym c.is_ended.ensures ∙ c.if-is_ended.false) c.next-at.result c.next-at.ensures c.set.new.self c.visited.result
-    c.visited.ensures c.set.ensures c.note.new.self c.note.ensures.open c.note.ensures.broken).0
+    (sym c.is_ended.ensures ∙ c.if-is_ended.false) c.next-at.result c.next-at.ensures c.set.new.self
+    c.visited_record.result
+    c.visited_record.ensures c.set.ensures c.note.new.self c.note.ensures.open c.note.ensures.broken).0
 
 pub returns : goal.returns
 returns c = record {

@@ -46,8 +46,8 @@ put_rows-requires-clause-near c =
     let u : TableData = c.args.second.now in
     let product : c.first_alone.result ≡ length t.rows * length u.rows =
     c.first_alone.ensures ∙ product-of c.len.result c.len-2.result t u c.len.ensures c.len-2.ensures in
-    let by = ap (λ (x : ChangeData). x.by) c.moved-first_alone.ensures in
-    near_rows c.moved-first_alone.result.by c.rows-firsts.result.now t c.rows-firsts.ensures.rows
+    let by = ap (λ (x : ChangeData). x.by) c.by_places-first_alone.ensures in
+    near_rows c.by_places-first_alone.result.by c.rows-firsts.result.now t c.rows-firsts.ensures.rows
     c.requires.first_placed
     (let few = c.requires.few in omega (arith, by, product))
 
@@ -59,8 +59,8 @@ put_rows-requires-2-clause-near c =
     c.first_alone.ensures ∙ product-of c.len.result c.len-2.result t u c.len.ensures c.len-2.ensures in
     let sum : c.second_alone.result ≡ length t.rows * length u.rows + length t.rows =
     c.second_alone.ensures ∙ sum-of c.len.result c.len-2.result t u c.len.ensures c.len-2.ensures in
-    let by = ap (λ (x : ChangeData). x.by) c.moved-second_alone.ensures in
-    near_rows c.moved-second_alone.result.by c.rows-seconds.result.now u c.rows-seconds.ensures.rows
+    let by = ap (λ (x : ChangeData). x.by) c.by_places-second_alone.ensures in
+    near_rows c.by_places-second_alone.result.by c.rows-seconds.result.now u c.rows-seconds.ensures.rows
     c.requires.second_placed
     (let few = c.requires.few in omega (arith, by, sum))
 
@@ -79,8 +79,8 @@ returns-in_err-put_rows-clause-err c =
     c.new-draft.ensures c.in_ok-put_all.ensures.ok
     (pairs-made c.len.result c.len-2.result t u _ _ c.len.ensures c.len-2.ensures c.rows-firsts.ensures.rows
     c.rows-seconds.ensures.rows)
-    (change_all (change_data c.moved-first_alone.result) (rows_data c.rows-firsts.result.now))
-    (changed-made _ _ _ _ (c.moved-first_alone.ensures ∙ ap moved product) c.rows-firsts.ensures.rows))
+    (change_all (change_data c.by_places-first_alone.result) (rows_data c.rows-firsts.result.now))
+    (changed-made _ _ _ _ (c.by_places-first_alone.ensures ∙ ap moved product) c.rows-firsts.ensures.rows))
 
 pub returns-in_err-put_rows-2-clause-err : goal.returns-in_err-put_rows-2-clause-err
 returns-in_err-put_rows-2-clause-err c =
@@ -100,11 +100,11 @@ returns-in_err-put_rows-2-clause-err c =
     (pairs-made c.len.result c.len-2.result t u _ _ c.len.ensures c.len-2.ensures c.rows-firsts.ensures.rows
     c.rows-seconds.ensures.rows)
     c.put_rows.new.self
-    (change_all (change_data c.moved-first_alone.result) (rows_data c.rows-firsts.result.now))
+    (change_all (change_data c.by_places-first_alone.result) (rows_data c.rows-firsts.result.now))
     c.in_ok-put_rows.ensures.ok
-    (changed-made _ _ _ _ (c.moved-first_alone.ensures ∙ ap moved product) c.rows-firsts.ensures.rows)
-    (change_all (change_data c.moved-second_alone.result) (rows_data c.rows-seconds.result.now))
-    (changed-made _ _ _ _ (c.moved-second_alone.ensures ∙ ap moved sum) c.rows-seconds.ensures.rows))
+    (changed-made _ _ _ _ (c.by_places-first_alone.ensures ∙ ap moved product) c.rows-firsts.ensures.rows)
+    (change_all (change_data c.by_places-second_alone.result) (rows_data c.rows-seconds.result.now))
+    (changed-made _ _ _ _ (c.by_places-second_alone.ensures ∙ ap moved sum) c.rows-seconds.ensures.rows))
 
 pub returns-clause-ok : goal.returns-clause-ok
 returns-clause-ok c =
@@ -124,13 +124,13 @@ returns-clause-ok c =
     (pairs-made c.len.result c.len-2.result t u _ _ c.len.ensures c.len-2.ensures c.rows-firsts.ensures.rows
     c.rows-seconds.ensures.rows)
     c.put_rows.new.self
-    (change_all (change_data c.moved-first_alone.result) (rows_data c.rows-firsts.result.now))
+    (change_all (change_data c.by_places-first_alone.result) (rows_data c.rows-firsts.result.now))
     c.in_ok-put_rows.ensures.ok
-    (changed-made _ _ _ _ (c.moved-first_alone.ensures ∙ ap moved product) c.rows-firsts.ensures.rows)
+    (changed-made _ _ _ _ (c.by_places-first_alone.ensures ∙ ap moved product) c.rows-firsts.ensures.rows)
     c.put_rows-2.new.self
-    (change_all (change_data c.moved-second_alone.result) (rows_data c.rows-seconds.result.now))
+    (change_all (change_data c.by_places-second_alone.result) (rows_data c.rows-seconds.result.now))
     c.in_ok-put_rows-2.ensures.ok
-    (changed-made _ _ _ _ (c.moved-second_alone.ensures ∙ ap moved sum) c.rows-seconds.ensures.rows) in
+    (changed-made _ _ _ _ (c.by_places-second_alone.ensures ∙ ap moved sum) c.rows-seconds.ensures.rows) in
     let all : TableData = both_data t u in
     c.table.ensures
     ∙ ap (λ xs. record { rows = xs; starts = c.in_ok-starts.starts.items; empty = c.admits_empty-empty.result }) rows

@@ -10,10 +10,10 @@ pub returns-clause-took : goal.returns-clause-took
 returns-clause-took c = λ before took.
     let one = c.args.one ∷ [] in
     record {
-      counts = c.counted-self.ensures.tally (map (λ (d : Decided). d.verdict) before) took.counts
+      counts = c.counts_with-self.ensures.tally (map (λ (d : Decided). d.verdict) before) took.counts
           ∙ ap tally_of (sym (map-append (λ (d : Decided). d.verdict) before one));
       fails = c.in_ok-push_failure.ensures
           ∙ ap (λ l. l ++ filter_map failure_of one) took.fails
           ∙ sym (filter_map-append failure_of before one);
-      many = omega (arith, c.counted-self.ensures.all, took.many, length-append before one);
+      many = omega (arith, c.counts_with-self.ensures.all, took.many, length-append before one);
     }

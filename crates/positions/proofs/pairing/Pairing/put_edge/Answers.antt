@@ -9,6 +9,7 @@ returns-in_err-put-clause-err c =
     (edges-next (paired_data c.args.self.now.first c.args.self.now.second (edge_data c.args.edge.now)) edge_data
     c.args.row.now
     c.loop-other.other-index c.other-item.result
-    c.args.draft.now c.loop-other.draft (edge_data c.in_ok-paired.field-0) c.loop-other-test.true c.loop-other.invariant
+    c.args.draft.now c.loop-other.draft (edge_data c.in_ok-paired_edge.field-0) c.loop-other-test.true
+    c.loop-other.invariant
     c.other-item.is
-    c.in_ok-paired.ensures)
+    c.in_ok-paired_edge.ensures)
