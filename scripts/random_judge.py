@@ -9,8 +9,8 @@ Drawn are: each form of sequence; the operators and functions of expressions, an
 them, and now and then where it doesn't; zeros of a dump written as 0, x or z; changes before the edge and in its step; changes left out where
 the value stays; pulses between the steps; a clock that falls to x or z, or is 1 at first; two names of one variable, in other scopes. Not drawn are
 $dumpoff, faults but Y5, Y6 and Y9, and traces of more than 20 clocks. It stops at the first case whose report, refusal or status differs,
-or that takes over a minute, and leaves its files in the working folder. A case that `check` doesn't compile (K2) is compared by `judge` alone,
-and counted.
+or that takes over a minute, and leaves its files in the working folder. A case that `check` doesn't compile (K2), through
+either window, is compared by `judge` alone, and counted; more than one in a thousand is told as a difference.
 """
 import pathlib
 import re
@@ -396,20 +396,23 @@ def main():
         dump_file.write_text(dump)
         text_file.write_text(text)
         report_file.write_text(report)
-        for command in (['check'], ['check', '--window', '3'], ['judge']):
+        answers = {}
+        for command in (('check',), ('check', '--window', '3'), ('judge',)):
             words = [program, *command, '--vcd', str(dump_file), '--sva', str(text_file)]
             try:
                 ran = subprocess.run(words, capture_output=True, text=True, timeout=SECONDS)
             except subprocess.TimeoutExpired:
                 print('case %d of seed %d takes over %d s: %s' % (number, seed, SECONDS, ' '.join(words)))
                 return 1
-            answer = (ran.stdout, ran.stderr, ran.returncode)
-            if answer == TOO_LONG and status != 2 and command[0] == 'check':
-                too_long += command == ['check']
-                continue
+            answers[command] = ran.stdout, ran.stderr, ran.returncode
+        compiled = [answer for command, answer in answers.items() if command[0] == 'check']
+        if status != 2 and all(answer == TOO_LONG for answer in compiled) and 1000 * (too_long + 1) <= max(cases, 1000):
+            too_long += 1
+            answers = {('judge',): answers['judge',]}
+        for command, answer in answers.items():
             if answer != (report, refused, status):
-                print('case %d of seed %d differs (%s): status %d, not %d' % (number, seed, ' '.join(command), ran.returncode, status))
-                print(text + '--- svamon\n' + ran.stdout + ran.stderr + '--- by the definition\n' + report + refused)
+                print('case %d of seed %d differs (%s): status %d, not %d' % (number, seed, ' '.join(command), answer[2], status))
+                print(text + '--- svamon\n' + answer[0] + answer[1] + '--- by the definition\n' + report + refused)
                 return 1
         refusals += status == 2
         attempts += sum(int(word) for line in report.splitlines() if line.startswith('total') for word in line.split()[2::2])
