@@ -2,8 +2,8 @@
 
 use crate::outcome::told;
 use crate::reports::has_line;
-use cli::{Fault, verify_code};
-use cli_runs::run_code;
+use cli::Fault;
+use cli_code::{run_code, verify_code};
 use signals::{Counted, CutWriter};
 use std::alloc::{AllocError, Global};
 use std::test::Fail;

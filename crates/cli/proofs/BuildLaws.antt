@@ -6,16 +6,16 @@ use Rattle.assertions.specs.declared.assertion.Assertion.{Assertion}
 use Rattle.assertions.specs.declared.suite.Suite.{Suite}
 use Rattle.parser.specs.declared.fault.ParseFault.{ParseFault}
 use Rattle.parser.specs.declared.fault.ParseFault.TheVariants as parsing
-use Rattle.types.specs.declared.fault.TypeFault.{TypeFault}
-use Rattle.types.specs.declared.fault.TypeFault.TheVariants as types
+use Rattle.types_suites.specs.declared.fault.TypeFault.{TypeFault}
+use Rattle.types_suites.specs.declared.fault.TypeFault.TheVariants as types
 use Rattle.compiler.specs.declared.fault.CompileFault.{CompileFault}
 use Rattle.compiler.specs.declared.fault.CompileFault.TheVariants as compiles
 use Rattle.compiler.specs.Faults.{WhyNotCompiled}
 use Rattle.vcd_reader.specs.declared.fault.VcdFault.{VcdFault}
 use Rattle.vcd_reader.specs.declared.fault.VcdFault.TheVariants as dumps
 use Rattle.vcd_reader.specs.Dump.{Contents, GaveDump, Stands}
-use Rattle.cli.specs.declared.fault.Fault.{Fault}
-use Rattle.cli.specs.declared.fault.Fault.TheVariants.{
+use Rattle.outcomes.specs.declared.fault.Fault.{Fault}
+use Rattle.outcomes.specs.declared.fault.Fault.TheVariants.{
   Vcd,
   Lex,
   Parse,
@@ -33,7 +33,7 @@ use Rattle.cli.specs.declared.fault.Fault.TheVariants.{
   File,
   Memory,
 }
-use Rattle.cli.specs.Faults.{vcd_fault, type_fault, compile_fault}
+use Rattle.outcomes.specs.Faults.{vcd_fault, type_fault, compile_fault}
 use Rattle.cli.specs.Reported.{HasItems, SaysSuite}
 use Rattle.cli.specs.Outcomes.{WhyNoItems, WhyNotTyped, IsMistyped, WhyNoReport}
 use Rattle.cli.specs.Builds.{

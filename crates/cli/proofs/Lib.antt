@@ -1,10 +1,5 @@
-pub mod LineLaws
-pub mod PushLaws
-pub mod SampledLaws
-pub mod ReportLaws
 pub mod RunLaws
 pub mod PathLaws
 pub mod TextLaws
-pub mod VerifyLaws
 pub mod ProgramLaws
 pub mod BuildLaws

@@ -7,9 +7,9 @@ use Rattle.compiler.specs.declared.fault.CompileFault.TheVariants as compiles
 use Rattle.vcd_reader.specs.declared.fault.VcdFault.{VcdFault}
 use Rattle.vcd_reader.specs.declared.fault.VcdFault.TheVariants as dumps
 use Rattle.vcd_reader.specs.Dump.{Contents, GaveDump, Stands}
-use Rattle.cli.specs.Faults.{vcd_fault}
-use Rattle.cli.specs.declared.fault.Fault.{Fault}
-use Rattle.cli.specs.declared.fault.Fault.TheVariants.{
+use Rattle.outcomes.specs.Faults.{vcd_fault}
+use Rattle.outcomes.specs.declared.fault.Fault.{Fault}
+use Rattle.outcomes.specs.declared.fault.Fault.TheVariants.{
   Vcd,
   Lex,
   Parse,
@@ -27,11 +27,10 @@ use Rattle.cli.specs.declared.fault.Fault.TheVariants.{
   File,
   Memory,
 }
+use Rattle.outcomes.specs.Runs.{Run, IsUnwritten}
 use Rattle.cli.specs.Outcomes.{
-  Run,
   WhyNoReport,
   IsRefusedReport,
-  IsUnwritten,
   WhyRunRefused,
   IsNotCompiled,
   WhyNoneByPrograms,

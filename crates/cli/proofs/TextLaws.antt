@@ -41,10 +41,10 @@ use Rattle.assertions.specs.declared.suite.Suite.{Suite}
 use Rattle.cli.specs.Dumps.{width_named}
 use Rattle.text_names.specs.Columns.{columns_of, is_listed}
 use Rattle.text_names.specs.Asked.{asked}
-use Rattle.types.specs.declared.fault.TypeFault.{TypeFault}
-use Rattle.types.specs.declared.fault.TypeFault.TheVariants as types
-use Rattle.types.specs.Faults as faults
-use Rattle.types.specs.Faults.{IsFirst, IsFaultless}
+use Rattle.types_suites.specs.declared.fault.TypeFault.{TypeFault}
+use Rattle.types_suites.specs.declared.fault.TypeFault.TheVariants as types
+use Rattle.types_suites.specs.Faults as faults
+use Rattle.types_suites.specs.Faults.{IsFirst, IsFaultless}
 use Rattle.types_suites.specs.Suites.{AreSignals, IsSuite}
 use Rattle.compiled_lines.specs.declared.fault.LinesFault.{LinesFault}
 use Rattle.compiled_lines.specs.declared.fault.LinesFault.TheVariants.{Program}
@@ -56,8 +56,8 @@ use Rattle.vcd_reader.specs.Dump.{Contents}
 use Rattle.cycle_window.specs.declared.fault.WindowFault.{WindowFault}
 use Rattle.cycle_window.specs.declared.fault.WindowFault.TheVariants as windows
 use Rattle.cycle_window.specs.Bound.{IsClockFault, OtherWidth, misfit}
-use Rattle.cli.specs.declared.fault.Fault.{Fault}
-use Rattle.cli.specs.declared.fault.Fault.TheVariants.{
+use Rattle.outcomes.specs.declared.fault.Fault.{Fault}
+use Rattle.outcomes.specs.declared.fault.Fault.TheVariants.{
   Vcd,
   Lex,
   Parse,
@@ -75,8 +75,9 @@ use Rattle.cli.specs.declared.fault.Fault.TheVariants.{
   File,
   Memory,
 }
-use Rattle.cli.specs.Named.{scope_over, AreNamed}
-use Rattle.cli.specs.Faults.{lex_fault, parse_fault, type_fault, window_fault, lines_fault}
+use Rattle.cli.specs.Named.{scope_over}
+use Rattle.suite_reports.specs.Named.{AreNamed}
+use Rattle.outcomes.specs.Faults.{lex_fault, parse_fault, type_fault, window_fault, lines_fault}
 use Rattle.cli.specs.Reported.{AreTokens, HasItems, IsTyped, SaysSuite}
 use Rattle.cli.specs.Outcomes.{
   HasNoItems,
@@ -249,12 +250,6 @@ unclocked c text suite windows.BadSize says h = elim h [ ]
 unclocked c text suite (windows.NoSignal p) says h = elim h [ ]
 unclocked c text suite (windows.SignalWidth p) says h = elim h [ ]
 unclocked c text suite windows.Memory says h = tt
-
--- what an error that is known says
-pub err_is : {X : Type 0} (r : Result X Fault) (e : Fault) (Why : Fault → Type 0)
-    → IsErrAnd r (λ f. f ≡ e) → Why e → IfErr r Why
-err_is (Ok x) e Why h why = tt
-err_is (Err f) e Why h why = subst Why (sym h) why
 
 -- a text that has no report at all has none by programs
 pub none_by_programs : (c : Contents) (text : List ℕ) (e : Fault) → WhyNoReport c text e

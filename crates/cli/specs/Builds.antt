@@ -15,12 +15,12 @@ use Rattle.compiler.specs.Programs.{IsProgramOf}
 use Rattle.vcd_reader.specs.declared.fault.VcdFault.TheVariants as dumps
 use Rattle.vcd_reader.specs.Dump.{Contents, GaveDump, Stands}
 use Rattle.lexer.specs.Covering.{IsFaulty}
-use Rattle.cli.specs.declared.fault.Fault.{Fault}
-use Rattle.cli.specs.declared.fault.Fault.TheVariants.{Vcd, Lex, Parse, Typing, Compile}
-use Rattle.cli.specs.declared.fault.Fault.TheVariants.{NoAssertion, Memory}
+use Rattle.outcomes.specs.declared.fault.Fault.{Fault}
+use Rattle.outcomes.specs.declared.fault.Fault.TheVariants.{Vcd, Lex, Parse, Typing, Compile}
+use Rattle.outcomes.specs.declared.fault.Fault.TheVariants.{NoAssertion, Memory}
 use Rattle.cli.specs.Reported.{SaysSuite}
 use Rattle.cli.specs.Outcomes.{HasNoItems, IsMistyped}
-use Rattle.cli.specs.Verifications.{Spells}
+use Rattle.outcomes.specs.Codes.{Spells}
 
 -- The suite's assertion of this name.
 pub record IsNamed (suite : Suite) (name : List ℕ) (a : Assertion) : Type 0 where

@@ -1,25 +1,11 @@
 -- The names of a text over a dump.
-use Rattle.std.specs.Prelude.{◌≡◌, ℕ, List, [], ◌∷◌, Some, string_bytes}
-use Rattle.std.specs.Option.{option_map}
+use Rattle.std.specs.Prelude.{List}
 use Rattle.grammar.specs.Trees.{ItemForm}
-use Rattle.assertions.specs.declared.signal.Signal.{Signal}
 use Rattle.text_names.specs.Scopes.{Scope}
 use Rattle.text_names.specs.Asked.{scope_for}
 use Rattle.cli.specs.Dumps.{width_named}
-use Rattle.vcd_reader.specs.Variables.{Declared, variable_named, size_of}
-use Rattle.cycle_window.specs.Bound.{Wanted}
+use Rattle.vcd_reader.specs.Variables.{Declared}
 
 -- The scope of a text over the variables of a dump: the text's own names, and the dump's paths.
 abbrev pub scope_over : List Declared → List ItemForm → Scope
 scope_over vs items = scope_for items (width_named vs)
-
--- Each signal's path names a variable of the signal's width.
-abbrev pub AreNamed : List Declared → List Signal → Type 0
-AreNamed vs [] = Unit {0}
-AreNamed vs (s ∷ ss) =
-    (option_map (size_of vs) (variable_named vs (string_bytes s.path)) ≡ Some s.width)
-    × AreNamed vs ss
-
--- a signal as it is bound
-abbrev pub wanted_in_suite : Signal → Wanted
-wanted_in_suite s = record { path = string_bytes s.path; width = s.width }

@@ -1,8 +1,8 @@
 -- What a run over a source, a text and a sink comes to.
-use Rattle.std.specs.Prelude.{◌≡◌, ℕ, List, [], ◌∷◌, None, string_bytes}
+use Rattle.std.specs.Prelude.{◌≡◌, ℕ, List, None, string_bytes}
 use Rattle.std.specs.Io.KnownBytes.{Appends}
-use Rattle.signals.specs.Source.{SourceState, after_failure}
-use Rattle.signals.specs.Sink.{SinkState, AppendsFront}
+use Rattle.signals.specs.Source.{after_failure}
+use Rattle.signals.specs.Sink.{AppendsFront}
 use Rattle.lexer.specs.declared.token.Token.{Token}
 use Rattle.lexer.specs.Covering.{IsFaulty}
 use Rattle.grammar.specs.Trees.{ItemForm}
@@ -11,49 +11,28 @@ use Rattle.assertions.specs.declared.suite.Suite.{Suite}
 use Rattle.parser.specs.declared.fault.ParseFault.{ParseFault}
 use Rattle.parser.specs.declared.fault.ParseFault.TheVariants as parsing
 use Rattle.parser.specs.Faults.{IsPlaced}
-use Rattle.types.specs.declared.fault.TypeFault.{TypeFault}
-use Rattle.types.specs.declared.fault.TypeFault.TheVariants as types
-use Rattle.types.specs.Faults.{IsFirst}
+use Rattle.types_suites.specs.declared.fault.TypeFault.{TypeFault}
+use Rattle.types_suites.specs.declared.fault.TypeFault.TheVariants as types
+use Rattle.types_suites.specs.Faults.{IsFirst}
 use Rattle.compiler.specs.declared.fault.CompileFault.{CompileFault}
 use Rattle.compiler.specs.declared.fault.CompileFault.TheVariants as compiles
 use Rattle.compiled_lines.specs.Faults.{HasNoProgram, HasBadCount}
-use Rattle.vcd_reader.specs.declared.fault.VcdFault.{VcdFault}
 use Rattle.vcd_reader.specs.declared.fault.VcdFault.TheVariants as dumps
 use Rattle.vcd_reader.specs.Variables.{variable_named}
-use Rattle.vcd_reader.specs.Dump.{Contents, Gave, GaveDump, Stands}
+use Rattle.vcd_reader.specs.Dump.{Contents, Gave, GaveDump}
 use Rattle.cycle_window.specs.declared.fault.WindowFault.{WindowFault}
 use Rattle.cycle_window.specs.declared.fault.WindowFault.TheVariants as windows
-use Rattle.cycle_window.specs.Bound.{misfit, IsClockFault, IsBadSize}
-use Rattle.verdicts.specs.declared.line.Counts.{Counts}
+use Rattle.cycle_window.specs.Bound.{misfit, IsClockFault}
 use Rattle.verdicts.specs.declared.write.ReportFault.TheVariants as reports
 use Rattle.verdicts.specs.Lines.{ReportData}
 use Rattle.verdicts.specs.Texts.{report_text}
-use Rattle.cli.specs.declared.fault.Fault.{Fault}
-use Rattle.cli.specs.declared.fault.Fault.TheVariants.{Vcd, Lex, Parse, Typing, Compile, BadJob}
-use Rattle.cli.specs.declared.fault.Fault.TheVariants.{Window, Report, Memory}
+use Rattle.outcomes.specs.declared.fault.Fault.{Fault}
+use Rattle.outcomes.specs.declared.fault.Fault.TheVariants.{Vcd, Lex, Parse, Typing, Compile}
+use Rattle.outcomes.specs.declared.fault.Fault.TheVariants.{BadJob, Window, Report, Memory}
+use Rattle.outcomes.specs.Runs.{Run, totals_of, IsUnwritten, IsUnread, IsOutOfMemory}
+use Rattle.outcomes.specs.Runs.{IsOutOfRange}
 use Rattle.cli.specs.Named.{scope_over}
 use Rattle.cli.specs.Reported.{AreTokens, HasItems, SaysSuite, IsReport}
-
--- the counts of a report's last line, in its order
-abbrev pub totals_of : Counts → List ℕ
-totals_of c = c.holds ∷ c.vacuous ∷ c.fails ∷ c.disabled ∷ c.still_open ∷ []
-
--- What a run was given and what it left: the text, and the source and the sink before and after.
-pub record Run : Type 0 where
-  pub text : List ℕ
-  pub source_before : SourceState
-  pub source_after : SourceState
-  pub sink_before : SinkState
-  pub sink_after : SinkState
-
-abbrev pub run_of : List ℕ → SourceState → SourceState → SinkState → SinkState → Run
-run_of text source_before source_after sink_before sink_after = record {
-  text = text;
-  source_before = source_before;
-  source_after = source_after;
-  sink_before = sink_before;
-  sink_after = sink_after;
-}
 
 -- The source gave all its bytes, and the text of the report on them and on the text was written;
 -- the totals are its last line's. No call failed.
@@ -66,11 +45,6 @@ pub record IsAnswered (r : Run) (totals : List ℕ) : Type 0 where
   pub totals_are : totals ≡ totals_of report.total
   pub reads : r.source_after.failures ≡ r.source_before.failures
   pub writes : r.sink_after.failures ≡ r.sink_before.failures
-
--- nothing was written
-pub record IsUnwritten (r : Run) : Type 0 where
-  pub held : r.sink_after.contents ≡ r.sink_before.contents
-  pub counted : r.sink_after.failures ≡ r.sink_before.failures
 
 -- the text has tokens, no file spells them, and the fault stands at one of them
 pub record HasNoItems (text : List ℕ) (fault : ParseFault) : Type 0 where
@@ -156,16 +130,6 @@ pub record IsCutShort (r : Run) : Type 0 where
   pub failed : r.sink_after.failures ≡ after_failure r.sink_before.failures
   pub front : AppendsFront r.sink_before.contents r.sink_after.contents (report_text report)
 
--- the dump's fault stands, and nothing was written
-pub record IsUnread (r : Run) (fault : VcdFault) : Type 0 where
-  pub stands : Stands r.source_before r.source_after fault
-  pub unwritten : IsUnwritten r
-
--- memory ran out: no call failed, and nothing was written
-pub record IsOutOfMemory (r : Run) : Type 0 where
-  pub reads : r.source_after.failures ≡ r.source_before.failures
-  pub unwritten : IsUnwritten r
-
 -- why there is no report, or not all of it
 abbrev pub WhyRunRefused : Run → Fault → Type 0
 WhyRunRefused r (Vcd dumps.Memory) = ⊥
@@ -203,13 +167,6 @@ WhyCheckRefused r (Compile compiles.Memory) = ⊥
 WhyCheckRefused r (Compile e) = IsUncompiled r e
 WhyCheckRefused r BadJob = IsWithoutJob r
 WhyCheckRefused r fault = WhyRunRefused r fault
-
--- the window's size is out of range, and nothing was read or written
-pub record IsOutOfRange (window : ℕ) (r : Run) : Type 0 where
-  pub size : IsBadSize window
-  pub unread : r.source_after.remaining ≡ r.source_before.remaining
-  pub calls : r.source_after.failures ≡ r.source_before.failures
-  pub unwritten : IsUnwritten r
 
 -- why nothing was checked, or not all of the report written
 abbrev pub WhyNotChecked : ℕ → Run → Fault → Type 0

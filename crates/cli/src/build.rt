@@ -8,11 +8,11 @@ ghost use Rattle.compiler.specs.Conditions.{IsFit};
 ghost use Rattle.cli.specs.Builds.{IsNamed, LacksName, IsSpelledProgram, WhyNoProgram};
 ghost use Rattle.cli.specs.Builds.{IsBuilt, WhyNotBuilt, IsBuiltFrom, WhyBuildRefused, build_of};
 
-use crate::fault::Fault;
 use crate::text::{file_of, suite_of};
 use assertions::{Assertion, Suite};
 use bytecode::encode;
 use compiler::compile;
+use outcomes::Fault;
 use signals::Source;
 use std::alloc::Global;
 use suite_facts::suite_law;

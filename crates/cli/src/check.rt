@@ -3,13 +3,14 @@
 ghost use Rattle.std.specs.Prelude.{◌≡◌, ◌↔◌, Err, IfOk, IfErr};
 ghost use Rattle.cycle_window.specs.declared.fault.WindowFault.TheVariants.{BadSize};
 ghost use Rattle.cycle_window.specs.Bound.{IsBadSize};
-ghost use Rattle.cli.specs.declared.fault.Fault.TheVariants.{Window};
-ghost use Rattle.cli.specs.Outcomes.{IsAnswered, WhyRunRefused, WhyNotChecked, run_of};
+ghost use Rattle.outcomes.specs.declared.fault.Fault.TheVariants.{Window};
+ghost use Rattle.cli.specs.Outcomes.{IsAnswered, WhyRunRefused, WhyNotChecked};
+ghost use Rattle.outcomes.specs.Runs.{run_of};
 
 use crate::checked::check_through;
-use crate::fault::Fault;
 use crate::run::run_through;
 use cycle_window::WindowFault;
+use outcomes::Fault;
 use signals::{Sink, Source};
 use std::alloc::Global;
 

@@ -5,16 +5,16 @@ ghost use Rattle.vcd_reader.specs.Dump.{Contents};
 ghost use Rattle.vcd_reader.specs.Held.{HoldsContents};
 ghost use Rattle.verdicts.specs.Shown.{data_of};
 ghost use Rattle.cli.specs.Reported.{HasReport};
-ghost use Rattle.cli.specs.Outcomes.{WhyNoneByPrograms, IsAnswered, WhyCheckRefused, run_of};
+ghost use Rattle.cli.specs.Outcomes.{WhyNoneByPrograms, IsAnswered, WhyCheckRefused};
+ghost use Rattle.outcomes.specs.Runs.{run_of};
 
-use crate::fault::Fault;
-use crate::programs::report_by_programs;
-use crate::run::totals;
 use crate::text::{file_of, suite_of};
 use cycle_window::Clocks;
+use outcomes::{Fault, totals};
 use signals::{Sink, Source};
 use std::alloc::Global;
 use suite_facts::suite_law;
+use suite_reports::report_by_programs;
 use vcd_reader::{Dump, read_dump};
 use verdicts::{Report, ReportFault, write_report};
 

@@ -5,13 +5,14 @@ ghost use Rattle.vcd_reader.specs.Dump.{Contents};
 ghost use Rattle.vcd_reader.specs.Held.{HoldsContents};
 ghost use Rattle.verdicts.specs.Shown.{data_of};
 ghost use Rattle.cli.specs.Reported.{HasReport};
-ghost use Rattle.cli.specs.Outcomes.{WhyNoReport, IsAnswered, WhyRunRefused, run_of, totals_of};
+ghost use Rattle.cli.specs.Outcomes.{WhyNoReport, IsAnswered, WhyRunRefused};
+ghost use Rattle.outcomes.specs.Runs.{run_of, totals_of};
 
-use crate::fault::Fault;
-use crate::report::report_on;
 use crate::text::{file_of, suite_of};
+use outcomes::{Fault, totals};
 use signals::{Sink, Source};
 use std::alloc::Global;
+use suite_reports::report_by_judge;
 use vcd_reader::{Dump, read_dump};
 use verdicts::{Report, ReportFault, write_report};
 
@@ -32,21 +33,7 @@ fn report_judged<'a>(
 {
     let file = file_of(alloc, text)?;
     let suite = suite_of(alloc, dump, &file)?;
-    Ok(report_on(alloc, dump, &suite, size)?)
-}
-
-/// The totals of a report, in the order of its last line.
-pub(crate) fn totals(report: &Report) -> [u64; 5]
-    ensures { result ≡ totals_of report.now.total }
-{
-    let total = report.total;
-    [
-        total.holds,
-        total.vacuous,
-        total.fails,
-        total.disabled,
-        total.still_open,
-    ]
+    Ok(report_by_judge(alloc, dump, &suite, size)?)
 }
 
 /// Reads the dump that a source gives, judges a text over it through windows of so many clocks, and

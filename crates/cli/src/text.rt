@@ -8,9 +8,9 @@ ghost use Rattle.cli.specs.Reported.{HasItems, IsTyped};
 ghost use Rattle.cli.specs.Outcomes.{WhyNoItems, WhyNotTyped};
 
 use crate::dump_widths::DumpWidths;
-use crate::fault::Fault;
 use assertions::Suite;
 use lexer::lex;
+use outcomes::Fault;
 use parser::{File, parse};
 use std::alloc::Global;
 use types::{TypeFault, check};

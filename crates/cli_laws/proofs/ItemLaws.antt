@@ -25,8 +25,8 @@ use Rattle.text_names.specs.declared.own.Own.{Own}
 use Rattle.text_names.specs.Scopes.{Scope, look_up, owns}
 use Rattle.text_names.specs.Columns.{columns_of}
 use Rattle.text_names.specs.Asked.{widths_among, scope_over_any}
-use Rattle.types.specs.declared.fault.TypeFault.{TypeFault}
-use Rattle.types.specs.Faults.{FaultStands}
+use Rattle.types_suites.specs.declared.fault.TypeFault.{TypeFault}
+use Rattle.types_suites.specs.Faults.{FaultStands}
 use Rattle.types_suites.specs.Suites.{IsSuite}
 use Rattle.types_laws.proofs.MovedTrees.{moved_item}
 use Rattle.types_laws.proofs.MovedFiles.{file-moved}

@@ -9,7 +9,7 @@ use Rattle.lexer.proofs.CoveringLaws.{tokens_of-covered}
 use Rattle.lexer.proofs.OneCut.{cut_faultless}
 use Rattle.parser.specs.declared.fault.ParseFault.{ParseFault}
 use Rattle.assertions.specs.declared.suite.Suite.{Suite}
-use Rattle.types.specs.declared.fault.TypeFault.{TypeFault}
+use Rattle.types_suites.specs.declared.fault.TypeFault.{TypeFault}
 use Rattle.types_laws.proofs.MovedTrees.{moved_item}
 use Rattle.vcd_reader.specs.Variables.{variable_named}
 use Rattle.vcd_reader.specs.Dump.{Contents}
@@ -17,8 +17,8 @@ use Rattle.cycle_window.specs.declared.fault.WindowFault.{WindowFault}
 use Rattle.cycle_window.specs.declared.fault.WindowFault.TheVariants as windows
 use Rattle.cycle_window.specs.Bound.{Misfit, Missing, OtherWidth, misfit}
 use Rattle.verdicts.specs.Lines.{ReportData}
-use Rattle.cli.specs.declared.fault.Fault.{Fault}
-use Rattle.cli.specs.declared.fault.Fault.TheVariants.{
+use Rattle.outcomes.specs.declared.fault.Fault.{Fault}
+use Rattle.outcomes.specs.declared.fault.Fault.TheVariants.{
   Vcd,
   Lex,
   Parse,
@@ -37,7 +37,8 @@ use Rattle.cli.specs.declared.fault.Fault.TheVariants.{
   Memory,
 }
 use Rattle.cli.proofs.TextLaws.{itemless}
-use Rattle.cli.specs.Reported.{AreTokens, SaysSuite, IsBound, HasReport}
+use Rattle.cli.specs.Reported.{AreTokens, SaysSuite, HasReport}
+use Rattle.suite_reports.specs.Reported.{IsBound}
 use Rattle.cli.specs.Outcomes.{HasNoItems, IsMistyped, WhyNoReport}
 use Rattle.cli_laws.proofs.TokenLaws.{lies_in}
 use Rattle.cli_laws.proofs.ItemLaws.{file_of, other_stands}

@@ -2,8 +2,8 @@
 use Rattle.std.specs.Prelude.{◌≡◌, ℕ, List}
 use Rattle.vcd_reader.specs.Dump.{Contents}
 use Rattle.verdicts.specs.Lines.{ReportData}
-use Rattle.cli.specs.declared.fault.Fault.{Fault}
-use Rattle.cli.specs.declared.fault.Fault.TheVariants.{Memory}
+use Rattle.outcomes.specs.declared.fault.Fault.{Fault}
+use Rattle.outcomes.specs.declared.fault.Fault.TheVariants.{Memory}
 use Rattle.cli.specs.Reported.{HasReport, IsReport}
 use Rattle.cli.specs.Outcomes.{WhyNoReport}
 

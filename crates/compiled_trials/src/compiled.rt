@@ -3,7 +3,7 @@
 use acceptance::told;
 use bytecode::decode;
 use cli::{build_one, check_one};
-use cli_runs::run_code;
+use cli_code::run_code;
 use signals::{Counted, CutWriter};
 use std::alloc::{AllocError, Global};
 use std::test::Fail;

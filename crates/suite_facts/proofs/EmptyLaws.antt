@@ -28,8 +28,8 @@ use Rattle.types_suites.specs.Readings.{Dot, dot, AllRead}
 use Rattle.types_suites.specs.Suites.{ReadsConsequent, IsMeant}
 use Rattle.types_suites.proofs.OutlineLaws.{dotted, reads_outline}
 use Rattle.types_suites.proofs.BodyLaws.{outlined}
-use Rattle.types.specs.declared.fault.TypeFault.TheVariants.{AdmitsEmpty as Empty}
-use Rattle.types.specs.Faults.{consequent_in, consequents_of, IsSide, IsFaultless}
+use Rattle.types_suites.specs.declared.fault.TypeFault.TheVariants.{AdmitsEmpty as Empty}
+use Rattle.types_suites.specs.Faults.{consequent_in, consequents_of, IsSide, IsFaultless}
 
 -- Dots in the places of booleans, where all are true.
 module _ (f : Boolean → Dot) where

@@ -35,7 +35,7 @@ use Rattle.types_suites.specs.Texts.{label_text}
 use Rattle.types_suites.specs.Readings.{IsAtom, AllRead}
 use Rattle.types_suites.specs.Suites.{AreSignals, IsCondition, IsRule, AreCounters, IsDisabling}
 use Rattle.types_suites.specs.Suites.{IsDisablingPlace, IsAssertion, AreAssertions}
-use Rattle.types.specs.Faults.{IsFaultless}
+use Rattle.types_suites.specs.Faults.{IsFaultless}
 use Rattle.compiler.specs.Conditions.{IsKnown, IsKnownAt, CountsByKnown, IsSound, IsPlaced}
 use Rattle.compiler.specs.Conditions.{IsProper, IsFit}
 use Rattle.text_depths.specs.Trees.{OfOne, OfTwo, OfAssertion, EachTree}

@@ -8,7 +8,7 @@ use Rattle.grammar.specs.Files.{IsFile}
 use Rattle.assertions.specs.declared.suite.Suite.{Suite}
 use Rattle.text_names.specs.Asked.{scope_for}
 use Rattle.types_suites.specs.Suites.{IsSuite}
-use Rattle.types.specs.Faults.{IsFaultless}
+use Rattle.types_suites.specs.Faults.{IsFaultless}
 use Rattle.compiler.specs.Conditions.{IsFit}
 
 -- The text's bytes are cut into tokens, these spell items in which no fault of types stands over

@@ -14,7 +14,7 @@
 //! memory, and 4 for a file that can't be opened, read or written.
 //!
 //! It opens files and hands over what is in them; what a command answers is said by the contracts
-//! of `cli` (`check_one`, `judge_one`, `build_one`, `verify_code`), of `cli_runs` (`run_code`) and
+//! of `cli` (`check_one`, `judge_one`, `build_one`), of `cli_code` (`verify_code`, `run_code`) and
 //! of `axi4_rules` (`port_rules`, `joined_text`), whose definitions stand in their `specs/`.
 //!
 //! Not promised: what a file holds, that the line of a fault reaches anyone, and that the process

@@ -2,10 +2,8 @@
 
 use crate::assertions_text::{read_assertions, read_rules};
 use crate::files::{open, read_bytes, write_bytes};
-use cli::{
-    Fault, Request, build_one, check_one, fault_line, judge_one, read_words, status, verify_code,
-};
-use cli_runs::run_code;
+use cli::{Fault, Request, build_one, check_one, fault_line, judge_one, read_words, status};
+use cli_code::{run_code, verify_code};
 use signals::{Counted, Sink, write_all};
 use std::alloc::AllocError;
 use std::env::Env;

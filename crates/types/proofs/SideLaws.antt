@@ -10,8 +10,8 @@ use Rattle.types_sequences.specs.Drafts.{Draft, IsIn, Spells}
 use Rattle.types_sequences.proofs.MapLaws.{spells_one}
 use Rattle.types.specs.declared.side.Side.{Side}
 use Rattle.types_suites.specs.Readings.{Dot, dot}
-use Rattle.types.specs.Faults as faults
-use Rattle.types.specs.Faults.{SideAt}
+use Rattle.types_suites.specs.Faults as faults
+use Rattle.types_suites.specs.Faults.{SideAt}
 use Rattle.types.specs.Sides.{IsWeighed, AreWeighed, AreLight, places_where, is_wide, is_degenerate, is_empty}
 
 -- the test tells what is so of what a side says

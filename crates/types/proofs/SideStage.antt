@@ -6,14 +6,14 @@ use Rattle.assertions.specs.Written.{kernel, weight}
 use Rattle.text_names.specs.Scopes.{Scope}
 use Rattle.text_names.specs.Faults.{least}
 use Rattle.types.specs.declared.side.Side.{Side}
-use Rattle.types.specs.declared.fault.TypeFault.{TypeFault}
-use Rattle.types.specs.declared.fault.TypeFault.TheVariants.{UnknownName, Duplicate, WiderThan128, SliceRange}
-use Rattle.types.specs.declared.fault.TypeFault.TheVariants.{Degenerate, AdmitsEmpty as Empty, OtherClock}
-use Rattle.types.specs.declared.fault.TypeFault.TheVariants.{CyclicSequence, TooWide, Memory}
+use Rattle.types_suites.specs.declared.fault.TypeFault.{TypeFault}
+use Rattle.types_suites.specs.declared.fault.TypeFault.TheVariants.{UnknownName, Duplicate, WiderThan128, SliceRange}
+use Rattle.types_suites.specs.declared.fault.TypeFault.TheVariants.{Degenerate, AdmitsEmpty as Empty, OtherClock}
+use Rattle.types_suites.specs.declared.fault.TypeFault.TheVariants.{CyclicSequence, TooWide, Memory}
 use Rattle.types_suites.specs.Readings.{dot}
 use Rattle.types_suites.specs.Texts.{assertions_of}
 use Rattle.types_suites.specs.Readings.{outlines_of}
-use Rattle.types.specs.Faults.{sides_of, consequents_of, ClearTo, IsFaultless, IsFirst, rank, byte_of}
+use Rattle.types_suites.specs.Faults.{sides_of, consequents_of, ClearTo, IsFaultless, IsFirst, rank, byte_of}
 use Rattle.types.specs.Sides.{AreWeighed, places_where, is_wide, is_degenerate, is_empty}
 use Rattle.types.proofs.StageLaws.{nowhere, least_stands, clear_next, first_at, of_rank}
 use Rattle.types.proofs.SideLaws.{side_there, side_back, tells_wide, tells_degenerate, tells_empty}

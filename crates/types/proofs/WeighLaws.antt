@@ -22,8 +22,8 @@ use Rattle.types_suites.specs.declared.resolved.Resolved.{Resolved}
 use Rattle.types_suites.specs.Readings.{Dot, dot, outline}
 use Rattle.types_suites.specs.Texts.{sequence_byte}
 use Rattle.types_suites.specs.Suites.{before_by, ReadsAntecedent, ReadsConsequent}
-use Rattle.types.specs.Faults as faults
-use Rattle.types.specs.Faults.{outline_before, antecedents_in, consequent_in, sides_of, consequents_of}
+use Rattle.types_suites.specs.Faults as faults
+use Rattle.types_suites.specs.Faults.{outline_before, antecedents_in, consequent_in, sides_of, consequents_of}
 use Rattle.types.specs.Sides.{IsWeighed, AreWeighed, AreLight}
 use Rattle.types_suites.specs.Drawn.{antecedent_byte, consequent_byte}
 use Rattle.types.specs.Sides.{side_at, consequent_side, sides_in, consequents_in}

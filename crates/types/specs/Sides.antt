@@ -9,7 +9,7 @@ use Rattle.types_sequences.specs.Drafts.{Draft, Spells}
 use Rattle.types.specs.declared.side.Side.{Side}
 use Rattle.types_suites.specs.declared.resolved.Resolved.{Resolved}
 use Rattle.types_suites.specs.Readings.{Dot}
-use Rattle.types.specs.Faults as faults
+use Rattle.types_suites.specs.Faults as faults
 
 -- What a side's outline says with the names written out, of which these are the weight, up to 128,
 -- and what its form tells.

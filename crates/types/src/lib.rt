@@ -18,10 +18,10 @@
 //! says nothing of the text. Named sequences and counters that nothing uses are looked at, but for
 //! Y9, Y5 and Y6, which are of antecedents and consequents.
 //!
-//! The definitions: which faults stand in a text, and which is the first, in `specs/Faults.antt`
-//! (`IsFaultless`, `IsTypeFault`); behind it are `specs/Cycles.antt`, of sequences that reach
-//! themselves, and `specs/Sides.antt`, of what is known of antecedents and consequents. The suite
-//! that a text says is that of `types_suites`, in its `specs/Suites.antt` (`IsSuite`); scopes and
+//! The definitions: which faults stand in a text, which is the first, and the suite that a text
+//! says are those of `types_suites`, in its `specs/Faults.antt` (`IsFaultless`, `IsTypeFault`) and
+//! `specs/Suites.antt` (`IsSuite`); behind them are `specs/Cycles.antt`, of sequences that reach
+//! themselves, and `specs/Sides.antt`, of what is known of antecedents and consequents. Scopes and
 //! the faults of expressions are those of `text_names`, and named sequences those of
 //! `types_sequences`. `types_laws` has the law that suites of one text mean the same.
 //!
@@ -31,7 +31,6 @@
 
 mod clocks;
 mod cycles;
-mod fault;
 mod names;
 mod side;
 mod sides;
@@ -39,6 +38,6 @@ mod stages;
 mod suite;
 
 pub use assertions::{Assertion, Suite};
-pub use fault::TypeFault;
 pub use suite::check;
 pub use text_names::{Names, PathWidths, Width, path_string};
+pub use types_suites::TypeFault;

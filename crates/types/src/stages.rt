@@ -5,8 +5,8 @@ ghost use Rattle.text_trees.specs.Views.{item_of};
 ghost use Rattle.text_names.specs.Views.{scope_of};
 ghost use Rattle.types_suites.specs.Texts.{assertions_of, clock_of};
 ghost use Rattle.types_suites.specs.Readings.{Where, outlines_of};
-ghost use Rattle.types.specs.Faults.{Text, sides_of, consequents_of, ClearTo, IsFaultless};
-ghost use Rattle.types.specs.Faults.{IsTypeFault};
+ghost use Rattle.types_suites.specs.Faults.{Text, sides_of, consequents_of, ClearTo, IsFaultless};
+ghost use Rattle.types_suites.specs.Faults.{IsTypeFault};
 ghost use Rattle.types.specs.Cycles.{AreOutlined};
 ghost use Rattle.types.specs.Sides.{AreWeighed, AreLight};
 ghost use Rattle.types_sequences.specs.Cycles.{ReachesCycle};
@@ -15,7 +15,6 @@ ghost use Rattle.types_sequences.specs.Views.{draft_of};
 
 use crate::clocks::first_other_clock;
 use crate::cycles::{first_cycle, has_all};
-use crate::fault::TypeFault;
 use crate::names::first_duplicate;
 use crate::side::{Side, first_degenerate, first_empty, first_wide};
 use std::alloc::Global;
@@ -23,6 +22,7 @@ use text_names::{Scope, Sought};
 use text_trees::ItemTree;
 use types_faults::first_fault;
 use types_sequences::{Draft, Entry};
+use types_suites::TypeFault;
 
 /// Looks for unknown names (Y1).
 #[tactic(auto, using(crate::proofs::StageLaws::for_stages))]

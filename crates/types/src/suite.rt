@@ -14,15 +14,14 @@ ghost use Rattle.text_names.specs.Views.{scope_of, columns_in};
 ghost use Rattle.types_sequences.specs.Placed.{Extends};
 ghost use Rattle.types_suites.specs.Texts.{declarations_of, assertions_of, clock_of};
 ghost use Rattle.types_suites.specs.Readings.{Where, outlines_of};
-ghost use Rattle.types.specs.Faults.{Text, sides_of, consequents_of, ClearTo, IsFaultless};
-ghost use Rattle.types.specs.Faults.{IsTypeFault};
+ghost use Rattle.types_suites.specs.Faults.{Text, sides_of, consequents_of, ClearTo, IsFaultless};
+ghost use Rattle.types_suites.specs.Faults.{IsTypeFault};
 ghost use Rattle.types.specs.Sides.{AreWeighed, AreLight};
 ghost use Rattle.types_suites.specs.Suites.{IsSuite};
 ghost use Rattle.types.specs.Sides.{sides_in, consequents_in};
 ghost use Rattle.types_suites.specs.Resolved.{HasBodies};
 
 use crate::clocks::first_clock;
-use crate::fault::TypeFault;
 use crate::sides::{all_consequents, all_sides};
 use crate::stages::{check_cycles, check_expressions, check_sides};
 use assertions::Suite;
@@ -32,7 +31,8 @@ use text_signals::{columns_of, scope_for};
 use text_trees::{File, ItemTree};
 use types_sequences::{Entry, resolve};
 use types_suites::{
-    Resolved, all_resolved, assertions_of, bodies_of, counters_of, name_bytes, signals_of,
+    Resolved, TypeFault, all_resolved, assertions_of, bodies_of, counters_of, name_bytes,
+    signals_of,
 };
 
 /// The entries of the named sequences, by the places of their declarations, if none reaches itself

@@ -6,3 +6,4 @@ pub mod Drawn
 pub mod Resolved
 pub mod Signals
 pub mod Made
+pub mod Faults

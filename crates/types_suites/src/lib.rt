@@ -10,7 +10,8 @@
 //!
 //! The definitions: what a text says in `specs/Suites.antt`, and of a sequence in
 //! `specs/Readings.antt`; its names and bytes in `specs/Texts.antt`; what is kept of an assertion
-//! between the two in `specs/Drawn.antt` and `specs/Resolved.antt`.
+//! between the two in `specs/Drawn.antt` and `specs/Resolved.antt`. Which faults stand in a text, and
+//! which is the first, is said in `specs/Faults.antt` (`IsFaultless`, `IsTypeFault`).
 //!
 //! Not promised: anything of a text with faults.
 #![tactic(auto)]
@@ -20,6 +21,7 @@ mod bytes;
 mod counters;
 mod drafts;
 mod drawn;
+mod fault;
 mod known;
 mod label;
 mod resolved;
@@ -27,6 +29,7 @@ mod typed_assertions;
 
 pub use bodies::{bodies_of, name_bytes};
 pub use counters::counters_of;
+pub use fault::TypeFault;
 pub use known::signals_of;
 pub use label::label_string;
 pub use resolved::{Resolved, all_resolved};

@@ -2,10 +2,10 @@ use Rattle.std.proofs.Common.{subst}
 use Rattle.bytecode.specs.Values.{ProgramData}
 use Rattle.compiler.specs.Conditions.{IsFit}
 use Rattle.compiler.proofs.ListLaws.{all-at}
-use Rattle.cli.specs.Faults.{compile_fault}
-use Rattle.cli.specs.Verifications.{Spells}
+use Rattle.outcomes.specs.Faults.{compile_fault}
+use Rattle.outcomes.specs.Codes.{Spells}
 use Rattle.cli.specs.Builds.{WhyNoProgram}
-use Rattle.cli.proofs.TextLaws.{err_is}
+use Rattle.outcomes.proofs.FaultLaws.{err_is}
 use Rattle.cli.proofs.BuildLaws.{unnamed}
 use Rattle.cli.proofs.build.program_named.Goals as goal
 

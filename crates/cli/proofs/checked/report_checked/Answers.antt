@@ -5,11 +5,13 @@ use Rattle.vcd_reader.specs.Held.{variables_of}
 use Rattle.cycle_window.specs.Bound.{IsClock, IsClockFault}
 use Rattle.cycle_window.specs.Held.{code_in}
 use Rattle.verdicts.specs.Shown.{data_of}
-use Rattle.cli.specs.Faults.{type_fault, window_fault, lines_fault}
+use Rattle.outcomes.specs.Faults.{type_fault, window_fault, lines_fault}
 use Rattle.cli.specs.Reported.{SaysSuite}
 use Rattle.cli.specs.Outcomes.{WhyNoneByPrograms}
-use Rattle.cli.proofs.TextLaws.{are_named, untyped, unclocked, uncompiled, none_by_programs, err_is}
-use Rattle.cli.proofs.ProgramLaws.{all_watched, all_fit, has_clock, clock_of, reports_by}
+use Rattle.cli.proofs.TextLaws.{are_named, untyped, unclocked, uncompiled, none_by_programs}
+use Rattle.outcomes.proofs.FaultLaws.{err_is}
+use Rattle.suite_reports.proofs.ProgramLaws.{all_watched, has_clock, clock_of, reports_by}
+use Rattle.cli.proofs.ProgramLaws.{all_fit}
 use Rattle.cli.proofs.checked.report_checked.Goals as goal
 
 pub returns-in_err-suite-clause-err : goal.returns-in_err-suite-clause-err

@@ -4,7 +4,7 @@ use Rattle.text_trees.specs.Views.{item_of, items_of}
 use Rattle.text_names.specs.Scopes.{Scope, sequence_named}
 use Rattle.text_names.specs.Asked.{scope_for}
 use Rattle.text_names.specs.Views.{scope_of}
-use Rattle.types.specs.Faults.{IsFaultless, IsTypeFault}
+use Rattle.types_suites.specs.Faults.{IsFaultless, IsTypeFault}
 use Rattle.types_suites.specs.Suites.{IsSuite}
 use Rattle.types_suites.proofs.OutlineLaws.{named_below}
 use Rattle.types.proofs.StageLaws.{refused_memory}

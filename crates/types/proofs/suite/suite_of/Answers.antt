@@ -8,7 +8,7 @@ use Rattle.types_suites.specs.Resolved.{AreResolved}
 use Rattle.types.specs.Sides.{AreWeighed}
 use Rattle.types_suites.specs.Suites.{AreSignals, AreCounters, AreAssertions}
 use Rattle.types_suites.specs.Readings.{outlines_of}
-use Rattle.types.specs.Faults.{sides_of, consequents_of}
+use Rattle.types_suites.specs.Faults.{sides_of, consequents_of}
 use Rattle.types_suites.specs.Texts.{declarations_of, assertions_of, counters_of}
 use Rattle.types_suites.proofs.BodyLaws.{bodies_in, outlined, bodies_stay}
 use Rattle.types_suites.proofs.SignalLaws.{columns_known}

@@ -1,0 +1,2 @@
+pub mod VerifyLaws
+pub mod RunLaws

@@ -1,0 +1,147 @@
+-- What a run comes to where the dump was read.
+use Rattle.std.proofs.Common.{◌≡◌, ℕ, List}
+use Rattle.vcd_reader.specs.declared.fault.VcdFault.{VcdFault}
+use Rattle.vcd_reader.specs.declared.fault.VcdFault.TheVariants as dumps
+use Rattle.vcd_reader.specs.Dump.{Contents, GaveDump, Stands}
+use Rattle.bytecode.specs.Values.{ProgramData}
+use Rattle.bytecode.specs.declared.fault.CodeFault.{CodeFault}
+use Rattle.bytecode.specs.declared.fault.CodeFault.TheVariants as codes
+use Rattle.inference.specs.declared.refusal.Refusal.{Refusal}
+use Rattle.inference.specs.declared.refusal.Refusal.TheVariants as refusals
+use Rattle.cycle_window.specs.declared.fault.WindowFault.{WindowFault}
+use Rattle.cycle_window.specs.declared.fault.WindowFault.TheVariants as windows
+use Rattle.program_runs.specs.Reported.{WhyNoRun}
+use Rattle.outcomes.specs.Faults.{vcd_fault, window_fault}
+use Rattle.outcomes.specs.declared.fault.Fault.{Fault}
+use Rattle.outcomes.specs.declared.fault.Fault.TheVariants.{
+  Vcd,
+  Lex,
+  Parse,
+  Typing,
+  Compile,
+  Window,
+  Port,
+}
+use Rattle.outcomes.specs.declared.fault.Fault.TheVariants.{BadJob}
+use Rattle.outcomes.specs.declared.fault.Fault.TheVariants.{Report, Code}
+use Rattle.outcomes.specs.declared.fault.Fault.TheVariants.{Refused, NoAssertion, NotText, Words, File}
+use Rattle.outcomes.specs.declared.fault.Fault.TheVariants.{Memory}
+use Rattle.outcomes.specs.Runs.{Run, IsUnwritten}
+use Rattle.outcomes.specs.Codes.{SpellsAccepted, WhyNotAccepted}
+use Rattle.cli_code.specs.Outcomes.{WhyNoRunReport, IsRefusedRun, WhyRunFails}
+
+-- bytes that spell no accepted program have no report
+pub no_program : (c : Contents) (code : List ℕ) (size : ℕ) (e : Fault) → WhyNotAccepted code e
+    → WhyNoRunReport c code size e
+no_program c code size (Code e) h = h
+no_program c code size (Refused e) h = h
+no_program c code size Memory h = tt
+no_program c code size (Vcd e) h = absurd h
+no_program c code size (Lex e) h = absurd h
+no_program c code size (Parse e) h = absurd h
+no_program c code size (Typing e) h = absurd h
+no_program c code size (Compile e) h = absurd h
+no_program c code size BadJob h = absurd h
+no_program c code size (Window e) h = absurd h
+no_program c code size (Port e) h = absurd h
+no_program c code size (Report e) h = absurd h
+no_program c code size (NoAssertion n) h = absurd h
+no_program c code size (NotText n) h = absurd h
+no_program c code size (Words e) h = absurd h
+no_program c code size (File n) h = absurd h
+
+-- nor has a program whose clock or signals are not there
+pub unbound : (c : Contents) (code : List ℕ) (size : ℕ) (p : ProgramData) → SpellsAccepted code p
+    → (e : WindowFault) → WhyNoRun c.variables p size e
+    → WhyNoRunReport c code size (window_fault e)
+unbound c code size p accepted windows.NoClock h =
+    record { program = p; accepted = accepted; why = h }
+unbound c code size p accepted windows.ClockWidth h =
+    record { program = p; accepted = accepted; why = h }
+unbound c code size p accepted (windows.NoSignal path) h =
+    record { program = p; accepted = accepted; why = h }
+unbound c code size p accepted (windows.SignalWidth path) h =
+    record { program = p; accepted = accepted; why = h }
+unbound c code size p accepted windows.BadSize h =
+    record { program = p; accepted = accepted; why = h }
+unbound c code size p accepted windows.Memory h = tt
+
+module _ (size : ℕ) (r : Run) (c : Contents) (gave : GaveDump r.source_before.remaining r.source_after.remaining c)
+    (reads : r.source_after.failures ≡ r.source_before.failures) (unwritten : IsUnwritten r) where
+  refused : (e : Fault) → WhyNoRunReport c r.text size e → IsRefusedRun size r e
+  refused e h = record { contents = c; gave = gave; why = h; reads = reads; unwritten = unwritten }
+
+  refused_window : (e : WindowFault) → WhyNoRunReport c r.text size (Window e)
+      → WhyRunFails size r (Window e)
+  refused_window windows.NoClock h = refused (Window windows.NoClock) h
+  refused_window windows.ClockWidth h = refused (Window windows.ClockWidth) h
+  refused_window (windows.NoSignal path) h = refused (Window (windows.NoSignal path)) h
+  refused_window (windows.SignalWidth path) h = refused (Window (windows.SignalWidth path)) h
+  refused_window windows.BadSize h = refused (Window windows.BadSize) h
+  refused_window windows.Memory h = absurd h
+
+  refused_code : (e : CodeFault) → WhyNoRunReport c r.text size (Code e)
+      → WhyRunFails size r (Code e)
+  refused_code codes.Magic h = refused (Code codes.Magic) h
+  refused_code codes.Version h = refused (Code codes.Version) h
+  refused_code (codes.Truncated at) h = refused (Code (codes.Truncated at)) h
+  refused_code (codes.BadOpcode at) h = refused (Code (codes.BadOpcode at)) h
+  refused_code (codes.BadField at) h = refused (Code (codes.BadField at)) h
+  refused_code (codes.TrailingBytes at) h = refused (Code (codes.TrailingBytes at)) h
+  refused_code codes.Memory h = absurd h
+
+  refused_program : (e : Refusal) → WhyNoRunReport c r.text size (Refused e)
+      → WhyRunFails size r (Refused e)
+  refused_program (refusals.Operand pc) h = refused (Refused (refusals.Operand pc)) h
+  refused_program (refusals.Underflow pc) h = refused (Refused (refusals.Underflow pc)) h
+  refused_program (refusals.Overflow pc) h = refused (Refused (refusals.Overflow pc)) h
+  refused_program (refusals.JumpRange pc) h = refused (Refused (refusals.JumpRange pc)) h
+  refused_program (refusals.BackwardJump pc) h = refused (Refused (refusals.BackwardJump pc)) h
+  refused_program (refusals.JoinMismatch pc) h = refused (Refused (refusals.JoinMismatch pc)) h
+  refused_program (refusals.Unreached pc) h = refused (Refused (refusals.Unreached pc)) h
+  refused_program (refusals.SlotRange pc) h = refused (Refused (refusals.SlotRange pc)) h
+  refused_program (refusals.HistoryTooShort least) h =
+      refused (Refused (refusals.HistoryTooShort least)) h
+  refused_program (refusals.StackTooShort least) h =
+      refused (Refused (refusals.StackTooShort least)) h
+  refused_program (refusals.Cycle position) h = refused (Refused (refusals.Cycle position)) h
+  refused_program (refusals.PoolTooSmall pool least) h =
+      refused (Refused (refusals.PoolTooSmall pool least)) h
+  refused_program (refusals.BudgetTooSmall least) h =
+      refused (Refused (refusals.BudgetTooSmall least)) h
+  refused_program (refusals.LimitTooLarge field) h =
+      refused (Refused (refusals.LimitTooLarge field)) h
+  refused_program refusals.NoHalt h = refused (Refused refusals.NoHalt) h
+  refused_program refusals.Memory h = absurd h
+
+  -- a fault of the program refuses the run
+  pub refused_run : (e : Fault) → WhyNoRunReport c r.text size e → WhyRunFails size r e
+  refused_run (Window e) h = refused_window e h
+  refused_run (Code e) h = refused_code e h
+  refused_run (Refused e) h = refused_program e h
+  refused_run Memory h = record { reads = reads; unwritten = unwritten }
+  refused_run (Vcd e) h = absurd h
+  refused_run (Lex e) h = absurd h
+  refused_run (Parse e) h = absurd h
+  refused_run (Typing e) h = absurd h
+  refused_run (Compile e) h = absurd h
+  refused_run BadJob h = absurd h
+  refused_run (Port e) h = absurd h
+  refused_run (Report e) h = absurd h
+  refused_run (NoAssertion n) h = absurd h
+  refused_run (NotText n) h = absurd h
+  refused_run (Words e) h = absurd h
+  refused_run (File n) h = absurd h
+
+-- a dump that wasn't read refuses the run
+pub unread : (size : ℕ) (r : Run) → IsUnwritten r → (e : VcdFault)
+    → Stands r.source_before r.source_after e → WhyRunFails size r (vcd_fault e)
+unread size r unwritten (dumps.BadToken at) h = record { stands = h; unwritten = unwritten }
+unread size r unwritten (dumps.UnknownCode at) h = record { stands = h; unwritten = unwritten }
+unread size r unwritten (dumps.TimeBack at) h = record { stands = h; unwritten = unwritten }
+unread size r unwritten (dumps.UnclosedSection at) h = record { stands = h; unwritten = unwritten }
+unread size r unwritten (dumps.BadSize at) h = record { stands = h; unwritten = unwritten }
+unread size r unwritten dumps.Truncated h = record { stands = h; unwritten = unwritten }
+unread size r unwritten dumps.TooLarge h = record { stands = h; unwritten = unwritten }
+unread size r unwritten dumps.Read h = record { stands = h; unwritten = unwritten }
+unread size r unwritten dumps.Memory h = record { reads = h.0; unwritten = unwritten }

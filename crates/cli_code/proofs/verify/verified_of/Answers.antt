@@ -1,0 +1,25 @@
+use Rattle.bytecode.specs.Programs.{data_of}
+use Rattle.outcomes.specs.Faults.{refusal_fault}
+use Rattle.outcomes.specs.Codes.{Spells, WhyNotAccepted}
+use Rattle.outcomes.proofs.FaultLaws.{err_is}
+use Rattle.cli_code.proofs.VerifyLaws.{refused_code}
+use Rattle.cli_code.proofs.verify.verified_of.Goals as goal
+
+pub returns-in_err-verify-clause-err : goal.returns-in_err-verify-clause-err
+returns-in_err-verify-clause-err c =
+    let bytes = c.args.bytes.now in
+    let program = data_of c.in_ok-program.program in
+    let fault = c.in_err-verify.field-0.0 in
+    let spells : Spells bytes program =
+    record { fits = c.in_ok-program.program.fits; spelled = c.in_ok-program.ensures.spelled } in
+    err_is c.from_residual-in_err-verify.result (refusal_fault fault) (WhyNotAccepted bytes)
+    c.from_residual-in_err-verify.ensures.1
+    (refused_code bytes program spells fault c.in_err-verify.ensures.refused
+    c.in_err-verify.ensures.first)
+
+pub returns-clause-ok : goal.returns-clause-ok
+returns-clause-ok c =
+    let spells : Spells c.args.bytes.now (data_of c.in_ok-program.program) =
+    record { fits = c.in_ok-program.program.fits; spelled = c.in_ok-program.ensures.spelled } in
+    rw c.in_ok-verify.ensures.same
+    record { spells = spells; accepted = c.in_ok-verify.ensures.accepted }

@@ -1,0 +1,34 @@
+//! The calls behind the commands `verify` and `run`: from the bytes of a program to its limits, and
+//! over a dump to a report.
+//!
+//! ```text
+//! verify_code(alloc, &code, &mut out)?;                              // the line of its limits
+//! let totals = run_code(alloc, &mut dump, &code, 1024, &mut out)?;   // the report
+//! ```
+//!
+//! The program is decoded and verified. `verify_code` writes the limits that it declares:
+//!
+//! ```text
+//! history 0 stack 1 attempts 1 obligations 1 budget 14
+//! ```
+//!
+//! and a line feed; `run_code` has the machine run it over the dump's rows at the ticks of the
+//! clock that it names; the report has its one line. Each answers with the first fault of the
+//! first layer that has one; a call that is refused has written nothing, but where the sink itself
+//! failed: that holds a beginning of the text.
+//!
+//! The definitions: what a run comes to in `specs/Outcomes.antt`, what a verification comes to in
+//! `specs/Verifications.antt`, the line of limits in `specs/Limits.antt`; the report of a program
+//! over a dump in `program_runs`; which programs may run in `verifier`; faults, their lines and
+//! statuses in `outcomes`.
+//!
+//! Not promised: that the program means what its writer meant; that memory suffices.
+#![tactic(auto)]
+
+mod limits;
+mod limits_text;
+mod run;
+mod verify;
+
+pub use run::run_code;
+pub use verify::verify_code;

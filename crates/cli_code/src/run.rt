@@ -1,0 +1,88 @@
+//! Runs of programs over dumps.
+
+ghost use Rattle.std.specs.Prelude.{◌≡◌, ◌↔◌, ◌≤◌, Err, IfOk, IfErr};
+ghost use Rattle.vcd_reader.specs.Dump.{Contents};
+ghost use Rattle.vcd_reader.specs.Held.{HoldsContents};
+ghost use Rattle.cycle_window.specs.declared.fault.WindowFault.TheVariants.{BadSize};
+ghost use Rattle.cycle_window.specs.Bound.{IsBadSize};
+ghost use Rattle.verdicts.specs.Shown.{data_of};
+ghost use Rattle.outcomes.specs.declared.fault.Fault.TheVariants.{Window};
+ghost use Rattle.outcomes.specs.Runs.{run_of, totals_of};
+ghost use Rattle.cli_code.specs.Outcomes.{HasRunReport, WhyNoRunReport, IsRunAnswered};
+ghost use Rattle.cli_code.specs.Outcomes.{WhyRunFails, WhyNotRun};
+
+use crate::verify::verified_of;
+use core_runs::report_run;
+use cycle_window::WindowFault;
+use outcomes::{Fault, totals};
+use signals::{Sink, Source};
+use std::alloc::Global;
+use vcd_reader::{Dump, read_dump};
+use verdicts::{Report, ReportFault, write_report};
+
+/// The report of the program that bytes spell, over a dump.
+fn report_of(alloc: Global, dump: Dump, code: &[u8], size: usize) -> Result<Report, Fault<'static>>
+    ensures ok { (c : Contents) → HoldsContents dump c
+        → IfOk result (λ r. HasRunReport c code.now (data_of r)) }
+    ensures err { (c : Contents) → HoldsContents dump c
+        → IfErr result (WhyNoRunReport c code.now size) }
+{
+    let verified = verified_of(alloc, code)?;
+    Ok(report_run(alloc, dump, verified, size)?)
+}
+
+/// The same over the dump that a source gives, written.
+fn run_through<S: Source, W: Sink>(
+    alloc: Global,
+    source: &mut S,
+    code: &[u8],
+    size: usize,
+    out: &mut W,
+) -> Result<[u64; 5], Fault<'static>>
+    requires some { 1 ≤ size }
+    requires most { size ≤ 65536 }
+    ensures answered { IfOk result (IsRunAnswered (run_of code.now
+        (S.state source.old) (S.state source.new) (W.state out.old) (W.state out.new))) }
+    ensures refused { IfErr result (WhyRunFails size (run_of code.now
+        (S.state source.old) (S.state source.new) (W.state out.old) (W.state out.new))) }
+{
+    let dump = read_dump(alloc, source)?;
+    let report = report_of(alloc, dump, code, size)?;
+    // An arm knows which fault it is; by `?` the search doesn't find why that one stands.
+    match write_report(alloc, &report, out) {
+        Ok(()) => Ok(totals(&report)),
+        Err(ReportFault::Memory) => Err(Fault::Memory),
+        Err(ReportFault::Write) => Err(Fault::Report(ReportFault::Write)),
+    }
+}
+
+/// Runs the program that bytes spell over the dump that a source gives, on the clock that it names,
+/// through windows of so many clocks, and writes the report.
+///
+/// The answer is the report's totals: how many attempts held, were vacuous, failed, were disabled,
+/// and are open. `window` is from 1 to 65,536, and does not change what is written.
+///
+/// # Errors
+///
+/// C3 where `window` is out of its range, before anything is read; then what is wrong with the dump
+/// (V1 to V8), with the bytes (B1 to B6), with the program (F1 to F15), with its clock (C1, C2) and
+/// with its signals (C4, C5), all before anything is written; G1 where the sink failed, which then
+/// holds a beginning of the report behind what it held before; and want of memory.
+pub fn run_code<S: Source, W: Sink>(
+    alloc: Global,
+    source: &mut S,
+    code: &[u8],
+    window: u64,
+    out: &mut W,
+) -> Result<[u64; 5], Fault<'static>>
+    ensures answered { IfOk result (IsRunAnswered (run_of code.now
+        (S.state source.old) (S.state source.new) (W.state out.old) (W.state out.new))) }
+    ensures refused { IfErr result (WhyNotRun window (run_of code.now
+        (S.state source.old) (S.state source.new) (W.state out.old) (W.state out.new))) }
+    ensures bad_size { IsBadSize window ↔ (result ≡ Err (Window BadSize)) }
+{
+    if window < 1 || window > 65_536 {
+        return Err(Fault::Window(WindowFault::BadSize));
+    }
+    run_through(alloc, source, code, window as usize, out)
+}

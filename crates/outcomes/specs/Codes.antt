@@ -1,0 +1,44 @@
+-- What bytes are as a program.
+use Rattle.std.specs.Prelude.{◌≡◌, ℕ, List, IsTrue}
+use Rattle.bytecode.specs.declared.fault.CodeFault.{CodeFault}
+use Rattle.bytecode.specs.declared.fault.CodeFault.TheVariants as codes
+use Rattle.bytecode.specs.Values.{ProgramData, fits_program}
+use Rattle.bytecode.specs.Spelling.{spelling}
+use Rattle.bytecode.specs.Reading.{IsFirstFault}
+use Rattle.inference.specs.declared.refusal.Refusal.{Refusal}
+use Rattle.inference.specs.declared.refusal.Refusal.TheVariants as refusals
+use Rattle.inference.specs.Order.{IsFirstRefusal}
+use Rattle.verifier.specs.Programs.{all_faults, IsAccepted}
+use Rattle.outcomes.specs.declared.fault.Fault.{Fault}
+use Rattle.outcomes.specs.declared.fault.Fault.TheVariants.{Code, Refused, Memory}
+
+-- The bytes spell this program.
+pub record Spells (bytes : List ℕ) (program : ProgramData) : Type 0 where
+  pub fits : IsTrue (fits_program program)
+  pub spelled : bytes ≡ spelling program
+
+-- They spell it, and the verifier accepts it.
+pub record SpellsAccepted (bytes : List ℕ) (program : ProgramData) : Type 0 where
+  pub spells : Spells bytes program
+  pub accepted : IsAccepted program
+
+-- They spell no program, and this is the first fault in reading order.
+pub record IsMisspelled (bytes : List ℕ) (fault : CodeFault) : Type 0 where
+  pub none : (program : ProgramData) → Spells bytes program → ⊥
+  pub first : IsFirstFault bytes fault
+
+-- They spell a program that the verifier doesn't accept, and this is its first fault.
+pub record IsNotAccepted (bytes : List ℕ) (fault : Refusal) : Type 0 where
+  pub program : ProgramData
+  pub spells : Spells bytes program
+  pub refused : IsAccepted program → ⊥
+  pub first : IsFirstRefusal fault (all_faults program)
+
+-- why bytes are no program that may run
+abbrev pub WhyNotAccepted : List ℕ → Fault → Type 0
+WhyNotAccepted bytes (Code codes.Memory) = ⊥
+WhyNotAccepted bytes (Code e) = IsMisspelled bytes e
+WhyNotAccepted bytes (Refused refusals.Memory) = ⊥
+WhyNotAccepted bytes (Refused e) = IsNotAccepted bytes e
+WhyNotAccepted bytes Memory = Unit {0}
+WhyNotAccepted bytes _ = ⊥

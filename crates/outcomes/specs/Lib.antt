@@ -1,0 +1,4 @@
+pub mod Faults
+pub mod Statuses
+pub mod Runs
+pub mod Codes

@@ -1,0 +1,5 @@
+pub mod LineLaws
+pub mod PushLaws
+pub mod SampledLaws
+pub mod ReportLaws
+pub mod ProgramLaws

@@ -1,0 +1,43 @@
+//! The report on a suite over a dump, by its assertions' programs.
+
+ghost use Rattle.std.specs.Prelude.{◌≡◌, ◌≤◌, ℕ, List, IfOk, IfErr};
+ghost use Rattle.std.specs.List.{AllByRecursion};
+ghost use Rattle.vcd_reader.specs.Dump.{Contents};
+ghost use Rattle.vcd_reader.specs.Held.{HoldsContents, variables_of};
+ghost use Rattle.cycle_window.specs.Held.{AreClocksOf, code_in};
+ghost use Rattle.verdicts.specs.Shown.{data_of};
+ghost use Rattle.compiler.specs.Conditions.{IsFit};
+ghost use Rattle.compiled_lines.specs.Lines.{IsWatched, AreVariables, rows_at};
+ghost use Rattle.compiled_lines.specs.Faults.{WhyNoLines};
+ghost use Rattle.suite_reports.specs.Reported.{OverRows};
+
+use assertions::Suite;
+use compiled_lines::{LinesFault, lines_of};
+use cycle_window::Clocks;
+use std::alloc::Global;
+use vcd_reader::Dump;
+use verdicts::Report;
+
+/// The report on a suite at the ticks of its clock, through windows of so many clocks.
+pub fn report_by_programs(
+    alloc: Global,
+    dump: Dump,
+    clocks: Clocks,
+    suite: &Suite,
+    size: usize,
+) -> Result<Report, LinesFault>
+    requires some { 1 ≤ size }
+    requires most { size ≤ 65536 }
+    requires clocks { AreClocksOf dump clocks }
+    requires watched { AllByRecursion (IsWatched (variables_of dump)) suite.now.names.items }
+    requires fit { AllByRecursion (IsFit suite.now) suite.now.assertions.items }
+    ensures ok { (c : Contents) (signals : List ℕ) → HoldsContents dump c
+        → AreVariables c suite.now signals
+        → IfOk result (λ r. OverRows suite.now (rows_at c signals (code_in clocks))
+        (data_of r)) }
+    ensures err { IfErr result (WhyNoLines suite.now) }
+{
+    let count = clocks.len();
+    let lines = lines_of(alloc, dump, clocks, suite, size)?;
+    Ok(Report::new(count, lines))
+}
