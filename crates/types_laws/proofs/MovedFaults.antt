@@ -19,8 +19,9 @@ use Rattle.text_names.specs.Faults.{path_faults, wide_faults, faults, link_fault
 use Rattle.text_names.specs.Faults.{sequence_faults, step_faults, other_faults, property_faults, optional_faults}
 use Rattle.text_names.specs.Faults.{clause_faults, counter_faults, assertion_faults, item_faults, file_faults}
 use Rattle.types_suites.specs.declared.fault.TypeFault.{TypeFault}
-use Rattle.types_suites.specs.declared.fault.TypeFault.TheVariants.{UnknownName, Duplicate, WiderThan128, SliceRange}
-use Rattle.types_suites.specs.declared.fault.TypeFault.TheVariants.{Degenerate, AdmitsEmpty as Empty, OtherClock}
+use Rattle.types_suites.specs.declared.fault.TypeFault.TheVariants.{UnknownName, Duplicate, WiderThan128}
+use Rattle.types_suites.specs.declared.fault.TypeFault.TheVariants.{SliceRange, Degenerate, OtherClock}
+use Rattle.types_suites.specs.declared.fault.TypeFault.TheVariants.{AdmitsEmpty as Empty}
 use Rattle.types_suites.specs.declared.fault.TypeFault.TheVariants.{CyclicSequence, TooWide, Memory}
 use Rattle.types_suites.specs.Readings.{Dot, dot, joined_by, outline, outline_steps, outline_others, outline_by}
 use Rattle.types_suites.specs.Readings.{least_of, extra_of}

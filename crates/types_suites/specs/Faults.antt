@@ -11,9 +11,10 @@ use Rattle.text_names.specs.Scopes.{Scope}
 use Rattle.text_names.specs.Faults.{file_faults}
 use Rattle.grammar.specs.declared.operator.Implication.{Implication}
 use Rattle.types_suites.specs.declared.fault.TypeFault.{TypeFault}
-use Rattle.types_suites.specs.declared.fault.TypeFault.TheVariants.{UnknownName, Duplicate, WiderThan128}
-use Rattle.types_suites.specs.declared.fault.TypeFault.TheVariants.{SliceRange, Degenerate}
-use Rattle.types_suites.specs.declared.fault.TypeFault.TheVariants.{AdmitsEmpty as Empty, OtherClock}
+use Rattle.types_suites.specs.declared.fault.TypeFault.TheVariants.{UnknownName, Duplicate}
+use Rattle.types_suites.specs.declared.fault.TypeFault.TheVariants.{WiderThan128, SliceRange}
+use Rattle.types_suites.specs.declared.fault.TypeFault.TheVariants.{Degenerate, OtherClock}
+use Rattle.types_suites.specs.declared.fault.TypeFault.TheVariants.{AdmitsEmpty as Empty}
 use Rattle.types_suites.specs.declared.fault.TypeFault.TheVariants.{CyclicSequence, TooWide, Memory}
 use Rattle.types_suites.specs.Readings.{Dot, dot, outline, outlines_of}
 use Rattle.types_suites.specs.Texts.{declarations_of, assertions_of, duplicates, other_clocks}

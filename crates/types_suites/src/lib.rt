@@ -10,8 +10,8 @@
 //!
 //! The definitions: what a text says in `specs/Suites.antt`, and of a sequence in
 //! `specs/Readings.antt`; its names and bytes in `specs/Texts.antt`; what is kept of an assertion
-//! between the two in `specs/Drawn.antt` and `specs/Resolved.antt`. Which faults stand in a text, and
-//! which is the first, is said in `specs/Faults.antt` (`IsFaultless`, `IsTypeFault`).
+//! between the two in `specs/Drawn.antt` and `specs/Resolved.antt`. Which faults stand in a text,
+//! and which is the first, is said in `specs/Faults.antt` (`IsFaultless`, `IsTypeFault`).
 //!
 //! Not promised: anything of a text with faults.
 #![tactic(auto)]
