@@ -19,8 +19,8 @@ use Rattle.text_names.specs.Faults.{path_faults, wide_faults, faults, link_fault
 use Rattle.text_names.specs.Faults.{sequence_faults, step_faults, other_faults, property_faults, optional_faults}
 use Rattle.text_names.specs.Faults.{clause_faults, counter_faults, assertion_faults, item_faults, file_faults}
 use Rattle.types_suites.specs.declared.fault.TypeFault.{TypeFault}
-use Rattle.types_suites.specs.declared.fault.TypeFault.TheVariants.{UnknownName, Duplicate, WiderThan128}
-use Rattle.types_suites.specs.declared.fault.TypeFault.TheVariants.{SliceRange, Degenerate, OtherClock}
+use Rattle.types_suites.specs.declared.fault.TypeFault.TheVariants.{UnknownName, Duplicate}
+use Rattle.types_suites.specs.declared.fault.TypeFault.TheVariants.{WiderThan128, SliceRange, Degenerate, OtherClock}
 use Rattle.types_suites.specs.declared.fault.TypeFault.TheVariants.{AdmitsEmpty as Empty}
 use Rattle.types_suites.specs.declared.fault.TypeFault.TheVariants.{CyclicSequence, TooWide, Memory}
 use Rattle.types_suites.specs.Readings.{Dot, dot, joined_by, outline, outline_steps, outline_others, outline_by}
@@ -29,7 +29,8 @@ use Rattle.types_suites.specs.Texts.{declarations_of, assertions_of, label_byte,
 use Rattle.types_suites.specs.Texts.{names_from, repeated_names, duplicates, label_text, clocks_unlike, clock_of}
 use Rattle.types_suites.specs.Texts.{other_clocks, tree_byte, sequence_byte}
 use Rattle.types_suites.specs.Readings.{outlines_of}
-use Rattle.types_suites.specs.Faults.{Side, outline_before, antecedents_in, consequent_in, sides_of, consequents_of, CycleAt}
+use Rattle.types_suites.specs.Faults.{Side, outline_before, antecedents_in, consequent_in, sides_of}
+use Rattle.types_suites.specs.Faults.{consequents_of, CycleAt}
 use Rattle.types_suites.specs.Faults.{SideAt, FaultStands}
 use Rattle.types_laws.proofs.MovedTrees.{moved, moved_option, moved_tree, moved_links, moved_parts, moved_sequence}
 use Rattle.types_laws.proofs.MovedTrees.{moved_steps, moved_others, moved_property, moved_condition, moved_rule}
