@@ -13,17 +13,16 @@
 //! no attempt failed, 1 where some did, 2 for input or words that are refused, 3 for want of
 //! memory, and 4 for a file that can't be opened, read or written.
 //!
-//! It opens files and hands over what is in them; what a command answers is said by the contracts
-//! of `cli` (`check_one`, `judge_one`, `build_one`), of `cli_code` (`verify_code`, `run_code`) and
-//! of `axi4_rules` (`port_rules`, `joined_text`), whose definitions stand in their `specs/`.
+//! It opens files (`shell`) and hands over what is in them; what a command answers is said by the
+//! contracts of `cli` (`check_one`, `judge_one`, `build_one`), of `cli_code` (`verify_code`,
+//! `run_code`) and of `axi4_rules` (`port_rules`, `joined_text`), whose definitions stand in their
+//! `specs/`.
 //!
 //! Not promised: what a file holds, that the line of a fault reaches anyone, and that the process
 //! ends with the status: these are tested (`docs/TESTED.md`). `docs/USING.md` goes through the
 //! commands and each fault.
 #![tactic(auto)]
 
-mod assertions_text;
-mod files;
 mod serve;
 
 use std::process::ExitCode;

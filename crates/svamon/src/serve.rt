@@ -1,36 +1,16 @@
 //! The commands, from the words of the command line to the answer.
 
-use crate::assertions_text::{read_assertions, read_rules};
-use crate::files::{open, read_bytes, write_bytes};
-use cli::{Fault, Request, build_one, check_one, fault_line, judge_one, read_words, status};
+use cli::{Fault, Request, build_one, check_one, judge_one};
 use cli_code::{run_code, verify_code};
-use signals::{Counted, Sink, write_all};
-use std::alloc::AllocError;
+use shell::{
+    open, print_rules, read_assertions, read_bytes, refuse_words, request_of, shown_status,
+    words_of, write_bytes,
+};
+use signals::Counted;
 use std::env::Env;
 use std::fs::Files;
-use std::io::{Eprint, ErrorKind, Print};
-use std::{env, io};
-use verdicts::ReportFault;
-
-/// Writes the line of a fault to standard error; it is lost where that can't be written.
-fn report_fault<R: Eprint + AllocGlobal>(rt: &R, fault: &Fault) {
-    match fault_line(rt.alloc(), fault) {
-        Ok(line) => {
-            let _ = eprintln!(rt; "{line}");
-        }
-        Err(_) => {
-            let _ = eprintln!(rt; "svamon: OutOfMemory");
-        }
-    }
-}
-
-/// The status of an outcome. The line of a fault goes to standard error.
-fn shown_status<R: Eprint + AllocGlobal>(rt: &R, outcome: Result<[u64; 5], Fault>) -> u8 {
-    if let Err(fault) = &outcome {
-        report_fault(rt, fault);
-    }
-    status(&outcome)
-}
+use std::io;
+use std::io::{Eprint, Print};
 
 /// Judges a text over a dump, through windows of so many clocks, or by the slow judge where there
 /// is no window; the report goes to standard output.
@@ -102,21 +82,6 @@ fn serve_build<R: Files + Eprint + AllocGlobal>(
         Ok(()) => 0,
         Err(fault) => shown_status(rt, Err(fault)),
     }
-}
-
-/// Writes all of a text to standard output.
-fn print_text<R: Print + AllocGlobal>(rt: &R, text: &str) -> Result<(), Fault<'static>> {
-    let mut out = Counted::new(io::writer(rt));
-    if write_all(&mut out, text.as_bytes()).is_err() || out.flush().is_err() {
-        return Err(Fault::Report(ReportFault::Write));
-    }
-    Ok(())
-}
-
-/// The rules of the ports that a file names go to standard output.
-fn print_rules<R: Files + Print + AllocGlobal>(rt: &R, axi: &str) -> Result<(), Fault<'static>> {
-    let rules = read_rules(rt, axi)?;
-    print_text(rt, rules.as_str())
 }
 
 /// Prints the rules of ports, and answers the status: 0 where they were printed.
@@ -206,42 +171,6 @@ fn serve<R: Files + Print + Eprint + AllocGlobal>(rt: &R, request: &Request) -> 
             serve_text(rt, vcd.as_str(), sva.as_str(), path_of(axi), None)
         }
         Request::Rules { axi } => serve_rules(rt, axi.as_str()),
-    }
-}
-
-/// The words of the command line, the program's name first.
-fn words_of<R: Env + AllocGlobal>(rt: &R) -> io::Result<Vec<String>> {
-    Ok(env::args(rt)?.collect(rt.alloc())?)
-}
-
-/// Refuses words that can't be had, and answers the status: one that is no text as clap does, or
-/// else want of memory.
-fn refuse_words<R: Eprint + AllocGlobal>(rt: &R, error: &io::Error) -> u8 {
-    if error.kind() == ErrorKind::InvalidData {
-        let _ = eprintln!(rt;
-            "error: invalid UTF-8 was detected in one or more arguments\n\nFor more information, \
-             try '--help'."
-        );
-        return 2;
-    }
-    shown_status(rt, Err(Fault::Memory))
-}
-
-/// The words as slices.
-fn slices_of<'a, R: AllocGlobal>(rt: &R, words: &'a [String]) -> Result<Vec<&'a str>, AllocError> {
-    let mut slices = Vec::new(rt.alloc());
-    for word in words {
-        slices.push(word.as_str())?;
-    }
-    Ok(slices)
-}
-
-/// What the words of the command line ask for.
-fn request_of<R: AllocGlobal>(rt: &R, words: &[String]) -> Result<Request, Fault<'static>> {
-    let slices = slices_of(rt, words)?;
-    match read_words(rt.alloc(), slices.as_slice()) {
-        Ok(request) => Ok(request),
-        Err(fault) => Err(Fault::Words(fault)),
     }
 }
 

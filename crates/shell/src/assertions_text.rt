@@ -2,7 +2,7 @@
 
 use crate::files::{open, read_opened, read_text, text_of};
 use axi4_rules::{joined_text, port_rules};
-use cli::Fault;
+use outcomes::Fault;
 use std::fs::Files;
 
 /// The text of a file, a line feed, and the rules of the ports that another file names: both files

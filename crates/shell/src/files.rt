@@ -1,6 +1,6 @@
 //! Files by their paths, and what is wrong with them.
 
-use cli::Fault;
+use outcomes::Fault;
 use std::alloc::Global;
 use std::fs::{File, Files};
 use std::io::{ErrorKind, Read};
@@ -26,7 +26,7 @@ pub fn open<R: Files + AllocGlobal>(rt: &R, path: &str) -> Result<R::File, Fault
 }
 
 /// All of an opened file.
-pub fn read_opened<F: Read>(
+pub(crate) fn read_opened<F: Read>(
     alloc: Global,
     file: &mut F,
     path: &str,
@@ -47,7 +47,7 @@ pub fn read_bytes<R: Files + AllocGlobal>(rt: &R, path: &str) -> Result<Vec<u8>,
 }
 
 /// The bytes of a file as text; N2 where they are no UTF-8.
-pub fn text_of(alloc: Global, bytes: Vec<u8>, path: &str) -> Result<String, Fault<'static>> {
+pub(crate) fn text_of(alloc: Global, bytes: Vec<u8>, path: &str) -> Result<String, Fault<'static>> {
     match String::from_utf8(bytes) {
         Ok(text) => Ok(text),
         Err(_) => Err(Fault::NotText(String::from_str(alloc, path)?)),
@@ -55,7 +55,10 @@ pub fn text_of(alloc: Global, bytes: Vec<u8>, path: &str) -> Result<String, Faul
 }
 
 /// All of a file, as text; N2 where it is no UTF-8.
-pub fn read_text<R: Files + AllocGlobal>(rt: &R, path: &str) -> Result<String, Fault<'static>> {
+pub(crate) fn read_text<R: Files + AllocGlobal>(
+    rt: &R,
+    path: &str,
+) -> Result<String, Fault<'static>> {
     text_of(rt.alloc(), read_bytes(rt, path)?, path)
 }
 
