@@ -17,7 +17,7 @@
 //! ```
 //!
 //! The gate compares what is printed with `stdout`. What a report says is the contract of
-//! `cli::check_one` and `cli::judge_one`; the definitions stand in `cli/specs` (`Reported.antt`).
+//! `cli::check_one` and `cli::judge_one`; the definitions stand in `cli/specs/Reported.antt`.
 //!
 //! Not promised: that each form of a text occurs; `make random` draws others.
 #![tactic(auto)]

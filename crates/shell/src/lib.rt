@@ -1,4 +1,4 @@
-//! What the program `svamon` has of the shell that started it: words, files by their paths, standard
+//! What the program `svamon` has of the shell that started it: words, files by path, standard
 //! output, and the line and the status of a fault.
 //!
 //! ```text
