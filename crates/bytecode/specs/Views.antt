@@ -5,9 +5,7 @@ use Rattle.bytecode.specs.declared.limits.Limits.{Limits}
 use Rattle.bytecode.specs.declared.slot.Slot.{Slot}
 use Rattle.bytecode.specs.declared.section.Section.{Section}
 use Rattle.bytecode.specs.declared.sample_instr.SampleInstr.{SampleInstr}
-use Rattle.bytecode.specs.declared.parts.Header.{Header}
-use Rattle.bytecode.specs.declared.parts.Parts.{Parts}
-use Rattle.bytecode.specs.Values.{SlotData, SectionData, HeaderData, ProgramData}
+use Rattle.bytecode.specs.Values.{SlotData, SectionData, ProgramData}
 
 abbrev pub slot_data : Slot → SlotData
 slot_data s = record { width = s.width; path = string_bytes s.path }
@@ -32,18 +30,3 @@ data_from limits disable atoms name clock signals counters sample antecedent con
   antecedent = section_data antecedent;
   consequent = section_data consequent;
 }
-
-abbrev pub header_data : Header → HeaderData
-header_data h =
-    record {
-      limits = h.limits;
-      disable = h.disable;
-      atoms = h.atoms;
-      name = string_bytes h.name;
-      clock = string_bytes h.clock;
-    }
-
-abbrev pub parts_data : Parts → ProgramData
-parts_data p =
-    data_from p.header.limits p.header.disable p.header.atoms p.header.name p.header.clock p.signals
-    p.counters p.sample p.antecedent p.consequent

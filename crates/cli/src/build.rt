@@ -10,9 +10,9 @@ ghost use Rattle.cli.specs.Builds.{IsBuilt, WhyNotBuilt, IsBuiltFrom, WhyBuildRe
 
 use crate::text::{file_of, suite_of};
 use assertions::{Assertion, Suite};
-use bytecode::encode;
 use compiler::compile;
 use outcomes::Fault;
+use program_files::encode;
 use signals::Source;
 use std::alloc::Global;
 use suite_facts::suite_law;

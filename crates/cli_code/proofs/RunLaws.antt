@@ -4,8 +4,8 @@ use Rattle.vcd_reader.specs.declared.fault.VcdFault.{VcdFault}
 use Rattle.vcd_reader.specs.declared.fault.VcdFault.TheVariants as dumps
 use Rattle.vcd_reader.specs.Dump.{Contents, GaveDump, Stands}
 use Rattle.bytecode.specs.Values.{ProgramData}
-use Rattle.bytecode.specs.declared.fault.CodeFault.{CodeFault}
-use Rattle.bytecode.specs.declared.fault.CodeFault.TheVariants as codes
+use Rattle.program_files.specs.declared.fault.CodeFault.{CodeFault}
+use Rattle.program_files.specs.declared.fault.CodeFault.TheVariants as codes
 use Rattle.inference.specs.declared.refusal.Refusal.{Refusal}
 use Rattle.inference.specs.declared.refusal.Refusal.TheVariants as refusals
 use Rattle.cycle_window.specs.declared.fault.WindowFault.{WindowFault}

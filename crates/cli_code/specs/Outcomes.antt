@@ -7,7 +7,7 @@ use Rattle.signals.specs.Sink.{AppendsFront}
 use Rattle.vcd_reader.specs.declared.fault.VcdFault.TheVariants as dumps
 use Rattle.vcd_reader.specs.Dump.{Contents, Gave, GaveDump, dump_of, most_bytes}
 use Rattle.bytecode.specs.Values.{ProgramData}
-use Rattle.bytecode.specs.declared.fault.CodeFault.TheVariants as codes
+use Rattle.program_files.specs.declared.fault.CodeFault.TheVariants as codes
 use Rattle.inference.specs.declared.refusal.Refusal.TheVariants as refusals
 use Rattle.cycle_window.specs.declared.fault.WindowFault.{WindowFault}
 use Rattle.cycle_window.specs.declared.fault.WindowFault.TheVariants as windows

@@ -5,8 +5,8 @@ ghost use Rattle.outcomes.specs.Codes.{SpellsAccepted, WhyNotAccepted};
 ghost use Rattle.cli_code.specs.Verifications.{IsTold, WhyNotTold, verification_of};
 
 use crate::limits::write_limits;
-use bytecode::decode;
 use outcomes::Fault;
+use program_files::decode;
 use signals::Sink;
 use std::alloc::Global;
 use verifier::{Verified, verify};

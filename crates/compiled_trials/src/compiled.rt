@@ -1,9 +1,9 @@
 //! Compiled assertions: refusals at their borders, and programs that are built and run.
 
 use acceptance::told;
-use bytecode::decode;
 use cli::{build_one, check_one};
 use cli_code::run_code;
+use program_files::decode;
 use signals::{Counted, CutWriter};
 use std::alloc::{AllocError, Global};
 use std::test::Fail;

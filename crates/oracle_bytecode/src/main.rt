@@ -14,7 +14,7 @@
 //! `cases.txt` of theirs. With a file's name as its word it prints how long reading and writing
 //! that file took at best (`bench/bytecode`).
 //!
-//! What is answered is said by the contracts of `bytecode::decode` and `encode`; the definitions
+//! What is answered is said by the contracts of `program_files::decode` and `encode`; the definitions
 //! stand in `bytecode/specs` (`Spelling.antt`, `Values.antt`).
 //!
 //! Not promised: that a program is accepted, which is `oracle_verifier`'s.
@@ -23,7 +23,8 @@
 ghost use Rattle.std.specs.Prelude.{◌<◌};
 
 use anyhow::{Result, bail};
-use bytecode::{Program, decode, encode};
+use bytecode::Program;
+use program_files::{decode, encode};
 use std::alloc::Global;
 use std::time::Instant;
 use std::{env, fs};

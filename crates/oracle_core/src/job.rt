@@ -3,7 +3,7 @@
 ghost use Rattle.std.specs.Prelude.{◌<◌};
 
 use anyhow::{Result, bail};
-use bytecode::decode;
+use program_files::decode;
 use signals::Counted;
 use std::alloc::Global;
 use vcd_reader::read_dump;

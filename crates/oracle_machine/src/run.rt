@@ -5,8 +5,9 @@ ghost use Rattle.sample_code.specs.Memory.{AreValues};
 
 use anyhow::{Result, bail};
 use arrayvec::ArrayVec;
-use bytecode::{CodeFault, Program, decode};
+use bytecode::Program;
 use machine::Machine;
+use program_files::{CodeFault, decode};
 use signals::Decided;
 use std::alloc::Global;
 use verifier::{Refusal, Verified, verify};

@@ -22,7 +22,8 @@
 ghost use Rattle.std.specs.Prelude.{◌<◌};
 
 use anyhow::{Result, bail};
-use bytecode::{CodeFault, Limits, Program, decode, encode};
+use bytecode::{Limits, Program};
+use program_files::{CodeFault, decode, encode};
 use std::alloc::Global;
 use std::time::Instant;
 use std::{env, fs};

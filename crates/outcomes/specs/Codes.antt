@@ -1,10 +1,10 @@
 -- What bytes are as a program.
 use Rattle.std.specs.Prelude.{◌≡◌, ℕ, List, IsTrue}
-use Rattle.bytecode.specs.declared.fault.CodeFault.{CodeFault}
-use Rattle.bytecode.specs.declared.fault.CodeFault.TheVariants as codes
+use Rattle.program_files.specs.declared.fault.CodeFault.{CodeFault}
+use Rattle.program_files.specs.declared.fault.CodeFault.TheVariants as codes
 use Rattle.bytecode.specs.Values.{ProgramData, fits_program}
-use Rattle.bytecode.specs.Spelling.{spelling}
-use Rattle.bytecode.specs.Reading.{IsFirstFault}
+use Rattle.program_files.specs.Spelling.{spelling}
+use Rattle.program_files.specs.Reading.{IsFirstFault}
 use Rattle.inference.specs.declared.refusal.Refusal.{Refusal}
 use Rattle.inference.specs.declared.refusal.Refusal.TheVariants as refusals
 use Rattle.inference.specs.Order.{IsFirstRefusal}

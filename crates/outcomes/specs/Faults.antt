@@ -19,8 +19,8 @@ use Rattle.compiler.specs.declared.fault.CompileFault.TheVariants as compiles
 use Rattle.compiled_lines.specs.declared.fault.LinesFault.{LinesFault}
 use Rattle.compiled_lines.specs.declared.fault.LinesFault.TheVariants.{Program}
 use Rattle.compiled_lines.specs.declared.fault.LinesFault.TheVariants as lines
-use Rattle.bytecode.specs.declared.fault.CodeFault.{CodeFault}
-use Rattle.bytecode.specs.declared.fault.CodeFault.TheVariants as codes
+use Rattle.program_files.specs.declared.fault.CodeFault.{CodeFault}
+use Rattle.program_files.specs.declared.fault.CodeFault.TheVariants as codes
 use Rattle.inference.specs.declared.refusal.Refusal.{Refusal}
 use Rattle.inference.specs.declared.refusal.Refusal.TheVariants as refusals
 use Rattle.outcomes.specs.declared.fault.Fault.{Fault}

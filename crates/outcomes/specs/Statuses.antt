@@ -8,7 +8,7 @@ use Rattle.vcd_reader.specs.declared.fault.VcdFault.TheVariants as dumps
 use Rattle.cycle_window.specs.declared.fault.WindowFault.TheVariants as windows
 use Rattle.axi4_rules.specs.declared.fault.PortFault.TheVariants as ports
 use Rattle.verdicts.specs.declared.write.ReportFault.TheVariants as reports
-use Rattle.bytecode.specs.declared.fault.CodeFault.TheVariants as codes
+use Rattle.program_files.specs.declared.fault.CodeFault.TheVariants as codes
 use Rattle.inference.specs.declared.refusal.Refusal.TheVariants as refusals
 use Rattle.command_line.specs.declared.fault.WordsFault.TheVariants as words
 use Rattle.outcomes.specs.declared.fault.Fault.{Fault}

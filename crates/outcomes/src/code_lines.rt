@@ -1,8 +1,8 @@
 //! The lines that name the faults of programs and of port files.
 
 use axi4_rules::PortFault;
-use bytecode::CodeFault;
 use compiler::CompileFault;
+use program_files::CodeFault;
 use std::alloc::{AllocError, Global};
 use verifier::Refusal;
 

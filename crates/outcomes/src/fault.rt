@@ -3,13 +3,13 @@
 ghost use Rattle.std.specs.Prelude.{◌≡◌};
 
 use axi4_rules::PortFault;
-use bytecode::CodeFault;
 use command_line::WordsFault;
 use compiled_lines::LinesFault;
 use compiler::CompileFault;
 use cycle_window::WindowFault;
 use lexer::LexFault;
 use parser::ParseFault;
+use program_files::CodeFault;
 use std::alloc::AllocError;
 use types_suites::TypeFault;
 use vcd_reader::VcdFault;

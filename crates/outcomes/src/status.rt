@@ -5,12 +5,12 @@ ghost use Rattle.outcomes.specs.Statuses.{status_of, fault_status_of};
 
 use crate::fault::Fault;
 use axi4_rules::PortFault;
-use bytecode::CodeFault;
 use command_line::WordsFault;
 use compiler::CompileFault;
 use cycle_window::WindowFault;
 use lexer::LexFault;
 use parser::ParseFault;
+use program_files::CodeFault;
 use types_suites::TypeFault;
 use vcd_reader::VcdFault;
 use verdicts::ReportFault;

@@ -2,8 +2,8 @@
 
 ghost use Rattle.std.specs.Prelude.{◌<◌};
 
-use bytecode::decode;
 use core_runs::report_run;
+use program_files::decode;
 use signals::{Counted, CutWriter};
 use std::alloc::{AllocError, Global};
 use vcd_reader::{Dump, read_dump};

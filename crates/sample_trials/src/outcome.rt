@@ -7,9 +7,10 @@ ghost use Rattle.bytecode.specs.Programs.{data_of};
 ghost use Rattle.verifier.specs.Programs.{IsAccepted};
 ghost use Rattle.sample_code.specs.Memory.{AreRows, AreValues};
 
-use bytecode::{Program, decode};
+use bytecode::Program;
 use history_ring::Ring;
 use inference::Frame;
+use program_files::decode;
 use sample_code::{Stack, run};
 use signals::Bits;
 use std::alloc::{AllocError, Global};

@@ -2,7 +2,8 @@
 //! instruction is spelled as, and what becomes of mutants, is the table of `oracle_bytecode`;
 //! faults of files are told in `acceptance`, too.
 
-use bytecode::{BlockInstr, Flow, Limits, Program, SampleInstr, Section, Slot, decode, encode};
+use bytecode::{BlockInstr, Flow, Limits, Program, SampleInstr, Section, Slot};
+use program_files::{decode, encode};
 use std::alloc::Global;
 use std::test::Fail;
 
