@@ -77,7 +77,8 @@ use Rattle.outcomes.specs.declared.fault.Fault.TheVariants.{
 }
 use Rattle.cli.specs.Named.{scope_over}
 use Rattle.suite_reports.specs.Named.{AreNamed}
-use Rattle.outcomes.specs.Faults.{lex_fault, parse_fault, type_fault, window_fault, lines_fault}
+use Rattle.outcomes.specs.Faults.{lex_fault, parse_fault, type_fault, window_fault}
+use Rattle.cli.specs.Programs.{lines_fault}
 use Rattle.cli.specs.Reported.{AreTokens, HasItems, IsTyped, SaysSuite}
 use Rattle.cli.specs.Outcomes.{
   HasNoItems,

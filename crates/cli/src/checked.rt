@@ -8,13 +8,13 @@ ghost use Rattle.cli.specs.Reported.{HasReport};
 ghost use Rattle.cli.specs.Outcomes.{WhyNoneByPrograms, IsAnswered, WhyCheckRefused};
 ghost use Rattle.outcomes.specs.Runs.{run_of};
 
+use crate::programs::{lines_fault, report_by_programs};
 use crate::text::{file_of, suite_of};
 use cycle_window::Clocks;
 use outcomes::{Fault, totals};
 use signals::{Sink, Source};
 use std::alloc::Global;
 use suite_facts::suite_law;
-use suite_reports::report_by_programs;
 use vcd_reader::{Dump, read_dump};
 use verdicts::{Report, ReportFault, write_report};
 
@@ -37,7 +37,10 @@ fn report_checked<'a>(
     let file = file_of(alloc, text)?;
     let suite = suite_of(alloc, &dump, &file)?;
     let clocks = Clocks::of(alloc, &dump, suite.clock())?;
-    Ok(report_by_programs(alloc, dump, clocks, &suite, size)?)
+    match report_by_programs(alloc, dump, clocks, &suite, size) {
+        Ok(report) => Ok(report),
+        Err(fault) => Err(lines_fault(fault)),
+    }
 }
 
 /// Reads the dump that a source gives, runs the programs of a text's assertions over it through

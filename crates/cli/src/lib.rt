@@ -21,6 +21,7 @@ mod build;
 mod check;
 mod checked;
 mod dump_widths;
+mod programs;
 mod run;
 mod text;
 

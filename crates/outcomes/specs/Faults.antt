@@ -16,16 +16,13 @@ use Rattle.verdicts.specs.declared.write.ReportFault.{ReportFault}
 use Rattle.verdicts.specs.declared.write.ReportFault.TheVariants as reports
 use Rattle.compiler.specs.declared.fault.CompileFault.{CompileFault}
 use Rattle.compiler.specs.declared.fault.CompileFault.TheVariants as compiles
-use Rattle.compiled_lines.specs.declared.fault.LinesFault.{LinesFault}
-use Rattle.compiled_lines.specs.declared.fault.LinesFault.TheVariants.{Program}
-use Rattle.compiled_lines.specs.declared.fault.LinesFault.TheVariants as lines
 use Rattle.program_files.specs.declared.fault.CodeFault.{CodeFault}
 use Rattle.program_files.specs.declared.fault.CodeFault.TheVariants as codes
 use Rattle.inference.specs.declared.refusal.Refusal.{Refusal}
 use Rattle.inference.specs.declared.refusal.Refusal.TheVariants as refusals
 use Rattle.outcomes.specs.declared.fault.Fault.{Fault}
 use Rattle.outcomes.specs.declared.fault.Fault.TheVariants.{Vcd, Lex, Parse, Typing, Window, Report}
-use Rattle.outcomes.specs.declared.fault.Fault.TheVariants.{Port, Compile, BadJob, Code}
+use Rattle.outcomes.specs.declared.fault.Fault.TheVariants.{Port, Compile, Code}
 use Rattle.outcomes.specs.declared.fault.Fault.TheVariants.{Refused, Memory}
 
 abbrev pub vcd_fault : VcdFault → Fault
@@ -47,11 +44,6 @@ type_fault e = Typing e
 abbrev pub compile_fault : CompileFault → Fault
 compile_fault compiles.Memory = Memory
 compile_fault e = Compile e
-
-abbrev pub lines_fault : LinesFault → Fault
-lines_fault (Program e) = compile_fault e
-lines_fault lines.BadJob = BadJob
-lines_fault lines.Memory = Memory
 
 abbrev pub window_fault : WindowFault → Fault
 window_fault windows.Memory = Memory

@@ -4,7 +4,6 @@ ghost use Rattle.std.specs.Prelude.{◌≡◌};
 
 use axi4_rules::PortFault;
 use command_line::WordsFault;
-use compiled_lines::LinesFault;
 use compiler::CompileFault;
 use cycle_window::WindowFault;
 use lexer::LexFault;
@@ -132,20 +131,6 @@ impl From<ReportFault> for Fault<'_> {
         match fault {
             ReportFault::Memory => Fault::Memory,
             other => Fault::Report(other),
-        }
-    }
-}
-
-impl From<LinesFault> for Fault<'_> {
-    ghost use Rattle.outcomes.specs.Faults.{lines_fault};
-
-    ghost from_gives = { λ f e. e ≡ lines_fault f };
-
-    fn from(fault: LinesFault) -> Self {
-        match fault {
-            LinesFault::Program(fault) => Fault::from(fault),
-            LinesFault::BadJob => Fault::BadJob,
-            LinesFault::Memory => Fault::Memory,
         }
     }
 }

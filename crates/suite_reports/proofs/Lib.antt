@@ -2,4 +2,3 @@ pub mod LineLaws
 pub mod PushLaws
 pub mod SampledLaws
 pub mod ReportLaws
-pub mod ProgramLaws

@@ -16,9 +16,7 @@
 #![tactic(auto)]
 
 mod lines;
-mod programs;
 mod report;
 mod sampled;
 
-pub use programs::report_by_programs;
 pub use report::report_by_judge;

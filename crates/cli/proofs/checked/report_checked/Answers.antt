@@ -1,17 +1,16 @@
-use Rattle.std.proofs.Common.{List, ℕ, refl, string_bytes}
+use Rattle.std.proofs.Common.{List, ℕ, refl, sym, subst, string_bytes}
 use Rattle.text_trees.specs.Views.{items_of}
 use Rattle.vcd_reader.specs.Variables.{Declared, variable_named}
 use Rattle.vcd_reader.specs.Held.{variables_of}
 use Rattle.cycle_window.specs.Bound.{IsClock, IsClockFault}
 use Rattle.cycle_window.specs.Held.{code_in}
 use Rattle.verdicts.specs.Shown.{data_of}
-use Rattle.outcomes.specs.Faults.{type_fault, window_fault, lines_fault}
+use Rattle.outcomes.specs.Faults.{type_fault, window_fault}
 use Rattle.cli.specs.Reported.{SaysSuite}
 use Rattle.cli.specs.Outcomes.{WhyNoneByPrograms}
 use Rattle.cli.proofs.TextLaws.{are_named, untyped, unclocked, uncompiled, none_by_programs}
 use Rattle.outcomes.proofs.FaultLaws.{err_is}
-use Rattle.suite_reports.proofs.ProgramLaws.{all_watched, has_clock, clock_of, reports_by}
-use Rattle.cli.proofs.ProgramLaws.{all_fit}
+use Rattle.cli.proofs.ProgramLaws.{all_watched, has_clock, clock_of, reports_by, all_fit}
 use Rattle.cli.proofs.checked.report_checked.Goals as goal
 
 pub returns-in_err-suite-clause-err : goal.returns-in_err-suite-clause-err
@@ -59,8 +58,8 @@ report_by_programs-requires-clause-fit c =
     all_fit c.suite_law.ensures k c.args.text.now (items_of c.in_ok-file.file) c.in_ok-suite.suite
     c.in_ok-file.ensures.ok (c.in_ok-suite.ensures.ok k holds)
 
-pub returns-in_err-report_by_programs-clause-err : goal.returns-in_err-report_by_programs-clause-err
-returns-in_err-report_by_programs-clause-err c = λ k holds.
+pub returns-in-Err-clause-err : goal.returns-in-Err-clause-err
+returns-in-Err-clause-err c = λ k holds.
     let d = c.args.dump in
     let text = c.args.text.now in
     let suite = c.in_ok-suite.suite in
@@ -70,19 +69,17 @@ returns-in_err-report_by_programs-clause-err c = λ k holds.
       spelled = c.in_ok-file.ensures.ok;
       typed = c.in_ok-suite.ensures.ok k holds;
     } in
-    let fault = c.in_err-report_by_programs.field-0.0 in
     let clock =
     clock_of d k c.clock.result.now (string_bytes suite.clock)
     (λ vs p. IsClock vs p (code_in c.in_ok-clocks.clocks)) holds c.clock.ensures
     c.in_ok-clocks.ensures.clock in
-    err_is c.from_residual-in_err-report_by_programs.result (lines_fault fault)
-    (WhyNoneByPrograms k text) c.from_residual-in_err-report_by_programs.ensures.1
-    (uncompiled k text suite fault says
+    subst (WhyNoneByPrograms k text) (sym c.lines_fault.ensures)
+    (uncompiled k text suite c.in-Err.fault says
     (has_clock k.variables (string_bytes suite.clock) (code_in c.in_ok-clocks.clocks) clock)
-    c.in_err-report_by_programs.ensures.err)
+    c.in-Err.ensures.err)
 
-pub returns-clause-ok : goal.returns-clause-ok
-returns-clause-ok c = λ k holds.
+pub returns-in-Ok-clause-ok : goal.returns-in-Ok-clause-ok
+returns-in-Ok-clause-ok c = λ k holds.
     let d = c.args.dump in
     let suite = c.in_ok-suite.suite in
     let items = items_of c.in_ok-file.file in
@@ -94,7 +91,7 @@ returns-clause-ok c = λ k holds.
     record {
       suite = suite;
       says = record { items = items; spelled = c.in_ok-file.ensures.ok; typed = typed };
-      reports = reports_by k suite code (data_of c.in_ok-report_by_programs.field-0) clock
+      reports = reports_by k suite code (data_of c.in-Ok.report) clock
           (are_named k k.variables items suite refl typed)
-          (λ signals named. c.in_ok-report_by_programs.ensures.ok k signals holds named);
+          (λ signals named. c.in-Ok.ensures.ok k signals holds named);
     }

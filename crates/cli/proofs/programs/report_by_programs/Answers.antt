@@ -2,8 +2,8 @@ use Rattle.std.proofs.Common.{map}
 use Rattle.cycle_window.specs.Held.{ticks_in, code_in}
 use Rattle.verdicts.specs.Lines.{line}
 use Rattle.verdicts.specs.Shown.{data_of}
-use Rattle.suite_reports.proofs.ProgramLaws.{over_rows}
-use Rattle.suite_reports.proofs.programs.report_by_programs.Goals as goal
+use Rattle.cli.proofs.ProgramLaws.{over_rows}
+use Rattle.cli.proofs.programs.report_by_programs.Goals as goal
 
 pub returns-clause-ok : goal.returns-clause-ok
 returns-clause-ok c = λ k signals holds named.

@@ -10,16 +10,29 @@ ghost use Rattle.compiler.specs.Conditions.{IsFit};
 ghost use Rattle.compiled_lines.specs.Lines.{IsWatched, AreVariables, rows_at};
 ghost use Rattle.compiled_lines.specs.Faults.{WhyNoLines};
 ghost use Rattle.suite_reports.specs.Reported.{OverRows};
+ghost use Rattle.cli.specs.Programs.{lines_fault};
 
 use assertions::Suite;
 use compiled_lines::{LinesFault, lines_of};
 use cycle_window::Clocks;
+use outcomes::Fault;
 use std::alloc::Global;
 use vcd_reader::Dump;
 use verdicts::Report;
 
+/// A fault of a suite's lines, as one of a command.
+pub(crate) fn lines_fault(fault: LinesFault) -> Fault<'static>
+    ensures { result ≡ lines_fault fault }
+{
+    match fault {
+        LinesFault::Program(fault) => Fault::from(fault),
+        LinesFault::BadJob => Fault::BadJob,
+        LinesFault::Memory => Fault::Memory,
+    }
+}
+
 /// The report on a suite at the ticks of its clock, through windows of so many clocks.
-pub fn report_by_programs(
+pub(crate) fn report_by_programs(
     alloc: Global,
     dump: Dump,
     clocks: Clocks,
