@@ -28,7 +28,7 @@ use Rattle.grammar.specs.ReadFiles.{clock_words, disable_reader, property_end, a
 use Rattle.grammar.specs.ReadFiles.{labelled_by, label_reader, declared_by, declaration_reader, counted_by, item_by}
 use Rattle.grammar.specs.ReadFiles.{item, asserts, is_more, items}
 use Rattle.grammar.proofs.TerminalLaws.{is-true}
-use Rattle.grammar.proofs.ReaderLaws.{Reads, bind-some, lead-some, expect-some, pick-some, IsOptional, absent, present}
+use Rattle.grammar.proofs.ReaderLaws.{Reads, bind-then, lead-some, expect-some, pick-some, IsOptional, absent, present}
 use Rattle.grammar.proofs.ReaderLaws.{optional-sound, each-sound}
 use Rattle.grammar.proofs.Sound.{path-sound, name-some}
 use Rattle.grammar.proofs.SequencesSound.{expression-sound}
@@ -47,26 +47,26 @@ record One (d : ℕ) (e : Tree) (ts rest : List Token) : Type 0 where
 one-sound : (d : ℕ) → Reads (one_operand d) (λ e ts rest. One d e ts rest)
 unfolding one_operand
 one-sound d ts p h =
-    let o =
-    bind-some (expect OpenRound ts) (λ (o : Token × List Token). expression d o.1 >>= λ p. expect CloseRound p.1
-    >>= λ r. Some (p.0, r.1)) p h in
-    let a =
-    bind-some (expression d o.0.1) (λ (p : Tree × List Token). expect CloseRound p.1 >>= λ r. Some (p.0, r.1)) p
-    o.2 in
-    let c = bind-some (expect CloseRound a.0.1) (λ (r : Token × List Token). Some (a.0.0, r.1)) p a.2 in
-    let same : (a.0.0, c.0.1) ≡ p = cc (c.2) in
-    let x = expect-some OpenRound ts o.0 o.1 in
-    let z = expect-some CloseRound a.0.1 c.0 c.1 in
+    bind-then (expect OpenRound ts) (λ (o : Token × List Token). expression d o.1 >>= λ p. expect CloseRound p.1
+    >>= λ r. Some (p.0, r.1)) p h
+    (λ o o_is o_rest.
+    bind-then (expression d o.1) (λ (p : Tree × List Token). expect CloseRound p.1 >>= λ r. Some (p.0, r.1)) p o_rest
+    (λ a a_is a_rest.
+    bind-then (expect CloseRound a.1) (λ (r : Token × List Token). Some (a.0, r.1)) p a_rest
+    (λ c c_is c_rest.
+    let same : (a.0, c.1) ≡ p = cc (c_rest) in
+    let x = expect-some OpenRound ts o o_is in
+    let z = expect-some CloseRound a.1 c c_is in
     subst (λ (r : Tree × List Token). One d r.0 ts r.1) same
     (record {
-      left = o.0.0;
-      right = c.0.0;
-      inside = o.0.1;
+      left = o.0;
+      right = c.0;
+      inside = o.1;
       parts = x.parts;
       opens = x.marked;
-      spelled = subst (λ (us : List Token). Spells d a.0.0 o.0.1 us) z.parts (expression-sound d o.0.1 a.0 a.1);
+      spelled = subst (λ (us : List Token). Spells d a.0 o.1 us) z.parts (expression-sound d o.1 a a_is);
       closes = z.marked;
-    })
+    }))))
 
 -- "(" expr "," expr ")"
 record Two (v : Tree × Tree) (ts rest : List Token) : Type 0 where
@@ -85,37 +85,38 @@ record Two (v : Tree × Tree) (ts rest : List Token) : Type 0 where
 two-sound : Reads two_operands (λ v ts rest. Two v ts rest)
 unfolding two_operands
 two-sound ts p h =
-    let o =
-    bind-some (expect OpenRound ts) (λ (o : Token × List Token). expression in_one o.1 >>= λ p. expect Comma p.1
-    >>= λ m. expression in_one m.1 >>= λ q. expect CloseRound q.1 >>= λ r. Some ((p.0, q.0), r.1)) p h in
-    let a =
-    bind-some (expression in_one o.0.1) (λ (p : Tree × List Token). expect Comma p.1
-    >>= λ m. expression in_one m.1 >>= λ q. expect CloseRound q.1 >>= λ r. Some ((p.0, q.0), r.1)) p o.2 in
-    let m =
-    bind-some (expect Comma a.0.1) (λ (m : Token × List Token). expression in_one m.1
-    >>= λ q. expect CloseRound q.1 >>= λ r. Some ((a.0.0, q.0), r.1)) p a.2 in
-    let b =
-    bind-some (expression in_one m.0.1) (λ (q : Tree × List Token). expect CloseRound q.1
-    >>= λ r. Some ((a.0.0, q.0), r.1)) p m.2 in
-    let c = bind-some (expect CloseRound b.0.1) (λ (r : Token × List Token). Some ((a.0.0, b.0.0), r.1)) p b.2 in
-    let same : ((a.0.0, b.0.0), c.0.1) ≡ p = cc (c.2) in
-    let x = expect-some OpenRound ts o.0 o.1 in
-    let y = expect-some Comma a.0.1 m.0 m.1 in
-    let z = expect-some CloseRound b.0.1 c.0 c.1 in
+    bind-then (expect OpenRound ts) (λ (o : Token × List Token). expression in_one o.1 >>= λ p. expect Comma p.1
+    >>= λ m. expression in_one m.1 >>= λ q. expect CloseRound q.1 >>= λ r. Some ((p.0, q.0), r.1)) p h
+    (λ o o_is o_rest.
+    bind-then (expression in_one o.1) (λ (p : Tree × List Token). expect Comma p.1 >>= λ m. expression in_one m.1
+    >>= λ q. expect CloseRound q.1 >>= λ r. Some ((p.0, q.0), r.1)) p o_rest
+    (λ a a_is a_rest.
+    bind-then (expect Comma a.1) (λ (m : Token × List Token). expression in_one m.1 >>= λ q. expect CloseRound q.1
+    >>= λ r. Some ((a.0, q.0), r.1)) p a_rest
+    (λ m m_is m_rest.
+    bind-then (expression in_one m.1) (λ (q : Tree × List Token). expect CloseRound q.1 >>= λ r. Some ((a.0, q.0), r.1))
+    p m_rest
+    (λ b b_is b_rest.
+    bind-then (expect CloseRound b.1) (λ (r : Token × List Token). Some ((a.0, b.0), r.1)) p b_rest
+    (λ c c_is c_rest.
+    let same : ((a.0, b.0), c.1) ≡ p = cc (c_rest) in
+    let x = expect-some OpenRound ts o o_is in
+    let y = expect-some Comma a.1 m m_is in
+    let z = expect-some CloseRound b.1 c c_is in
     subst (λ (r : (Tree × Tree) × List Token). Two r.0 ts r.1) same (record {
-      left = o.0.0;
-      comma = m.0.0;
-      right = c.0.0;
-      inside = o.0.1;
-      middle = m.0.1;
+      left = o.0;
+      comma = m.0;
+      right = c.0;
+      inside = o.1;
+      middle = m.1;
       parts = x.parts;
       opens = x.marked;
-      first = subst (λ (us : List Token). Spells in_one a.0.0 o.0.1 us) y.parts (expression-sound in_one o.0.1 a.0 a.1);
+      first = subst (λ (us : List Token). Spells in_one a.0 o.1 us) y.parts (expression-sound in_one o.1 a a_is);
       divides = y.marked;
       second =
-          subst (λ (us : List Token). Spells in_one b.0.0 m.0.1 us) z.parts (expression-sound in_one m.0.1 b.0 b.1);
+          subst (λ (us : List Token). Spells in_one b.0 m.1 us) z.parts (expression-sound in_one m.1 b b_is);
       closes = z.marked;
-    })
+    }))))))
 
 clear_at : (w : Token) (e : Tree) (ts us rest : List Token) → ts ≡ w ∷ us → terminal w ≡ word.Clear
     → One in_one e us rest → IsClear (Some e) ts rest
@@ -153,9 +154,10 @@ disable-sound : (ts : List Token) (o : Option Tree) (rest : List Token) → IsOp
 unfolding disable_reader
 disable-sound ts _ _ absent = no_disable
 disable-sound ts _ rest (present {t = t} {us = us} {a = e} p k r) =
-    let i = bind-some (expect Iff us) (λ (i : Token × List Token). one_operand in_two i.1) (e, rest) r in
-    let x = expect-some Iff us i.0 i.1 in
-    disable_at t i.0.0 e ts us i.0.1 rest p k x.parts x.marked (one-sound in_two i.0.1 (e, rest) i.2)
+    bind-then (expect Iff us) (λ (i : Token × List Token). one_operand in_two i.1) (e, rest) r
+    (λ i i_is i_rest.
+    let x = expect-some Iff us i i_is in
+    disable_at t i.0 e ts us i.1 rest p k x.parts x.marked (one-sound in_two i.1 (e, rest) i_rest))
 
 -- counters
 record CounterHead (name : Token) (width : Bound) (ts rest : List Token) : Type 0 where
@@ -189,25 +191,26 @@ head_at t name left n right width ts us vs ws rest a b c e f g h i j = record {
 head-sound : Reads counter_head (λ v ts rest. CounterHead v.0 v.1 ts rest)
 unfolding counter_head
 head-sound ts p h =
-    let a =
-    bind-some (pick name_of ts) (λ (n : Token × List Token). expect OpenSquare n.1
-    >>= λ o. pick (bound_within 1 128) o.1 >>= λ w. expect CloseSquare w.1 >>= λ r. Some ((n.0, w.0), r.1)) p h in
-    let o =
-    bind-some (expect OpenSquare a.0.1) (λ (o : Token × List Token). pick (bound_within 1 128) o.1
-    >>= λ w. expect CloseSquare w.1 >>= λ r. Some ((a.0.0, w.0), r.1)) p a.2 in
-    let w =
-    bind-some (pick (bound_within 1 128) o.0.1) (λ (w : Bound × List Token). expect CloseSquare w.1
-    >>= λ r. Some ((a.0.0, w.0), r.1)) p o.2 in
-    let c = bind-some (expect CloseSquare w.0.1) (λ (r : Token × List Token). Some ((a.0.0, w.0.0), r.1)) p w.2 in
-    let same : ((a.0.0, w.0.0), c.0.1) ≡ p = cc (c.2) in
-    let x = pick-some name_of ts a.0 a.1 in
-    let n = name-some x.token a.0.0 x.picked in
-    let y = expect-some OpenSquare a.0.1 o.0 o.1 in
-    let v = pick-some (bound_within 1 128) o.0.1 w.0 w.1 in
-    let z = expect-some CloseSquare w.0.1 c.0 c.1 in
+    bind-then (pick name_of ts) (λ (n : Token × List Token). expect OpenSquare n.1
+    >>= λ o. pick (bound_within 1 128) o.1 >>= λ w. expect CloseSquare w.1 >>= λ r. Some ((n.0, w.0), r.1)) p h
+    (λ a a_is a_rest.
+    bind-then (expect OpenSquare a.1) (λ (o : Token × List Token). pick (bound_within 1 128) o.1
+    >>= λ w. expect CloseSquare w.1 >>= λ r. Some ((a.0, w.0), r.1)) p a_rest
+    (λ o o_is o_rest.
+    bind-then (pick (bound_within 1 128) o.1) (λ (w : Bound × List Token). expect CloseSquare w.1
+    >>= λ r. Some ((a.0, w.0), r.1)) p o_rest
+    (λ w w_is w_rest.
+    bind-then (expect CloseSquare w.1) (λ (r : Token × List Token). Some ((a.0, w.0), r.1)) p w_rest
+    (λ c c_is c_rest.
+    let same : ((a.0, w.0), c.1) ≡ p = cc (c_rest) in
+    let x = pick-some name_of ts a a_is in
+    let n = name-some x.token a.0 x.picked in
+    let y = expect-some OpenSquare a.1 o o_is in
+    let v = pick-some (bound_within 1 128) o.1 w w_is in
+    let z = expect-some CloseSquare w.1 c c_is in
     subst (λ (r : (Token × Bound) × List Token). CounterHead r.0.0 r.0.1 ts r.1) same
-    (head_at x.token a.0.0 o.0.0 v.token c.0.0 w.0.0 ts a.0.1 o.0.1 w.0.1 c.0.1 x.parts n.0 n.1 y.parts y.marked
-    v.parts v.picked z.parts z.marked)
+    (head_at x.token a.0 o.0 v.token c.0 w.0 ts a.1 o.1 w.1 c.1 x.parts n.0 n.1 y.parts y.marked
+    v.parts v.picked z.parts z.marked)))))
 
 counter_at : (w name : Token) (width : Bound) (a : Option Tree) (b c e : Option (Tree × Tree)) (semicolon : Token)
     (ts us vs ws xs ys rest : List Token) → terminal w ≡ word.Counter → CounterHead name width ts us → IsClear a us vs
@@ -224,42 +227,40 @@ counter-sound : (w : Token) (ts : List Token) (p : ItemForm × List Token) → t
     → counter_item ts ≡ Some p → SpellsItem p.0 (w ∷ ts) p.1
 unfolding counter_item
 counter-sound w ts p k h =
-    let n =
-    bind-some (counter_head ts)
-    (λ (h : (Token × Bound) × List Token). optional word.Clear (one_operand in_one) h.1
+    bind-then (counter_head ts) (λ (h : (Token × Bound) × List Token). optional word.Clear (one_operand in_one) h.1
     >>= λ a. optional word.Load two_operands a.1 >>= λ b. optional word.Add two_operands b.1
-    >>= λ c. optional word.Sub two_operands c.1
-    >>= λ d. expect Semicolon d.1 >>= λ r. Some (counter_form h.0.0 h.0.1 a.0 b.0 c.0 d.0, r.1)) p h in
-    let a =
-    bind-some (optional word.Clear (one_operand in_one) n.0.1)
-    (λ (a : Option Tree × List Token). optional word.Load two_operands a.1
-    >>= λ b. optional word.Add two_operands b.1 >>= λ c. optional word.Sub two_operands c.1
-    >>= λ d. expect Semicolon d.1 >>= λ r. Some (counter_form n.0.0.0 n.0.0.1 a.0 b.0 c.0 d.0, r.1)) p n.2 in
-    let b =
-    bind-some (optional word.Load two_operands a.0.1)
+    >>= λ c. optional word.Sub two_operands c.1 >>= λ d. expect Semicolon d.1
+    >>= λ r. Some (counter_form h.0.0 h.0.1 a.0 b.0 c.0 d.0, r.1)) p h
+    (λ n n_is n_rest.
+    bind-then (optional word.Clear (one_operand in_one) n.1)
+    (λ (a : Option Tree × List Token). optional word.Load two_operands a.1 >>= λ b. optional word.Add two_operands b.1
+    >>= λ c. optional word.Sub two_operands c.1 >>= λ d. expect Semicolon d.1
+    >>= λ r. Some (counter_form n.0.0 n.0.1 a.0 b.0 c.0 d.0, r.1)) p n_rest
+    (λ a a_is a_rest.
+    bind-then (optional word.Load two_operands a.1)
     (λ (b : Option (Tree × Tree) × List Token). optional word.Add two_operands b.1
     >>= λ c. optional word.Sub two_operands c.1 >>= λ d. expect Semicolon d.1
-    >>= λ r. Some (counter_form n.0.0.0 n.0.0.1 a.0.0 b.0 c.0 d.0, r.1)) p a.2 in
-    let c =
-    bind-some (optional word.Add two_operands b.0.1)
+    >>= λ r. Some (counter_form n.0.0 n.0.1 a.0 b.0 c.0 d.0, r.1)) p a_rest
+    (λ b b_is b_rest.
+    bind-then (optional word.Add two_operands b.1)
     (λ (c : Option (Tree × Tree) × List Token). optional word.Sub two_operands c.1 >>= λ d. expect Semicolon d.1
-    >>= λ r. Some (counter_form n.0.0.0 n.0.0.1 a.0.0 b.0.0 c.0 d.0, r.1)) p b.2 in
-    let e =
-    bind-some (optional word.Sub two_operands c.0.1)
-    (λ (d : Option (Tree × Tree) × List Token). expect Semicolon d.1
-    >>= λ r. Some (counter_form n.0.0.0 n.0.0.1 a.0.0 b.0.0 c.0.0 d.0, r.1)) p c.2 in
-    let s =
-    bind-some (expect Semicolon e.0.1)
-    (λ (r : Token × List Token). Some (counter_form n.0.0.0 n.0.0.1 a.0.0 b.0.0 c.0.0 e.0.0, r.1)) p e.2 in
-    let same : (counter_form n.0.0.0 n.0.0.1 a.0.0 b.0.0 c.0.0 e.0.0, s.0.1) ≡ p = cc (s.2) in
-    let z = expect-some Semicolon e.0.1 s.0 s.1 in
+    >>= λ r. Some (counter_form n.0.0 n.0.1 a.0 b.0 c.0 d.0, r.1)) p b_rest
+    (λ c c_is c_rest.
+    bind-then (optional word.Sub two_operands c.1) (λ (d : Option (Tree × Tree) × List Token). expect Semicolon d.1
+    >>= λ r. Some (counter_form n.0.0 n.0.1 a.0 b.0 c.0 d.0, r.1)) p c_rest
+    (λ e e_is e_rest.
+    bind-then (expect Semicolon e.1) (λ (r : Token × List Token). Some (counter_form n.0.0 n.0.1 a.0 b.0 c.0 e.0, r.1))
+    p e_rest
+    (λ s s_is s_rest.
+    let same : (counter_form n.0.0 n.0.1 a.0 b.0 c.0 e.0, s.1) ≡ p = cc (s_rest) in
+    let z = expect-some Semicolon e.1 s s_is in
     subst (λ (r : ItemForm × List Token). SpellsItem r.0 (w ∷ ts) r.1) same
-    (counter_at w n.0.0.0 n.0.0.1 a.0.0 b.0.0 c.0.0 e.0.0 s.0.0 ts n.0.1 a.0.1 b.0.1 c.0.1 e.0.1 s.0.1 k
-    (head-sound ts n.0 n.1)
-    (clear-sound n.0.1 a.0.0 a.0.1 (optional-sound word.Clear (one_operand in_one) n.0.1 a.0 a.1))
-    (clause-sound word.Load a.0.1 b.0.0 b.0.1 (optional-sound word.Load two_operands a.0.1 b.0 b.1))
-    (clause-sound word.Add b.0.1 c.0.0 c.0.1 (optional-sound word.Add two_operands b.0.1 c.0 c.1))
-    (clause-sound word.Sub c.0.1 e.0.0 e.0.1 (optional-sound word.Sub two_operands c.0.1 e.0 e.1)) z.parts z.marked)
+    (counter_at w n.0.0 n.0.1 a.0 b.0 c.0 e.0 s.0 ts n.1 a.1 b.1 c.1 e.1 s.1 k
+    (head-sound ts n n_is)
+    (clear-sound n.1 a.0 a.1 (optional-sound word.Clear (one_operand in_one) n.1 a a_is))
+    (clause-sound word.Load a.1 b.0 b.1 (optional-sound word.Load two_operands a.1 b b_is))
+    (clause-sound word.Add b.1 c.0 c.1 (optional-sound word.Add two_operands b.1 c c_is))
+    (clause-sound word.Sub c.1 e.0 e.1 (optional-sound word.Sub two_operands c.1 e e_is)) z.parts z.marked)))))))
 
 -- named sequences
 again-some : (name t a : Token) → again_of name t ≡ Some a → (is_word t ≡ true)
@@ -297,18 +298,17 @@ ending_at name e us vs rest p k c ts (Some q) l same =
 ending-sound : (name : Token) (ts rest : List Token) → ending_of name ts ≡ Some rest → IsEnding name ts rest
 unfolding ending_of skip
 ending-sound name ts rest h =
-    let e =
-    bind-some (expect EndSequence (skip Semicolon ts))
-    (λ (e : Token × List Token). optional Colon (pick (again_of name)) e.1 >>= λ q. Some q.1) rest h in
-    let q =
-    bind-some (optional Colon (pick (again_of name)) e.0.1) (λ (q : Option Token × List Token). Some q.1) rest e.2
-    in
-    let same : q.0.1 ≡ rest = cc (q.2) in
-    let x = expect-some EndSequence (skip Semicolon ts) e.0 e.1 in
-    ending_at name e.0.0 (skip Semicolon ts) e.0.1 rest x.parts x.marked
-    (subst (λ (xs : List Token). IsClosing name e.0.1 xs) same
-    (closing-sound name e.0.1 q.0.0 q.0.1 (optional-sound Colon (pick (again_of name)) e.0.1 q.0 q.1))) ts
-    (expect Semicolon ts) refl refl
+    bind-then (expect EndSequence (skip Semicolon ts))
+    (λ (e : Token × List Token). optional Colon (pick (again_of name)) e.1 >>= λ q. Some q.1) rest h
+    (λ e e_is e_rest.
+    bind-then (optional Colon (pick (again_of name)) e.1) (λ (q : Option Token × List Token). Some q.1) rest e_rest
+    (λ q q_is q_rest.
+    let same : q.1 ≡ rest = cc (q_rest) in
+    let x = expect-some EndSequence (skip Semicolon ts) e e_is in
+    ending_at name e.0 (skip Semicolon ts) e.1 rest x.parts x.marked
+    (subst (λ (xs : List Token). IsClosing name e.1 xs) same
+    (closing-sound name e.1 q.0 q.1 (optional-sound Colon (pick (again_of name)) e.1 q q_is))) ts
+    (expect Semicolon ts) refl refl))
 
 declaration_at : (w t name semicolon : Token) (body : SequenceForm) (ts us vs ws rest : List Token)
     → terminal w ≡ word.Sequence → ts ≡ t ∷ us → is_name t ≡ true → t ≡ name → us ≡ semicolon ∷ vs
@@ -323,27 +323,26 @@ declaration-sound : (w : Token) (ts : List Token) (p : ItemForm × List Token) �
     → declaration_item ts ≡ Some p → SpellsItem p.0 (w ∷ ts) p.1
 unfolding declaration_item
 declaration-sound w ts p k h =
-    let n =
-    bind-some (pick name_of ts) (λ (n : Token × List Token). expect Semicolon n.1 >>= λ o. whole most_open o.1
-    >>= λ p. ending_of n.0 p.1 >>= λ rest. Some (declaration (record { name = n.0; body = p.0 }), rest)) p h in
-    let s =
-    bind-some (expect Semicolon n.0.1) (λ (o : Token × List Token). whole most_open o.1
-    >>= λ p. ending_of n.0.0 p.1 >>= λ rest. Some (declaration (record { name = n.0.0; body = p.0 }), rest)) p n.2
-    in
-    let b =
-    bind-some (whole most_open s.0.1) (λ (p : SequenceForm × List Token). ending_of n.0.0 p.1
-    >>= λ rest. Some (declaration (record { name = n.0.0; body = p.0 }), rest)) p s.2 in
-    let e =
-    bind-some (ending_of n.0.0 b.0.1)
-    (λ (rest : List Token). Some (declaration (record { name = n.0.0; body = b.0.0 }), rest)) p b.2 in
-    let i : ItemForm = declaration (record { name = n.0.0; body = b.0.0 }) in
-    let same : (i, e.0) ≡ p = cc (e.2) in
-    let x = pick-some name_of ts n.0 n.1 in
-    let v = name-some x.token n.0.0 x.picked in
-    let y = expect-some Semicolon n.0.1 s.0 s.1 in
+    bind-then (pick name_of ts) (λ (n : Token × List Token). expect Semicolon n.1 >>= λ o. whole most_open o.1
+    >>= λ p. ending_of n.0 p.1 >>= λ rest. Some (declaration (record { name = n.0; body = p.0 }), rest)) p h
+    (λ n n_is n_rest.
+    bind-then (expect Semicolon n.1) (λ (o : Token × List Token). whole most_open o.1 >>= λ p. ending_of n.0 p.1
+    >>= λ rest. Some (declaration (record { name = n.0; body = p.0 }), rest)) p n_rest
+    (λ s s_is s_rest.
+    bind-then (whole most_open s.1) (λ (p : SequenceForm × List Token). ending_of n.0 p.1
+    >>= λ rest. Some (declaration (record { name = n.0; body = p.0 }), rest)) p s_rest
+    (λ b b_is b_rest.
+    bind-then (ending_of n.0 b.1) (λ (rest : List Token). Some (declaration (record { name = n.0; body = b.0 }), rest))
+    p b_rest
+    (λ e e_is e_rest.
+    let i : ItemForm = declaration (record { name = n.0; body = b.0 }) in
+    let same : (i, e) ≡ p = cc (e_rest) in
+    let x = pick-some name_of ts n n_is in
+    let v = name-some x.token n.0 x.picked in
+    let y = expect-some Semicolon n.1 s s_is in
     subst (λ (r : ItemForm × List Token). SpellsItem r.0 (w ∷ ts) r.1) same
-    (declaration_at w x.token n.0.0 s.0.0 b.0.0 ts n.0.1 s.0.1 b.0.1 e.0 k x.parts v.0 v.1 y.parts y.marked
-    (whole-sound most_open s.0.1 b.0 b.1) (ending-sound n.0.0 b.0.1 e.0 e.1))
+    (declaration_at w x.token n.0 s.0 b.0 ts n.1 s.1 b.1 e k x.parts v.0 v.1 y.parts y.marked
+    (whole-sound most_open s.1 b b_is) (ending-sound n.0 b.1 e e_is))))))
 
 -- assertions
 verb-some : (t : Token) → is_verb_token t ≡ true → is_verb (terminal t)
@@ -371,37 +370,38 @@ record Clock (clock : List Token) (ts rest : List Token) : Type 0 where
 clock-sound : Reads clock_words (λ c ts rest. Clock c ts rest)
 unfolding clock_words
 clock-sound ts p h =
-    let a =
-    bind-some (expect AtSign ts) (λ (a : Token × List Token). expect OpenRound a.1 >>= λ b. expect Posedge b.1
-    >>= λ c. path_words c.1 >>= λ p. expect CloseRound p.1 >>= λ r. Some (p.0, r.1)) p h in
-    let b =
-    bind-some (expect OpenRound a.0.1) (λ (b : Token × List Token). expect Posedge b.1 >>= λ c. path_words c.1
-    >>= λ p. expect CloseRound p.1 >>= λ r. Some (p.0, r.1)) p a.2 in
-    let c =
-    bind-some (expect Posedge b.0.1) (λ (c : Token × List Token). path_words c.1 >>= λ p. expect CloseRound p.1
-    >>= λ r. Some (p.0, r.1)) p b.2 in
-    let e =
-    bind-some (path_words c.0.1) (λ (p : List Token × List Token). expect CloseRound p.1 >>= λ r. Some (p.0, r.1))
-    p c.2 in
-    let f = bind-some (expect CloseRound e.0.1) (λ (r : Token × List Token). Some (e.0.0, r.1)) p e.2 in
-    let same : (e.0.0, f.0.1) ≡ p = cc (f.2) in
-    let u = expect-some AtSign ts a.0 a.1 in
-    let v = expect-some OpenRound a.0.1 b.0 b.1 in
-    let w = expect-some Posedge b.0.1 c.0 c.1 in
-    let z = expect-some CloseRound e.0.1 f.0 f.1 in
+    bind-then (expect AtSign ts) (λ (a : Token × List Token). expect OpenRound a.1 >>= λ b. expect Posedge b.1
+    >>= λ c. path_words c.1 >>= λ p. expect CloseRound p.1 >>= λ r. Some (p.0, r.1)) p h
+    (λ a a_is a_rest.
+    bind-then (expect OpenRound a.1) (λ (b : Token × List Token). expect Posedge b.1 >>= λ c. path_words c.1
+    >>= λ p. expect CloseRound p.1 >>= λ r. Some (p.0, r.1)) p a_rest
+    (λ b b_is b_rest.
+    bind-then (expect Posedge b.1) (λ (c : Token × List Token). path_words c.1 >>= λ p. expect CloseRound p.1
+    >>= λ r. Some (p.0, r.1)) p b_rest
+    (λ c c_is c_rest.
+    bind-then (path_words c.1) (λ (p : List Token × List Token). expect CloseRound p.1 >>= λ r. Some (p.0, r.1)) p
+    c_rest
+    (λ e e_is e_rest.
+    bind-then (expect CloseRound e.1) (λ (r : Token × List Token). Some (e.0, r.1)) p e_rest
+    (λ f f_is f_rest.
+    let same : (e.0, f.1) ≡ p = cc (f_rest) in
+    let u = expect-some AtSign ts a a_is in
+    let v = expect-some OpenRound a.1 b b_is in
+    let w = expect-some Posedge b.1 c c_is in
+    let z = expect-some CloseRound e.1 f f_is in
     subst (λ (r : List Token × List Token). Clock r.0 ts r.1) same (record {
-      at_sign = a.0.0;
-      round = b.0.0;
-      posedge = c.0.0;
-      right = f.0.0;
-      inside = c.0.1;
-      parts = u.parts ∙ ap (λ (xs : List Token). a.0.0 ∷ xs) (v.parts ∙ ap (λ (xs : List Token). b.0.0 ∷ xs) w.parts);
+      at_sign = a.0;
+      round = b.0;
+      posedge = c.0;
+      right = f.0;
+      inside = c.1;
+      parts = u.parts ∙ ap (λ (xs : List Token). a.0 ∷ xs) (v.parts ∙ ap (λ (xs : List Token). b.0 ∷ xs) w.parts);
       is_at = u.marked;
       is_round = v.marked;
       is_posedge = w.marked;
-      spelled = subst (λ (xs : List Token). IsPath e.0.0 c.0.1 xs) z.parts (path-sound c.0.1 e.0 e.1);
+      spelled = subst (λ (xs : List Token). IsPath e.0 c.1 xs) z.parts (path-sound c.1 e e_is);
       closes = z.marked;
-    })
+    }))))))
 
 record PropertyEnd (p : PropertyForm) (ts rest : List Token) : Type 0 where
   last : Token
@@ -413,26 +413,27 @@ record PropertyEnd (p : PropertyForm) (ts rest : List Token) : Type 0 where
 property_end-sound : Reads property_end (λ p ts rest. PropertyEnd p ts rest)
 unfolding property_end
 property_end-sound ts p h =
-    let a =
-    bind-some (property in_one ts) (λ (p : PropertyForm × List Token). expect CloseRound p.1
-    >>= λ a. expect Semicolon a.1 >>= λ r. Some (p.0, r.1)) p h in
-    let b =
-    bind-some (expect CloseRound a.0.1) (λ (b : Token × List Token). expect Semicolon b.1
-    >>= λ r. Some (a.0.0, r.1)) p a.2 in
-    let c = bind-some (expect Semicolon b.0.1) (λ (r : Token × List Token). Some (a.0.0, r.1)) p b.2 in
-    let same : (a.0.0, c.0.1) ≡ p = cc (c.2) in
-    let x = expect-some CloseRound a.0.1 b.0 b.1 in
-    let y = expect-some Semicolon b.0.1 c.0 c.1 in
+    bind-then (property in_one ts) (λ (p : PropertyForm × List Token). expect CloseRound p.1
+    >>= λ a. expect Semicolon a.1 >>= λ r. Some (p.0, r.1)) p h
+    (λ a a_is a_rest.
+    bind-then (expect CloseRound a.1) (λ (b : Token × List Token). expect Semicolon b.1 >>= λ r. Some (a.0, r.1)) p
+    a_rest
+    (λ b b_is b_rest.
+    bind-then (expect Semicolon b.1) (λ (r : Token × List Token). Some (a.0, r.1)) p b_rest
+    (λ c c_is c_rest.
+    let same : (a.0, c.1) ≡ p = cc (c_rest) in
+    let x = expect-some CloseRound a.1 b b_is in
+    let y = expect-some Semicolon b.1 c c_is in
     subst (λ (r : PropertyForm × List Token). PropertyEnd r.0 ts r.1) same
     (record {
-      last = b.0.0;
-      semicolon = c.0.0;
-      spelled = subst (λ (xs : List Token). IsProperty in_one a.0.0 ts xs)
-          (x.parts ∙ ap (λ (xs : List Token). b.0.0 ∷ xs) y.parts) (property-sound in_one ts a.0 a.1);
+      last = b.0;
+      semicolon = c.0;
+      spelled = subst (λ (xs : List Token). IsProperty in_one a.0 ts xs)
+          (x.parts ∙ ap (λ (xs : List Token). b.0 ∷ xs) y.parts) (property-sound in_one ts a a_is);
       closes =
           x.marked;
       ends = y.marked;
-    })
+    }))))
 
 record Opens (ts rest : List Token) : Type 0 where
   word_property : Token
@@ -444,21 +445,21 @@ record Opens (ts rest : List Token) : Type 0 where
 opening-sound : (ts rest : List Token) → opening_words ts ≡ Some rest → Opens ts rest
 unfolding opening_words
 opening-sound ts rest h =
-    let a =
-    bind-some (expect word.Property ts) (λ (a : Token × List Token). expect OpenRound a.1 >>= λ b. Some b.1) rest
-    h in
-    let b = bind-some (expect OpenRound a.0.1) (λ (b : Token × List Token). Some b.1) rest a.2 in
-    let same : b.0.1 ≡ rest = cc (b.2) in
-    let x = expect-some word.Property ts a.0 a.1 in
-    let y = expect-some OpenRound a.0.1 b.0 b.1 in
+    bind-then (expect word.Property ts) (λ (a : Token × List Token). expect OpenRound a.1 >>= λ b. Some b.1) rest h
+    (λ a a_is a_rest.
+    bind-then (expect OpenRound a.1) (λ (b : Token × List Token). Some b.1) rest a_rest
+    (λ b b_is b_rest.
+    let same : b.1 ≡ rest = cc (b_rest) in
+    let x = expect-some word.Property ts a a_is in
+    let y = expect-some OpenRound a.1 b b_is in
     subst (λ (xs : List Token). Opens ts xs) same
     (record {
-      word_property = a.0.0;
-      left = b.0.0;
-      parts = x.parts ∙ ap (λ (xs : List Token). a.0.0 ∷ xs) y.parts;
+      word_property = a.0;
+      left = b.0;
+      parts = x.parts ∙ ap (λ (xs : List Token). a.0 ∷ xs) y.parts;
       is_property = x.marked;
       is_left = y.marked;
-    })
+    })))
 
 assertion_at : (l : Option Token) (verb : Token) (clock : List Token) (off : Option Tree) (p : PropertyForm)
     (start ts us vs ws xs rest : List Token) → IsLabel l start ts → ts ≡ verb ∷ us → is_verb (terminal verb)
@@ -476,30 +477,29 @@ assertion-sound : (l : Option Token) (start ts : List Token) (p : ItemForm × Li
     → assertion_item l ts ≡ Some p → SpellsItem p.0 start p.1
 unfolding assertion_item
 assertion-sound l start ts p named h =
-    let v =
-    bind-some (lead is_verb_token ts) (λ (v : Token × List Token). opening_words v.1 >>= λ us. clock_words us
+    bind-then (lead is_verb_token ts) (λ (v : Token × List Token). opening_words v.1 >>= λ us. clock_words us
     >>= λ c. optional Disable disable_reader c.1 >>= λ d. property_end d.1
-    >>= λ p. Some (assertion_form l v.0 c.0 d.0 p.0, p.1)) p h in
-    let o =
-    bind-some (opening_words v.0.1) (λ (us : List Token). clock_words us
-    >>= λ c. optional Disable disable_reader c.1 >>= λ d. property_end d.1
-    >>= λ p. Some (assertion_form l v.0.0 c.0 d.0 p.0, p.1)) p v.2 in
-    let c =
-    bind-some (clock_words o.0) (λ (c : List Token × List Token). optional Disable disable_reader c.1
-    >>= λ d. property_end d.1 >>= λ p. Some (assertion_form l v.0.0 c.0 d.0 p.0, p.1)) p o.2 in
-    let e =
-    bind-some (optional Disable disable_reader c.0.1) (λ (d : Option Tree × List Token). property_end d.1
-    >>= λ p. Some (assertion_form l v.0.0 c.0.0 d.0 p.0, p.1)) p c.2 in
-    let q =
-    bind-some (property_end e.0.1)
-    (λ (p : PropertyForm × List Token). Some (assertion_form l v.0.0 c.0.0 e.0.0 p.0, p.1)) p e.2 in
-    let same : (assertion_form l v.0.0 c.0.0 e.0.0 q.0.0, q.0.1) ≡ p = cc (q.2) in
-    let x = lead-some is_verb_token ts v.0 v.1 in
+    >>= λ p. Some (assertion_form l v.0 c.0 d.0 p.0, p.1)) p h
+    (λ v v_is v_rest.
+    bind-then (opening_words v.1) (λ (us : List Token). clock_words us >>= λ c. optional Disable disable_reader c.1
+    >>= λ d. property_end d.1 >>= λ p. Some (assertion_form l v.0 c.0 d.0 p.0, p.1)) p v_rest
+    (λ o o_is o_rest.
+    bind-then (clock_words o) (λ (c : List Token × List Token). optional Disable disable_reader c.1
+    >>= λ d. property_end d.1 >>= λ p. Some (assertion_form l v.0 c.0 d.0 p.0, p.1)) p o_rest
+    (λ c c_is c_rest.
+    bind-then (optional Disable disable_reader c.1) (λ (d : Option Tree × List Token). property_end d.1
+    >>= λ p. Some (assertion_form l v.0 c.0 d.0 p.0, p.1)) p c_rest
+    (λ e e_is e_rest.
+    bind-then (property_end e.1) (λ (p : PropertyForm × List Token). Some (assertion_form l v.0 c.0 e.0 p.0, p.1)) p
+    e_rest
+    (λ q q_is q_rest.
+    let same : (assertion_form l v.0 c.0 e.0 q.0, q.1) ≡ p = cc (q_rest) in
+    let x = lead-some is_verb_token ts v v_is in
     subst (λ (r : ItemForm × List Token). SpellsItem r.0 start r.1) same
-    (assertion_at l v.0.0 c.0.0 e.0.0 q.0.0 start ts v.0.1 o.0 c.0.1 e.0.1 q.0.1 named x.parts
-    (verb-some v.0.0 x.passes) (opening-sound v.0.1 o.0 o.1) (clock-sound o.0 c.0 c.1)
-    (disable-sound c.0.1 e.0.0 e.0.1 (optional-sound Disable disable_reader c.0.1 e.0 e.1))
-    (property_end-sound e.0.1 q.0 q.1))
+    (assertion_at l v.0 c.0 e.0 q.0 start ts v.1 o c.1 e.1 q.1 named x.parts
+    (verb-some v.0 x.passes) (opening-sound v.1 o o_is) (clock-sound o c c_is)
+    (disable-sound c.1 e.0 e.1 (optional-sound Disable disable_reader c.1 e e_is))
+    (property_end-sound e.1 q q_is)))))))
 
 label_at : (name colon : Token) (ts us vs : List Token) → ts ≡ name ∷ us → is_name name ≡ true → us ≡ colon ∷ vs
     → terminal colon ≡ Colon → IsLabel (Some name) ts vs
@@ -509,10 +509,11 @@ labelled_by-sound : (ts : List Token) (p : ItemForm × List Token) (o : Option (
     → lead is_name ts ≡ o → labelled_by o ts ≡ Some p → SpellsItem p.0 ts p.1
 labelled_by-sound ts p None l h = assertion-sound None ts ts p no_label h
 labelled_by-sound ts p (Some q) l h =
-    let c = bind-some (expect Colon q.1) (λ (r : Token × List Token). assertion_item (Some q.0) r.1) p h in
+    bind-then (expect Colon q.1) (λ (r : Token × List Token). assertion_item (Some q.0) r.1) p h
+    (λ c c_is c_rest.
     let x = lead-some is_name ts q l in
-    let y = expect-some Colon q.1 c.0 c.1 in
-    assertion-sound (Some q.0) ts c.0.1 p (label_at q.0 c.0.0 ts q.1 c.0.1 x.parts x.passes y.parts y.marked) c.2
+    let y = expect-some Colon q.1 c c_is in
+    assertion-sound (Some q.0) ts c.1 p (label_at q.0 c.0 ts q.1 c.1 x.parts x.passes y.parts y.marked) c_rest)
 
 labelled-sound : (ts : List Token) (p : ItemForm × List Token) → label_reader ts ≡ Some p → SpellsItem p.0 ts p.1
 unfolding label_reader

@@ -1,3 +1,4 @@
+pub mod TableLaws
 pub mod TerminalLaws
 pub mod ReaderLaws
 pub mod Complete

@@ -19,8 +19,8 @@ use Rattle.grammar.specs.Readers.{◌>>=◌, expect, pick}
 use Rattle.grammar.specs.ReadSequences.{regroup, body_with, during_behind, during_with, sides_behind, whole_with}
 use Rattle.grammar.specs.ReadSequences.{sequences, sequence_behind, whole, implication_from, implication_behind}
 use Rattle.grammar.specs.ReadSequences.{regroup_property, property_by, property_with, properties, property}
-use Rattle.grammar.proofs.ReaderLaws.{Reads, bind-some, pick-nil, pick-no, pick-is, pick-some, expect-is, expect-not}
-use Rattle.grammar.proofs.ReaderLaws.{expect-some, precedence-CloseRound}
+use Rattle.grammar.proofs.ReaderLaws.{Reads, bind-some, bind-then, pick-nil, pick-no, pick-is, pick-some, expect-is}
+use Rattle.grammar.proofs.ReaderLaws.{expect-not, expect-some, precedence-CloseRound}
 use Rattle.grammar.proofs.Sound.{opening-mark}
 use Rattle.grammar.proofs.SequencesComplete.{body, during, sequence-none, regroup-none, sequence-read}
 use Rattle.grammar.proofs.SequencesSound.{sequence-is_boolean, regroup-sound, behind-sound, sides-sound, is_sound_below}
@@ -83,32 +83,32 @@ grouped : (d : ℕ) (t : Token) (ts : List Token) (s : SequenceForm) (rest : Lis
 unfolding whole whole_with sequence_behind
 grouped d t ts s rest o h =
     let first = (sequences d).whole ts in
-    let a =
-    bind-some (during d (t ∷ ts)) (λ (p : SequenceForm × List Token). sides_behind d (sequences d) p.0 p.1)
-    (s, rest) h in
-    let b : (body d (t ∷ ts) >>= λ p. during_behind d (sequences d) p.0 p.1) ≡ Some a.0 =
-    sym (during-opens d t ts o) ∙ a.1 in
-    let c =
-    bind-some (body d (t ∷ ts)) (λ (p : SequenceForm × List Token). during_behind d (sequences d) p.0 p.1) a.0 b
-    in
-    let e : (first >>= λ p. expect CloseRound p.1 >>= λ r. regroup d p.0 r.1) ≡ Some c.0 =
-    sym (body-opens d t ts o) ∙ c.1 in
-    let f =
-    bind-some first (λ (p : SequenceForm × List Token). expect CloseRound p.1 >>= λ r. regroup d p.0 r.1) c.0 e in
-    let g = bind-some (expect CloseRound f.0.1) (λ (r : Token × List Token). regroup d f.0.0 r.1) c.0 f.2 in
-    let k = expect-some CloseRound f.0.1 g.0 g.1 in
+    bind-then (during d (t ∷ ts)) (λ (p : SequenceForm × List Token). sides_behind d (sequences d) p.0 p.1) (s, rest) h
+    (λ a a_is a_rest.
+    let b : (body d (t ∷ ts) >>= λ p. during_behind d (sequences d) p.0 p.1) ≡ Some a =
+    sym (during-opens d t ts o) ∙ a_is in
+    bind-then (body d (t ∷ ts)) (λ (p : SequenceForm × List Token). during_behind d (sequences d) p.0 p.1) a b
+    (λ c c_is c_rest.
+    let e : (first >>= λ p. expect CloseRound p.1 >>= λ r. regroup d p.0 r.1) ≡ Some c =
+    sym (body-opens d t ts o) ∙ c_is in
+    bind-then first (λ (p : SequenceForm × List Token). expect CloseRound p.1 >>= λ r. regroup d p.0 r.1) c e
+    (λ f f_is f_rest.
+    bind-then (expect CloseRound f.1) (λ (r : Token × List Token). regroup d f.0 r.1) c f_rest
+    (λ g g_is g_rest.
+    let k = expect-some CloseRound f.1 g g_is in
     record {
-      inside = f.0.0;
-      right = g.0.0;
-      after = g.0.1;
-      first = c.0.0;
-      middle = c.0.1;
+      inside = f.0;
+      right = g.0;
+      after = g.1;
+      first = c.0;
+      middle = c.1;
       marked = k.marked;
-      read = f.1 ∙ ap (λ (us : List Token). Some (f.0.0, us)) k.parts;
-      regroups = g.2;
+      read = f_is ∙ ap (λ (us : List Token). Some (f.0, us)) k.parts;
+      regroups = g_rest;
       goes_on =
-          ap (λ (o : Option (SequenceForm × List Token)). o >>= λ p. sides_behind d (sequences d) p.0 p.1) c.2 ∙ a.2;
-    }
+          ap (λ (o : Option (SequenceForm × List Token)). o >>= λ p. sides_behind d (sequences d) p.0 p.1) c_rest
+              ∙ a_rest;
+    }))))
 
 abbrev GoesOn : ℕ → Type 0
 GoesOn d =

@@ -19,6 +19,12 @@ pub bind-some : {A B : Type 0} (o : Option A) (f : A → Option B) (b : B) → (
 bind-some None f b h = absurd cc
 bind-some (Some a) f b h = (a, refl, h)
 
+-- and how a proof goes on from it: what was read is a name there, so terms stay small
+pub bind-then : {A B C : Type 0} (o : Option A) (f : A → Option B) (b : B) → (o >>= f) ≡ Some b
+    → ((a : A) → o ≡ Some a → f a ≡ Some b → C) → C
+bind-then None f b h go = absurd cc
+bind-then (Some a) f b h go = go a refl h
+
 pub bind-assoc : {A B C : Type 0} (o : Option A) (f : A → Option B) (g : B → Option C)
     → ((o >>= f) >>= g) ≡ (o >>= λ a. f a >>= g)
 bind-assoc None f g = refl

@@ -31,7 +31,7 @@ use Rattle.grammar.specs.ReadSequences.{steps_of, delayed_behind, cat_behind, du
 use Rattle.grammar.specs.ReadSequences.{conjunction_behind, conjunction_with, alternatives_behind, sides_behind}
 use Rattle.grammar.specs.ReadSequences.{whole_with, sequences, sequence_behind, whole}
 use Rattle.grammar.proofs.TerminalLaws.{true-is}
-use Rattle.grammar.proofs.ReaderLaws.{bind-some, bind-assoc, lead-false, lead-nil, expect-some, expect-is, expect-not}
+use Rattle.grammar.proofs.ReaderLaws.{bind-then, bind-assoc, lead-false, lead-nil, expect-some, expect-is, expect-not}
 use Rattle.grammar.proofs.ReaderLaws.{expect-precedence, pick-is, optional-none, optional-is, many-none, many-more}
 use Rattle.grammar.proofs.ReaderLaws.{each-none, precedence-Throughout, precedence-OpenRepeat, precedence-Delay}
 use Rattle.grammar.proofs.ReaderLaws.{precedence-And, precedence-Or, precedence-CloseRound}
@@ -206,23 +206,23 @@ opened : (d : ℕ) (t : Token) (ts : List Token) (e : Tree) (rest : List Token) 
     → expression d (t ∷ ts) ≡ Some (e, rest) → Opened d e ts rest
 unfolding expressions.bracket_reader
 opened d t ts e rest m h =
-    let x =
-    bind-some (expressions.bracket_reader (readers d) ts) (λ (p : Tree × List Token). finish d p.0 p.1) (e, rest)
-    (sym (expression-opening d t ts m) ∙ h) in
-    let a =
-    bind-some ((readers d).expr ts) (λ (p : Tree × List Token). expect CloseRound p.1 >>= λ r. Some (p.0, r.1))
-    x.0 x.1 in
-    let b = bind-some (expect CloseRound a.0.1) (λ (r : Token × List Token). Some (a.0.0, r.1)) x.0 a.2 in
-    let k = expect-some CloseRound a.0.1 b.0 b.1 in
-    let same : (a.0.0, b.0.1) ≡ x.0 = cc (b.2) in
+    bind-then (expressions.bracket_reader (readers d) ts) (λ (p : Tree × List Token). finish d p.0 p.1) (e, rest)
+    (sym (expression-opening d t ts m) ∙ h)
+    (λ x x_is x_rest.
+    bind-then ((readers d).expr ts) (λ (p : Tree × List Token). expect CloseRound p.1 >>= λ r. Some (p.0, r.1)) x x_is
+    (λ a a_is a_rest.
+    bind-then (expect CloseRound a.1) (λ (r : Token × List Token). Some (a.0, r.1)) x a_rest
+    (λ b b_is b_rest.
+    let k = expect-some CloseRound a.1 b b_is in
+    let same : (a.0, b.1) ≡ x = cc (b_rest) in
     record {
-      inside = a.0.0;
-      right = b.0.0;
-      after = b.0.1;
+      inside = a.0;
+      right = b.0;
+      after = b.1;
       marked = k.marked;
-      read = a.1 ∙ ap (λ (us : List Token). Some (a.0.0, us)) k.parts;
-      goes_on = ap (λ (p : Tree × List Token). finish d p.0 p.1) same ∙ x.2;
-    }
+      read = a_is ∙ ap (λ (us : List Token). Some (a.0, us)) k.parts;
+      goes_on = ap (λ (p : Tree × List Token). finish d p.0 p.1) same ∙ x_rest;
+    })))
 
 expression-read : {d : ℕ} {e : Tree} {ts rest : List Token} → Spells d e ts rest → 10 < next_precedence rest
     → expression d ts ≡ Some (e, rest)

@@ -27,8 +27,8 @@ use Rattle.grammar.specs.ReadSequences.{throughout_by, during_behind, during_by,
 use Rattle.grammar.specs.ReadSequences.{conjunction_behind, conjunction_with, alternatives_behind, sides_behind}
 use Rattle.grammar.specs.ReadSequences.{whole_with, sequences}
 use Rattle.grammar.proofs.TerminalLaws.{is-true}
-use Rattle.grammar.proofs.ReaderLaws.{Reads, bind-some, expect-is, expect-some, pick-some, IsOptional, absent, present}
-use Rattle.grammar.proofs.ReaderLaws.{optional-sound, each-sound, precedence-CloseRound}
+use Rattle.grammar.proofs.ReaderLaws.{Reads, bind-some, bind-then, expect-is, expect-some, pick-some, IsOptional}
+use Rattle.grammar.proofs.ReaderLaws.{absent, present, optional-sound, each-sound, precedence-CloseRound}
 use Rattle.grammar.proofs.Complete.{spells-read}
 use Rattle.grammar.proofs.Sound.{is_sound, spells-sound}
 use Rattle.std.proofs.Common.{arith}
@@ -151,23 +151,23 @@ times-sound : (left : Token) (us : List Token) (q : Range × List Token) → ter
     → reading.times us ≡ Some q → IsTimes q.0 (left ∷ us) q.1
 unfolding reading.times
 times-sound left us q o h =
-    let a =
-    bind-some (pick bound us) (λ (p : Bound × List Token). optional Colon (pick (bound_within p.0.value 127)) p.1
-    >>= λ q. expect CloseSquare q.1 >>= λ r. Some (record { low = p.0; high = q.0 }, r.1)) q h in
-    let b =
-    bind-some (optional Colon (pick (bound_within a.0.0.value 127)) a.0.1)
-    (λ (q : Option Bound × List Token). expect CloseSquare q.1
-    >>= λ r. Some (record { low = a.0.0; high = q.0 }, r.1)) q a.2 in
-    let c =
-    bind-some (expect CloseSquare b.0.1)
-    (λ (r : Token × List Token). Some (record { low = a.0.0; high = b.0.0 }, r.1)) q b.2 in
-    let n : Range = record { low = a.0.0; high = b.0.0 } in
-    let same : (n, c.0.1) ≡ q = cc (c.2) in
-    let x = pick-some bound us a.0 a.1 in
-    let z = expect-some CloseSquare b.0.1 c.0 c.1 in
+    bind-then (pick bound us) (λ (p : Bound × List Token). optional Colon (pick (bound_within p.0.value 127)) p.1
+    >>= λ q. expect CloseSquare q.1 >>= λ r. Some (record { low = p.0; high = q.0 }, r.1)) q h
+    (λ a a_is a_rest.
+    bind-then (optional Colon (pick (bound_within a.0.value 127)) a.1)
+    (λ (q : Option Bound × List Token). expect CloseSquare q.1 >>= λ r. Some (record { low = a.0; high = q.0 }, r.1)) q
+    a_rest
+    (λ b b_is b_rest.
+    bind-then (expect CloseSquare b.1) (λ (r : Token × List Token). Some (record { low = a.0; high = b.0 }, r.1)) q
+    b_rest
+    (λ c c_is c_rest.
+    let n : Range = record { low = a.0; high = b.0 } in
+    let same : (n, c.1) ≡ q = cc (c_rest) in
+    let x = pick-some bound us a a_is in
+    let z = expect-some CloseSquare b.1 c c_is in
     subst (λ (r : Range × List Token). IsTimes r.0 (left ∷ us) r.1) same
-    (times_by-sound left x.token c.0.0 a.0.0 b.0.0 us a.0.1 b.0.1 c.0.1 o x.parts x.picked
-    (optional-sound Colon (pick (bound_within a.0.0.value 127)) a.0.1 b.0 b.1) z.parts z.marked)
+    (times_by-sound left x.token c.0 a.0 b.0 us a.1 b.1 c.1 o x.parts x.picked
+    (optional-sound Colon (pick (bound_within a.0.value 127)) a.1 b b_is) z.parts z.marked))))
 
 between_at : (d : ℕ) (t left n colon m right : Token) (low high : Bound) (us vs ws xs rest : List Token)
     → terminal t ≡ Delay → terminal left ≡ OpenSquare → us ≡ n ∷ vs → bound n ≡ Some low → vs ≡ colon ∷ ws
@@ -181,28 +181,28 @@ between-sound : (d : ℕ) (t left : Token) (us : List Token) (q : Range × List 
     → terminal left ≡ OpenSquare → reading.range_between us ≡ Some q → IsDelay (suc d) q.0 (t ∷ left ∷ us) q.1
 unfolding reading.range_between
 between-sound d t left us q k o h =
-    let a =
-    bind-some (pick bound us) (λ (p : Bound × List Token). expect Colon p.1
+    bind-then (pick bound us) (λ (p : Bound × List Token). expect Colon p.1
     >>= λ o. pick (bound_within p.0.value 127) o.1 >>= λ q. expect CloseSquare q.1
-    >>= λ r. Some (record { low = p.0; high = Some q.0 }, r.1)) q h in
-    let b =
-    bind-some (expect Colon a.0.1) (λ (o : Token × List Token). pick (bound_within a.0.0.value 127) o.1
-    >>= λ q. expect CloseSquare q.1 >>= λ r. Some (record { low = a.0.0; high = Some q.0 }, r.1)) q a.2 in
-    let c =
-    bind-some (pick (bound_within a.0.0.value 127) b.0.1) (λ (q : Bound × List Token). expect CloseSquare q.1
-    >>= λ r. Some (record { low = a.0.0; high = Some q.0 }, r.1)) q b.2 in
-    let e =
-    bind-some (expect CloseSquare c.0.1)
-    (λ (r : Token × List Token). Some (record { low = a.0.0; high = Some c.0.0 }, r.1)) q c.2 in
-    let n : Range = record { low = a.0.0; high = Some c.0.0 } in
-    let same : (n, e.0.1) ≡ q = cc (e.2) in
-    let x = pick-some bound us a.0 a.1 in
-    let y = expect-some Colon a.0.1 b.0 b.1 in
-    let z = pick-some (bound_within a.0.0.value 127) b.0.1 c.0 c.1 in
-    let w = expect-some CloseSquare c.0.1 e.0 e.1 in
+    >>= λ r. Some (record { low = p.0; high = Some q.0 }, r.1)) q h
+    (λ a a_is a_rest.
+    bind-then (expect Colon a.1) (λ (o : Token × List Token). pick (bound_within a.0.value 127) o.1
+    >>= λ q. expect CloseSquare q.1 >>= λ r. Some (record { low = a.0; high = Some q.0 }, r.1)) q a_rest
+    (λ b b_is b_rest.
+    bind-then (pick (bound_within a.0.value 127) b.1) (λ (q : Bound × List Token). expect CloseSquare q.1
+    >>= λ r. Some (record { low = a.0; high = Some q.0 }, r.1)) q b_rest
+    (λ c c_is c_rest.
+    bind-then (expect CloseSquare c.1) (λ (r : Token × List Token). Some (record { low = a.0; high = Some c.0 }, r.1)) q
+    c_rest
+    (λ e e_is e_rest.
+    let n : Range = record { low = a.0; high = Some c.0 } in
+    let same : (n, e.1) ≡ q = cc (e_rest) in
+    let x = pick-some bound us a a_is in
+    let y = expect-some Colon a.1 b b_is in
+    let z = pick-some (bound_within a.0.value 127) b.1 c c_is in
+    let w = expect-some CloseSquare c.1 e e_is in
     subst (λ (r : Range × List Token). IsDelay (suc d) r.0 (t ∷ left ∷ us) r.1) same
-    (between_at d t left x.token b.0.0 z.token e.0.0 a.0.0 c.0.0 us a.0.1 b.0.1 c.0.1 e.0.1 k o x.parts x.picked y.parts
-    y.marked z.parts z.picked w.parts w.marked)
+    (between_at d t left x.token b.0 z.token e.0 a.0 c.0 us a.1 b.1 c.1 e.1 k o x.parts x.picked y.parts
+    y.marked z.parts z.picked w.parts w.marked)))))
 
 after_at : (d : ℕ) (t n : Token) (low : Bound) (us rest : List Token) → terminal t ≡ Delay → us ≡ n ∷ rest
     → bound n ≡ Some low → IsDelay d (record { low = low; high = None }) (t ∷ us) rest

@@ -35,8 +35,8 @@ use Rattle.grammar.specs.ReadExpressions.{name_reader, bracket_reader, concatena
 use Rattle.grammar.specs.ReadExpressions.{prefix_reader, prefixed_by, prefixed_with, link_reader, links, chain_of}
 use Rattle.grammar.specs.ReadExpressions.{level, choice_by, choice_with, expr_with, readers}
 use Rattle.grammar.proofs.TerminalLaws.{is-true}
-use Rattle.grammar.proofs.ReaderLaws.{Reads, bind-some, lead-some, expect-some, pick-some, IsOptional, absent, present}
-use Rattle.grammar.proofs.ReaderLaws.{optional-sound, each-sound}
+use Rattle.grammar.proofs.ReaderLaws.{Reads, bind-some, bind-then, lead-some, expect-some, pick-some, IsOptional}
+use Rattle.grammar.proofs.ReaderLaws.{absent, present, optional-sound, each-sound}
 use Rattle.grammar.proofs.Complete.{level-zero, level-suc, expr-is, infix-level}
 
 -- words
@@ -154,22 +154,22 @@ select-sound : (d : ℕ) (left : Token) (us : List Token) (q : Select × List To
     → select us ≡ Some q → IsSelected (suc d) (Some q.0) (left ∷ us) q.1
 unfolding select
 select-sound d left us q o h =
-    let a =
-    bind-some (pick index us) (λ (p : Index × List Token). optional Colon (pick index) p.1
-    >>= λ q. expect CloseSquare q.1 >>= λ r. Some (record { high = p.0; low = q.0 }, r.1)) q h in
-    let b =
-    bind-some (optional Colon (pick index) a.0.1) (λ (q : Option Index × List Token). expect CloseSquare q.1
-    >>= λ r. Some (record { high = a.0.0; low = q.0 }, r.1)) q a.2 in
-    let c =
-    bind-some (expect CloseSquare b.0.1)
-    (λ (r : Token × List Token). Some (record { high = a.0.0; low = b.0.0 }, r.1)) q b.2 in
-    let s : Select = record { high = a.0.0; low = b.0.0 } in
-    let same : (s, c.0.1) ≡ q = cc (c.2) in
-    let x = pick-some index us a.0 a.1 in
-    let z = expect-some CloseSquare b.0.1 c.0 c.1 in
+    bind-then (pick index us) (λ (p : Index × List Token). optional Colon (pick index) p.1
+    >>= λ q. expect CloseSquare q.1 >>= λ r. Some (record { high = p.0; low = q.0 }, r.1)) q h
+    (λ a a_is a_rest.
+    bind-then (optional Colon (pick index) a.1) (λ (q : Option Index × List Token). expect CloseSquare q.1
+    >>= λ r. Some (record { high = a.0; low = q.0 }, r.1)) q a_rest
+    (λ b b_is b_rest.
+    bind-then (expect CloseSquare b.1) (λ (r : Token × List Token). Some (record { high = a.0; low = b.0 }, r.1)) q
+    b_rest
+    (λ c c_is c_rest.
+    let s : Select = record { high = a.0; low = b.0 } in
+    let same : (s, c.1) ≡ q = cc (c_rest) in
+    let x = pick-some index us a a_is in
+    let z = expect-some CloseSquare b.1 c c_is in
     subst (λ (r : Select × List Token). IsSelected (suc d) (Some r.0) (left ∷ us) r.1) same
-    (select_by-sound d left x.token c.0.0 a.0.0 b.0.0 us a.0.1 b.0.1 c.0.1 o x.parts x.picked
-    (optional-sound Colon (pick index) a.0.1 b.0 b.1) z.parts z.marked)
+    (select_by-sound d left x.token c.0 a.0 b.0 us a.1 b.1 c.1 o x.parts x.picked
+    (optional-sound Colon (pick index) a.1 b b_is) z.parts z.marked))))
 
 selected-sound : (d : ℕ) (ts : List Token) (s : Option Select) (rest : List Token)
     → IsOptional OpenSquare (readers d).select ts s rest → IsSelected d s ts rest
@@ -243,21 +243,21 @@ unfolding concatenation_reader readers
 concatenated-sound zero inner t ts p m h = absurd cc
 concatenated-sound (suc d) inner t ts p m h =
     let r = (readers (suc d)).expr in
-    let a =
-    bind-some (r ts) (λ (p : Tree × List Token). each (is Comma) (λ comma. r) p.1 >>= λ q. expect CloseBrace q.1
-    >>= λ r. Some (concatenation t p.0 (parts_of q.0), r.1)) p h in
-    let b =
-    bind-some (each (is Comma) (λ comma. r) a.0.1) (λ (q : List Tree × List Token). expect CloseBrace q.1
-    >>= λ r. Some (concatenation t a.0.0 (parts_of q.0), r.1)) p a.2 in
-    let c =
-    bind-some (expect CloseBrace b.0.1)
-    (λ (r : Token × List Token). Some (concatenation t a.0.0 (parts_of b.0.0), r.1)) p b.2 in
-    let same : (concatenation t a.0.0 (parts_of b.0.0), c.0.1) ≡ p = cc (c.2) in
-    let z = expect-some CloseBrace b.0.1 c.0 c.1 in
+    bind-then (r ts) (λ (p : Tree × List Token). each (is Comma) (λ comma. r) p.1 >>= λ q. expect CloseBrace q.1
+    >>= λ r. Some (concatenation t p.0 (parts_of q.0), r.1)) p h
+    (λ a a_is a_rest.
+    bind-then (each (is Comma) (λ comma. r) a.1) (λ (q : List Tree × List Token). expect CloseBrace q.1
+    >>= λ r. Some (concatenation t a.0 (parts_of q.0), r.1)) p a_rest
+    (λ b b_is b_rest.
+    bind-then (expect CloseBrace b.1) (λ (r : Token × List Token). Some (concatenation t a.0 (parts_of b.0), r.1)) p
+    b_rest
+    (λ c c_is c_rest.
+    let same : (concatenation t a.0 (parts_of b.0), c.1) ≡ p = cc (c_rest) in
+    let z = expect-some CloseBrace b.1 c c_is in
     subst (λ (r : Tree × List Token). Operand (suc d) zero r.0 (t ∷ ts) r.1) same
-    (is_concatenation m (inner.0 ts a.0 a.1)
-    (subst (λ (us : List Token). AreParts d (parts_of b.0.0) a.0.1 us) z.parts
-    (parts-sound d r inner.0 a.0.1 b.0 b.1)) z.marked)
+    (is_concatenation m (inner.0 ts a a_is)
+    (subst (λ (us : List Token). AreParts d (parts_of b.0) a.1 us) z.parts
+    (parts-sound d r inner.0 a.1 b b_is)) z.marked))))
 
 ticks-sound : (ts : List Token) (ticks : Option Bound) (rest : List Token)
     → IsOptional Comma (pick (bound_within 1 64)) ts ticks rest → IsTicks ticks ts rest
@@ -272,25 +272,26 @@ passed-sound zero inner t ts p m h =
     let a = bind-some (expect OpenRound ts) (λ (o : Token × List Token). None) p h in absurd cc
 passed-sound (suc d) inner t ts p m h =
     let r = (readers (suc d)).expr in
-    let o =
-    bind-some (expect OpenRound ts) (λ (o : Token × List Token). r o.1
+    bind-then (expect OpenRound ts) (λ (o : Token × List Token). r o.1
     >>= λ p. optional Comma (pick (bound_within 1 64)) p.1 >>= λ q. expect CloseRound q.1
-    >>= λ r. Some (past t p.0 q.0, r.1)) p h in
-    let a =
-    bind-some (r o.0.1) (λ (p : Tree × List Token). optional Comma (pick (bound_within 1 64)) p.1
-    >>= λ q. expect CloseRound q.1 >>= λ r. Some (past t p.0 q.0, r.1)) p o.2 in
-    let b =
-    bind-some (optional Comma (pick (bound_within 1 64)) a.0.1)
-    (λ (q : Option Bound × List Token). expect CloseRound q.1 >>= λ r. Some (past t a.0.0 q.0, r.1)) p a.2 in
-    let c = bind-some (expect CloseRound b.0.1) (λ (r : Token × List Token). Some (past t a.0.0 b.0.0, r.1)) p b.2 in
-    let same : (past t a.0.0 b.0.0, c.0.1) ≡ p = cc (c.2) in
-    let y = expect-some OpenRound ts o.0 o.1 in
-    let z = expect-some CloseRound b.0.1 c.0 c.1 in
-    let ticks = ticks-sound a.0.1 b.0.0 b.0.1 (optional-sound Comma (pick (bound_within 1 64)) a.0.1 b.0 b.1) in
+    >>= λ r. Some (past t p.0 q.0, r.1)) p h
+    (λ o o_is o_rest.
+    bind-then (r o.1) (λ (p : Tree × List Token). optional Comma (pick (bound_within 1 64)) p.1
+    >>= λ q. expect CloseRound q.1 >>= λ r. Some (past t p.0 q.0, r.1)) p o_rest
+    (λ a a_is a_rest.
+    bind-then (optional Comma (pick (bound_within 1 64)) a.1) (λ (q : Option Bound × List Token). expect CloseRound q.1
+    >>= λ r. Some (past t a.0 q.0, r.1)) p a_rest
+    (λ b b_is b_rest.
+    bind-then (expect CloseRound b.1) (λ (r : Token × List Token). Some (past t a.0 b.0, r.1)) p b_rest
+    (λ c c_is c_rest.
+    let same : (past t a.0 b.0, c.1) ≡ p = cc (c_rest) in
+    let y = expect-some OpenRound ts o o_is in
+    let z = expect-some CloseRound b.1 c c_is in
+    let ticks = ticks-sound a.1 b.0 b.1 (optional-sound Comma (pick (bound_within 1 64)) a.1 b b_is) in
     subst (λ (r : Tree × List Token). Operand (suc d) zero r.0 (t ∷ ts) r.1) same
-    (subst (λ (us : List Token). Operand (suc d) zero (past t a.0.0 b.0.0) (t ∷ us) c.0.1) (sym y.parts)
-    (is_past m y.marked (inner.0 o.0.1 a.0 a.1)
-    (subst (λ (us : List Token). IsTicks b.0.0 a.0.1 us) z.parts ticks) z.marked))
+    (subst (λ (us : List Token). Operand (suc d) zero (past t a.0 b.0) (t ∷ us) c.1) (sym y.parts)
+    (is_past m y.marked (inner.0 o.1 a a_is)
+    (subst (λ (us : List Token). IsTicks b.0 a.1 us) z.parts ticks) z.marked))))))
 
 called-sound : (d : ℕ) → IsSound d → (g : Function) (t : Token) (ts : List Token) (p : Tree × List Token)
     → mark t ≡ marks.Call g → call_reader (readers d) g t ts ≡ Some p → Operand d zero p.0 (t ∷ ts) p.1
@@ -386,20 +387,20 @@ choice_by-sound d inner c ts us p o None l h =
 choice_by-sound zero inner c ts us p o (Some q) l h = absurd cc
 choice_by-sound (suc d) inner c ts us p o (Some q) l h =
     let r = (readers (suc d)).expr in
-    let a =
-    bind-some (r q.1) (λ (a : Tree × List Token). expect Colon a.1 >>= λ v. r v.1
-    >>= λ b. Some (choice c a.0 b.0, b.1)) p h in
-    let k =
-    bind-some (expect Colon a.0.1) (λ (v : Token × List Token). r v.1 >>= λ b. Some (choice c a.0.0 b.0, b.1)) p
-    a.2 in
-    let b = bind-some (r k.0.1) (λ (b : Tree × List Token). Some (choice c a.0.0 b.0, b.1)) p k.2 in
-    let same : (choice c a.0.0 b.0.0, b.0.1) ≡ p = cc (b.2) in
+    bind-then (r q.1) (λ (a : Tree × List Token). expect Colon a.1 >>= λ v. r v.1 >>= λ b. Some (choice c a.0 b.0, b.1))
+    p h
+    (λ a a_is a_rest.
+    bind-then (expect Colon a.1) (λ (v : Token × List Token). r v.1 >>= λ b. Some (choice c a.0 b.0, b.1)) p a_rest
+    (λ k k_is k_rest.
+    bind-then (r k.1) (λ (b : Tree × List Token). Some (choice c a.0 b.0, b.1)) p k_rest
+    (λ b b_is b_rest.
+    let same : (choice c a.0 b.0, b.1) ≡ p = cc (b_rest) in
     let x = lead-some (has_precedence 10) us q l in
-    let z = expect-some Colon a.0.1 k.0 k.1 in
+    let z = expect-some Colon a.1 k k_is in
     subst (λ (r : Tree × List Token). Spells (suc d) r.0 ts r.1) same
     (is_choice (eqb-true (precedence q.0) 10 x.passes) z.marked
     (subst (λ (vs : List Token). Operand (suc d) 9 c ts vs) x.parts o)
-    (subst (λ (vs : List Token). Spells d a.0.0 q.1 vs) z.parts (inner.0 q.1 a.0 a.1)) (inner.0 k.0.1 b.0 b.1))
+    (subst (λ (vs : List Token). Spells d a.0 q.1 vs) z.parts (inner.0 q.1 a a_is)) (inner.0 k.1 b b_is)))))
 
 pub spells-sound : (d : ℕ) → IsSound d
     → Reads (expr_with (readers d) (prefixed_with (readers d))) (λ e ts rest. Spells d e ts rest)

@@ -1,10 +1,12 @@
 //! What a token is to the grammar.
 
-ghost use Rattle.std.specs.Prelude.{◌≡◌, map};
-ghost use Rattle.std.specs.List.{list_any};
+ghost use Rattle.std.specs.Prelude.{◌≡◌, map, if◌then◌else◌};
+ghost use Rattle.std.specs.List.{fold, list_any};
+ghost use Rattle.std.specs.Option.{unwrap_or};
 ghost use Rattle.std.specs.Str.{bytes_eq};
+ghost use Rattle.grammar.specs.declared.terminal.Terminal.{Terminal};
 ghost use Rattle.grammar.specs.Terminals.{is_foreign, foreign_word};
-ghost use Rattle.grammar.specs.Terminals.{inner_word, word_terminal, system_terminal};
+ghost use Rattle.grammar.specs.Terminals.{word_terminal, system_terminal};
 ghost use Rattle.grammar.specs.Terminals.{symbol_terminal, terminal, is, is_name, is_word};
 
 use lexer::{Kind, Symbol, Token};
@@ -97,6 +99,51 @@ const FOREIGN_WORDS: [&str; 29] = [
     "local",
 ];
 
+/// The words that the rules quote.
+const WORDS: [(&str, Terminal); 16] = [
+    ("counter", Terminal::Counter),
+    ("clear", Terminal::Clear),
+    ("load", Terminal::Load),
+    ("add", Terminal::Add),
+    ("sub", Terminal::Sub),
+    ("sequence", Terminal::Sequence),
+    ("endsequence", Terminal::EndSequence),
+    ("assert", Terminal::Assert),
+    ("assume", Terminal::Assume),
+    ("property", Terminal::Property),
+    ("posedge", Terminal::Posedge),
+    ("disable", Terminal::Disable),
+    ("iff", Terminal::Iff),
+    ("or", Terminal::Or),
+    ("and", Terminal::And),
+    ("throughout", Terminal::Throughout),
+];
+
+/// The system names that the rules quote.
+const SYSTEM_NAMES: [(&str, Terminal); 7] = [
+    ("$past", Terminal::Past),
+    ("$rose", Terminal::Rose),
+    ("$fell", Terminal::Fell),
+    ("$stable", Terminal::Stable),
+    ("$changed", Terminal::Changed),
+    ("$onehot", Terminal::OneHot),
+    ("$onehot0", Terminal::OneHot0),
+];
+
+/// The terminal beside the text, in the first row that has it.
+fn terminal_beside(text: &str, rows: &[(&str, Terminal)]) -> Option<Terminal>
+    ensures { (other : Terminal) → unwrap_or result other
+        ≡ fold (λ (go : Terminal → Terminal) row rest.
+        go (if bytes_eq text.now row.0.now then row.1 else rest)) (λ w. w) rows.now other }
+{
+    for (word, terminal) in rows {
+        if text == *word {
+            return Some(*terminal);
+        }
+    }
+    None
+}
+
 fn is_one_of(text: &str, words: &[&str]) -> bool
     ensures { result ≡ list_any (bytes_eq text.now) (map (λ word. word.now) words.now) }
 {
@@ -125,97 +172,24 @@ fn foreign_word(text: &str) -> Terminal
     }
 }
 
-/// The words inside items.
-#[tactic(auto, unfolding(crate::specs::Terminals::inner_word))]
-fn inner_word(text: &str) -> Terminal
-    ensures { result ≡ inner_word text.now }
-{
-    if text == "assume" {
-        return Terminal::Assume;
-    }
-    if text == "property" {
-        return Terminal::Property;
-    }
-    if text == "posedge" {
-        return Terminal::Posedge;
-    }
-    if text == "disable" {
-        return Terminal::Disable;
-    }
-    if text == "iff" {
-        return Terminal::Iff;
-    }
-    if text == "or" {
-        return Terminal::Or;
-    }
-    if text == "and" {
-        return Terminal::And;
-    }
-    if text == "throughout" {
-        return Terminal::Throughout;
-    }
-    foreign_word(text)
-}
-
-/// The words of items.
-#[tactic(auto, unfolding(crate::specs::Terminals::word_terminal))]
+/// The terminal of a word.
 fn word_terminal(text: &str) -> Terminal
     ensures { result ≡ word_terminal text.now }
 {
-    if text == "counter" {
-        return Terminal::Counter;
+    match terminal_beside(text, &WORDS) {
+        Some(terminal) => terminal,
+        None => foreign_word(text),
     }
-    if text == "clear" {
-        return Terminal::Clear;
-    }
-    if text == "load" {
-        return Terminal::Load;
-    }
-    if text == "add" {
-        return Terminal::Add;
-    }
-    if text == "sub" {
-        return Terminal::Sub;
-    }
-    if text == "sequence" {
-        return Terminal::Sequence;
-    }
-    if text == "endsequence" {
-        return Terminal::EndSequence;
-    }
-    if text == "assert" {
-        return Terminal::Assert;
-    }
-    inner_word(text)
 }
 
-/// The system names.
-#[tactic(auto, unfolding(crate::specs::Terminals::system_terminal))]
+/// The terminal of a system name.
 fn system_terminal(text: &str) -> Terminal
     ensures { result ≡ system_terminal text.now }
 {
-    if text == "$past" {
-        return Terminal::Past;
+    match terminal_beside(text, &SYSTEM_NAMES) {
+        Some(terminal) => terminal,
+        None => Terminal::ForeignSystem,
     }
-    if text == "$rose" {
-        return Terminal::Rose;
-    }
-    if text == "$fell" {
-        return Terminal::Fell;
-    }
-    if text == "$stable" {
-        return Terminal::Stable;
-    }
-    if text == "$changed" {
-        return Terminal::Changed;
-    }
-    if text == "$onehot" {
-        return Terminal::OneHot;
-    }
-    if text == "$onehot0" {
-        return Terminal::OneHot0;
-    }
-    Terminal::ForeignSystem
 }
 
 fn symbol_terminal(symbol: Symbol) -> Terminal
