@@ -1,16 +1,20 @@
 -- Sequences of parts that are placed are placed.
 use Rattle.std.proofs.Common.{◌≡◌, ◌⊎◌, inl, inr, ℕ, ◌+◌, ◌-◌, ◌≤◌, ◌++◌, ◌||◌, List, [], ◌∷◌, length, Bool, nat_le}
-use Rattle.std.proofs.Common.{refl, sym, ap, ◌∙◌, subst, arith}
+use Rattle.std.proofs.Common.{◌*◌, refl, sym, ap, ◌∙◌, subst, arith, Result, Ok, Err}
+use Rattle.std.specs.Prelude.{Box, IfOk}
+use Rattle.std.specs.declared.alloc.Global.{Global}
 use Rattle.std.proofs.lemmas.List.{append_assoc, length-append}
 use Rattle.expressions.specs.declared.expr.Expr.{Expr}
 use Rattle.assertions.specs.declared.sequence.Boolean.{Boolean}
 use Rattle.assertions.specs.declared.sequence.Boolean.TheVariants.{One, Listed}
 use Rattle.assertions.specs.Segments.{sat}
-use Rattle.assertions.specs.Shapes.{value_in}
+use Rattle.assertions.specs.declared.sequence.Sequence.{Sequence}
+use Rattle.assertions.specs.Shapes.{value_in, written_form}
 use Rattle.assertions.specs.Written.{Written, boolean, delay, lead, repeat, or, and, throughout, kernel, after, later}
 use Rattle.assertions.specs.Listed.{EachBoolean, IsUsed, IsListed}
 use Rattle.types_sequences.specs.Drafts.{IsIn}
-use Rattle.types_sequences.specs.Placed.{atom_true, IsPlaced, IsPlacedBoolean, Extends, Adds}
+use Rattle.types_sequences.specs.Placed.{atom_true, IsPlaced, IsPlacedBoolean, Extends, Adds, AllListed}
+use Rattle.types_sequences.specs.Placed.{ArePlaced}
 use Rattle.types_sequences.proofs.InLaws.{in_last}
 use Rattle.types_sequences.proofs.UsedLaws.{each_listed}
 use Rattle.types_sequences.proofs.AlikeLaws.{alike_one, alike_one_of, alike_after, alike_later, alike_times}
@@ -98,3 +102,111 @@ of_two before between after v w f g p h =
       | inl there ↦ elim (f p there) [ inl i ↦ inl i | inr u ↦ inr (inl u) ]
       | inr u ↦ inr (inr u)
     ]
+
+-- what is placed of a sequence, from its parts
+extends_two : (before between after : List ℕ) → Extends before between → Extends between after → Extends before after
+extends_two before between after x y =
+    record {
+      added = x.added ++ y.added;
+      is = y.is ∙ ap (λ (ps : List ℕ). ps ++ y.added) x.is ∙ append_assoc before x.added y.added;
+    }
+
+module _ (before after : List ℕ) where
+  pub are_lead : (w b : Written Boolean) (least most : ℕ) → ArePlaced before after w b
+      → ArePlaced before after (lead least most w) (lead least most b)
+  are_lead w b least most y =
+      record {
+        grows = y.grows;
+        placed = λ e more. placed_lead e (after ++ more) w b least most (y.placed e more);
+        weighs = omega (arith, y.weighs);
+        ordered = λ o. (o.0, y.ordered o.1);
+        listed = y.listed;
+        own = y.own;
+      }
+
+  pub are_repeat : (w b : Written Boolean) (least most : ℕ) → ArePlaced before after w b
+      → ArePlaced before after (repeat w least most) (repeat b least most)
+  are_repeat w b least most y =
+      record {
+        grows = y.grows;
+        placed = λ e more. placed_repeat e (after ++ more) w b least most (y.placed e more);
+        weighs = ap (λ (n : ℕ). most * n) y.weighs;
+        ordered = λ o. (o.0, y.ordered o.1);
+        listed = y.listed;
+        own = y.own;
+      }
+
+module _ (before between after : List ℕ) (v w a b : Written Boolean) (x : ArePlaced before between v a) (y : ArePlaced between after w b) where
+  first_placed : (e : List Expr) (more : List ℕ) → IsPlaced e (after ++ more) v a
+  first_placed e more = placed_more e between after more y.grows v a (x.placed e (y.grows.added ++ more))
+
+  both_listed : AllListed after a × AllListed after b
+  both_listed = (listed_on between after a y.grows x.listed, y.listed)
+
+  pub are_delay : (least most : ℕ) → ArePlaced before after (delay v least most w) (delay a least most b)
+  are_delay least most =
+      record {
+        grows = extends_two before between after x.grows y.grows;
+        placed = λ e more. placed_delay e (after ++ more) v w a b least most (first_placed e more) (y.placed e more);
+        weighs = omega (arith, x.weighs, y.weighs);
+        ordered = λ o. (o.0, x.ordered o.1, y.ordered o.2);
+        listed = both_listed;
+        own = of_two before between after v w x.own y.own;
+      }
+
+  pub are_or : ArePlaced before after (or v w) (or a b)
+  are_or =
+      record {
+        grows = extends_two before between after x.grows y.grows;
+        placed = λ e more. placed_or e (after ++ more) v w a b (first_placed e more) (y.placed e more);
+        weighs = omega (arith, x.weighs, y.weighs);
+        ordered = λ o. (x.ordered o.0, y.ordered o.1);
+        listed = both_listed;
+        own = of_two before between after v w x.own y.own;
+      }
+
+  pub are_and : ArePlaced before after (and v w) (and a b)
+  are_and =
+      record {
+        grows = extends_two before between after x.grows y.grows;
+        placed = λ e more. placed_and e (after ++ more) v w a b (first_placed e more) (y.placed e more);
+        weighs = cc (x.weighs, y.weighs);
+        ordered = λ o. (x.ordered o.0, y.ordered o.1);
+        listed = both_listed;
+        own = of_two before between after v w x.own y.own;
+      }
+
+pub are_boolean : (before after : List ℕ) (a b : Boolean) → Extends before after
+    → ((e : List Expr) (more : List ℕ) → IsPlacedBoolean e (after ++ more) a b) → IsListed (length after) b
+    → Adds (boolean a) before after → ArePlaced before after (boolean a) (boolean b)
+are_boolean before after a b grows placed listed own =
+    record {
+      grows = grows;
+      placed = λ e more. placed_one e (after ++ more) a b (placed e more);
+      weighs = refl;
+      ordered = λ o. tt;
+      listed = listed;
+      own = own;
+    }
+
+pub are_throughout : (before between after : List ℕ) (a b : Boolean) (w u : Written Boolean) → Extends before between
+    → ((e : List Expr) (more : List ℕ) → IsPlacedBoolean e (between ++ more) a b) → IsListed (length between) b
+    → Adds (boolean a) before between → ArePlaced between after w u
+    → ArePlaced before after (throughout a w) (throughout b u)
+are_throughout before between after a b w u grows placed listed own y =
+    record {
+      grows = extends_two before between after grows y.grows;
+      placed =
+          λ e more. placed_throughout e (after ++ more) a b w u
+          (placed_boolean_more e between after more y.grows a b (placed e (y.grows.added ++ more))) (y.placed e more);
+      weighs = y.weighs;
+      ordered = y.ordered;
+      listed = (listed_on between after (boolean b) y.grows listed, y.listed);
+      own = of_two before between after (boolean a) w own y.own;
+    }
+
+-- what is made of a sequence in a box
+pub in_box : {E : Type 0} (r : Result (Box Sequence Global) E) (x : Sequence) (P : Written Boolean → Type 0)
+    → P (written_form x) → IfOk r (λ b. b.value ≡ x) → IfOk r (λ b. P (written_form b.value))
+in_box (Ok b) x P h is = rw is h
+in_box (Err e) x P h is = is

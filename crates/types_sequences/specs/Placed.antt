@@ -5,7 +5,7 @@ use Rattle.expressions.specs.Terms.{Samples}
 use Rattle.assertions.specs.declared.sequence.Boolean.{Boolean}
 use Rattle.assertions.specs.declared.sequence.Boolean.TheVariants.{One, Listed}
 use Rattle.assertions.specs.Segments.{sat}
-use Rattle.assertions.specs.Written.{Written, kernel}
+use Rattle.assertions.specs.Written.{Written, kernel, weight, IsOrdered}
 use Rattle.assertions.specs.Shapes.{is_true_at, value_in}
 use Rattle.assertions.specs.Listed.{EachBoolean, IsUsed, IsListed}
 use Rattle.types_sequences.specs.Drafts.{IsIn}
@@ -40,3 +40,13 @@ AllListed places w = EachBoolean (IsListed (length places)) w
 -- Each place behind was there before, or one of the sequence's booleans stands at it.
 abbrev pub Adds : Written Boolean → List ℕ → List ℕ → Type 0
 Adds w before after = (p : ℕ) → IsIn p after → IsIn p before ⊎ IsUsed (Listed p) w
+
+-- Behind the places that there were, each boolean of the first sequence has one of its own, by
+-- which the second says the same, and weighs as much.
+pub record ArePlaced (before after : List ℕ) (w u : Written Boolean) : Type 0 where
+  pub grows : Extends before after
+  pub placed : (booleans : List Expr) (more : List ℕ) → IsPlaced booleans (after ++ more) w u
+  pub weighs : weight u ≡ weight w
+  pub ordered : IsOrdered w → IsOrdered u
+  pub listed : AllListed after u
+  pub own : Adds w before after

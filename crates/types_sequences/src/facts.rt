@@ -7,7 +7,7 @@ ghost use Rattle.assertions.specs.Written.{throughout};
 ghost use Rattle.types_sequences.specs.Entries.{IsFacts};
 
 /// What the form of a sequence tells, with its names written out.
-#[derive(Clone, Copy, Debug)]
+#[derive(Clone, Copy)]
 pub struct Facts {
     /// What it weighs, or 128 where that is more.
     pub weight: u8,

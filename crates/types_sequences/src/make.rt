@@ -12,6 +12,13 @@ ghost use Rattle.types_sequences.specs.Entries.{SaysSame, HasSame};
 use assertions::{Boolean, HEAVIEST, Sequence};
 use std::alloc::{AllocError, Global};
 
+/// A sequence in a box.
+pub(crate) fn boxed(alloc: Global, sequence: Sequence) -> Result<Box<Sequence>, AllocError>
+    ensures { IfOk result (λ b. b.value ≡ sequence) }
+{
+    Ok(Box::new(alloc, sequence)?)
+}
+
 /// The empty segment alone: `1[*0]`.
 fn empty_segment(alloc: Global) -> Result<Box<Sequence>, AllocError>
     ensures { IfOk result (λ b. written_form b.value ≡ repeat (boolean One) 0 0) }
@@ -38,29 +45,36 @@ pub(crate) fn weightless(alloc: Global, empty: bool) -> Result<Box<Sequence>, Al
 pub(crate) fn copy_of(alloc: Global, sequence: &Sequence) -> Result<Box<Sequence>, AllocError>
     ensures { IfOk result (λ b. written_form b.value ≡ written_form sequence.now) }
 {
-    let copy = match sequence {
-        Sequence::Boolean(boolean) => Sequence::Boolean(*boolean),
+    match sequence {
+        Sequence::Boolean(boolean) => boxed(alloc, Sequence::Boolean(*boolean)),
         Sequence::Delay(first, least, most, second) => {
             let first = copy_of(alloc, first)?;
-            Sequence::Delay(first, *least, *most, copy_of(alloc, second)?)
+            let second = copy_of(alloc, second)?;
+            boxed(alloc, Sequence::Delay(first, *least, *most, second))
         }
-        Sequence::Lead(least, most, body) => Sequence::Lead(*least, *most, copy_of(alloc, body)?),
+        Sequence::Lead(least, most, body) => {
+            let body = copy_of(alloc, body)?;
+            boxed(alloc, Sequence::Lead(*least, *most, body))
+        }
         Sequence::Repeat(body, least, most) => {
-            Sequence::Repeat(copy_of(alloc, body)?, *least, *most)
+            let body = copy_of(alloc, body)?;
+            boxed(alloc, Sequence::Repeat(body, *least, *most))
         }
         Sequence::Or(first, second) => {
             let first = copy_of(alloc, first)?;
-            Sequence::Or(first, copy_of(alloc, second)?)
+            let second = copy_of(alloc, second)?;
+            boxed(alloc, Sequence::Or(first, second))
         }
         Sequence::And(first, second) => {
             let first = copy_of(alloc, first)?;
-            Sequence::And(first, copy_of(alloc, second)?)
+            let second = copy_of(alloc, second)?;
+            boxed(alloc, Sequence::And(first, second))
         }
         Sequence::Throughout(boolean, body) => {
-            Sequence::Throughout(*boolean, copy_of(alloc, body)?)
+            let body = copy_of(alloc, body)?;
+            boxed(alloc, Sequence::Throughout(*boolean, body))
         }
-    };
-    Ok(Box::new(alloc, copy)?)
+    }
 }
 
 /// A delay of the two, where both are there and the largest count is at most 127.

@@ -7,7 +7,9 @@ ghost use Rattle.assertions.specs.Listed.{IsListed};
 ghost use Rattle.assertions.specs.Written as written;
 ghost use Rattle.assertions.specs.Written.{weight, IsOrdered};
 ghost use Rattle.types_sequences.specs.Placed.{IsPlaced, IsPlacedBoolean, Extends, AllListed, Adds};
+ghost use Rattle.types_sequences.specs.Placed.{ArePlaced};
 
+use crate::make::boxed;
 use assertions::{Boolean, Sequence};
 use std::alloc::{AllocError, Global};
 
@@ -30,6 +32,51 @@ pub fn place_boolean(boolean: Boolean, places: &mut Vec<usize>) -> Result<Boolea
     }
 }
 
+/// The same as `place_sequence`, which says part by part what is placed.
+fn placed(
+    alloc: Global,
+    sequence: &Sequence,
+    places: &mut Vec<usize>,
+) -> Result<Box<Sequence>, AllocError>
+    ensures { IfOk result (λ b. ArePlaced places.old.items places.new.items
+        (written_form sequence.now) (written_form b.value)) }
+{
+    match sequence {
+        Sequence::Boolean(boolean) => {
+            let boolean = place_boolean(*boolean, places)?;
+            boxed(alloc, Sequence::Boolean(boolean))
+        }
+        Sequence::Delay(first, least, most, second) => {
+            let first = placed(alloc, first, places)?;
+            let second = placed(alloc, second, places)?;
+            boxed(alloc, Sequence::Delay(first, *least, *most, second))
+        }
+        Sequence::Lead(least, most, body) => {
+            let body = placed(alloc, body, places)?;
+            boxed(alloc, Sequence::Lead(*least, *most, body))
+        }
+        Sequence::Repeat(body, least, most) => {
+            let body = placed(alloc, body, places)?;
+            boxed(alloc, Sequence::Repeat(body, *least, *most))
+        }
+        Sequence::Or(first, second) => {
+            let first = placed(alloc, first, places)?;
+            let second = placed(alloc, second, places)?;
+            boxed(alloc, Sequence::Or(first, second))
+        }
+        Sequence::And(first, second) => {
+            let first = placed(alloc, first, places)?;
+            let second = placed(alloc, second, places)?;
+            boxed(alloc, Sequence::And(first, second))
+        }
+        Sequence::Throughout(boolean, body) => {
+            let boolean = place_boolean(*boolean, places)?;
+            let body = placed(alloc, body, places)?;
+            boxed(alloc, Sequence::Throughout(boolean, body))
+        }
+    }
+}
+
 /// A sequence in which each boolean has a place of its own in an assertion's list.
 pub fn place_sequence(
     alloc: Global,
@@ -47,38 +94,5 @@ pub fn place_sequence(
     ensures listed { IfOk result (λ b. AllListed places.new.items (written_form b.value)) }
     ensures own { OnOk result (Adds (written_form sequence.now) places.old.items places.new.items) }
 {
-    match sequence {
-        Sequence::Boolean(boolean) => {
-            let boolean = place_boolean(*boolean, places)?;
-            Ok(Box::new(alloc, Sequence::Boolean(boolean))?)
-        }
-        Sequence::Delay(first, least, most, second) => {
-            let first = place_sequence(alloc, first, places)?;
-            let second = place_sequence(alloc, second, places)?;
-            Ok(Box::new(alloc, Sequence::Delay(first, *least, *most, second))?)
-        }
-        Sequence::Lead(least, most, body) => {
-            let body = place_sequence(alloc, body, places)?;
-            Ok(Box::new(alloc, Sequence::Lead(*least, *most, body))?)
-        }
-        Sequence::Repeat(body, least, most) => {
-            let body = place_sequence(alloc, body, places)?;
-            Ok(Box::new(alloc, Sequence::Repeat(body, *least, *most))?)
-        }
-        Sequence::Or(first, second) => {
-            let first = place_sequence(alloc, first, places)?;
-            let second = place_sequence(alloc, second, places)?;
-            Ok(Box::new(alloc, Sequence::Or(first, second))?)
-        }
-        Sequence::And(first, second) => {
-            let first = place_sequence(alloc, first, places)?;
-            let second = place_sequence(alloc, second, places)?;
-            Ok(Box::new(alloc, Sequence::And(first, second))?)
-        }
-        Sequence::Throughout(boolean, body) => {
-            let boolean = place_boolean(*boolean, places)?;
-            let body = place_sequence(alloc, body, places)?;
-            Ok(Box::new(alloc, Sequence::Throughout(boolean, body))?)
-        }
-    }
+    placed(alloc, sequence, places)
 }
