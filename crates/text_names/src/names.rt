@@ -41,6 +41,18 @@ impl Names {
         Ok(())
     }
 
+    /// Adds paths, but those that are there.
+    fn push_all(&mut self, alloc: Global, names: &[(&str, u8)]) -> Result<(), AllocError>
+        requires { All (λ n. IsWidth n.1) names.now }
+        ensures { OnOk result (names_in self.new
+            ≡ with_entries (names_in self.old) (map (λ n. (n.0.now, n.1)) names.now)) }
+    {
+        for name in names {
+            self.push(alloc, name.0, name.1)?;
+        }
+        Ok(())
+    }
+
     /// Paths with their widths, 1 to 128.
     pub fn of(alloc: Global, names: &[(&str, u8)]) -> Result<Names, AllocError>
         requires { All (λ n. IsWidth n.1) names.now }
@@ -48,9 +60,7 @@ impl Names {
             ≡ with_entries [] (map (λ n. (n.0.now, n.1)) names.now)) }
     {
         let mut result = Names::new(alloc);
-        for name in names {
-            result.push(alloc, name.0, name.1)?;
-        }
+        result.push_all(alloc, names)?;
         Ok(result)
     }
 }

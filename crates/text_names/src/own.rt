@@ -18,7 +18,7 @@ pub enum Meaning {
 }
 
 /// A kind of fault in an expression.
-#[derive(Clone, Copy, PartialEq, Eq, Debug)]
+#[derive(Clone, Copy)]
 pub enum Sought {
     /// A path that stands for nothing that an expression can read (Y1).
     Unknown,

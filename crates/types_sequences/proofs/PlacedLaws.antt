@@ -104,7 +104,8 @@ of_two before between after v w f g p h =
     ]
 
 -- what is placed of a sequence, from its parts
-extends_two : (before between after : List ℕ) → Extends before between → Extends between after → Extends before after
+extends_two : (before between after : List ℕ) → Extends before between → Extends between after
+    → Extends before after
 extends_two before between after x y =
     record {
       added = x.added ++ y.added;
@@ -136,7 +137,8 @@ module _ (before after : List ℕ) where
         own = y.own;
       }
 
-module _ (before between after : List ℕ) (v w a b : Written Boolean) (x : ArePlaced before between v a) (y : ArePlaced between after w b) where
+module _ (before between after : List ℕ) (v w a b : Written Boolean) (x : ArePlaced before between v a)
+    (y : ArePlaced between after w b) where
   first_placed : (e : List Expr) (more : List ℕ) → IsPlaced e (after ++ more) v a
   first_placed e more = placed_more e between after more y.grows v a (x.placed e (y.grows.added ++ more))
 

@@ -78,9 +78,11 @@ returns-in_ok-body-in-Throughout t c =
     let e = c.in_ok-boolean-in-Throughout.ensures in
     let body = rw c.deref-in-Throughout.ensures at c.in_ok-body-in-Throughout.ensures in
     in_box c.boxed-in-Throughout.result _
-    (λ u. ArePlaced c.args.places.now.items c.placed-in-Throughout.new.places.items (written_form c.args.sequence.now) u)
+    (λ u. ArePlaced c.args.places.now.items c.placed-in-Throughout.new.places.items
+    (written_form c.args.sequence.now) u)
     (rw c.in-Throughout.is
-    (are_throughout c.args.places.now.items c.place_boolean-in-Throughout.new.places.items c.placed-in-Throughout.new.places.items
+    (are_throughout c.args.places.now.items c.place_boolean-in-Throughout.new.places.items
+    c.placed-in-Throughout.new.places.items
     c.in-Throughout.boolean c.in_ok-boolean-in-Throughout.boolean (written_form c.in-Throughout.body.value)
     (written_form c.in_ok-body-in-Throughout.body.value) e.grows e.placed e.listed e.own body))
     c.boxed-in-Throughout.ensures
