@@ -107,7 +107,7 @@ grouped d t ts s rest o h =
       regroups = g_rest;
       goes_on =
           ap (λ (o : Option (SequenceForm × List Token)). o >>= λ p. sides_behind d (sequences d) p.0 p.1) c_rest
-              ∙ a_rest;
+          ∙ a_rest;
     }))))
 
 abbrev GoesOn : ℕ → Type 0

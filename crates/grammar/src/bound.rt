@@ -7,28 +7,28 @@ use lexer::{Kind, Number, Token};
 
 /// A bound of a delay, a repetition or `$past`, or a counter's width; with the byte where it
 /// begins.
-#[derive(Clone, Copy, Debug, PartialEq, Eq)]
+#[derive(Clone, Copy, PartialEq, Eq)]
 pub struct Bound {
     pub value: u8,
     pub at: usize,
 }
 
 /// One count, or from one to another.
-#[derive(Clone, Copy, Debug, PartialEq, Eq)]
+#[derive(Clone, Copy, PartialEq, Eq)]
 pub struct Range {
     pub low: Bound,
     pub high: Option<Bound>,
 }
 
 /// The number of a bit, with the byte where it begins.
-#[derive(Clone, Copy, Debug, PartialEq, Eq)]
+#[derive(Clone, Copy, PartialEq, Eq)]
 pub struct Index {
     pub value: u128,
     pub at: usize,
 }
 
 /// A bit of a name, or the bits from one down to another, counted from 0 at the right.
-#[derive(Clone, Copy, Debug, PartialEq, Eq)]
+#[derive(Clone, Copy, PartialEq, Eq)]
 pub struct Select {
     pub high: Index,
     pub low: Option<Index>,

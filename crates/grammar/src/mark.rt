@@ -8,7 +8,7 @@ use crate::terminal::{Terminal, terminal_of};
 use lexer::{Kind, Number, Symbol, Token};
 
 /// A system function of one operand.
-#[derive(Clone, Copy, Debug, PartialEq, Eq)]
+#[derive(Clone, Copy, PartialEq, Eq)]
 pub enum Function {
     Rose,
     Fell,
@@ -19,7 +19,7 @@ pub enum Function {
 }
 
 /// How a token may begin a primary.
-#[derive(Clone, Copy, Debug, PartialEq, Eq)]
+#[derive(Clone, Copy, PartialEq, Eq)]
 pub enum Mark {
     Number(Number),
     Name,

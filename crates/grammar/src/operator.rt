@@ -8,7 +8,7 @@ use crate::terminal::{Terminal, terminal_of};
 use lexer::{Kind, Symbol, Token};
 
 /// A unary operator.
-#[derive(Clone, Copy, Debug, PartialEq, Eq)]
+#[derive(Clone, Copy, PartialEq, Eq)]
 pub enum Prefix {
     /// `!`
     Not,
@@ -24,7 +24,7 @@ pub enum Prefix {
 }
 
 /// A left operator: it stands between two operands, and groups to the left.
-#[derive(Clone, Copy, Debug, PartialEq, Eq)]
+#[derive(Clone, Copy, PartialEq, Eq)]
 pub enum Infix {
     Add,
     Sub,
@@ -48,14 +48,14 @@ pub enum Infix {
 }
 
 /// What joins the sides of a sequence.
-#[derive(Clone, Copy, Debug, PartialEq, Eq)]
+#[derive(Clone, Copy, PartialEq, Eq)]
 pub enum Junction {
     And,
     Or,
 }
 
 /// Where the consequent of an implication begins (IEEE 1800-2017, 16.12.7).
-#[derive(Clone, Copy, Debug, PartialEq, Eq)]
+#[derive(Clone, Copy, PartialEq, Eq)]
 pub enum Implication {
     /// `|->`: at the last tick of the antecedent.
     Overlapped,

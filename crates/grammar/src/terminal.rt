@@ -12,7 +12,7 @@ ghost use Rattle.grammar.specs.Terminals.{symbol_terminal, terminal, is, is_name
 use lexer::{Kind, Symbol, Token};
 
 /// A word, symbol or class of tokens that the grammar's rules name.
-#[derive(Clone, Copy, Debug, PartialEq, Eq)]
+#[derive(Clone, Copy, PartialEq, Eq)]
 pub enum Terminal {
     Counter,
     Clear,

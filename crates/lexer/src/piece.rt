@@ -3,7 +3,7 @@
 use crate::token::{Base, Symbol};
 
 /// The shape of a token, before the value of a number is known.
-#[derive(Clone, Copy, Debug, PartialEq, Eq)]
+#[derive(Clone, Copy)]
 pub enum Shape {
     Word,
     System,
@@ -12,7 +12,7 @@ pub enum Shape {
 }
 
 /// What goes on with a word, a system name, a decimal or the digits of a base.
-#[derive(Clone, Copy, Debug, PartialEq, Eq)]
+#[derive(Clone, Copy)]
 pub enum Part {
     Word,
     System,

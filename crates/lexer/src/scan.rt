@@ -18,7 +18,7 @@ use crate::token::{Kind, Token};
 use std::alloc::Global;
 
 /// What comes next: so many bytes between tokens, a token, or a fault.
-#[derive(Clone, Copy, Debug, PartialEq, Eq)]
+#[derive(Clone, Copy)]
 pub enum Next {
     Gap(usize),
     Lexeme(usize, Shape),

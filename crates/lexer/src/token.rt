@@ -1,7 +1,7 @@
 //! A token, as a slice of the text.
 
 /// An operator or a bracket.
-#[derive(Clone, Copy, Debug, PartialEq, Eq)]
+#[derive(Clone, Copy, PartialEq, Eq)]
 pub enum Symbol {
     OpenRound,
     CloseRound,
@@ -48,7 +48,7 @@ pub enum Symbol {
 }
 
 /// The base of a number: the letter behind its quote, in either case.
-#[derive(Clone, Copy, Debug, PartialEq, Eq)]
+#[derive(Clone, Copy, PartialEq, Eq)]
 pub enum Base {
     Binary,
     Octal,
@@ -57,7 +57,7 @@ pub enum Base {
 }
 
 /// A number (IEEE 1800-2017, 5.7.1), unsigned.
-#[derive(Clone, Copy, Debug, PartialEq, Eq)]
+#[derive(Clone, Copy, PartialEq, Eq)]
 pub struct Number {
     /// The size in bits, 1 to 128, where it is written.
     pub size: Option<u8>,
@@ -83,7 +83,7 @@ impl Number {
 }
 
 /// What a token is.
-#[derive(Clone, Copy, Debug, PartialEq, Eq)]
+#[derive(Clone, Copy, PartialEq, Eq)]
 pub enum Kind {
     /// `[A-Za-z_][A-Za-z0-9_$]*`, keywords too.
     Word,
@@ -96,7 +96,7 @@ pub enum Kind {
 }
 
 /// A token: its text is the slice of the source that begins at the byte `at`.
-#[derive(Clone, Copy, Debug)]
+#[derive(Clone, Copy)]
 pub struct Token<'a> {
     pub kind: Kind,
     pub at: usize,
