@@ -7,7 +7,8 @@ use Rattle.std.specs.Global.{Global}
 use Rattle.std.specs.Option.{option_map}
 use Rattle.std.specs.Str.Parse.{ParsesUnsigned}
 use Rattle.clap.specs.Words.{App, Row, Rule, Text, first_of, new_app, new_rule, one_of}
-use Rattle.clap.specs.Words.{subcommand_of, with_rule, with_subcommand}
+use Rattle.clap.specs.Words.{subcommand_of, subcommand_rows_of, with_rule, with_subcommand}
+use Rattle.clap.specs.declared.parser.matches.ArgMatches.{ArgMatches}
 use Rattle.clap.specs.declared.builder.value_parser.ValueParser.TheVariants.{Unsigned}
 use Rattle.command_line.specs.declared.request.Request.{Request}
 use Rattle.command_line.specs.declared.request.Request.TheVariants.{Check, Build, Verify}
@@ -71,6 +72,12 @@ svamon_top = record (new_app (codes "svamon")) {
   top = record (new_app (codes "svamon")).top { subcommand_required = true };
 }
 
+-- with the first three of its commands
+abbrev pub first_app : App
+first_app =
+    let first_two = with_subcommand (with_subcommand svamon_top check_app.top) build_app.top in
+    with_subcommand first_two verify_app.top
+
 abbrev pub svamon_app : App
 svamon_app =
     let first_two = with_subcommand (with_subcommand svamon_top check_app.top) build_app.top in
@@ -126,6 +133,12 @@ IsGiven rows (Rules axi) = Gives (codes "axi") rows (Some axi)
 -- a request of the command of this name, by its rows
 pub record IsRequest (name : Text) (rows : List Row) (request : Request) : Type 0 where
   pub command : command_of request ≡ name
+  pub given : IsGiven rows request
+
+-- the command that was entered makes this request, of its rows
+pub record IsNamed (matches : ArgMatches) (request : Request) : Type 0 where
+  pub rows : List Row
+  pub entered : subcommand_rows_of matches ≡ Some (command_of request, rows)
   pub given : IsGiven rows request
 
 -- the words ask for this: they name its command, with these rows

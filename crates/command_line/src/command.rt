@@ -1,11 +1,11 @@
 //! The commands and their options.
 
-ghost use Rattle.std.specs.Prelude.{◌≡◌, Some, IfOk, false};
-ghost use Rattle.clap.specs.Words.{app_of, rule_of};
+ghost use Rattle.std.specs.Prelude.{◌≡◌, Some, IfOk, true, false, codes};
+ghost use Rattle.clap.specs.Words.{App, app_of, rule_of, new_app, with_rule, with_subcommand};
 ghost use Rattle.clap.specs.declared.builder.value_parser.ValueParser.TheVariants.{Unsigned};
 ghost use Rattle.command_line.specs.Words.{file_rule, word_rule, axi_rule, window_rule};
 ghost use Rattle.command_line.specs.Words.{text_app, check_app, build_app, verify_app, run_app};
-ghost use Rattle.command_line.specs.Words.{judge_app, rules_app, svamon_app};
+ghost use Rattle.command_line.specs.Words.{judge_app, rules_app, first_app, svamon_app};
 
 use clap::{Arg, Command, value_parser};
 use std::alloc::{AllocError, Global};
@@ -70,15 +70,35 @@ fn window_option<'a>(alloc: Global) -> Arg<'a>
     within_sizes(option)
 }
 
-/// A command that reads a dump, a text and, if they are named, ports.
-fn text_command<'a>(alloc: Global, name: &'a str, about: &'a str) -> Result<Command<'a>, AllocError>
-    ensures { IfOk result (λ c. app_of c ≡ text_app name.entry.now) }
+/// A command that reads a dump and another file.
+fn dump_command<'a>(
+    alloc: Global,
+    name: &'a str,
+    about: &'a str,
+    file: Arg<'a>,
+) -> Result<Command<'a>, AllocError>
+    requires { file.global ≡ false }
+    ensures { IfOk result (λ c. app_of c
+        ≡ with_rule (with_rule (new_app name.entry.now) (file_rule (codes "vcd")))
+        (rule_of file.entry)) }
 {
     Command::new(alloc, name)
         .about(about)
         .arg(file_option(alloc, "vcd", "The dump, in VCD"))?
-        .arg(file_option(alloc, "sva", "The assertions"))?
-        .arg(axi_option(alloc))
+        .arg(file)
+}
+
+/// A command that reads a dump, a text and, if they are named, ports.
+fn text_command<'a>(alloc: Global, name: &'a str, about: &'a str) -> Result<Command<'a>, AllocError>
+    ensures { IfOk result (λ c. app_of c ≡ text_app name.entry.now) }
+{
+    dump_command(
+        alloc,
+        name,
+        about,
+        file_option(alloc, "sva", "The assertions"),
+    )?
+    .arg(axi_option(alloc))
 }
 
 fn check_command<'a>(alloc: Global) -> Result<Command<'a>, AllocError>
@@ -107,11 +127,9 @@ fn verify_command<'a>(alloc: Global) -> Result<Command<'a>, AllocError>
 fn run_command<'a>(alloc: Global) -> Result<Command<'a>, AllocError>
     ensures { IfOk result (λ c. app_of c ≡ run_app) }
 {
-    Command::new(alloc, "run")
-        .about("Runs a program over a dump and prints the report")
-        .arg(file_option(alloc, "vcd", "The dump, in VCD"))?
-        .arg(file_option(alloc, "code", "The program, in bytecode"))?
-        .arg(window_option(alloc))
+    let about = "Runs a program over a dump and prints the report";
+    let code = file_option(alloc, "code", "The program, in bytecode");
+    dump_command(alloc, "run", about, code)?.arg(window_option(alloc))
 }
 
 fn judge_command<'a>(alloc: Global) -> Result<Command<'a>, AllocError>
@@ -128,17 +146,35 @@ fn rules_command<'a>(alloc: Global) -> Result<Command<'a>, AllocError>
         .arg(file_option(alloc, "axi", "The port file"))
 }
 
+/// The command with one more subcommand, if that could be made.
+fn with_subcommand<'a>(
+    command: Command<'a>,
+    subcommand: Result<Command<'a>, AllocError>,
+) -> Result<Command<'a>, AllocError>
+    ensures { (s : App) → IfOk subcommand.entry (λ c. app_of c ≡ s) → s.top.is_plain ≡ true
+        → IfOk result (λ c. app_of c ≡ with_subcommand (app_of command.entry) s.top) }
+{
+    command.subcommand(subcommand?)
+}
+
+/// svamon with its first three commands.
+fn first_commands<'a>(alloc: Global) -> Result<Command<'a>, AllocError>
+    ensures { IfOk result (λ c. app_of c ≡ first_app) }
+{
+    let svamon = Command::new(alloc, "svamon")
+        .about("Checks SystemVerilog assertions over recorded waveforms")
+        .subcommand_required(true);
+    let svamon = with_subcommand(svamon, check_command(alloc))?;
+    let svamon = with_subcommand(svamon, build_command(alloc))?;
+    with_subcommand(svamon, verify_command(alloc))
+}
+
 /// svamon's commands.
 pub(crate) fn svamon_command<'a>(alloc: Global) -> Result<Command<'a>, AllocError>
     ensures { IfOk result (λ c. app_of c ≡ svamon_app) }
 {
-    Command::new(alloc, "svamon")
-        .about("Checks SystemVerilog assertions over recorded waveforms")
-        .subcommand_required(true)
-        .subcommand(check_command(alloc)?)?
-        .subcommand(build_command(alloc)?)?
-        .subcommand(verify_command(alloc)?)?
-        .subcommand(run_command(alloc)?)?
-        .subcommand(judge_command(alloc)?)?
-        .subcommand(rules_command(alloc)?)
+    let svamon = first_commands(alloc)?;
+    let svamon = with_subcommand(svamon, run_command(alloc))?;
+    let svamon = with_subcommand(svamon, judge_command(alloc))?;
+    with_subcommand(svamon, rules_command(alloc))
 }

@@ -2,7 +2,7 @@
 
 ghost use Rattle.std.specs.Prelude.{IfOk, Some, codes, map};
 ghost use Rattle.clap.specs.Words.{found_of, rows_of};
-ghost use Rattle.command_line.specs.Words.{Gives, IsWindow, IsRequest, IsAsked};
+ghost use Rattle.command_line.specs.Words.{Gives, IsWindow, IsRequest, IsNamed, IsAsked};
 
 use crate::command::svamon_command;
 use crate::fault::WordsFault;
@@ -48,11 +48,12 @@ fn window_of(options: &ArgMatches) -> Result<u64, WordsFault>
 fn check_request(alloc: Global, options: &ArgMatches) -> Result<Request, WordsFault>
     ensures { IfOk result (IsRequest (codes "check") (rows_of (found_of options.now))) }
 {
+    let window = window_of(options)?;
     Ok(Request::Check {
         vcd: text_of(alloc, options, "vcd")?,
         sva: text_of(alloc, options, "sva")?,
         axi: option_of(alloc, options, "axi")?,
-        window: window_of(options)?,
+        window,
     })
 }
 
@@ -79,10 +80,11 @@ fn verify_request(alloc: Global, options: &ArgMatches) -> Result<Request, WordsF
 fn run_request(alloc: Global, options: &ArgMatches) -> Result<Request, WordsFault>
     ensures { IfOk result (IsRequest (codes "run") (rows_of (found_of options.now))) }
 {
+    let window = window_of(options)?;
     Ok(Request::Run {
         vcd: text_of(alloc, options, "vcd")?,
         code: text_of(alloc, options, "code")?,
-        window: window_of(options)?,
+        window,
     })
 }
 
@@ -104,12 +106,10 @@ fn rules_request(alloc: Global, options: &ArgMatches) -> Result<Request, WordsFa
     })
 }
 
-/// What the words of a command line ask for; the first is the program's name.
-pub fn read_words(alloc: Global, words: &[&str]) -> Result<Request, WordsFault>
-    ensures { IfOk result (IsAsked (map (λ w. w.now) words.now)) }
+/// What the command that was entered asks for.
+fn request_of(alloc: Global, matches: &ArgMatches) -> Result<Request, WordsFault>
+    ensures { IfOk result (IsNamed matches.now) }
 {
-    let command = svamon_command(alloc)?;
-    let matches = command.try_get_matches_from(words)?;
     match matches.subcommand() {
         Some(("check", options)) => check_request(alloc, options),
         Some(("build", options)) => build_request(alloc, options),
@@ -119,4 +119,12 @@ pub fn read_words(alloc: Global, words: &[&str]) -> Result<Request, WordsFault>
         Some(("rules", options)) => rules_request(alloc, options),
         _ => Err(WordsFault::OutOfMemory),
     }
+}
+
+/// What the words of a command line ask for; the first is the program's name.
+pub fn read_words(alloc: Global, words: &[&str]) -> Result<Request, WordsFault>
+    ensures { IfOk result (IsAsked (map (λ w. w.now) words.now)) }
+{
+    let matches = svamon_command(alloc)?.try_get_matches_from(words)?;
+    request_of(alloc, &matches)
 }

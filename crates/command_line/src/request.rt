@@ -1,7 +1,7 @@
 //! What the words of a command line ask for.
 
 /// What the words ask for. Paths are as they were given.
-#[derive(Debug, Drop, PartialEq)]
+#[derive(Drop)]
 pub enum Request {
     /// Judges the assertions of a text over a dump, through windows of so many clocks.
     Check {

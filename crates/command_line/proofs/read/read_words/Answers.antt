@@ -1,71 +1,13 @@
-use Rattle.std.proofs.Common.{◌∙◌, sym, ap, map, Some, List, ℕ, option_map, codes}
+use Rattle.std.proofs.Common.{map}
 use Rattle.std.proofs.lemmas.Result.{IfOk-weaker}
-use Rattle.clap.specs.Words.{app_of, found_of, rows_of}
+use Rattle.clap.specs.Words.{app_of}
 use Rattle.command_line.proofs.CommandLaws.{asked}
 use Rattle.command_line.proofs.read.read_words.Goals as goal
 
-pub returns-in-Some-check-default : goal.returns-in-Some-check-default
-returns-in-Some-check-default c =
-    let arm = c.in-Some-check-default in
-    IfOk-weaker c.check_request.result _ _
-    (asked (app_of c.in_ok-command.command) (map (λ w. w.now) c.args.words.now) c.in_ok-matches.matches (codes "check")
-    (rows_of (found_of arm.options.now))
-    c.in_ok-matches.ensures.matches c.in_ok-command.ensures
-    (sym c.subcommand.ensures.name ∙ ap (option_map (λ p. p.0.now)) arm.is ∙ ap (λ (t : List ℕ). Some t) arm.is-check)
-    (sym c.subcommand.ensures.rows ∙ ap (option_map (λ p. rows_of (found_of p.1.now))) arm.is))
-    c.check_request.ensures
-
-pub returns-in-Some-build-default : goal.returns-in-Some-build-default
-returns-in-Some-build-default c =
-    let arm = c.in-Some-build-default in
-    IfOk-weaker c.build_request.result _ _
-    (asked (app_of c.in_ok-command.command) (map (λ w. w.now) c.args.words.now) c.in_ok-matches.matches (codes "build")
-    (rows_of (found_of arm.options.now))
-    c.in_ok-matches.ensures.matches c.in_ok-command.ensures
-    (sym c.subcommand.ensures.name ∙ ap (option_map (λ p. p.0.now)) arm.is ∙ ap (λ (t : List ℕ). Some t) arm.is-build)
-    (sym c.subcommand.ensures.rows ∙ ap (option_map (λ p. rows_of (found_of p.1.now))) arm.is))
-    c.build_request.ensures
-
-pub returns-in-Some-verify-default : goal.returns-in-Some-verify-default
-returns-in-Some-verify-default c =
-    let arm = c.in-Some-verify-default in
-    IfOk-weaker c.verify_request.result _ _
-    (asked (app_of c.in_ok-command.command) (map (λ w. w.now) c.args.words.now) c.in_ok-matches.matches (codes "verify")
-    (rows_of (found_of arm.options.now))
-    c.in_ok-matches.ensures.matches c.in_ok-command.ensures
-    (sym c.subcommand.ensures.name ∙ ap (option_map (λ p. p.0.now)) arm.is ∙ ap (λ (t : List ℕ). Some t) arm.is-verify)
-    (sym c.subcommand.ensures.rows ∙ ap (option_map (λ p. rows_of (found_of p.1.now))) arm.is))
-    c.verify_request.ensures
-
-pub returns-in-Some-run-default : goal.returns-in-Some-run-default
-returns-in-Some-run-default c =
-    let arm = c.in-Some-run-default in
-    IfOk-weaker c.run_request.result _ _
-    (asked (app_of c.in_ok-command.command) (map (λ w. w.now) c.args.words.now) c.in_ok-matches.matches (codes "run")
-    (rows_of (found_of arm.options.now))
-    c.in_ok-matches.ensures.matches c.in_ok-command.ensures
-    (sym c.subcommand.ensures.name ∙ ap (option_map (λ p. p.0.now)) arm.is ∙ ap (λ (t : List ℕ). Some t) arm.is-run)
-    (sym c.subcommand.ensures.rows ∙ ap (option_map (λ p. rows_of (found_of p.1.now))) arm.is))
-    c.run_request.ensures
-
-pub returns-in-Some-judge-default : goal.returns-in-Some-judge-default
-returns-in-Some-judge-default c =
-    let arm = c.in-Some-judge-default in
-    IfOk-weaker c.judge_request.result _ _
-    (asked (app_of c.in_ok-command.command) (map (λ w. w.now) c.args.words.now) c.in_ok-matches.matches (codes "judge")
-    (rows_of (found_of arm.options.now))
-    c.in_ok-matches.ensures.matches c.in_ok-command.ensures
-    (sym c.subcommand.ensures.name ∙ ap (option_map (λ p. p.0.now)) arm.is ∙ ap (λ (t : List ℕ). Some t) arm.is-judge)
-    (sym c.subcommand.ensures.rows ∙ ap (option_map (λ p. rows_of (found_of p.1.now))) arm.is))
-    c.judge_request.ensures
-
-pub returns-in-Some-rules-default : goal.returns-in-Some-rules-default
-returns-in-Some-rules-default c =
-    let arm = c.in-Some-rules-default in
-    IfOk-weaker c.rules_request.result _ _
-    (asked (app_of c.in_ok-command.command) (map (λ w. w.now) c.args.words.now) c.in_ok-matches.matches (codes "rules")
-    (rows_of (found_of arm.options.now))
-    c.in_ok-matches.ensures.matches c.in_ok-command.ensures
-    (sym c.subcommand.ensures.name ∙ ap (option_map (λ p. p.0.now)) arm.is ∙ ap (λ (t : List ℕ). Some t) arm.is-rules)
-    (sym c.subcommand.ensures.rows ∙ ap (option_map (λ p. rows_of (found_of p.1.now))) arm.is))
-    c.rules_request.ensures
+pub returns : goal.returns
+returns c =
+    IfOk-weaker c.request_of.result _ _
+    (λ r h.
+    asked (app_of c.in_ok-svamon_command.field-0) (map (λ w. w.now) c.args.words.now) c.in_ok-matches.matches r
+    c.in_ok-matches.ensures.matches c.in_ok-svamon_command.ensures h)
+    c.request_of.ensures
