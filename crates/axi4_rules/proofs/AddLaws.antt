@@ -40,19 +40,10 @@ pub map-map : {X Y : Type 0} (f : Y → List ℕ) (v : X → Y) (xs : List X) �
 map-map f v [] = refl
 map-map f v (x ∷ xs) = ap (λ l. f (v x) ∷ l) (map-map f v xs)
 
--- the same line, of a row that is known
-pub same_row : {s t : List (List ℕ)} (line : Row → List ℕ) (r q : Row) → r ≡ q → Adds s t (line r ∷ [])
-    → Adds s t (line q ∷ [])
-same_row {s} {t} line r q h p = subst (λ x. Adds s t (line x ∷ [])) h p
-
-pub same_rows : {s t : List (List ℕ)} (line : List ℕ → Row → List ℕ) (i j : List ℕ) (rs qs : List Row) → i ≡ j → rs ≡ qs
-    → Adds s t (map (line i) rs) → Adds s t (map (line j) qs)
-same_rows {s} {t} line i j rs qs h k p =
-    subst (λ x. Adds s t (map (line j) x)) k (subst (λ x. Adds s t (map (line x) rs)) h p)
-
-pub same_ids : {s t : List (List ℕ)} (line : Row → ℕ → List ℕ) (ids : List ℕ) (r q : Row) → r ≡ q
-    → Adds s t (map (line r) ids) → Adds s t (map (line q) ids)
-same_ids {s} {t} line ids r q h p = subst (λ x. Adds s t (map (line x) ids)) h p
+-- the same rows, filled with the same item
+pub same_item : {s t : List (List ℕ)} (line : List ℕ → Row → List ℕ) (i j : List ℕ) (rs : List Row) → i ≡ j
+    → Adds s t (map (line i) rs) → Adds s t (map (line j) rs)
+same_item {s} {t} line i j rs h p = subst (λ x. Adds s t (map (line x) rs)) h p
 
 pub id_more : (line : ℕ → List ℕ) (xs ys : List ℕ) (i d : ℕ) (s t u : List (List ℕ)) → ys ≡ xs → i < length ys
     → Adds s t (map line (take i xs)) → Adds t u (line (get_or ys i d) ∷ []) → Adds s u (map line (take (i + 1) xs))
@@ -60,10 +51,9 @@ id_more line xs ys i d s t u h below p q =
     one_more line xs i d s t u (subst (λ zs. i < length zs) h below) p
     (subst (λ zs. Adds t u (line (get_or zs i d) ∷ [])) h q)
 
-pub same_filled : {s t : List (List ℕ)} (line : Filling → Row → List ℕ) (f g : Filling) (rs qs : List Row) → f ≡ g
-    → rs ≡ qs → Adds s t (map (line f) rs) → Adds s t (map (line g) qs)
-same_filled {s} {t} line f g rs qs h k p =
-    subst (λ x. Adds s t (map (line g) x)) k (subst (λ x. Adds s t (map (line x) rs)) h p)
+pub same_filled : {s t : List (List ℕ)} (line : Filling → Row → List ℕ) (f g : Filling) (rs : List Row) → f ≡ g
+    → Adds s t (map (line f) rs) → Adds s t (map (line g) rs)
+same_filled {s} {t} line f g rs h p = subst (λ x. Adds s t (map (line x) rs)) h p
 
 pub from_nothing : {s t ls : List (List ℕ)} → s ≡ [] → Adds s t ls → t ≡ tokens_of ls
 from_nothing {s} {t} {ls} h p = p.is ∙ ap (λ l. l ++ tokens_of ls) h

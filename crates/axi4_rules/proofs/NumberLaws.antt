@@ -1,12 +1,12 @@
 -- Numbers, digit by digit.
 use Rattle.std.proofs.Common.{◌≡◌, ℕ, ◌+◌, ◌-◌, ◌*◌, ◌<◌, ◌≤◌, min, true, false, List, [], ◌∷◌, length, get_or, drop}
-use Rattle.std.proofs.Common.{Some, None, refl, sym, ap, ◌∙◌, arith}
+use Rattle.std.proofs.Common.{Option, Some, None, ◌++◌, Bor, map, append_assoc, refl, sym, ap, ◌∙◌, arith}
 use Rattle.std.specs.Prelude.{◌==◌}
 use Rattle.std.specs.Char.{is_ascii_digit}
 use Rattle.std.specs.List.{list_all}
 use Rattle.std.proofs.lemmas.Bool.{true≢false, ne_eqb}
-use Rattle.axi4_rules.specs.Lines.{decimal_from, number}
-use Rattle.axi4_rules.proofs.ListLaws.{drop-next, drop-end}
+use Rattle.axi4_rules.specs.Lines.{◌>>=◌, decimal_from, number, all_numbers}
+use Rattle.axi4_rules.proofs.ListLaws.{drop-next, drop-end, with_front}
 
 pub decimal_from-le : (n : ℕ) (ds : List ℕ) → n ≤ decimal_from n ds
 unfolding decimal_from
@@ -52,3 +52,14 @@ digit_more ds n i m o below ones is =
 pub no_digit_left : (ds : List ℕ) (n i : ℕ) → length ds ≤ i → n ≤ 65536 → min 65536 (decimal_from n (drop i ds)) ≡ n
 unfolding decimal_from
 no_digit_left ds n i over small = ap (λ l. min 65536 (decimal_from n l)) (drop-end ds i over) ∙ omega arith
+
+number-onto : (xs : List ℕ) (n : ℕ) (o : Option (List ℕ)) → with_front xs (o >>= (λ ns. Some (n ∷ ns)))
+    ≡ with_front (xs ++ n ∷ []) o
+number-onto xs n None = refl
+number-onto xs n (Some ns) = ap Some (sym (append_assoc xs (n ∷ []) ns))
+
+-- one more number of a list
+pub number_more : (ts : List (Bor (List ℕ))) (i : ℕ) (d : Bor (List ℕ)) (xs : List ℕ) (n : ℕ) → i < length ts
+    → number ((get_or ts i d).now) ≡ Some n → with_front xs (all_numbers (map (λ t. t.now) (drop i ts)))
+    ≡ with_front (xs ++ n ∷ []) (all_numbers (map (λ t. t.now) (drop (i + 1) ts)))
+number_more ts i d xs n below h = rw (drop-next ts i d below, h) (number-onto xs n _)

@@ -20,8 +20,7 @@ fn push_port(alloc: Global, text: &mut RuleText, line: &(Port, Mode)) -> Result<
     ensures { OnOk result (Adds text.old text.new (table_of (line_data line.now))) }
 {
     let rules = rules(alloc, &line.0, line.1)?;
-    text.push_line(rules)?;
-    Ok(())
+    text.push_line(rules)
 }
 
 /// Adds the rules of each port.

@@ -1,7 +1,7 @@
 //! The case of a port's signal names.
 
 /// How signal names behind the prefix are written.
-#[derive(Clone, Copy, Debug, PartialEq, Eq)]
+#[derive(Clone, Copy)]
 pub enum Case {
     /// `awvalid`
     Lower,

@@ -1,8 +1,8 @@
 //! Lines of the table.
 
-ghost use Rattle.std.specs.Prelude.{◌≡◌, IfOk, string_bytes};
-ghost use Rattle.axi4_rules.specs.declared.form.Form.TheVariants.{Rule, Always, Counter};
-ghost use Rattle.axi4_rules.specs.Rows.{line_of};
+ghost use Rattle.std.specs.Prelude.{◌≡◌, ◌++◌, IfOk, OnOk, string_bytes};
+ghost use Rattle.axi4_rules.specs.Rows.{line_of, fills, row_data, row_words, framed_words};
+ghost use Rattle.axi4_rules.specs.Views.{Appends};
 
 use crate::fill::push_words;
 use crate::filling::Filling;
@@ -15,42 +15,38 @@ const OUT_OF_RESET: &str = ": assert property ( @ ( posedge CLOCK ) disable iff 
 
 const ALWAYS: &str = ": assert property ( @ ( posedge CLOCK )";
 
-#[tactic(auto, unfolding(crate::specs::Rules::rule_line))]
-fn rule_line(alloc: Global, filling: Filling, row: Row) -> Result<String, AllocError>
-    ensures { IfOk result (λ t. string_bytes t ≡ line_of Rule filling.entry row.entry) }
+/// Adds the words of a row, with a template behind the name.
+fn push_row_words(
+    alloc: Global,
+    line: &mut String,
+    filling: Filling,
+    row: Row,
+    middle: &str,
+) -> Result<(), AllocError>
+    ensures { OnOk result (Appends line.old line.new
+        (row_words (fills filling.entry) (row_data row.entry) middle.now)) }
 {
-    let mut line = String::new(alloc);
-    push_words(alloc, &mut line, filling, row.name)?;
-    push_words(alloc, &mut line, filling, OUT_OF_RESET)?;
-    push_words(alloc, &mut line, filling, row.first)?;
-    push_words(alloc, &mut line, filling, row.second)?;
-    line.push_str(") ;")?;
-    Ok(line)
+    push_words(alloc, line, filling, row.name)?;
+    push_words(alloc, line, filling, middle)?;
+    push_words(alloc, line, filling, row.first)?;
+    push_words(alloc, line, filling, row.second)
 }
 
-#[tactic(auto, unfolding(crate::specs::Rules::reset_line))]
-fn reset_line(alloc: Global, filling: Filling, row: Row) -> Result<String, AllocError>
-    ensures { IfOk result (λ t. string_bytes t ≡ line_of Always filling.entry row.entry) }
+/// A row's line: its words, between a front and an end that stand for themselves.
+fn line_between(
+    alloc: Global,
+    filling: Filling,
+    row: Row,
+    front: &str,
+    middle: &str,
+    end: &str,
+) -> Result<String, AllocError>
+    ensures { IfOk result (λ t. string_bytes t
+        ≡ framed_words (fills filling.entry) (row_data row.entry) front.now middle.now end.now) }
 {
-    let mut line = String::new(alloc);
-    push_words(alloc, &mut line, filling, row.name)?;
-    push_words(alloc, &mut line, filling, ALWAYS)?;
-    push_words(alloc, &mut line, filling, row.first)?;
-    push_words(alloc, &mut line, filling, row.second)?;
-    line.push_str(") ;")?;
-    Ok(line)
-}
-
-#[tactic(auto, unfolding(crate::specs::Rules::counter_line))]
-fn counter_line(alloc: Global, filling: Filling, row: Row) -> Result<String, AllocError>
-    ensures { IfOk result (λ t. string_bytes t ≡ line_of Counter filling.entry row.entry) }
-{
-    let mut line = String::from_str(alloc, "counter ")?;
-    push_words(alloc, &mut line, filling, row.name)?;
-    push_words(alloc, &mut line, filling, "clear ( ! RESET )")?;
-    push_words(alloc, &mut line, filling, row.first)?;
-    push_words(alloc, &mut line, filling, row.second)?;
-    line.push_str(";")?;
+    let mut line = String::from_str(alloc, front)?;
+    push_row_words(alloc, &mut line, filling, row, middle)?;
+    line.push_str(end)?;
     Ok(line)
 }
 
@@ -64,8 +60,8 @@ pub(crate) fn line_in(
     ensures { IfOk result (λ t. string_bytes t ≡ line_of form filling.entry row.entry) }
 {
     match form {
-        Form::Rule => rule_line(alloc, filling, row),
-        Form::Always => reset_line(alloc, filling, row),
-        Form::Counter => counter_line(alloc, filling, row),
+        Form::Rule => line_between(alloc, filling, row, "", OUT_OF_RESET, ") ;"),
+        Form::Always => line_between(alloc, filling, row, "", ALWAYS, ") ;"),
+        Form::Counter => { line_between(alloc, filling, row, "counter ", "clear ( ! RESET )", ";") }
     }
 }

@@ -1,7 +1,7 @@
 //! The mode of a port.
 
 /// How many transactions may be outstanding in one direction.
-#[derive(Clone, Copy, Debug, PartialEq, Eq)]
+#[derive(Clone, Copy)]
 pub enum Mode {
     /// Any number.
     Multi,

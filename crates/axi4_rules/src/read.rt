@@ -1,9 +1,12 @@
 //! Reads port files.
 
-ghost use Rattle.std.specs.Prelude.{◌≡◌, IfOk, OnOk, IsTrue, map};
+ghost use Rattle.std.specs.Prelude.{◌≡◌, ◌++◌, IfOk, OnOk, IsTrue, codes, map};
+ghost use Rattle.std.specs.Option.{option_map};
+ghost use Rattle.axi4_rules.specs.Lines.{line_said};
+ghost use Rattle.axi4_rules.specs.Names.{is_path};
 ghost use Rattle.axi4_rules.specs.Ports.{are_sizes, are_ids, are_names, checked};
 ghost use Rattle.axi4_rules.specs.Ports.{is_skipped, port_in, ports_in, port_file};
-ghost use Rattle.axi4_rules.specs.Texts.{begins_with};
+ghost use Rattle.axi4_rules.specs.Texts.{begins_with, fields};
 ghost use Rattle.axi4_rules.specs.Drafts.{path_data, size_data, draft_data, is_named_draft};
 ghost use Rattle.axi4_rules.specs.Seen.{Gives, line_data};
 ghost use Rattle.axi4_rules.specs.Views.{texts_of};
@@ -18,16 +21,23 @@ use crate::ranges::{are_ids, are_sizes};
 use crate::text::{fields, pieces};
 use std::alloc::{AllocError, Global};
 
+/// Whether the signals behind the prefix have paths.
+fn is_prefix(alloc: Global, prefix: &str) -> Result<bool, AllocError>
+    ensures { IfOk result (λ r. r ≡ is_path (prefix.now ++ codes "awvalid")) }
+{
+    let mut signal = String::from_str(alloc, prefix)?;
+    signal.push_str("awvalid")?;
+    is_path(alloc, signal.as_str())
+}
+
 /// Whether the name is a word, and the clock, the reset and the signals are paths.
 #[tactic(auto, unfolding(crate::specs::Ports::are_names))]
 fn are_names(alloc: Global, name: &str, paths: Paths) -> Result<bool, AllocError>
     ensures { IfOk result (λ r. r ≡ are_names name.now (path_data paths.entry)) }
 {
-    let mut signal = String::from_str(alloc, paths.prefix)?;
-    signal.push_str("awvalid")?;
     let is_clock = is_path(alloc, paths.clock)?;
     let is_reset = is_path(alloc, paths.reset)?;
-    let is_signal = is_path(alloc, signal.as_str())?;
+    let is_signal = is_prefix(alloc, paths.prefix)?;
     Ok(is_word(name) && is_clock && is_reset && is_signal)
 }
 
@@ -77,13 +87,20 @@ fn port_of(alloc: Global, draft: Draft) -> Result<(Port, Mode), AllocError>
     Ok((port, draft.mode))
 }
 
+/// What the line says; `None` where it isn't of the form of a port.
+fn draft_of(alloc: Global, line: &str) -> Result<Option<Draft<'_>>, AllocError>
+    ensures { IfOk result (λ o. option_map draft_data o ≡ line_said (fields line.now)) }
+{
+    let fields = fields(alloc, line)?;
+    line_said(alloc, &fields)
+}
+
 /// The port of the line of that number.
 #[tactic(auto, unfolding(crate::specs::Ports::port_in))]
 fn read_line(alloc: Global, line: &str, number: usize) -> Result<(Port, Mode), PortFault>
     ensures { Gives line_data result (port_in number line.now) }
 {
-    let fields = fields(alloc, line)?;
-    let Some(draft) = line_said(alloc, &fields)? else {
+    let Some(draft) = draft_of(alloc, line)? else {
         return Err(PortFault::BadLine(number));
     };
     check(alloc, &draft)?;

@@ -10,11 +10,11 @@ ghost use Rattle.axi4_rules.specs.Wholes.{Adds};
 use crate::blocks::{push_ids, push_rows};
 use crate::filling::Filling;
 use crate::form::Form;
-use crate::lone_rows::{read_id_row, reads_row, write_id_row, writes_row};
+use crate::lone_rows::{READ_ID_ROW, READS_ROW, WRITE_ID_ROW, WRITES_ROW};
 use crate::mode::Mode;
 use crate::port::Port;
 use crate::rule_text::RuleText;
-use crate::tables::{counter_rows, response_rows, single_counter_rows, single_rows};
+use crate::tables::{COUNTER_ROWS, RESPONSE_ROWS, SINGLE_COUNTER_ROWS, SINGLE_ROWS};
 use std::alloc::{AllocError, Global};
 
 /// The port alone: names are written out.
@@ -37,11 +37,16 @@ fn push_single_counters(
 ) -> Result<(), AllocError>
     ensures { OnOk result (Adds text.old text.new (single_counters (port_data port.now) mode)) }
 {
-    if mode == Mode::Single {
-        let filling = of_port(port);
-        push_rows(alloc, text, Form::Counter, filling, &single_counter_rows())?;
+    match mode {
+        Mode::Multi => Ok(()),
+        Mode::Single => push_rows(
+            alloc,
+            text,
+            Form::Counter,
+            of_port(port),
+            &SINGLE_COUNTER_ROWS,
+        ),
     }
-    Ok(())
 }
 
 /// Adds the rules of a port with one transaction at a time.
@@ -53,11 +58,10 @@ fn push_single_rules(
 ) -> Result<(), AllocError>
     ensures { OnOk result (Adds text.old text.new (single_rules (port_data port.now) mode)) }
 {
-    if mode == Mode::Single {
-        let filling = of_port(port);
-        push_rows(alloc, text, Form::Rule, filling, &single_rows())?;
+    match mode {
+        Mode::Multi => Ok(()),
+        Mode::Single => push_rows(alloc, text, Form::Rule, of_port(port), &SINGLE_ROWS),
     }
-    Ok(())
 }
 
 /// Adds the counters.
@@ -69,11 +73,10 @@ pub(crate) fn push_counters(
 ) -> Result<(), AllocError>
     ensures { OnOk result (Adds text.old text.new (counter_lines (port_data port.now) mode)) }
 {
-    push_rows(alloc, text, Form::Counter, of_port(port), &counter_rows())?;
-    push_ids(alloc, text, Form::Counter, port, writes_row())?;
-    push_ids(alloc, text, Form::Counter, port, reads_row())?;
-    push_single_counters(alloc, text, port, mode)?;
-    Ok(())
+    push_rows(alloc, text, Form::Counter, of_port(port), &COUNTER_ROWS)?;
+    push_ids(alloc, text, Form::Counter, port, WRITES_ROW)?;
+    push_ids(alloc, text, Form::Counter, port, READS_ROW)?;
+    push_single_counters(alloc, text, port, mode)
 }
 
 /// Adds the rules that read the counters.
@@ -85,9 +88,8 @@ pub(crate) fn push_responses(
 ) -> Result<(), AllocError>
     ensures { OnOk result (Adds text.old text.new (response_lines (port_data port.now) mode)) }
 {
-    push_rows(alloc, text, Form::Rule, of_port(port), &response_rows())?;
-    push_ids(alloc, text, Form::Rule, port, write_id_row())?;
-    push_ids(alloc, text, Form::Rule, port, read_id_row())?;
-    push_single_rules(alloc, text, port, mode)?;
-    Ok(())
+    push_rows(alloc, text, Form::Rule, of_port(port), &RESPONSE_ROWS)?;
+    push_ids(alloc, text, Form::Rule, port, WRITE_ID_ROW)?;
+    push_ids(alloc, text, Form::Rule, port, READ_ID_ROW)?;
+    push_single_rules(alloc, text, port, mode)
 }

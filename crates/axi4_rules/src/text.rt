@@ -20,9 +20,10 @@ fn without_empty<'t>(alloc: Global, texts: &[&'t str]) -> Result<Vec<&'t str>, A
 {
     let mut found = Vec::new(alloc);
     for text in texts {
-        if !text.is_empty() {
-            found.push(*text)?;
+        if text.is_empty() {
+            continue;
         }
+        found.push(*text)?;
     }
     Ok(found)
 }

@@ -5,7 +5,7 @@ ghost use Rattle.axi4_rules.specs.Rules.{channels, addresses, counting, table};
 ghost use Rattle.axi4_rules.specs.Seen.{port_data};
 ghost use Rattle.axi4_rules.specs.Wholes.{Adds, HasTokens};
 
-use crate::channels::{push_address, push_channel, push_comment};
+use crate::channels::{push_address, push_channel};
 use crate::mode::Mode;
 use crate::port::Port;
 use crate::responses::{push_counters, push_responses};
@@ -26,34 +26,28 @@ const READ: [&str; 3] = ["id", "resp", "last"];
 fn push_channels(alloc: Global, text: &mut RuleText, port: &Port) -> Result<(), AllocError>
     ensures { OnOk result (Adds text.old text.new (channels (port_data port.now))) }
 {
-    push_comment(
+    let comment = "Write address: silent in reset, still while it waits, taken in time.";
+    push_channel(alloc, text, comment, port, "aw", &ADDRESS)?;
+    push_channel(alloc, text, "Write data: the same.", port, "w", &WRITE)?;
+    push_channel(
+        alloc,
         text,
-        "Write address: silent in reset, still while it waits, taken in time.",
+        "Write response: the same.",
+        port,
+        "b",
+        &RESPONSE,
     )?;
-    push_channel(alloc, text, port, "aw", &ADDRESS)?;
-    push_comment(text, "Write data: the same.")?;
-    push_channel(alloc, text, port, "w", &WRITE)?;
-    push_comment(text, "Write response: the same.")?;
-    push_channel(alloc, text, port, "b", &RESPONSE)?;
-    push_comment(text, "Read address: the same.")?;
-    push_channel(alloc, text, port, "ar", &ADDRESS)?;
-    push_comment(text, "Read data: the same.")?;
-    push_channel(alloc, text, port, "r", &READ)?;
-    Ok(())
+    push_channel(alloc, text, "Read address: the same.", port, "ar", &ADDRESS)?;
+    push_channel(alloc, text, "Read data: the same.", port, "r", &READ)
 }
 
 /// Adds a block for each address channel.
 fn push_addresses(alloc: Global, text: &mut RuleText, port: &Port) -> Result<(), AllocError>
     ensures { OnOk result (Adds text.old text.new (addresses (port_data port.now))) }
 {
-    push_comment(
-        text,
-        "Write address: bursts of a legal kind, length, size, place and lock.",
-    )?;
-    push_address(alloc, text, port, "aw")?;
-    push_comment(text, "Read address: the same.")?;
-    push_address(alloc, text, port, "ar")?;
-    Ok(())
+    let comment = "Write address: bursts of a legal kind, length, size, place and lock.";
+    push_address(alloc, text, comment, port, "aw")?;
+    push_address(alloc, text, "Read address: the same.", port, "ar")
 }
 
 /// Adds the counters and the rules that read them.
@@ -65,17 +59,14 @@ fn push_counting(
 ) -> Result<(), AllocError>
     ensures { OnOk result (Adds text.old text.new (counting (port_data port.now) mode)) }
 {
-    push_comment(
-        text,
+    text.push_comment(
         "What is outstanding; in single mode what was asked for, and the beats so far.",
     )?;
     push_counters(alloc, text, port, mode)?;
-    push_comment(
-        text,
+    text.push_comment(
         "Responses: each after its request; in single mode of the right kind and length.",
     )?;
-    push_responses(alloc, text, port, mode)?;
-    Ok(())
+    push_responses(alloc, text, port, mode)
 }
 
 /// The text of a port's counters and rules: a line each, with a comment above each block.
