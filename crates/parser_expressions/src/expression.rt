@@ -15,7 +15,7 @@ ghost use Rattle.text_trees.specs.Views.{path_of, tree_of, link_of};
 ghost use Rattle.parser_expressions.specs.Views.{Gives};
 
 use crate::node::{
-    call, choice, concatenation, number, past, push_link, push_part, unary, with_links,
+    call, choice, concatenation, number, past, path, push_link, push_part, unary, with_links,
 };
 use crate::read::{
     Read, accept, deeper, expect, expect_bound, expect_index, expect_name, expect_word, first,
@@ -111,8 +111,7 @@ fn read_named<'t, 'a>(
 {
     let (more, rest) = read!(read_members(alloc, tokens));
     let (select, rest) = read!(read_selected(rest, depth));
-    let path = Path { first, more };
-    Ok((Box::new(alloc, ExprTree::Path(path, select))?, rest))
+    path(alloc, first, more, select, rest)
 }
 
 /// What stands in brackets, behind the opening one.

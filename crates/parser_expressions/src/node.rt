@@ -9,10 +9,23 @@ ghost use Rattle.parser_expressions.specs.Views.{Gives, read_as};
 
 use crate::read::Read;
 use crate::stop::Stop;
-use grammar::{Bound, Function, Infix, Prefix};
+use grammar::{Bound, Function, Infix, Prefix, Select};
 use lexer::{Number, Token};
 use std::alloc::Global;
-use text_trees::ExprTree;
+use text_trees::{ExprTree, Path};
+
+/// A tree in memory, with the tokens behind it.
+fn boxed<'t, 'a>(
+    alloc: Global,
+    tree: ExprTree<'a>,
+    rest: &'t [Token<'a>],
+) -> Read<'t, 'a, Box<ExprTree<'a>>>
+    ensures read { Gives (λ r. (tree_of r.0.value, r.1.now)) result
+        (read_as (tree_of tree.entry) rest.now) }
+    ensures shorter { IfOk result (λ r. length r.1.now ≤ length rest.now) }
+{
+    Ok((Box::new(alloc, tree)?, rest))
+}
 
 /// A number.
 #[tactic(auto, using(crate::proofs::TreeLaws::tree_rules))]
@@ -26,7 +39,23 @@ pub(crate) fn number<'t, 'a>(
         (read_as (trees.number value token.entry) rest.now) }
     ensures shorter { IfOk result (λ r. length r.1.now ≤ length rest.now) }
 {
-    Ok((Box::new(alloc, ExprTree::Number(value, token))?, rest))
+    boxed(alloc, ExprTree::Number(value, token), rest)
+}
+
+/// A path with its select.
+#[tactic(auto, using(crate::proofs::TreeLaws::tree_rules))]
+pub(crate) fn path<'t, 'a>(
+    alloc: Global,
+    first: Token<'a>,
+    more: Vec<Token<'a>>,
+    select: Option<Select>,
+    rest: &'t [Token<'a>],
+) -> Read<'t, 'a, Box<ExprTree<'a>>>
+    ensures read { Gives (λ r. (tree_of r.0.value, r.1.now)) result
+        (read_as (trees.path (first.entry ∷ more.entry.items) select) rest.now) }
+    ensures shorter { IfOk result (λ r. length r.1.now ≤ length rest.now) }
+{
+    boxed(alloc, ExprTree::Path(Path { first, more }, select), rest)
 }
 
 /// A concatenation.
@@ -43,10 +72,7 @@ pub(crate) fn concatenation<'t, 'a>(
         (parts_of (map tree_of more.entry.items))) rest.now) }
     ensures shorter { IfOk result (λ r. length r.1.now ≤ length rest.now) }
 {
-    Ok((
-        Box::new(alloc, ExprTree::Concatenation(bracket, first, more))?,
-        rest,
-    ))
+    boxed(alloc, ExprTree::Concatenation(bracket, first, more), rest)
 }
 
 /// `$past` of an operand.
@@ -62,7 +88,7 @@ pub(crate) fn past<'t, 'a>(
         (read_as (trees.past name.entry (tree_of operand.entry.value) ticks) rest.now) }
     ensures shorter { IfOk result (λ r. length r.1.now ≤ length rest.now) }
 {
-    Ok((Box::new(alloc, ExprTree::Past(name, operand, ticks))?, rest))
+    boxed(alloc, ExprTree::Past(name, operand, ticks), rest)
 }
 
 /// A function of an operand.
@@ -78,10 +104,7 @@ pub(crate) fn call<'t, 'a>(
         (read_as (trees.call function name.entry (tree_of operand.entry.value)) rest.now) }
     ensures shorter { IfOk result (λ r. length r.1.now ≤ length rest.now) }
 {
-    Ok((
-        Box::new(alloc, ExprTree::Call(function, name, operand))?,
-        rest,
-    ))
+    boxed(alloc, ExprTree::Call(function, name, operand), rest)
 }
 
 /// A unary operator with its operand.
@@ -97,10 +120,7 @@ pub(crate) fn unary<'t, 'a>(
         (read_as (trees.unary sign token.entry (tree_of operand.entry.value)) rest.now) }
     ensures shorter { IfOk result (λ r. length r.1.now ≤ length rest.now) }
 {
-    Ok((
-        Box::new(alloc, ExprTree::Unary(sign, token, operand))?,
-        rest,
-    ))
+    boxed(alloc, ExprTree::Unary(sign, token, operand), rest)
 }
 
 /// A condition with what it chooses.
@@ -117,7 +137,7 @@ pub(crate) fn choice<'t, 'a>(
         (tree_of no.entry.value)) rest.now) }
     ensures shorter { IfOk result (λ r. length r.1.now ≤ length rest.now) }
 {
-    Ok((Box::new(alloc, ExprTree::Choice(condition, yes, no))?, rest))
+    boxed(alloc, ExprTree::Choice(condition, yes, no), rest)
 }
 
 /// A first operand with the operators that follow it and their operands.
@@ -135,7 +155,7 @@ pub(crate) fn with_links<'t, 'a>(
     if more.is_empty() {
         return Ok((left, rest));
     }
-    Ok((Box::new(alloc, ExprTree::Chain(left, more))?, rest))
+    boxed(alloc, ExprTree::Chain(left, more), rest)
 }
 
 /// Puts one more part behind those that were found.

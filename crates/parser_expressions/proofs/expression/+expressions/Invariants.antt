@@ -1,4 +1,4 @@
-use Rattle.std.proofs.Common.{suc, ◌+◌, ◌*◌, ◌≤◌, map, length, Some}
+use Rattle.std.proofs.Common.{suc, ◌+◌, ◌*◌, ◌≤◌, map, length}
 use Rattle.grammar.specs.declared.terminal.Terminal.TheVariants.{Comma}
 use Rattle.grammar.specs.Terminals.{is}
 use Rattle.grammar.specs.Operators.{is_infix}
