@@ -45,6 +45,19 @@ pub(crate) fn into_expression<'a>(
     }
 }
 
+/// A sequence in memory, with the tokens behind it.
+fn boxed<'t, 'a>(
+    alloc: Global,
+    sequence: SequenceTree<'a>,
+    rest: &'t [Token<'a>],
+) -> Read<'t, 'a, Box<SequenceTree<'a>>>
+    ensures read { Gives (λ r. (sequence_of r.0.value, r.1.now)) result
+        (read_as (sequence_of sequence.entry) rest.now) }
+    ensures shorter { IfOk result (λ r. length r.1.now ≤ length rest.now) }
+{
+    Ok((Box::new(alloc, sequence)?, rest))
+}
+
 /// An expression as a sequence.
 #[tactic(auto, using(crate::proofs::TreeLaws::sequence_rules))]
 pub(crate) fn plain<'t, 'a>(
@@ -56,7 +69,7 @@ pub(crate) fn plain<'t, 'a>(
         (read_as (boolean (tree_of expr.entry.value)) rest.now) }
     ensures shorter { IfOk result (λ r. length r.1.now ≤ length rest.now) }
 {
-    Ok((Box::new(alloc, SequenceTree::Boolean(expr))?, rest))
+    boxed(alloc, SequenceTree::Boolean(expr), rest)
 }
 
 /// A body with the counts of its repetition, if they are written.
@@ -73,7 +86,7 @@ pub(crate) fn with_times<'t, 'a>(
 {
     match counts {
         None => Ok((body, rest)),
-        Some(range) => Ok((Box::new(alloc, SequenceTree::Repeated(body, range))?, rest)),
+        Some(range) => boxed(alloc, SequenceTree::Repeated(body, range), rest),
     }
 }
 
@@ -93,7 +106,7 @@ pub(crate) fn with_steps<'t, 'a>(
     if more.is_empty() {
         return Ok((head, rest));
     }
-    Ok((Box::new(alloc, SequenceTree::Delayed(head, more))?, rest))
+    boxed(alloc, SequenceTree::Delayed(head, more), rest)
 }
 
 /// A first side with those that are joined to it.
@@ -113,10 +126,7 @@ pub(crate) fn with_others<'t, 'a>(
     if more.is_empty() {
         return Ok((side, rest));
     }
-    Ok((
-        Box::new(alloc, SequenceTree::Joined(junction, side, more))?,
-        rest,
-    ))
+    boxed(alloc, SequenceTree::Joined(junction, side, more), rest)
 }
 
 /// A delay with nothing before it, and what it delays.
@@ -132,10 +142,7 @@ pub(crate) fn late<'t, 'a>(
         (read_as (trees.late token.entry range (sequence_of body.entry.value)) rest.now) }
     ensures shorter { IfOk result (λ r. length r.1.now ≤ length rest.now) }
 {
-    Ok((
-        Box::new(alloc, SequenceTree::Late(token, range, body))?,
-        rest,
-    ))
+    boxed(alloc, SequenceTree::Late(token, range, body), rest)
 }
 
 /// What holds throughout a body.
@@ -151,7 +158,7 @@ pub(crate) fn throughout<'t, 'a>(
         (sequence_of body.entry.value)) rest.now) }
     ensures shorter { IfOk result (λ r. length r.1.now ≤ length rest.now) }
 {
-    Ok((Box::new(alloc, SequenceTree::Throughout(expr, body))?, rest))
+    boxed(alloc, SequenceTree::Throughout(expr, body), rest)
 }
 
 /// Puts one more sequence behind those that were found.
