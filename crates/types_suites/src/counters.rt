@@ -18,12 +18,12 @@ use text_names::{Scope, SignalPaths};
 use text_trees::{CounterTree, ExprTree, ItemTree, Operands};
 use types_expressions::typed_expression;
 
-/// The clauses of a counter that have two operands.
+/// The clauses of a counter that have two operands, in boxes, which are let go of by one call.
 #[derive(Drop)]
 struct Rules {
-    load: Option<Rule>,
-    add: Option<Rule>,
-    sub: Option<Rule>,
+    load: Option<Box<Rule>>,
+    add: Option<Box<Rule>>,
+    sub: Option<Box<Rule>>,
 }
 
 /// A width of 1 to 128 bits, as the parser gives it; another would count as 1.
@@ -64,20 +64,21 @@ fn rule_of(
     scope: &Scope,
     columns: &SignalPaths,
     clause: &Option<Operands>,
-) -> Result<Option<Rule>, AllocError>
+) -> Result<Option<Box<Rule>>, AllocError>
     requires sound { (k : Sought)
         → clause_faults (scope_of scope.now) k (option_map pair_of clause.now) ≡ [] }
     requires listed { IsTrue (all_listed (columns_in columns.now)
         (clause_signals (scope_of scope.now) (option_map pair_of clause.now))) }
     ensures { IfOk result (λ o.
-        IsRule (scope_of scope.now) (columns_in columns.now) (option_map pair_of clause.now) o) }
+        IsRule (scope_of scope.now) (columns_in columns.now) (option_map pair_of clause.now)
+        (option_map (λ b. b.value) o)) }
 {
     match clause {
         None => Ok(None),
         Some(operands) => {
             let when = typed_expression(alloc, scope, columns, &operands.0)?;
             let by = typed_expression(alloc, scope, columns, &operands.1)?;
-            Ok(Some(Rule { when, by }))
+            Ok(Some(Box::new(alloc, Rule { when, by })?))
         }
     }
 }
@@ -94,16 +95,26 @@ fn rules_of(
     requires listed { IsTrue (all_listed (columns_in columns.now)
         (counter_signals (scope_of scope.now) (counter_of counter.now))) }
     ensures load { IfOk result (λ r. IsRule (scope_of scope.now) (columns_in columns.now)
-        (option_map pair_of counter.now.load) r.load) }
+        (option_map pair_of counter.now.load) (option_map (λ b. b.value) r.load)) }
     ensures add { IfOk result (λ r. IsRule (scope_of scope.now) (columns_in columns.now)
-        (option_map pair_of counter.now.add) r.add) }
+        (option_map pair_of counter.now.add) (option_map (λ b. b.value) r.add)) }
     ensures sub { IfOk result (λ r. IsRule (scope_of scope.now) (columns_in columns.now)
-        (option_map pair_of counter.now.sub) r.sub) }
+        (option_map pair_of counter.now.sub) (option_map (λ b. b.value) r.sub)) }
 {
     let load = rule_of(alloc, scope, columns, &counter.load)?;
     let add = rule_of(alloc, scope, columns, &counter.add)?;
     let sub = rule_of(alloc, scope, columns, &counter.sub)?;
     Ok(Rules { load, add, sub })
+}
+
+/// A clause out of its box.
+fn unboxed(rule: Option<Box<Rule>>) -> Option<Rule>
+    ensures { result ≡ option_map (λ b. b.value) rule }
+{
+    match rule {
+        Some(rule) => Some(Box::into_inner(rule)),
+        None => None,
+    }
 }
 
 /// A counter of the text.
@@ -125,9 +136,9 @@ pub(crate) fn counter_of(
     Ok(expressions::Counter {
         width: width_of(counter.width.value),
         clear,
-        load: rules.load,
-        add: rules.add,
-        sub: rules.sub,
+        load: unboxed(rules.load),
+        add: unboxed(rules.add),
+        sub: unboxed(rules.sub),
     })
 }
 

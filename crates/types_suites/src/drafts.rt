@@ -68,6 +68,14 @@ fn delayed_draft(
     Ok(Box::new(alloc, Draft::Delay(first, least, extra, second))?)
 }
 
+/// A sequence with a boolean throughout.
+fn throughout_draft(alloc: Global, place: usize, body: Box<Draft>) -> Result<Box<Draft>, AllocError>
+    ensures { IfOk result (λ d. draft_of d.value
+        ≡ throughout (Listed place) (draft_of body.value)) }
+{
+    Ok(Box::new(alloc, Draft::Throughout(place, body))?)
+}
+
 /// Two sides, joined.
 fn joined_draft(
     alloc: Global,
@@ -162,7 +170,7 @@ pub(crate) fn draft_of(
         SequenceTree::Throughout(expr, body) => {
             let place = atom(alloc, scope, columns, expr, booleans)?;
             let body = draft_of(alloc, scope, columns, body, booleans)?;
-            Ok(Box::new(alloc, Draft::Throughout(place, body))?)
+            throughout_draft(alloc, place, body)
         }
         SequenceTree::Joined(junction, first, others) => {
             let first = draft_of(alloc, scope, columns, first, booleans)?;

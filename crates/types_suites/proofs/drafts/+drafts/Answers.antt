@@ -1,4 +1,4 @@
-use Rattle.std.proofs.Common.{rules, refl, ap}
+use Rattle.std.proofs.Common.{rules, refl}
 use Rattle.text_trees.specs.declared.sequence.SequenceTree.TheViews.{the_lemmas}
 use Rattle.text_trees.specs.Views.{sequence_of}
 use Rattle.assertions.specs.declared.sequence.Boolean.TheVariants.{Listed}
@@ -172,9 +172,9 @@ draft_of-returns-in_ok-first-in-Delayed-clause-reads t c =
     h)
     c.with_steps.ensures.grows c.with_steps.ensures.reads
 
-pub draft_of-returns-in_ok-new-in-Throughout-clause-reads :
-    goal.draft_of-returns-in_ok-new-in-Throughout-clause-reads
-draft_of-returns-in_ok-new-in-Throughout-clause-reads t c =
+pub draft_of-returns-in_ok-body-in-Throughout-clause-reads :
+    goal.draft_of-returns-in_ok-body-in-Throughout-clause-reads
+draft_of-returns-in_ok-body-in-Throughout-clause-reads t c =
     let k = c.in-Throughout in
     let is =
     is-Throughout c.args.sequence.now k.expr k.body c.deref-in-Throughout.result.now
@@ -182,10 +182,12 @@ draft_of-returns-in_ok-new-in-Throughout-clause-reads t c =
     let s = scope_of c.args.scope.now in
     let cs = columns_in c.args.columns.now in
     let place = Listed c.in_ok-place-in-Throughout.place in
-    reads-throughout s cs _ _ _ _ place (draft_of c.in_ok-body-in-Throughout.body.value) _ is
+    when_ok c.throughout_draft.result
+    (λ d h. reads-throughout s cs _ _ _ _ place (draft_of c.in_ok-body-in-Throughout.body.value) (draft_of d.value) is
     (atom_grows s cs _ _ c.in_ok-body-in-Throughout.ensures.grows _ place
     c.in_ok-place-in-Throughout.ensures.atom)
-    c.in_ok-body-in-Throughout.ensures.reads (ap draft_of c.in_ok-new-in-Throughout.ensures.ok)
+    c.in_ok-body-in-Throughout.ensures.reads h)
+    c.throughout_draft.ensures
 
 pub draft_of-returns-in_ok-first-in-Joined-clause-reads :
     goal.draft_of-returns-in_ok-first-in-Joined-clause-reads
