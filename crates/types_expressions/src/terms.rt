@@ -4,7 +4,7 @@ ghost use Rattle.std.specs.Prelude.{◌≡◌, ◌≤◌, [], map, IfOk, IsTrue,
 ghost use Rattle.grammar.specs.ReadExpressions.{links_of, parts_of};
 ghost use Rattle.text_trees.specs.Views.{path_of, tree_of, link_of};
 ghost use Rattle.expressions.specs.declared.name.Origin.TheVariants.{Signal};
-ghost use Rattle.expressions.specs.Terms.{width_of};
+ghost use Rattle.expressions.specs.Terms.{width_of, choose};
 ghost use Rattle.expressions.specs.Expressions.{term_of};
 ghost use Rattle.text_names.specs.declared.own.Sought.{Sought};
 ghost use Rattle.text_names.specs.Scopes.{path_text, first_byte, meaning, bits_of};
@@ -70,6 +70,26 @@ fn call(
         Call::Change(op) => operand.change(alloc, op),
         Call::Reduce(op) => operand.reduce(alloc, op),
     }
+}
+
+/// An expression in a box, which is let go of by one call.
+fn boxed(alloc: Global, expr: expressions::Expr) -> Result<Box<expressions::Expr>, AllocError>
+    ensures { IfOk result (λ b. b.value ≡ expr) }
+{
+    Ok(Box::new(alloc, expr)?)
+}
+
+/// One of two by a condition.
+fn choice(
+    alloc: Global,
+    condition: Box<expressions::Expr>,
+    yes: Box<expressions::Expr>,
+    no: expressions::Expr,
+) -> Result<expressions::Expr, AllocError>
+    ensures { IfOk result (λ e. term_of e
+        ≡ choose (term_of condition.value) (term_of yes.value) (term_of no)) }
+{
+    Box::into_inner(condition).choose(alloc, Box::into_inner(yes), no)
 }
 
 /// The ticks of `$past`.
@@ -219,9 +239,11 @@ pub fn typed_expression(
         }
         ExprTree::Choice(condition, yes, no) => {
             let condition = typed_expression(alloc, scope, columns, condition)?;
+            let test = boxed(alloc, condition)?;
             let yes = typed_expression(alloc, scope, columns, yes)?;
+            let first = boxed(alloc, yes)?;
             let no = typed_expression(alloc, scope, columns, no)?;
-            condition.choose(alloc, yes, no)
+            choice(alloc, test, first, no)
         }
     }
 }

@@ -303,9 +303,10 @@ typed_expression-returns-in_ok-no-in-Choice t c =
     is-Choice c.args.expr.now k.condition k.yes k.no c.deref-in-Choice.result.now c.deref-in-Choice-2.result.now
     c.deref-in-Choice-3.result.now k.is c.deref-in-Choice.ensures c.deref-in-Choice-2.ensures
     c.deref-in-Choice-3.ensures in
-    when_ok c.choose.result
+    when_ok c.choice.result
     (λ e h. means-choice (scope_of c.args.scope.now) (columns_in c.args.columns.now) _ _ _ _
     (term_of c.in_ok-condition-in-Choice.condition) (term_of c.in_ok-yes-in-Choice.yes)
     (term_of c.in_ok-no-in-Choice.no) (term_of e) is c.in_ok-condition-in-Choice.ensures
-    c.in_ok-yes-in-Choice.ensures c.in_ok-no-in-Choice.ensures h)
-    c.choose.ensures
+    c.in_ok-yes-in-Choice.ensures c.in_ok-no-in-Choice.ensures
+    (rw (c.in_ok-test-in-Choice.ensures, c.in_ok-first-in-Choice.ensures) at h))
+    c.choice.ensures
