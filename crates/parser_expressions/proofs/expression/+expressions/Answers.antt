@@ -12,6 +12,14 @@ use Rattle.parser_expressions.specs.declared.stop.Stop.{Stop}
 use Rattle.text_trees.specs.Views.{tree_of, link_of}
 use Rattle.parser_expressions.specs.Views.{Fails}
 use Rattle.parser_expressions.proofs.Steps.{failing, gives-as, prefixed-number, prefixed-other}
+use Rattle.parser_expressions.proofs.Steps.{bracketed-deep, bracketed-fail2, bracketed-fail3, bracketed-ok}
+use Rattle.parser_expressions.proofs.Steps.{called-fail1, called-fail2, called-ok, choice-deep, choice-fail1}
+use Rattle.parser_expressions.proofs.Steps.{choice-fail4, choice-fail5, choice-fail6, choice-ok, climb-fails}
+use Rattle.parser_expressions.proofs.Steps.{climb-read, concatenated-deep, concatenated-fail2, concatenated-fail3}
+use Rattle.parser_expressions.proofs.Steps.{concatenated-fail4, concatenated-ok, expression-fail1, expression-tail}
+use Rattle.parser_expressions.proofs.Steps.{finish-stop, links-fails, operand-fail1, operand-tail, passed-deep}
+use Rattle.parser_expressions.proofs.Steps.{passed-fail1, passed-fail3, passed-fail4, passed-fail5, passed-ok}
+use Rattle.parser_expressions.proofs.Steps.{prefixing-deep, prefixing-fail2, prefixing-ok}
 use Rattle.parser_expressions.proofs.LoopLaws.{Turns, turns-init, turns-stop, turns-fail, turns-next, expect-lead}
 use Rattle.parser_expressions.proofs.LoopLaws.{map-push}
 use Rattle.parser_expressions.proofs.expression.+expressions.Goals as goal
@@ -106,3 +114,169 @@ read_prefixed-returns-in-Number-clause-read t c =
 
 pub read_prefixed-returns-in-Other-clause-read : goal.read_prefixed-returns-in-Other-clause-read
 read_prefixed-returns-in-Other-clause-read t c = prefixed-other _ _ _ _ c.in-Some.ensures c.in-Other.ensures
+
+pub read_bracketed-returns-in-Err-clause-read : goal.read_bracketed-returns-in-Err-clause-read
+read_bracketed-returns-in-Err-clause-read t c =
+    bracketed-deep _ _ _ c.in-Err.ensures.none
+
+pub read_bracketed-returns-in-Err-read_expression-clause-read
+    : goal.read_bracketed-returns-in-Err-read_expression-clause-read
+read_bracketed-returns-in-Err-read_expression-clause-read t c =
+    bracketed-fail2 _ _ _ _ c.in-Ok.ensures.some c.in-Err-read_expression.ensures.read
+
+pub read_bracketed-returns-in-Err-expect-clause-read : goal.read_bracketed-returns-in-Err-expect-clause-read
+read_bracketed-returns-in-Err-expect-clause-read t c =
+    bracketed-fail3 _ _ _ _ _ _ c.in-Ok.ensures.some c.in-Ok-read_expression.ensures.read
+    c.in-Err-expect.ensures.token
+
+pub read_bracketed-returns-clause-read : goal.read_bracketed-returns-clause-read
+read_bracketed-returns-clause-read t c =
+    bracketed-ok _ _ _ _ _ _ _ c.in-Ok.ensures.some c.in-Ok-read_expression.ensures.read c.in-Ok-expect.ensures.token
+
+pub read_concatenation-returns-in-Err-clause-read : goal.read_concatenation-returns-in-Err-clause-read
+read_concatenation-returns-in-Err-clause-read t c =
+    concatenated-deep _ _ _ _ c.in-Err.ensures.none
+
+pub read_concatenation-returns-in-Err-read_expression-clause-read
+    : goal.read_concatenation-returns-in-Err-read_expression-clause-read
+read_concatenation-returns-in-Err-read_expression-clause-read t c =
+    concatenated-fail2 _ _ _ _ _ c.in-Ok.ensures.some c.in-Err-read_expression.ensures.read
+
+pub read_concatenation-returns-in-Err-read_parts-clause-read
+    : goal.read_concatenation-returns-in-Err-read_parts-clause-read
+read_concatenation-returns-in-Err-read_parts-clause-read t c =
+    concatenated-fail3 _ _ _ _ _ _ _ c.in-Ok.ensures.some c.in-Ok-read_expression.ensures.read
+    c.in-Err-read_parts.ensures.read
+
+pub read_concatenation-returns-in-Err-expect-clause-read : goal.read_concatenation-returns-in-Err-expect-clause-read
+read_concatenation-returns-in-Err-expect-clause-read t c =
+    concatenated-fail4 _ _ _ _ _ _ _ _ _ c.in-Ok.ensures.some c.in-Ok-read_expression.ensures.read
+    c.in-Ok-read_parts.ensures.read c.in-Err-expect.ensures.token
+
+pub read_concatenation-returns-clause-read : goal.read_concatenation-returns-clause-read
+read_concatenation-returns-clause-read t c =
+    gives-as _ _ _ _ (concatenated-ok _ _ _ _ _ _ _ _ _ _ c.in-Ok.ensures.some c.in-Ok-read_expression.ensures.read
+    c.in-Ok-read_parts.ensures.read c.in-Ok-expect.ensures.token)
+    c.concatenation.ensures.read
+
+pub read_past-returns-in-Err-clause-read : goal.read_past-returns-in-Err-clause-read
+read_past-returns-in-Err-clause-read t c =
+    passed-fail1 _ _ _ _ c.in-Err.ensures.token
+
+pub read_past-returns-in-Err-deeper-clause-read : goal.read_past-returns-in-Err-deeper-clause-read
+read_past-returns-in-Err-deeper-clause-read t c =
+    passed-deep _ _ _ _ _ _ c.in-Ok.ensures.token c.in-Err-deeper.ensures.none
+
+pub read_past-returns-in-Err-read_expression-clause-read : goal.read_past-returns-in-Err-read_expression-clause-read
+read_past-returns-in-Err-read_expression-clause-read t c =
+    passed-fail3 _ _ _ _ _ _ _ c.in-Ok.ensures.token c.in-Ok-deeper.ensures.some c.in-Err-read_expression.ensures.read
+
+pub read_past-returns-in-Err-read_ticks-clause-read : goal.read_past-returns-in-Err-read_ticks-clause-read
+read_past-returns-in-Err-read_ticks-clause-read t c =
+    passed-fail4 _ _ _ _ _ _ _ _ _ c.in-Ok.ensures.token c.in-Ok-deeper.ensures.some
+    c.in-Ok-read_expression.ensures.read c.in-Err-read_ticks.ensures.read
+
+pub read_past-returns-in-Err-expect-clause-read : goal.read_past-returns-in-Err-expect-clause-read
+read_past-returns-in-Err-expect-clause-read t c =
+    passed-fail5 _ _ _ _ _ _ _ _ _ _ _ c.in-Ok.ensures.token c.in-Ok-deeper.ensures.some
+    c.in-Ok-read_expression.ensures.read c.in-Ok-read_ticks.ensures.read c.in-Err-expect.ensures.token
+
+pub read_past-returns-clause-read : goal.read_past-returns-clause-read
+read_past-returns-clause-read t c =
+    gives-as _ _ _ _ (passed-ok _ _ _ _ _ _ _ _ _ _ _ _ c.in-Ok.ensures.token c.in-Ok-deeper.ensures.some
+    c.in-Ok-read_expression.ensures.read c.in-Ok-read_ticks.ensures.read c.in-Ok-expect.ensures.token)
+    c.past.ensures.read
+
+pub read_call-returns-in-Err-clause-read : goal.read_call-returns-in-Err-clause-read
+read_call-returns-in-Err-clause-read t c =
+    called-fail1 _ _ _ _ _ c.in-Err.ensures.token
+
+pub read_call-returns-in-Err-read_bracketed-clause-read : goal.read_call-returns-in-Err-read_bracketed-clause-read
+read_call-returns-in-Err-read_bracketed-clause-read t c =
+    called-fail2 _ _ _ _ _ _ _ c.in-Ok.ensures.token c.in-Err-read_bracketed.ensures.read
+
+pub read_call-returns-clause-read : goal.read_call-returns-clause-read
+read_call-returns-clause-read t c =
+    gives-as _ _ _ _ (called-ok _ _ _ _ _ _ _ _ c.in-Ok.ensures.token c.in-Ok-read_bracketed.ensures.read)
+    c.call.ensures.read
+
+pub read_unary-returns-in-Err-clause-read : goal.read_unary-returns-in-Err-clause-read
+read_unary-returns-in-Err-clause-read t c =
+    prefixing-deep _ _ _ _ _ c.in-Err.ensures.none
+
+pub read_unary-returns-in-Err-read_prefixed-clause-read : goal.read_unary-returns-in-Err-read_prefixed-clause-read
+read_unary-returns-in-Err-read_prefixed-clause-read t c =
+    prefixing-fail2 _ _ _ _ _ _ c.in-Ok.ensures.some c.in-Err-read_prefixed.ensures.read
+
+pub read_unary-returns-clause-read : goal.read_unary-returns-clause-read
+read_unary-returns-clause-read t c =
+    gives-as _ _ _ _ (prefixing-ok _ _ _ _ _ _ _ c.in-Ok.ensures.some c.in-Ok-read_prefixed.ensures.read)
+    c.unary.ensures.read
+
+pub read_operand-returns-in-Err-clause-read : goal.read_operand-returns-in-Err-clause-read
+read_operand-returns-in-Err-clause-read t c =
+    operand-fail1 _ _ _ _ c.in-Err.ensures.read
+
+pub read_operand-returns-clause-read : goal.read_operand-returns-clause-read
+read_operand-returns-clause-read t c =
+    gives-as _ _ _ _ (operand-tail _ _ _ _ _ c.in-Ok.ensures.read)
+    c.read_climb.ensures.read
+
+pub read_expression-returns-in-Err-clause-read : goal.read_expression-returns-in-Err-clause-read
+read_expression-returns-in-Err-clause-read t c =
+    expression-fail1 _ _ _ c.in-Err.ensures.read
+
+pub read_expression-returns-clause-read : goal.read_expression-returns-clause-read
+read_expression-returns-clause-read t c =
+    gives-as _ _ _ _ (expression-tail _ _ _ _ c.in-Ok.ensures.read)
+    c.finish_expression.ensures.read
+
+pub read_climb-returns-in-Err-clause-read : goal.read_climb-returns-in-Err-clause-read
+read_climb-returns-in-Err-clause-read t c =
+    climb-fails _ _ _ _ _ c.if-level-eq0.false c.in-Err.ensures.read
+
+pub read_climb-returns-in-Err-read_links-clause-read : goal.read_climb-returns-in-Err-read_links-clause-read
+read_climb-returns-in-Err-read_links-clause-read t c =
+    links-fails _ _ _ _ _ _ _ c.if-level-eq0.false c.in-Ok.ensures.read c.in-Err-read_links.ensures.read
+
+pub read_climb-returns-clause-read : goal.read_climb-returns-clause-read
+read_climb-returns-clause-read t c =
+    gives-as _ _ _ _ (climb-read _ _ _ _ _ _ _ _ c.if-level-eq0.false c.in-Ok.ensures.read
+    c.in-Ok-read_links.ensures.read)
+    c.with_links.ensures.read
+
+pub finish_expression-returns-in-Err-clause-read : goal.finish_expression-returns-in-Err-clause-read
+finish_expression-returns-in-Err-clause-read t c =
+    choice-fail1 _ _ _ _ c.in-Err.ensures.read
+
+pub finish_expression-returns-in_default-clause-read : goal.finish_expression-returns-in_default-clause-read
+finish_expression-returns-in_default-clause-read t c =
+    finish-stop _ _ _ _ _ c.in-Ok.ensures.read c.in_default.ensures.token
+
+pub finish_expression-returns-in-Err-deeper-clause-read : goal.finish_expression-returns-in-Err-deeper-clause-read
+finish_expression-returns-in-Err-deeper-clause-read t c =
+    choice-deep _ _ _ _ _ _ _ _ c.in-Ok.ensures.read c.in-Some.ensures.token c.in-Err-deeper.ensures.none
+
+pub finish_expression-returns-in-Err-read_expression-clause-read
+    : goal.finish_expression-returns-in-Err-read_expression-clause-read
+finish_expression-returns-in-Err-read_expression-clause-read t c =
+    choice-fail4 _ _ _ _ _ _ _ _ _ c.in-Ok.ensures.read c.in-Some.ensures.token c.in-Ok-deeper.ensures.some
+    c.in-Err-read_expression.ensures.read
+
+pub finish_expression-returns-in-Err-expect-clause-read : goal.finish_expression-returns-in-Err-expect-clause-read
+finish_expression-returns-in-Err-expect-clause-read t c =
+    choice-fail5 _ _ _ _ _ _ _ _ _ _ _ c.in-Ok.ensures.read c.in-Some.ensures.token c.in-Ok-deeper.ensures.some
+    c.in-Ok-read_expression.ensures.read c.in-Err-expect.ensures.token
+
+pub finish_expression-returns-in-Err-read_expression-2-clause-read
+    : goal.finish_expression-returns-in-Err-read_expression-2-clause-read
+finish_expression-returns-in-Err-read_expression-2-clause-read t c =
+    choice-fail6 _ _ _ _ _ _ _ _ _ _ _ _ _ c.in-Ok.ensures.read c.in-Some.ensures.token c.in-Ok-deeper.ensures.some
+    c.in-Ok-read_expression.ensures.read c.in-Ok-expect.ensures.token c.in-Err-read_expression-2.ensures.read
+
+pub finish_expression-returns-clause-read : goal.finish_expression-returns-clause-read
+finish_expression-returns-clause-read t c =
+    gives-as _ _ _ _ (choice-ok _ _ _ _ _ _ _ _ _ _ _ _ _ _ c.in-Ok.ensures.read c.in-Some.ensures.token
+    c.in-Ok-deeper.ensures.some c.in-Ok-read_expression.ensures.read c.in-Ok-expect.ensures.token
+    c.in-Ok-read_expression-2.ensures.read)
+    c.choice.ensures.read
