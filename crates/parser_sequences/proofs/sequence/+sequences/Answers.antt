@@ -9,6 +9,11 @@ use Rattle.text_trees.specs.Views.{sequence_of, delay_step_of}
 use Rattle.parser_expressions.proofs.Steps.{gives-as}
 use Rattle.parser_sequences.proofs.Steps.{delayed-fails, delayed-ok, conjunction-fails, conjunction-ok, with-during}
 use Rattle.parser_sequences.proofs.Steps.{with-fails, alternatives-fails, alternatives-ok, behind-ok}
+use Rattle.parser_sequences.proofs.Steps.{behind-deep, behind-fail2, behind-fails, behind-tail, body-deep}
+use Rattle.parser_sequences.proofs.Steps.{body-fail1, body-fail2, body-plain-fails, body-plain-ok, body-tail}
+use Rattle.parser_sequences.proofs.Steps.{during-late-fails, during-plain-fails, during-tail, late-part-fail1}
+use Rattle.parser_sequences.proofs.Steps.{late-part-fail2, late-part-fail3, late-part-ok, side-fail1, side-tail}
+use Rattle.parser_sequences.proofs.Steps.{whole-fails, whole-tail}
 use Rattle.parser_expressions.proofs.LoopLaws.{Turns, turns-init, turns-stop, turns-fail, turns-next, expect-lead}
 use Rattle.parser_expressions.proofs.LoopLaws.{map-push}
 use Rattle.parser_sequences.proofs.sequence.+sequences.Goals as goal
@@ -133,3 +138,98 @@ read_behind-returns-clause-read t c =
     (behind-ok _ _ _ _ _ _ _ _ _ c.in-Ok.ensures.side.0 c.in-Ok.ensures.side.1 c.in-Ok-deeper.ensures.some
     c.in-Ok-read_during.ensures.read)
     c.throughout.ensures.read
+
+pub read_body-returns-in-Err-clause-read : goal.read_body-returns-in-Err-clause-read
+read_body-returns-in-Err-clause-read t c =
+    body-plain-fails _ _ _ c.in_default.ensures.token c.in-Err.ensures.read
+
+pub read_body-returns-in_default-clause-read : goal.read_body-returns-in_default-clause-read
+read_body-returns-in_default-clause-read t c =
+    gives-as _ _ _ _ (body-plain-ok _ _ _ _ c.in_default.ensures.token c.in-Ok.ensures.read)
+    c.plain.ensures.read
+
+pub read_body-returns-in-Err-deeper-clause-read : goal.read_body-returns-in-Err-deeper-clause-read
+read_body-returns-in-Err-deeper-clause-read t c =
+    body-deep _ _ _ _ _ c.in-Some.ensures.token c.in-Err-deeper.ensures.none
+
+pub read_body-returns-in-Err-read_sequence-clause-read : goal.read_body-returns-in-Err-read_sequence-clause-read
+read_body-returns-in-Err-read_sequence-clause-read t c =
+    body-fail1 _ _ _ _ _ _ c.in-Some.ensures.token c.in-Ok-deeper.ensures.some c.in-Err-read_sequence.ensures.read
+
+pub read_body-returns-in-Err-expect-clause-read : goal.read_body-returns-in-Err-expect-clause-read
+read_body-returns-in-Err-expect-clause-read t c =
+    body-fail2 _ _ _ _ _ _ _ _ c.in-Some.ensures.token c.in-Ok-deeper.ensures.some c.in-Ok-read_sequence.ensures.read
+    c.in-Err-expect.ensures.token
+
+pub read_body-returns-clause-read : goal.read_body-returns-clause-read
+read_body-returns-clause-read t c =
+    gives-as _ _ _ _ (body-tail _ _ _ _ _ _ _ _ _ c.in-Some.ensures.token c.in-Ok-deeper.ensures.some
+    c.in-Ok-read_sequence.ensures.read c.in-Ok-expect.ensures.token)
+    c.regroup.ensures.read
+
+pub read_late-returns-in-Err-clause-read : goal.read_late-returns-in-Err-clause-read
+read_late-returns-in-Err-clause-read t c =
+    late-part-fail1 _ _ _ c.in-Err.ensures.read
+
+pub read_late-returns-in-Err-read_body-clause-read : goal.read_late-returns-in-Err-read_body-clause-read
+read_late-returns-in-Err-read_body-clause-read t c =
+    late-part-fail2 _ _ _ _ _ c.in-Ok.ensures.read c.in-Err-read_body.ensures.read
+
+pub read_late-returns-in-Err-read_repeat-clause-read : goal.read_late-returns-in-Err-read_repeat-clause-read
+read_late-returns-in-Err-read_repeat-clause-read t c =
+    late-part-fail3 _ _ _ _ _ _ _ c.in-Ok.ensures.read c.in-Ok-read_body.ensures.read
+    c.in-Err-read_repeat.ensures.read
+
+pub read_late-returns-clause-read : goal.read_late-returns-clause-read
+read_late-returns-clause-read t c =
+    late-part-ok _ _ _ _ _ _ _ _ c.in-Ok.ensures.read c.in-Ok-read_body.ensures.read c.in-Ok-read_repeat.ensures.read
+
+pub read_behind-returns-in-Err-read_repeat-clause-read : goal.read_behind-returns-in-Err-read_repeat-clause-read
+read_behind-returns-in-Err-read_repeat-clause-read t c =
+    behind-fails _ _ _ _ _ c.in-Err.ensures.side.0 c.in-Err.ensures.side.1 c.in-Err-read_repeat.ensures.read
+
+pub read_behind-returns-in-Err-clause-read : goal.read_behind-returns-in-Err-clause-read
+read_behind-returns-in-Err-clause-read t c =
+    gives-as _ _ _ _ (behind-tail _ _ _ _ _ _ c.in-Err.ensures.side.0 c.in-Err.ensures.side.1
+    c.in-Ok-read_repeat.ensures.read)
+    c.read_delayed.ensures.read
+
+pub read_behind-returns-in-Err-deeper-clause-read : goal.read_behind-returns-in-Err-deeper-clause-read
+read_behind-returns-in-Err-deeper-clause-read t c =
+    behind-deep _ _ _ _ _ _ _ c.in-Ok.ensures.side.0 c.in-Ok.ensures.side.1 c.in-Err-deeper.ensures.none
+
+pub read_behind-returns-in-Err-read_during-clause-read : goal.read_behind-returns-in-Err-read_during-clause-read
+read_behind-returns-in-Err-read_during-clause-read t c =
+    behind-fail2 _ _ _ _ _ _ _ _ c.in-Ok.ensures.side.0 c.in-Ok.ensures.side.1 c.in-Ok-deeper.ensures.some
+    c.in-Err-read_during.ensures.read
+
+pub read_during-returns-in-Err-clause-read : goal.read_during-returns-in-Err-clause-read
+read_during-returns-in-Err-clause-read t c =
+    during-plain-fails _ _ _ c.in_default.ensures.token c.in-Err.ensures.read
+
+pub read_during-returns-in_default-clause-read : goal.read_during-returns-in_default-clause-read
+read_during-returns-in_default-clause-read t c =
+    gives-as _ _ _ _ (during-tail _ _ _ _ c.in_default.ensures.token c.in-Ok.ensures.read)
+    c.read_behind.ensures.read
+
+pub read_during-returns-in-Err-read_late-clause-read : goal.read_during-returns-in-Err-read_late-clause-read
+read_during-returns-in-Err-read_late-clause-read t c =
+    during-late-fails _ _ _ _ _ c.in-Some.ensures.token c.in-Err-read_late.ensures.read
+
+pub read_side-returns-in-Err-clause-read : goal.read_side-returns-in-Err-clause-read
+read_side-returns-in-Err-clause-read t c =
+    side-fail1 _ _ _ c.in-Err.ensures.read
+
+pub read_side-returns-clause-read : goal.read_side-returns-clause-read
+read_side-returns-clause-read t c =
+    gives-as _ _ _ _ (side-tail _ _ _ _ c.in-Ok.ensures.read)
+    c.read_conjunction.ensures.read
+
+pub read_sequence-returns-in-Err-clause-read : goal.read_sequence-returns-in-Err-clause-read
+read_sequence-returns-in-Err-clause-read t c =
+    whole-fails _ _ _ c.in-Err.ensures.read
+
+pub read_sequence-returns-clause-read : goal.read_sequence-returns-clause-read
+read_sequence-returns-clause-read t c =
+    gives-as _ _ _ _ (whole-tail _ _ _ _ c.in-Ok.ensures.read)
+    c.read_alternatives.ensures.read
