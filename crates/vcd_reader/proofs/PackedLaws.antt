@@ -2,7 +2,13 @@
 use Rattle.std.proofs.Common.{◌≡◌, ℕ, zero, suc, ◌+◌, ◌*◌, ◌/◌, ◌%◌, ◌<◌, true, false, ltb, List, [], ◌∷◌, ◌++◌, length}
 use Rattle.std.proofs.Common.{get_or, set, refl, sym, ap, ◌∙◌, arith, subst}
 use Rattle.std.proofs.lemmas.Bool.{lt-ltb, le-ltb}
+use Rattle.std.proofs.Common.{Some}
+use Rattle.std.proofs.lemmas.List.{get_or-map, get_or_default, length-map}
 use Rattle.vcd_reader.specs.declared.codes.Entry.{Entry}
+use Rattle.vcd_reader.specs.declared.places.Places.{Places}
+use Rattle.vcd_reader.specs.declared.variable.Variable.{Variable}
+use Rattle.vcd_reader.specs.Index.{codes_in, IsIndex}
+use Rattle.vcd_reader.specs.Variables.{place_of}
 use Rattle.vcd_reader.specs.Packed.{unpacked_code, no_entry, IsKnown, AreKnown}
 
 list-1 : (xs : List ℕ) → length xs ≡ 1 → get_or xs 0 0 ∷ [] ≡ xs
@@ -97,3 +103,17 @@ known-set texts (x ∷ es) (suc k) e is known (suc i) = known-set texts es k e i
 
 pub known-none : (texts : List (List ℕ)) → AreKnown texts []
 known-none texts i = λ h. absurd (omega arith)
+
+-- what is found in a variable's entry
+pub entry-known : (vs : List Variable) (p : Places) (i k n : ℕ) (v : Variable) → IsIndex (codes_in vs) p → i < length vs
+    → (0 < k → unpacked_code k ≡ (get_or vs i v).code.items) → n ≡ get_or p.firsts.items i n
+    → IsKnown (codes_in vs) (record { packed = k; number = n })
+entry-known vs p i k n v index below packed number = λ some.
+    let long : length (codes_in vs) ≡ length vs = rw length-map refl in
+    let fits : i < length (codes_in vs) = omega arith in
+    let first : i < length p.firsts.items = omega (arith, index.long) in
+    let item : get_or (codes_in vs) i [] ≡ (get_or vs i v).code.items =
+    get_or-map (λ (w : Variable). w.code.items) vs i v [] below in
+    ap (place_of (codes_in vs)) (packed some ∙ sym item) ∙ sym (index.first i fits)
+    ∙ ap (λ (m : ℕ). Some m)
+    (sym (number ∙ get_or_default p.firsts.items i n 0 first))

@@ -7,7 +7,9 @@ use Rattle.std.specs.Str.{bytes_eq}
 use Rattle.std.proofs.lemmas.Bool.{cases_lt}
 use Rattle.std.proofs.lemmas.Bool.Decides.{eqb_tells}
 use Rattle.std.proofs.lemmas.List.{append-nil, append_cancel_left, append_cancel_right, length-append}
-use Rattle.std.proofs.lemmas.List.{get_or_append_left, take_at, drop_at, take-append-drop}
+use Rattle.std.proofs.lemmas.List.{get_or_append_left, take_at, drop_at, take-append-drop, take_more}
+use Rattle.std.proofs.lemmas.List.{get_or-reverse, length-reverse}
+use Rattle.std.specs.Prelude.{reverse}
 use Rattle.std.proofs.lemmas.Grind.{flat_map-append}
 use Rattle.std.proofs.lemmas.Slice.Eq.{bytes_eq-Decides}
 use Rattle.std.proofs.Math.Seq.{get_or-append_seam, drop-cons}
@@ -333,3 +335,14 @@ opened-pushed ss new s last name is long same =
     let at : last + 1 ≡ suc (length ss) = omega arith in
     ap (λ (xs : List Scope). open_scopes xs (last + 1)) is ∙ ap (open_scopes (ss ++ s ∷ [])) at ∙ opened-new ss s
     ∙ ap (λ (xs : List ℕ). open_scopes ss s.parent ++ xs ∷ []) same
+
+-- one more byte of a text behind a path, from the text's end
+pub reversed-more : (start path new text : List ℕ) (i : ℕ) → i < length text → path ≡ start ++ take i (reverse text)
+    → new ≡ path ++ get_or text (length text - 1 - i) 0 ∷ [] → new ≡ start ++ take (i + 1) (reverse text)
+reversed-more start path new text i below before is =
+    let fits : i < length (reverse text) = omega (arith, length-reverse text) in
+    is ∙ ap (λ (l : List ℕ). l ++ get_or text (length text - 1 - i) 0 ∷ []) before
+    ∙ append_assoc start (take i (reverse text)) (get_or text (length text - 1 - i) 0 ∷ [])
+    ∙ ap (λ (l : List ℕ). start ++ l)
+    (ap (λ (b : ℕ). take i (reverse text) ++ b ∷ []) (sym (get_or-reverse text i 0 below))
+    ∙ sym (take_more (reverse text) i 0 fits))

@@ -2,7 +2,7 @@
 
 /// A change of a code, which is named by its number. `Dump::cut` gives the value that it gives a
 /// variable.
-#[derive(Clone, Copy, Debug, PartialEq, Eq)]
+#[derive(Clone, Copy)]
 pub struct Change {
     pub code: u32,
     pub(crate) high: u32,
@@ -10,7 +10,7 @@ pub struct Change {
 }
 
 /// The changes at one time.
-#[derive(Debug, Drop)]
+#[derive(Drop)]
 pub struct Step {
     pub time: u64,
     pub changes: Vec<Change>,

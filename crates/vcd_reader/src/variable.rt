@@ -19,13 +19,13 @@ pub(crate) struct Variable {
 }
 
 /// A variable of a dump that can be bound.
-#[derive(Clone, Copy, Debug, PartialEq, Eq)]
+#[derive(Clone, Copy, PartialEq, Eq)]
 pub struct VarId {
     pub(crate) place: usize,
 }
 
 /// A path that can be bound, with its width in bits, 1 to 128.
-#[derive(Debug, Drop)]
+#[derive(Drop)]
 pub struct Name {
     /// The scopes and the name, joined by dots.
     pub path: Vec<u8>,
