@@ -521,38 +521,3 @@ pub ruleset for_bound = (bound-nil, bound-no, bound-yes)
 pub ruleset for_optional = (optional-absent, optional-present, optional-fails)
 
 pub ruleset for_selected = (optional-absent, selected-deep, selected-fails, selected-read)
-
-pub ruleset for_select = (select-fail1, select-fail2, select-fail3, select-ok)
-
-pub ruleset for_named = (named-fail1, named-fail2, named-ok)
-
-pub ruleset for_bracketed = (bracketed-deep, bracketed-fail2, bracketed-fail3, bracketed-ok)
-
-pub ruleset for_concatenated =
-    (concatenated-deep, concatenated-fail2, concatenated-fail3, concatenated-fail4, concatenated-ok)
-
-pub ruleset for_passed = (passed-fail1, passed-deep, passed-fail3, passed-fail4, passed-fail5, passed-ok)
-
-pub ruleset for_called = (called-fail1, called-fail2, called-ok)
-
-pub ruleset for_prefixing = (prefixing-deep, prefixing-fail2, prefixing-ok)
-
-pub ruleset for_prefixed = (
-  prefixed-nil,
-  prefixed-number,
-  prefixed-named,
-  prefixed-unary,
-  prefixed-opening,
-  prefixed-brace,
-  prefixed-past,
-  prefixed-other,
-  prefixed-call,
-)
-
-pub ruleset for_operand = (operand-fail1, operand-tail)
-
-pub ruleset for_climb = (climb-zero, climb-fails, links-fails, climb-read)
-
-pub ruleset for_expression = (expression-fail1, expression-tail)
-
-pub ruleset for_finish = (finish-stop, choice-fail1, choice-deep, choice-fail4, choice-fail5, choice-fail6, choice-ok)

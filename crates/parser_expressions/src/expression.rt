@@ -69,7 +69,6 @@ fn read_low<'t, 'a>(tokens: &'t [Token<'a>]) -> Read<'t, 'a, Option<Index>>
 }
 
 /// A select behind its bracket.
-#[tactic(auto, using(crate::proofs::Steps::for_select))]
 fn read_select<'t, 'a>(tokens: &'t [Token<'a>]) -> Read<'t, 'a, Select>
     ensures read { Gives (λ r. (r.0, r.1.now)) result (select tokens.now) }
     ensures shorter { IfOk result (λ r. length r.1.now ≤ length tokens.now) }
@@ -98,7 +97,6 @@ fn read_selected<'t, 'a>(tokens: &'t [Token<'a>], depth: usize) -> Read<'t, 'a, 
 }
 
 /// A path behind its first word, and its select.
-#[tactic(auto, using(crate::proofs::Steps::for_named, crate::proofs::TreeLaws::tree_rules))]
 fn read_named<'t, 'a>(
     alloc: Global,
     first: Token<'a>,
@@ -115,7 +113,6 @@ fn read_named<'t, 'a>(
 }
 
 /// What stands in brackets, behind the opening one.
-#[tactic(auto, using(crate::proofs::Steps::for_bracketed))]
 #[cycle(expressions)]
 fn read_bracketed<'t, 'a>(
     alloc: Global,
@@ -157,7 +154,6 @@ fn read_parts<'t, 'a>(
 }
 
 /// A concatenation behind its bracket.
-#[tactic(auto, using(crate::proofs::Steps::for_concatenated, crate::proofs::TreeLaws::tree_rules))]
 #[cycle(expressions)]
 fn read_concatenation<'t, 'a>(
     alloc: Global,
@@ -191,7 +187,6 @@ fn read_ticks<'t, 'a>(tokens: &'t [Token<'a>]) -> Read<'t, 'a, Option<Bound>>
 }
 
 /// `$past` behind its name.
-#[tactic(auto, using(crate::proofs::Steps::for_passed, crate::proofs::TreeLaws::tree_rules))]
 #[cycle(expressions)]
 fn read_past<'t, 'a>(
     alloc: Global,
@@ -212,7 +207,6 @@ fn read_past<'t, 'a>(
 }
 
 /// A function of one operand behind its name.
-#[tactic(auto, using(crate::proofs::Steps::for_called, crate::proofs::TreeLaws::tree_rules))]
 #[cycle(expressions)]
 fn read_call<'t, 'a>(
     alloc: Global,
@@ -231,7 +225,6 @@ fn read_call<'t, 'a>(
 }
 
 /// The operand of a unary operator.
-#[tactic(auto, using(crate::proofs::Steps::for_prefixing, crate::proofs::TreeLaws::tree_rules))]
 #[cycle(expressions)]
 fn read_unary<'t, 'a>(
     alloc: Global,
@@ -250,7 +243,6 @@ fn read_unary<'t, 'a>(
 }
 
 /// What stands at the left of a left operator: a primary, or a unary operator with its operand.
-#[tactic(auto, using(crate::proofs::Steps::for_prefixed, crate::proofs::TreeLaws::tree_rules))]
 #[cycle(expressions)]
 fn read_prefixed<'t, 'a>(
     alloc: Global,
@@ -302,7 +294,6 @@ fn read_links<'t, 'a>(
 }
 
 /// An operand of a left operator that is looser than the level.
-#[tactic(auto, using(crate::proofs::Steps::for_operand))]
 #[cycle(expressions)]
 fn read_operand<'t, 'a>(
     alloc: Global,
@@ -320,7 +311,6 @@ fn read_operand<'t, 'a>(
 }
 
 /// What the operators of the tightest levels make of a first operand.
-#[tactic(auto, using(crate::proofs::Steps::for_climb))]
 #[cycle(expressions)]
 fn read_climb<'t, 'a>(
     alloc: Global,
@@ -343,7 +333,6 @@ fn read_climb<'t, 'a>(
 }
 
 /// An expression.
-#[tactic(auto, using(crate::proofs::Steps::for_expression))]
 #[cycle(expressions)]
 pub fn read_expression<'t, 'a>(
     alloc: Global,
@@ -358,7 +347,6 @@ pub fn read_expression<'t, 'a>(
 }
 
 /// The expression that begins with an operand.
-#[tactic(auto, using(crate::proofs::Steps::for_finish, crate::proofs::TreeLaws::tree_rules))]
 #[cycle(expressions)]
 pub fn finish_expression<'t, 'a>(
     alloc: Global,

@@ -11,7 +11,9 @@ use Rattle.text_trees.specs.declared.expression.ExprTree.{ExprTree}
 use Rattle.parser_expressions.specs.declared.stop.Stop.{Stop}
 use Rattle.text_trees.specs.Views.{tree_of, link_of}
 use Rattle.parser_expressions.specs.Views.{Fails}
-use Rattle.parser_expressions.proofs.Steps.{failing, gives-as, prefixed-number, prefixed-other}
+use Rattle.parser_expressions.proofs.Steps.{failing, gives-as, climb-zero, prefixed-nil, prefixed-number}
+use Rattle.parser_expressions.proofs.Steps.{prefixed-named, prefixed-unary, prefixed-opening, prefixed-brace}
+use Rattle.parser_expressions.proofs.Steps.{prefixed-past, prefixed-call, prefixed-other}
 use Rattle.parser_expressions.proofs.Steps.{bracketed-deep, bracketed-fail2, bracketed-fail3, bracketed-ok}
 use Rattle.parser_expressions.proofs.Steps.{called-fail1, called-fail2, called-ok, choice-deep, choice-fail1}
 use Rattle.parser_expressions.proofs.Steps.{choice-fail4, choice-fail5, choice-fail6, choice-ok, climb-fails}
@@ -280,3 +282,35 @@ finish_expression-returns-clause-read t c =
     c.in-Ok-deeper.ensures.some c.in-Ok-read_expression.ensures.read c.in-Ok-expect.ensures.token
     c.in-Ok-read_expression-2.ensures.read)
     c.choice.ensures.read
+
+pub read_prefixed-returns-in_default-clause-read : goal.read_prefixed-returns-in_default-clause-read
+read_prefixed-returns-in_default-clause-read t c =
+    prefixed-nil _ _ c.in_default.ensures
+
+pub read_prefixed-returns-in-Name-clause-read : goal.read_prefixed-returns-in-Name-clause-read
+read_prefixed-returns-in-Name-clause-read t c =
+    gives-as _ _ _ _ (prefixed-named _ _ _ _ c.in-Some.ensures c.in-Name.ensures) c.read_named.ensures.read
+
+pub read_prefixed-returns-in-Prefix-clause-read : goal.read_prefixed-returns-in-Prefix-clause-read
+read_prefixed-returns-in-Prefix-clause-read t c =
+    gives-as _ _ _ _ (prefixed-unary _ _ _ _ _ c.in-Some.ensures c.in-Prefix.ensures) c.read_unary.ensures.read
+
+pub read_prefixed-returns-in-Opening-clause-read : goal.read_prefixed-returns-in-Opening-clause-read
+read_prefixed-returns-in-Opening-clause-read t c =
+    gives-as _ _ _ _ (prefixed-opening _ _ _ _ c.in-Some.ensures c.in-Opening.ensures) c.read_bracketed.ensures.read
+
+pub read_prefixed-returns-in-Brace-clause-read : goal.read_prefixed-returns-in-Brace-clause-read
+read_prefixed-returns-in-Brace-clause-read t c =
+    gives-as _ _ _ _ (prefixed-brace _ _ _ _ c.in-Some.ensures c.in-Brace.ensures) c.read_concatenation.ensures.read
+
+pub read_prefixed-returns-in-Past-clause-read : goal.read_prefixed-returns-in-Past-clause-read
+read_prefixed-returns-in-Past-clause-read t c =
+    gives-as _ _ _ _ (prefixed-past _ _ _ _ c.in-Some.ensures c.in-Past.ensures) c.read_past.ensures.read
+
+pub read_prefixed-returns-in-Call-clause-read : goal.read_prefixed-returns-in-Call-clause-read
+read_prefixed-returns-in-Call-clause-read t c =
+    gives-as _ _ _ _ (prefixed-call _ _ _ _ _ c.in-Some.ensures c.in-Call.ensures) c.read_call.ensures.read
+
+pub read_climb-returns-then-level-eq0-clause-read : goal.read_climb-returns-then-level-eq0-clause-read
+read_climb-returns-then-level-eq0-clause-read t c =
+    climb-zero _ _ _ _ c.if-level-eq0.true
