@@ -407,34 +407,13 @@ pub more-yes : (ts : List Token) (t : Token) (us : List Token) → ts ≡ t ∷ 
 unfolding lead is_more
 more-yes ts t us h k = rw (h, ← k) refl
 
-pub ruleset for_one = (one-fail1, one-fail2, one-fail3, one-ok)
-
-pub ruleset for_two = (two-fail1, two-fail2, two-fail3, two-fail4, two-fail5, two-ok)
-
-pub ruleset for_head = (head-fail1, head-fail2, head-fail3, head-fail4, head-ok)
-
-pub ruleset for_counter =
-    (counter-fail1, counter-fail2, counter-fail3, counter-fail4, counter-fail5, counter-fail6, counter-ok)
-
 pub ruleset for_again = (again-nil, again-no-word, again-other, again-ok)
 
 pub ruleset for_skip = (skip-no, skip-yes)
 
 pub ruleset for_ending = (ending-fail1, ending-fail2, ending-ok)
 
-pub ruleset for_declaration =
-    (declaration-fail1, declaration-fail2, declaration-fail3, declaration-fail4, declaration-ok)
-
-pub ruleset for_opening = (opening-fail1, opening-fail2, opening-ok)
-
-pub ruleset for_clock = (clock-fail1, clock-fail2, clock-fail3, clock-fail4, clock-fail5, clock-ok)
-
 pub ruleset for_disabling = (disabling-fail1, disabling-fail2, disabling-ok)
-
-pub ruleset for_property_end = (property-end-fail1, property-end-fail2, property-end-fail3, property-end-ok)
-
-pub ruleset for_assertion =
-    (assertion-fail1, assertion-fail2, assertion-fail3, assertion-fail4, assertion-fail5, assertion-ok)
 
 pub ruleset for_labelled = (labelled-tail, labelled-fail, labelled-colon)
 

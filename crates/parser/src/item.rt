@@ -40,7 +40,6 @@ const IN_ONE: usize = 63;
 const IN_TWO: usize = 62;
 
 /// `( operand )`, behind a word.
-#[tactic(auto, using(crate::proofs::ItemSteps::for_one))]
 fn read_operand<'t, 'a>(
     alloc: Global,
     tokens: &'t [Token<'a>],
@@ -56,7 +55,6 @@ fn read_operand<'t, 'a>(
 }
 
 /// `( condition , value )`, behind a word.
-#[tactic(auto, using(crate::proofs::ItemSteps::for_two))]
 fn read_operands<'t, 'a>(alloc: Global, tokens: &'t [Token<'a>]) -> Read<'t, 'a, Operands<'a>>
     ensures read { Gives (λ r. (pair_of r.0, r.1.now)) result (two_operands tokens.now) }
     ensures shorter { IfOk result (λ r. length r.1.now ≤ length tokens.now) }
@@ -105,7 +103,6 @@ fn read_clause<'t, 'a>(
 }
 
 /// A counter's name and width.
-#[tactic(auto, using(crate::proofs::ItemSteps::for_head))]
 fn read_counter_head<'t, 'a>(tokens: &'t [Token<'a>]) -> Read<'t, 'a, (Token<'a>, Bound)>
     ensures read { Gives (λ r. (r.0, r.1.now)) result (counter_head tokens.now) }
     ensures shorter { IfOk result (λ r. length r.1.now ≤ length tokens.now) }
@@ -118,7 +115,6 @@ fn read_counter_head<'t, 'a>(tokens: &'t [Token<'a>]) -> Read<'t, 'a, (Token<'a>
 }
 
 /// A counter, behind its word.
-#[tactic(auto, using(crate::proofs::ItemSteps::for_counter))]
 fn read_counter<'t, 'a>(alloc: Global, tokens: &'t [Token<'a>]) -> Read<'t, 'a, ItemTree<'a>>
     ensures read { Gives (λ r. (item_of r.0, r.1.now)) result (counter_item tokens.now) }
     ensures shorter { IfOk result (λ r. length r.1.now ≤ length tokens.now) }
@@ -197,7 +193,6 @@ fn read_ending<'t, 'a>(tokens: &'t [Token<'a>], name: Token<'a>) -> Result<&'t [
 }
 
 /// A named sequence, behind its word.
-#[tactic(auto, using(crate::proofs::ItemSteps::for_declaration))]
 fn read_declaration<'t, 'a>(alloc: Global, tokens: &'t [Token<'a>]) -> Read<'t, 'a, ItemTree<'a>>
     ensures read { Gives (λ r. (item_of r.0, r.1.now)) result (declaration_item tokens.now) }
     ensures shorter { IfOk result (λ r. length r.1.now ≤ length tokens.now) }
@@ -210,7 +205,6 @@ fn read_declaration<'t, 'a>(alloc: Global, tokens: &'t [Token<'a>]) -> Read<'t, 
 }
 
 /// `property (`
-#[tactic(auto, using(crate::proofs::ItemSteps::for_opening))]
 fn read_opening<'t, 'a>(tokens: &'t [Token<'a>]) -> Result<&'t [Token<'a>], Stop>
     ensures read { Gives (λ r. r.now) result (opening_words tokens.now) }
     ensures shorter { IfOk result (λ r. length r.now ≤ length tokens.now) }
@@ -221,7 +215,6 @@ fn read_opening<'t, 'a>(tokens: &'t [Token<'a>]) -> Result<&'t [Token<'a>], Stop
 }
 
 /// `@(posedge path)`
-#[tactic(auto, using(crate::proofs::ItemSteps::for_clock))]
 fn read_clock<'t, 'a>(alloc: Global, tokens: &'t [Token<'a>]) -> Read<'t, 'a, Path<'a>>
     ensures read { Gives (λ r. (path_of r.0, r.1.now)) result (clock_words tokens.now) }
     ensures shorter { IfOk result (λ r. length r.1.now ≤ length tokens.now) }
@@ -262,7 +255,6 @@ fn read_disable<'t, 'a>(
 }
 
 /// A property and the end of its assertion.
-#[tactic(auto, using(crate::proofs::ItemSteps::for_property_end))]
 fn read_property_end<'t, 'a>(
     alloc: Global,
     tokens: &'t [Token<'a>],
@@ -277,7 +269,6 @@ fn read_property_end<'t, 'a>(
 }
 
 /// An assertion from its verb on.
-#[tactic(auto, using(crate::proofs::ItemSteps::for_assertion))]
 fn read_assertion<'t, 'a>(
     alloc: Global,
     tokens: &'t [Token<'a>],
