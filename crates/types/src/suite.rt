@@ -8,7 +8,7 @@ ghost use Rattle.types_sequences.specs.Entries.{has_entry};
 ghost use Rattle.text_names.specs.declared.own.Sought.{Sought};
 ghost use Rattle.text_names.specs.Scopes.{sequence_named};
 ghost use Rattle.text_names.specs.Asked.{scope_for};
-ghost use Rattle.text_names.specs.Columns.{all_listed, file_signals};
+ghost use Rattle.text_names.specs.Columns.{all_listed, file_signals, columns_of};
 ghost use Rattle.text_names.specs.Faults.{file_faults};
 ghost use Rattle.text_names.specs.Views.{scope_of, columns_in};
 ghost use Rattle.types_sequences.specs.Placed.{Extends};
@@ -20,6 +20,7 @@ ghost use Rattle.types.specs.Sides.{AreWeighed, AreLight};
 ghost use Rattle.types_suites.specs.Suites.{IsSuite};
 ghost use Rattle.types.specs.Sides.{sides_in, consequents_in};
 ghost use Rattle.types_suites.specs.Resolved.{HasBodies};
+ghost use Rattle.types.specs.Resolved.{HasResolved};
 
 use crate::clocks::first_clock;
 use crate::sides::{all_consequents, all_sides};
@@ -89,13 +90,42 @@ fn check_resolved(alloc: Global, resolved: &[Resolved]) -> Result<(), TypeFault>
     check_sides(sides.as_slice(), consequents.as_slice())
 }
 
+/// The assertions of items whose expressions have no fault, with the entries of their sides, or the
+/// first fault of the sequences.
+fn resolved_of(
+    alloc: Global,
+    scope: &Scope,
+    columns: &SignalPaths,
+    items: &[ItemTree],
+    booleans: &mut Vec<expressions::Expr>,
+) -> Result<Vec<Resolved>, TypeFault>
+    requires columns { columns_in columns.now
+        ≡ columns_of (scope_of scope.now) (map item_of items.now) }
+    requires declared { (t : Tree) (p : ℕ) → sequence_named (scope_of scope.now) t ≡ Some p
+        → p < length (declarations_of (map item_of items.now)) }
+    requires clear { ClearTo (scope_of scope.now) (map item_of items.now) 5 }
+    ensures faultless { IfOk result
+        (λ _. IsFaultless (scope_of scope.now) (map item_of items.now)) }
+    ensures resolved { IfOk result (λ r. HasResolved (scope_of scope.now)
+        (columns_in columns.now) booleans.new.items (map item_of items.now) r.items) }
+    ensures refused { IfErr result (IsTypeFault (scope_of scope.now) (map item_of items.now)) }
+{
+    let table = entries_of(alloc, scope, columns, items, booleans)?;
+    let resolved = all_resolved(alloc, scope, columns, table.as_slice(), items, booleans)?;
+    check_resolved(alloc, resolved.as_slice())?;
+    Ok(resolved)
+}
+
 /// The suite of items whose expressions have no fault, or the first fault of their sequences.
 fn suite_of(
     alloc: Global,
     scope: &Scope,
+    columns: &SignalPaths,
     items: &[ItemTree],
     clock: String,
 ) -> Result<Suite, TypeFault>
+    requires columns { columns_in columns.now
+        ≡ columns_of (scope_of scope.now) (map item_of items.now) }
     requires clock { string_bytes clock ≡ clock_of (assertions_of (map item_of items.now)) }
     requires declared { (t : Tree) (p : ℕ) → sequence_named (scope_of scope.now) t ≡ Some p
         → p < length (declarations_of (map item_of items.now)) }
@@ -105,22 +135,12 @@ fn suite_of(
     ensures suite { IfOk result (IsSuite (scope_of scope.now) (map item_of items.now)) }
     ensures refused { IfErr result (IsTypeFault (scope_of scope.now) (map item_of items.now)) }
 {
-    let columns = columns_of(alloc, scope, items)?;
     let mut booleans = Vec::new(alloc);
-    let table = entries_of(alloc, scope, &columns, items, &mut booleans)?;
-    let resolved = all_resolved(
-        alloc,
-        scope,
-        &columns,
-        table.as_slice(),
-        items,
-        &mut booleans,
-    )?;
-    check_resolved(alloc, resolved.as_slice())?;
+    let resolved = resolved_of(alloc, scope, columns, items, &mut booleans)?;
     Ok(Suite {
         clock,
-        names: signals_of(alloc, scope, &columns)?,
-        counters: counters_of(alloc, scope, &columns, items)?,
+        names: signals_of(alloc, scope, columns)?,
+        counters: counters_of(alloc, scope, columns, items)?,
         booleans,
         assertions: assertions_of(alloc, resolved.as_slice())?,
     })
@@ -137,7 +157,8 @@ fn suite_in(alloc: Global, scope: &Scope, items: &[ItemTree]) -> Result<Suite, T
 {
     let clock = first_clock(alloc, items)?;
     check_expressions(alloc, scope, items, clock.as_str())?;
-    suite_of(alloc, scope, items, clock)
+    let columns = columns_of(alloc, scope, items)?;
+    suite_of(alloc, scope, &columns, items, clock)
 }
 
 /// The suite that a text spells over paths with widths: its clock, the signals that it reads, its

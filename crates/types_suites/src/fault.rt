@@ -6,7 +6,7 @@ use thiserror::Error;
 /// Why a text has no meaning over the names of a dump, with the byte of the text where the fault
 /// stands. Of several faults the first by kind is answered, in the order Y1, Y2, Y3, Y4, Y7, Y8,
 /// Y9, Y5, Y6, then the one at the lowest byte.
-#[derive(Clone, Copy, Debug, PartialEq, Eq, Error)]
+#[derive(Clone, Copy, Debug, Error)]
 pub enum TypeFault {
     /// A path stands for nothing that can be read there: its first byte.
     #[error("Y1 UnknownName {0}")]

@@ -1,0 +1,21 @@
+-- What the code keeps of a text's assertions behind the faults of their sides.
+use Rattle.std.specs.Prelude.{ℕ, List, map}
+use Rattle.grammar.specs.Trees as trees
+use Rattle.expressions.specs.declared.expr.Expr.{Expr}
+use Rattle.assertions.specs.declared.sequence.Boolean.{Boolean}
+use Rattle.types_sequences.specs.Drafts.{Draft}
+use Rattle.text_names.specs.Scopes.{Scope}
+use Rattle.types_suites.specs.declared.resolved.Resolved.{Resolved}
+use Rattle.types_suites.specs.Made.{AreFitting}
+use Rattle.types_suites.specs.Readings.{AllRead}
+use Rattle.types_suites.specs.Resolved.{AreResolved}
+use Rattle.types_suites.specs.Texts.{declarations_of, assertions_of}
+
+-- The assertions of a text are resolved over its named sequences, and their sides weigh at most
+-- 127.
+pub record HasResolved (s : Scope) (columns : List (List ℕ)) (booleans : List Expr)
+    (items : List trees.ItemForm) (resolved : List Resolved) : Type 0 where
+  pub bodies : List (Draft Boolean)
+  pub read : AllRead s columns booleans (map (λ d. d.body) (declarations_of items)) bodies
+  pub made : AreResolved s columns booleans bodies 0 (assertions_of items) resolved
+  pub fit : AreFitting resolved
