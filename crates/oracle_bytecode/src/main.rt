@@ -14,8 +14,8 @@
 //! `cases.txt` of theirs. With a file's name as its word it prints how long reading and writing
 //! that file took at best (`bench/bytecode`).
 //!
-//! What is answered is said by the contracts of `program_files::decode` and `encode`; the definitions
-//! stand in `bytecode/specs` (`Spelling.antt`, `Values.antt`).
+//! What is answered is said by the contracts of `decode` and `encode` of `program_files`; the
+//! definitions stand in its `specs/Spelling.antt`, and in `bytecode/specs/Values.antt`.
 //!
 //! Not promised: that a program is accepted, which is `oracle_verifier`'s.
 #![tactic(auto)]
