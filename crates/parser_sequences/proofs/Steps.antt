@@ -402,28 +402,8 @@ finish-tail d s ts p us q vs h k = rw (h, k) refl
 
 pub ruleset for_optional = (optional-absent, optional-present, optional-fails)
 
-pub ruleset for_times = (times-fail1, times-fail2, times-fail3, times-ok)
-
-pub ruleset for_between = (between-fail1, between-fail2, between-fail3, between-fail4, between-ok)
-
 pub ruleset for_delay = (delay-plain-fails, delay-plain-ok, delay-deep, delay-tail)
 
 pub ruleset for_regroup = (regroup-fails, regroup-ok, regroup-same)
 
 pub ruleset for_counts = (counts-absent, counts-deep, counts-fails, counts-ok)
-
-pub ruleset for_repeat = (repeat-fails, repeat-ok)
-
-pub ruleset for_body = (body-plain-fails, body-plain-ok, body-deep, body-fail1, body-fail2, body-tail)
-
-pub ruleset for_late = (late-part-fail1, late-part-fail2, late-part-fail3, late-part-ok)
-
-pub ruleset for_behind = (behind-fails, behind-tail, behind-deep, behind-fail2, behind-ok)
-
-pub ruleset for_during = (during-plain-fails, during-tail, during-late-fails, during-late-tail)
-
-pub ruleset for_side = (side-fail1, side-tail)
-
-pub ruleset for_whole = (whole-fails, whole-tail)
-
-pub ruleset for_finish = (finish-fail1, finish-fail2, finish-tail)

@@ -30,7 +30,6 @@ fn read_high<'t, 'a>(tokens: &'t [Token<'a>], low: Bound) -> Read<'t, 'a, Option
 }
 
 /// The counts of a repetition, behind `[*`.
-#[tactic(auto, using(crate::proofs::Steps::for_times))]
 fn read_times<'t, 'a>(tokens: &'t [Token<'a>]) -> Read<'t, 'a, Range>
     ensures read { Gives (λ r. (r.0, r.1.now)) result (times tokens.now) }
     ensures shorter { IfOk result (λ r. length r.1.now ≤ length tokens.now) }
@@ -42,7 +41,6 @@ fn read_times<'t, 'a>(tokens: &'t [Token<'a>]) -> Read<'t, 'a, Range>
 }
 
 /// The counts of a delay, behind `##` and `[`.
-#[tactic(auto, using(crate::proofs::Steps::for_between))]
 fn read_between<'t, 'a>(tokens: &'t [Token<'a>]) -> Read<'t, 'a, Range>
     ensures read { Gives (λ r. (r.0, r.1.now)) result (range_between tokens.now) }
     ensures shorter { IfOk result (λ r. length r.1.now ≤ length tokens.now) }

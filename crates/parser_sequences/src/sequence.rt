@@ -45,7 +45,6 @@ pub fn regroup<'t, 'a>(
 }
 
 /// An expression, or a sequence in brackets.
-#[tactic(auto, using(crate::proofs::Steps::for_body))]
 #[cycle(sequences)]
 fn read_body<'t, 'a>(
     alloc: Global,
@@ -67,7 +66,6 @@ fn read_body<'t, 'a>(
 }
 
 /// A body's repetition, if one is written.
-#[tactic(auto, using(crate::proofs::Steps::for_repeat))]
 fn read_repeat<'t, 'a>(
     alloc: Global,
     tokens: &'t [Token<'a>],
@@ -83,7 +81,6 @@ fn read_repeat<'t, 'a>(
 }
 
 /// A delay behind its `##`, and what it delays.
-#[tactic(auto, using(crate::proofs::Steps::for_late))]
 #[cycle(sequences)]
 fn read_late<'t, 'a>(
     alloc: Global,
@@ -125,7 +122,6 @@ fn read_delayed<'t, 'a>(
 }
 
 /// What follows a first body: behind an expression that is `throughout` and its right side, too.
-#[tactic(auto, using(crate::proofs::Steps::for_behind, crate::proofs::TreeLaws::sequence_rules))]
 #[cycle(sequences)]
 fn read_behind<'t, 'a>(
     alloc: Global,
@@ -150,7 +146,6 @@ fn read_behind<'t, 'a>(
 }
 
 /// A chain of delays, or `throughout` with both its sides.
-#[tactic(auto, using(crate::proofs::Steps::for_during, crate::proofs::TreeLaws::sequence_rules))]
 #[cycle(sequences)]
 fn read_during<'t, 'a>(
     alloc: Global,
@@ -195,7 +190,6 @@ fn read_conjunction<'t, 'a>(
 }
 
 /// A side of `or`.
-#[tactic(auto, using(crate::proofs::Steps::for_side))]
 #[cycle(sequences)]
 fn read_side<'t, 'a>(
     alloc: Global,
@@ -235,7 +229,6 @@ fn read_alternatives<'t, 'a>(
 }
 
 /// A sequence.
-#[tactic(auto, using(crate::proofs::Steps::for_whole))]
 #[cycle(sequences)]
 pub fn read_sequence<'t, 'a>(
     alloc: Global,
@@ -250,7 +243,6 @@ pub fn read_sequence<'t, 'a>(
 }
 
 /// The sequence that begins with a body.
-#[tactic(auto, using(crate::proofs::Steps::for_finish))]
 pub fn finish_sequence<'t, 'a>(
     alloc: Global,
     tokens: &'t [Token<'a>],

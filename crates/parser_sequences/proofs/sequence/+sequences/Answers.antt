@@ -1,19 +1,21 @@
 use Rattle.std.proofs.Common.{◌∙◌, List, map, length, sym, ap, subst, arith}
+use Rattle.std.proofs.lemmas.Option.{same_Some}
 use Rattle.lexer.specs.declared.token.Token.{Token}
 use Rattle.grammar.specs.Terminals.{is}
 use Rattle.grammar.specs.declared.terminal.Terminal.TheVariants.{Delay, And, Or}
 use Rattle.grammar.specs.declared.bound.Range.{Range}
-use Rattle.grammar.specs.ReadSequences.{sequences, late_part, during_with, conjunction_with}
+use Rattle.grammar.specs.Trees.{SequenceForm}
+use Rattle.grammar.specs.ReadSequences.{sequences, late_part, delayed_behind, during_with, conjunction_with}
 use Rattle.text_trees.specs.declared.sequence.SequenceTree.{SequenceTree}
 use Rattle.text_trees.specs.Views.{sequence_of, delay_step_of}
-use Rattle.parser_expressions.proofs.Steps.{gives-as}
-use Rattle.parser_sequences.proofs.Steps.{delayed-fails, delayed-ok, conjunction-fails, conjunction-ok, with-during}
-use Rattle.parser_sequences.proofs.Steps.{with-fails, alternatives-fails, alternatives-ok, behind-ok}
-use Rattle.parser_sequences.proofs.Steps.{behind-deep, behind-fail2, behind-fails, behind-tail, body-deep}
-use Rattle.parser_sequences.proofs.Steps.{body-fail1, body-fail2, body-plain-fails, body-plain-ok, body-tail}
-use Rattle.parser_sequences.proofs.Steps.{during-late-fails, during-plain-fails, during-tail, late-part-fail1}
+use Rattle.parser_expressions.proofs.Steps.{failing, gives-as}
+use Rattle.parser_sequences.proofs.Steps.{alternatives-fails, alternatives-ok, behind-deep, behind-fail2}
+use Rattle.parser_sequences.proofs.Steps.{behind-fails, behind-ok, behind-tail, body-deep, body-fail1, body-fail2}
+use Rattle.parser_sequences.proofs.Steps.{body-plain-fails, body-plain-ok, body-tail, conjunction-fails}
+use Rattle.parser_sequences.proofs.Steps.{conjunction-ok, delayed-fails, delayed-ok, during-late-fails}
+use Rattle.parser_sequences.proofs.Steps.{during-late-tail, during-plain-fails, during-tail, late-part-fail1}
 use Rattle.parser_sequences.proofs.Steps.{late-part-fail2, late-part-fail3, late-part-ok, side-fail1, side-tail}
-use Rattle.parser_sequences.proofs.Steps.{whole-fails, whole-tail}
+use Rattle.parser_sequences.proofs.Steps.{whole-fails, whole-tail, with-during, with-fails}
 use Rattle.parser_expressions.proofs.LoopLaws.{Turns, turns-init, turns-stop, turns-fail, turns-next, expect-lead}
 use Rattle.parser_expressions.proofs.LoopLaws.{map-push}
 use Rattle.parser_sequences.proofs.sequence.+sequences.Goals as goal
@@ -233,3 +235,14 @@ pub read_sequence-returns-clause-read : goal.read_sequence-returns-clause-read
 read_sequence-returns-clause-read t c =
     gives-as _ _ _ _ (whole-tail _ _ _ _ c.in-Ok.ensures.read)
     c.read_alternatives.ensures.read
+
+pub read_during-returns-in-Err-late-clause-read : goal.read_during-returns-in-Err-late-clause-read
+read_during-returns-in-Err-late-clause-read t c = failing _ _ _ (λ none. absurd cc) c.in-Err-late.ensures.read
+
+pub read_during-returns-clause-read : goal.read_during-returns-clause-read
+read_during-returns-clause-read t c =
+    gives-as _ _ _ _
+    (during-late-tail _ _ _ _ _ _ _ c.in-Some.ensures.token c.in-Ok-read_late.ensures.read
+    ∙ ap (λ (p : SequenceForm × List Token). delayed_behind c.args.depth (sequences c.args.depth) p.0 p.1)
+    (same_Some _ _ c.in-Ok-late.ensures.read))
+    c.read_delayed.ensures.read
