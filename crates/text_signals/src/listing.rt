@@ -217,8 +217,7 @@ fn list_property(
         PropertyTree::Plain(sequence) => list_sequence(alloc, scope, columns, sequence),
         PropertyTree::Implication(antecedent, _, consequent) => {
             list_sequence(alloc, scope, columns, antecedent)?;
-            list_sequence(alloc, scope, columns, consequent)?;
-            Ok(())
+            list_sequence(alloc, scope, columns, consequent)
         }
     }
 }
@@ -256,8 +255,7 @@ fn list_clause(
         None => Ok(()),
         Some(operands) => {
             list_expression(alloc, scope, columns, &operands.0)?;
-            list_expression(alloc, scope, columns, &operands.1)?;
-            Ok(())
+            list_expression(alloc, scope, columns, &operands.1)
         }
     }
 }
@@ -277,8 +275,7 @@ fn list_counter(
     list_optional(alloc, scope, columns, &counter.clear)?;
     list_clause(alloc, scope, columns, &counter.load)?;
     list_clause(alloc, scope, columns, &counter.add)?;
-    list_clause(alloc, scope, columns, &counter.sub)?;
-    Ok(())
+    list_clause(alloc, scope, columns, &counter.sub)
 }
 
 /// Lists what an assertion reads.
@@ -294,8 +291,7 @@ fn list_assertion(
         (assertion_signals (scope_of scope.now) (assertion_of assertion.now))) }
 {
     list_optional(alloc, scope, columns, &assertion.disable)?;
-    list_property(alloc, scope, columns, &assertion.property)?;
-    Ok(())
+    list_property(alloc, scope, columns, &assertion.property)
 }
 
 /// Lists what an item reads.
