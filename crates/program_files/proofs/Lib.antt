@@ -4,3 +4,4 @@ pub mod FieldLaws
 pub mod InstrLaws
 pub mod ProgramLaws
 pub mod FitLaws
+pub mod PutLaws

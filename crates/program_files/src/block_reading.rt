@@ -4,6 +4,7 @@ ghost use Rattle.std.specs.Prelude.{◌≡◌, length, map};
 ghost use Rattle.program_files.specs.Reading.{Gives, unless_at, enter_at, step_at};
 
 use crate::field::{Field, byte_at, two_at};
+use crate::read::read;
 use crate::stop::Stop;
 use bytecode::BlockInstr;
 
@@ -12,8 +13,8 @@ use bytecode::BlockInstr;
 fn unless_at(bytes: &[u8]) -> Field<'_, BlockInstr>
     ensures { Gives (λ x. (x.0, x.1.now)) result (unless_at bytes.now) }
 {
-    let (atom, rest) = byte_at(bytes)?;
-    let (target, rest) = two_at(rest)?;
+    let (atom, rest) = read!(byte_at(bytes));
+    let (target, rest) = read!(two_at(rest));
     Ok((BlockInstr::Unless(atom, target), rest))
 }
 
@@ -22,7 +23,7 @@ fn unless_at(bytes: &[u8]) -> Field<'_, BlockInstr>
 fn enter_at(bytes: &[u8]) -> Field<'_, BlockInstr>
     ensures { Gives (λ x. (x.0, x.1.now)) result (enter_at bytes.now) }
 {
-    let (position, rest) = byte_at(bytes)?;
+    let (position, rest) = read!(byte_at(bytes));
     Ok((BlockInstr::Enter(position), rest))
 }
 
@@ -31,7 +32,7 @@ fn enter_at(bytes: &[u8]) -> Field<'_, BlockInstr>
 pub(crate) fn step_at(bytes: &[u8]) -> Field<'_, BlockInstr>
     ensures { Gives (λ x. (x.0, x.1.now)) result (step_at bytes.now) }
 {
-    let (opcode, rest) = byte_at(bytes)?;
+    let (opcode, rest) = read!(byte_at(bytes));
     match opcode {
         0x40 => unless_at(rest),
         0x41 => enter_at(rest),

@@ -4,6 +4,7 @@ ghost use Rattle.std.specs.Prelude.{◌≡◌, ℕ, length, Some, IsTrue, ◌↔
 ghost use Rattle.std.specs.Int.{w16, w32, w64};
 ghost use Rattle.program_files.specs.Reading.{Gives, byte_at, number_at, sixteen_at, width_at};
 
+use crate::read::read;
 use crate::stop::Stop;
 
 /// A field, and the bytes behind it.
@@ -64,8 +65,8 @@ fn eight_at(bytes: &[u8]) -> Field<'_, u64>
 pub(crate) fn sixteen_at(bytes: &[u8]) -> Field<'_, u128>
     ensures { Gives (λ x. (x.0, x.1.now)) result (sixteen_at bytes.now) }
 {
-    let (high, rest) = eight_at(bytes)?;
-    let (low, rest) = eight_at(rest)?;
+    let (high, rest) = read!(eight_at(bytes));
+    let (low, rest) = read!(eight_at(rest));
     Ok((
         u128::from(high) * 0x1_0000_0000_0000_0000 + u128::from(low),
         rest,
@@ -76,7 +77,7 @@ pub(crate) fn sixteen_at(bytes: &[u8]) -> Field<'_, u128>
 pub(crate) fn width_at(bytes: &[u8]) -> Field<'_, u8>
     ensures { Gives (λ x. (x.0, x.1.now)) result (width_at bytes.now) }
 {
-    let (width, rest) = byte_at(bytes)?;
+    let (width, rest) = read!(byte_at(bytes));
     if 1 <= width && width <= 128 {
         return Ok((width, rest));
     }

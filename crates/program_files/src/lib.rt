@@ -28,6 +28,7 @@ mod opcode;
 mod parts;
 mod program_reading;
 mod program_writing;
+mod read;
 mod sample_reading;
 mod sample_writing;
 mod stop;

@@ -9,6 +9,7 @@ ghost use Rattle.bytecode.specs.Views.{slot_data};
 
 use crate::block_reading::step_at;
 use crate::field::{Field, two_at, width_at};
+use crate::read::read;
 use crate::sample_reading::sample_at;
 use crate::text::text_at;
 use bytecode::{BlockInstr, SampleInstr, Slot};
@@ -19,8 +20,8 @@ use std::alloc::Global;
 fn slot_at(alloc: Global, bytes: &[u8]) -> Field<'_, Slot>
     ensures { Gives (λ x. (slot_data x.0, x.1.now)) result (slot_at bytes.now) }
 {
-    let (width, rest) = width_at(bytes)?;
-    let (path, rest) = text_at(alloc, rest, true)?;
+    let (width, rest) = read!(width_at(bytes));
+    let (path, rest) = read!(text_at(alloc, rest, true));
     Ok((Slot { width, path }, rest))
 }
 
@@ -43,7 +44,7 @@ fn samples_at(alloc: Global, count: u16, bytes: &[u8]) -> Field<'_, Vec<SampleIn
 pub(crate) fn counted_samples_at(alloc: Global, bytes: &[u8]) -> Field<'_, Vec<SampleInstr>>
     ensures { Gives (λ x. (x.0.items, x.1.now)) result (counted_at sample_at bytes.now) }
 {
-    let (count, rest) = two_at(bytes)?;
+    let (count, rest) = read!(two_at(bytes));
     samples_at(alloc, count, rest)
 }
 
@@ -66,7 +67,7 @@ fn steps_at(alloc: Global, count: u16, bytes: &[u8]) -> Field<'_, Vec<BlockInstr
 pub(crate) fn counted_steps_at(alloc: Global, bytes: &[u8]) -> Field<'_, Vec<BlockInstr>>
     ensures { Gives (λ x. (x.0.items, x.1.now)) result (counted_at step_at bytes.now) }
 {
-    let (count, rest) = two_at(bytes)?;
+    let (count, rest) = read!(two_at(bytes));
     steps_at(alloc, count, rest)
 }
 
@@ -89,7 +90,7 @@ fn widths_at(alloc: Global, count: u16, bytes: &[u8]) -> Field<'_, Vec<u8>>
 pub(crate) fn counted_widths_at(alloc: Global, bytes: &[u8]) -> Field<'_, Vec<u8>>
     ensures { Gives (λ x. (x.0.items, x.1.now)) result (counted_at width_at bytes.now) }
 {
-    let (count, rest) = two_at(bytes)?;
+    let (count, rest) = read!(two_at(bytes));
     widths_at(alloc, count, rest)
 }
 
@@ -114,7 +115,7 @@ pub(crate) fn counted_slots_at(alloc: Global, bytes: &[u8]) -> Field<'_, Vec<Slo
     ensures { Gives (λ x. (map slot_data x.0.items, x.1.now)) result
         (counted_at slot_at bytes.now) }
 {
-    let (count, rest) = two_at(bytes)?;
+    let (count, rest) = read!(two_at(bytes));
     slots_at(alloc, count, rest)
 }
 

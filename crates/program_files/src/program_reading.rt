@@ -16,6 +16,7 @@ use crate::fault::CodeFault;
 use crate::field::{Field, byte_at, four_at, sixteen_at, two_at};
 use crate::list_reading::{blocks_at, counted_samples_at, counted_slots_at, counted_widths_at};
 use crate::parts::{Header, Parts};
+use crate::read::read;
 use crate::stop::Stop;
 use crate::text::text_at;
 use bytecode::{Limits, Program, Section};
@@ -26,11 +27,11 @@ use std::alloc::Global;
 fn head_at(bytes: &[u8]) -> Result<&[u8], Stop>
     ensures { Gives (λ x. x.now) result (head_at bytes.now) }
 {
-    let (magic, rest) = four_at(bytes)?;
+    let (magic, rest) = read!(four_at(bytes));
     if magic != 0x5356414d {
         return Err(Stop::Magic);
     }
-    let (version, rest) = byte_at(rest)?;
+    let (version, rest) = read!(byte_at(rest));
     if version != 1 {
         return Err(Stop::Version);
     }
@@ -42,11 +43,11 @@ fn head_at(bytes: &[u8]) -> Result<&[u8], Stop>
 fn limits_at(bytes: &[u8]) -> Field<'_, Limits>
     ensures { Gives (λ x. (x.0, x.1.now)) result (limits_at bytes.now) }
 {
-    let (history, rest) = two_at(bytes)?;
-    let (stack, rest) = two_at(rest)?;
-    let (attempts, rest) = two_at(rest)?;
-    let (obligations, rest) = two_at(rest)?;
-    let (budget, rest) = four_at(rest)?;
+    let (history, rest) = read!(two_at(bytes));
+    let (stack, rest) = read!(two_at(rest));
+    let (attempts, rest) = read!(two_at(rest));
+    let (obligations, rest) = read!(two_at(rest));
+    let (budget, rest) = read!(four_at(rest));
     let limits = Limits {
         history,
         stack,
@@ -62,9 +63,9 @@ fn limits_at(bytes: &[u8]) -> Field<'_, Limits>
 fn section_at(alloc: Global, bytes: &[u8]) -> Field<'_, Section>
     ensures { Gives (λ x. (section_data x.0, x.1.now)) result (section_at bytes.now) }
 {
-    let (start, rest) = sixteen_at(bytes)?;
-    let (count, rest) = byte_at(rest)?;
-    let (blocks, rest) = blocks_at(alloc, count, rest)?;
+    let (start, rest) = read!(sixteen_at(bytes));
+    let (count, rest) = read!(byte_at(rest));
+    let (blocks, rest) = read!(blocks_at(alloc, count, rest));
     Ok((Section { start, blocks }, rest))
 }
 
@@ -80,11 +81,11 @@ fn disable_of(byte: u8) -> Option<u8>
 fn header_at(alloc: Global, bytes: &[u8]) -> Field<'_, Header>
     ensures { Gives (λ x. (header_data x.0, x.1.now)) result (header_at bytes.now) }
 {
-    let (limits, rest) = limits_at(bytes)?;
-    let (disable, rest) = byte_at(rest)?;
-    let (atoms, rest) = byte_at(rest)?;
-    let (name, rest) = text_at(alloc, rest, false)?;
-    let (clock, rest) = text_at(alloc, rest, true)?;
+    let (limits, rest) = read!(limits_at(bytes));
+    let (disable, rest) = read!(byte_at(rest));
+    let (atoms, rest) = read!(byte_at(rest));
+    let (name, rest) = read!(text_at(alloc, rest, false));
+    let (clock, rest) = read!(text_at(alloc, rest, true));
     let header = Header {
         limits,
         disable: disable_of(disable),
@@ -100,13 +101,13 @@ fn header_at(alloc: Global, bytes: &[u8]) -> Field<'_, Header>
 fn parts_at(alloc: Global, bytes: &[u8]) -> Field<'_, Parts>
     ensures { Gives (λ x. (parts_data x.0, x.1.now)) result (program_at bytes.now) }
 {
-    let rest = head_at(bytes)?;
-    let (header, rest) = header_at(alloc, rest)?;
-    let (signals, rest) = counted_slots_at(alloc, rest)?;
-    let (counters, rest) = counted_widths_at(alloc, rest)?;
-    let (sample, rest) = counted_samples_at(alloc, rest)?;
-    let (antecedent, rest) = section_at(alloc, rest)?;
-    let (consequent, rest) = section_at(alloc, rest)?;
+    let rest = read!(head_at(bytes));
+    let (header, rest) = read!(header_at(alloc, rest));
+    let (signals, rest) = read!(counted_slots_at(alloc, rest));
+    let (counters, rest) = read!(counted_widths_at(alloc, rest));
+    let (sample, rest) = read!(counted_samples_at(alloc, rest));
+    let (antecedent, rest) = read!(section_at(alloc, rest));
+    let (consequent, rest) = read!(section_at(alloc, rest));
     let parts = Parts {
         header,
         signals,
@@ -123,7 +124,7 @@ fn parts_at(alloc: Global, bytes: &[u8]) -> Field<'_, Parts>
 fn whole_of(alloc: Global, bytes: &[u8]) -> Result<Parts, Stop>
     ensures { Gives parts_data result (whole_of bytes.now) }
 {
-    let (parts, rest) = parts_at(alloc, bytes)?;
+    let (parts, rest) = read!(parts_at(alloc, bytes));
     if !rest.is_empty() {
         return Err(Stop::Trailing(rest.len()));
     }

@@ -7,6 +7,7 @@ ghost use Rattle.program_files.specs.Reading.{plain_at, plain_of};
 
 use crate::field::{Field, byte_at, sixteen_at, two_at, width_at};
 use crate::opcode::plain_of;
+use crate::read::read;
 use crate::stop::Stop;
 use bytecode::SampleInstr;
 use signals::all_ones;
@@ -16,8 +17,8 @@ use signals::all_ones;
 fn push_at(bytes: &[u8]) -> Field<'_, SampleInstr>
     ensures { Gives (λ x. (x.0, x.1.now)) result (push_at bytes.now) }
 {
-    let (width, behind) = width_at(bytes)?;
-    let (value, rest) = sixteen_at(behind)?;
+    let (width, behind) = read!(width_at(bytes));
+    let (value, rest) = read!(sixteen_at(behind));
     if value <= all_ones(width) {
         return Ok((SampleInstr::Push(width, value), rest));
     }
@@ -29,8 +30,8 @@ fn push_at(bytes: &[u8]) -> Field<'_, SampleInstr>
 fn past_at(bytes: &[u8]) -> Field<'_, SampleInstr>
     ensures { Gives (λ x. (x.0, x.1.now)) result (past_at bytes.now) }
 {
-    let (slot, behind) = two_at(bytes)?;
-    let (ticks, rest) = two_at(behind)?;
+    let (slot, behind) = read!(two_at(bytes));
+    let (ticks, rest) = read!(two_at(behind));
     if ticks == 0 {
         return Err(Stop::Field(behind.len()));
     }
@@ -42,11 +43,11 @@ fn past_at(bytes: &[u8]) -> Field<'_, SampleInstr>
 fn slice_at(bytes: &[u8]) -> Field<'_, SampleInstr>
     ensures { Gives (λ x. (x.0, x.1.now)) result (slice_at bytes.now) }
 {
-    let (high, behind) = byte_at(bytes)?;
+    let (high, behind) = read!(byte_at(bytes));
     if 127 < high {
         return Err(Stop::Field(bytes.len()));
     }
-    let (low, rest) = byte_at(behind)?;
+    let (low, rest) = read!(byte_at(behind));
     if high < low {
         return Err(Stop::Field(behind.len()));
     }
@@ -71,29 +72,29 @@ fn operands_at(opcode: u8, left: usize, bytes: &[u8]) -> Field<'_, SampleInstr>
     match opcode {
         0x01 => push_at(bytes),
         0x02 => {
-            let (slot, rest) = two_at(bytes)?;
+            let (slot, rest) = read!(two_at(bytes));
             Ok((SampleInstr::Load(slot), rest))
         }
         0x03 => past_at(bytes),
         0x27 => {
-            let (width, rest) = width_at(bytes)?;
+            let (width, rest) = read!(width_at(bytes));
             Ok((SampleInstr::Zext(width), rest))
         }
         0x28 => slice_at(bytes),
         0x30 => {
-            let (target, rest) = two_at(bytes)?;
+            let (target, rest) = read!(two_at(bytes));
             Ok((SampleInstr::Jump(target), rest))
         }
         0x31 => {
-            let (target, rest) = two_at(bytes)?;
+            let (target, rest) = read!(two_at(bytes));
             Ok((SampleInstr::JumpIfZero(target), rest))
         }
         0x32 => {
-            let (atom, rest) = byte_at(bytes)?;
+            let (atom, rest) = read!(byte_at(bytes));
             Ok((SampleInstr::SetAtom(atom), rest))
         }
         0x33 => {
-            let (counter, rest) = byte_at(bytes)?;
+            let (counter, rest) = read!(byte_at(bytes));
             Ok((SampleInstr::Store(counter), rest))
         }
         _ => plain_at(opcode, left, bytes),
@@ -105,6 +106,6 @@ fn operands_at(opcode: u8, left: usize, bytes: &[u8]) -> Field<'_, SampleInstr>
 pub(crate) fn sample_at(bytes: &[u8]) -> Field<'_, SampleInstr>
     ensures { Gives (λ x. (x.0, x.1.now)) result (sample_at bytes.now) }
 {
-    let (opcode, rest) = byte_at(bytes)?;
+    let (opcode, rest) = read!(byte_at(bytes));
     operands_at(opcode, bytes.len(), rest)
 }

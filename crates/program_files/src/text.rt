@@ -5,6 +5,7 @@ ghost use Rattle.bytecode.specs.Texts.{is_first, is_later, begins};
 ghost use Rattle.program_files.specs.Reading.{Gives, bytes_at, text_at};
 
 use crate::field::{Field, two_at};
+use crate::read::read;
 use crate::stop::Stop;
 use std::alloc::Global;
 use std::str;
@@ -55,7 +56,7 @@ fn is_text(bytes: &[u8], dots: bool) -> bool
 fn bytes_at(bytes: &[u8]) -> Field<'_, &[u8]>
     ensures { Gives (λ x. (x.0.now, x.1.now)) result (bytes_at bytes.now) }
 {
-    let (count, rest) = two_at(bytes)?;
+    let (count, rest) = read!(two_at(bytes));
     let count = count as usize;
     if rest.len() < count {
         return Err(Stop::Cut);
@@ -67,7 +68,7 @@ fn bytes_at(bytes: &[u8]) -> Field<'_, &[u8]>
 pub(crate) fn text_at(alloc: Global, bytes: &[u8], dots: bool) -> Field<'_, String>
     ensures { Gives (λ x. (string_bytes x.0, x.1.now)) result (text_at (begins dots) bytes.now) }
 {
-    let (text, rest) = bytes_at(bytes)?;
+    let (text, rest) = read!(bytes_at(bytes));
     if !is_text(text, dots) {
         return Err(Stop::Field(bytes.len()));
     }
