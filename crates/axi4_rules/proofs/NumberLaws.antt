@@ -1,6 +1,6 @@
 -- Numbers, digit by digit.
 use Rattle.std.proofs.Common.{◌≡◌, ℕ, ◌+◌, ◌-◌, ◌*◌, ◌<◌, ◌≤◌, min, true, false, List, [], ◌∷◌, length, get_or, drop}
-use Rattle.std.proofs.Common.{Option, Some, None, ◌++◌, Bor, map, append_assoc, refl, sym, ap, ◌∙◌, arith}
+use Rattle.std.proofs.Common.{Option, Some, None, ◌++◌, Bor, map, append_assoc, append-nil, refl, sym, ap, ◌∙◌, arith}
 use Rattle.std.specs.Prelude.{◌==◌}
 use Rattle.std.specs.Char.{is_ascii_digit}
 use Rattle.std.specs.List.{list_all}
@@ -63,3 +63,8 @@ pub number_more : (ts : List (Bor (List ℕ))) (i : ℕ) (d : Bor (List ℕ)) (x
     → number ((get_or ts i d).now) ≡ Some n → with_front xs (all_numbers (map (λ t. t.now) (drop i ts)))
     ≡ with_front (xs ++ n ∷ []) (all_numbers (map (λ t. t.now) (drop (i + 1) ts)))
 number_more ts i d xs n below h = rw (drop-next ts i d below, h) (number-onto xs n _)
+
+-- no number is left
+pub numbers_end : (ts : List (Bor (List ℕ))) (i : ℕ) (xs : List ℕ) → length ts ≤ i
+    → with_front xs (all_numbers (map (λ t. t.now) (drop i ts))) ≡ Some xs
+numbers_end ts i xs over = rw (drop-end ts i over) (ap Some (append-nil xs))

@@ -8,7 +8,7 @@ use Rattle.axi4_rules.specs.Rules as rules
 use Rattle.axi4_rules.specs.declared.port.Port.{Port}
 use Rattle.axi4_rules.specs.Rules.{rule_line, reset_line, counter_line, of_port, for_ids}
 use Rattle.axi4_rules.specs.Rules.{all_filled, words}
-use Rattle.axi4_rules.specs.Rules.{channel_lines, stable_lines, address_rows}
+use Rattle.axi4_rules.specs.Rules.{channel_lines, stable_lines, address_lines, address_rows}
 use Rattle.axi4_rules.specs.Views.{texts_of}
 use Rattle.std.specs.Fmt.{decimal}
 use Rattle.std.specs.Borrow.{Bor}
@@ -42,15 +42,19 @@ line_of form f r = line_in form (fills f) (row_data r)
 abbrev pub filled_texts : Filling → List (Bor (List ℕ)) → List ℕ
 filled_texts f ws = all_filled (fills f) (texts_of ws)
 
--- the block of a channel, its rules of payload signals alone, and the rows of an address channel
+-- the block of a channel, its rules of payload signals alone, and the block of an address channel
 abbrev pub block_of : Port → List ℕ → List (Bor (List ℕ)) → List (List ℕ)
 block_of p channel payload = channel_lines (port_data p) channel (texts_of payload)
 
 abbrev pub stable_block : Port → List ℕ → List (Bor (List ℕ)) → List (List ℕ)
 stable_block p channel payload = stable_lines (port_data p) channel (texts_of payload)
 
-abbrev pub address_block : Filling → ℕ → List (List ℕ)
-address_block f width = map (rule_line (fills f)) (address_rows width)
+abbrev pub address_block : Port → List ℕ → List (List ℕ)
+address_block p channel = address_lines (port_data p) channel
+
+-- the lines of an address channel's rows, for beats of that many bits
+abbrev pub address_table : Filling → ℕ → List (List ℕ)
+address_table f width = map (rule_line (fills f)) (address_rows width)
 
 -- the one line of a row, those of rows, that of a row for an ID, and those for each watched ID
 abbrev pub one_line : Form → Filling → Row → List (List ℕ)

@@ -2,10 +2,10 @@
 
 ghost use Rattle.std.specs.Prelude.{◌≡◌, ◌==◌, IsTrue, not, OnOk};
 ghost use Rattle.std.specs.List.{list_any};
-ghost use Rattle.axi4_rules.specs.Rules.{wait_lines, address_lines};
+ghost use Rattle.axi4_rules.specs.Rules.{wait_lines};
 ghost use Rattle.axi4_rules.specs.Seen.{port_data};
 ghost use Rattle.axi4_rules.specs.Wholes.{Adds};
-ghost use Rattle.axi4_rules.specs.Rows.{block_of, address_block};
+ghost use Rattle.axi4_rules.specs.Rows.{block_of, address_block, address_table};
 
 use crate::blocks::{push_row, push_rows, push_stables};
 use crate::filling::Filling;
@@ -69,7 +69,7 @@ fn push_address_rows(
     filling: Filling,
     data_width: u32,
 ) -> Result<(), AllocError>
-    ensures { OnOk result (Adds text.old text.new (address_block filling.entry data_width)) }
+    ensures { OnOk result (Adds text.old text.new (address_table filling.entry data_width)) }
 {
     let size_row = Row {
         name: "__size",
@@ -90,8 +90,7 @@ pub(crate) fn push_address(
     channel: &str,
 ) -> Result<(), AllocError>
     requires { IsTrue (not (list_any (λ b. b == 10) comment.now)) }
-    ensures { OnOk result (Adds text.old text.new
-        (address_lines (port_data port.now) channel.now)) }
+    ensures { OnOk result (Adds text.old text.new (address_block port.now channel.now)) }
 {
     text.push_comment(comment)?;
     let item = format!(in alloc; "{}", port.addr)?;

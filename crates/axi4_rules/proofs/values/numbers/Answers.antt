@@ -1,7 +1,7 @@
 use Rattle.std.proofs.Common.{◌∙◌, ◌+◌, sym, ap, map, drop}
 use Rattle.axi4_rules.specs.Lines.{all_numbers}
 use Rattle.axi4_rules.proofs.ListLaws.{with_front}
-use Rattle.axi4_rules.proofs.NumberLaws.{number_more}
+use Rattle.axi4_rules.proofs.NumberLaws.{number_more, numbers_end}
 use Rattle.axi4_rules.proofs.values.numbers.Goals as goal
 
 pub loop-text-preserved : goal.loop-text-preserved
@@ -11,3 +11,8 @@ loop-text-preserved c =
     ∙ number_more c.args.texts.now c.loop-text.text-index _ _ c.in-Some.number c.loop-text-test.true
     (sym c.number.ensures ∙ c.in-Some.is)
     ∙ ap (λ l. with_front l left) (sym c.in_ok-push-in-Some.ensures.items)
+
+pub returns : goal.returns
+returns c =
+    sym (c.loop-text.invariant
+    ∙ numbers_end c.args.texts.now c.loop-text.text-index c.loop-text.found.items c.loop-text-test.false)
