@@ -1,7 +1,6 @@
 -- What is read up to the end is a file; and a file is read so.
 use Rattle.std.proofs.Common.{◌≡◌, Bool, true, false, ◌||◌, List, [], ◌∷◌, ◌++◌, Option, Some, None, refl, sym, ap, ap₂}
 use Rattle.std.proofs.Common.{◌∙◌, subst, map}
-use Rattle.std.specs.Prelude.{Result, Ok, Err, IfErr, IsErrAnd}
 use Rattle.lexer.specs.declared.token.Token.{Token}
 use Rattle.grammar.specs.declared.terminal.Terminal.TheVariants.{End}
 use Rattle.grammar.specs.Terminals.{terminal, is}
@@ -109,12 +108,6 @@ module _ (tokens : List Token) (xs : List ItemForm) (us : List Token) (h : items
 
 clash : {A : Type 0} (o : Option A) (p : A) → o ≡ None → o ≡ Some p → ⊥
 clash o p h k = absurd cc
-
--- what an error that is known says
-pub err_is : {X : Type 0} (r : Result X ParseFault) (e : ParseFault) (Why : ParseFault → Type 0)
-    → IsErrAnd r (λ f. f ≡ e) → Why e → IfErr r Why
-err_is (Ok x) e Why h why = tt
-err_is (Err f) e Why h why = subst Why (sym h) why
 
 pub nothing-read : (tokens : List Token) (fault : ParseFault) → Refuses fault (items tokens) → IsParseFault tokens fault
 nothing-read tokens fault refused some ys is_file =

@@ -1,7 +1,8 @@
 //! Whole files.
 
 ghost use Rattle.std.specs.Prelude.{◌≡◌, ◌≤◌, ◌<◌, ◌-◌, [], ◌∷◌, Some, None, length, drop, map};
-ghost use Rattle.std.specs.Prelude.{IfOk, IfErr, MatchOption, MatchResult, IfSome};
+ghost use Rattle.std.specs.Prelude.{IfOk, IfErr, MatchOption, MatchResult, IfSome, List};
+ghost use Rattle.grammar.specs.Trees.{ItemForm};
 ghost use Rattle.grammar.specs.Readers.{lead};
 ghost use Rattle.grammar.specs.Files.{IsFile};
 ghost use Rattle.grammar.specs.ReadFiles.{asserts, is_more, items};
@@ -10,6 +11,7 @@ ghost use Rattle.parser.specs.Faults.{IsParseFault, Refuses, IsPlaced};
 
 use crate::fault::{ParseFault, byte_in, fault_of};
 use crate::item::read_item;
+use crate::read::read;
 use grammar::{Terminal, is};
 use lexer::Token;
 use parser_expressions::{byte_at, first, same};
@@ -80,6 +82,28 @@ fn read_items<'t, 'a>(alloc: Global, tokens: &'t [Token<'a>]) -> Items<'t, 'a>
     }
 }
 
+/// The fault where the tokens behind the items are not the end alone, or no item is an assertion.
+fn end_fault<'a>(tokens: &[Token<'a>], rest: &[Token<'a>], asserted: bool) -> Option<ParseFault<'a>>
+    ensures file { (xs : List ItemForm) → items tokens.now ≡ Some (xs, rest.now)
+        → asserted ≡ asserts xs
+        → MatchOption result (IsFile xs tokens.now) (IsParseFault tokens.now) }
+    ensures placed { IfSome result (λ fault. 0 < length tokens.now → IsPlaced tokens.now fault) }
+{
+    let Some((last, behind)) = first(rest) else {
+        return Some(ParseFault::Expected("the end", byte_at(tokens)));
+    };
+    if !is(Terminal::End, last) {
+        return Some(ParseFault::Expected("the end", byte_in(tokens, last.at)));
+    }
+    if let Some((token, _)) = first(behind) {
+        return Some(ParseFault::Expected("no more tokens", byte_in(tokens, token.at)));
+    }
+    if !asserted {
+        return Some(ParseFault::Expected("an assertion", byte_in(tokens, last.at)));
+    }
+    None
+}
+
 /// The file that the tokens are.
 ///
 /// The tokens are those of `lexer::lex`: the last one is the end, and no other is. The fault is
@@ -91,18 +115,9 @@ pub fn parse<'a>(alloc: Global, tokens: &[Token<'a>]) -> Result<File<'a>, ParseF
     // The fault stands at one of the tokens, if there is one, and P2 tells that token's text.
     ensures placed { IfErr result (λ fault. 0 < length tokens.now → IsPlaced tokens.now fault) }
 {
-    let (items, asserted, rest) = read_items(alloc, tokens)?;
-    let Some((last, behind)) = first(rest) else {
-        return Err(ParseFault::Expected("the end", byte_at(tokens)));
-    };
-    if !is(Terminal::End, last) {
-        return Err(ParseFault::Expected("the end", byte_in(tokens, last.at)));
+    let (items, asserted, rest) = read!(read_items(alloc, tokens));
+    match end_fault(tokens, rest, asserted) {
+        Some(fault) => Err(fault),
+        None => Ok(File { items }),
     }
-    if let Some((token, _)) = first(behind) {
-        return Err(ParseFault::Expected("no more tokens", byte_in(tokens, token.at)));
-    }
-    if !asserted {
-        return Err(ParseFault::Expected("an assertion", byte_in(tokens, last.at)));
-    }
-    Ok(File { items })
 }
