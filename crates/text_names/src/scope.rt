@@ -1,6 +1,6 @@
 //! What names stand for in a text.
 
-ghost use Rattle.std.specs.Prelude.{◌≡◌, [], map, option_map, IfOk, OnOk, IsTrue};
+ghost use Rattle.std.specs.Prelude.{◌≡◌, map, option_map, IfOk, OnOk, IsTrue};
 ghost use Rattle.text_trees.specs.Views.{path_of, tree_of, item_of};
 ghost use Rattle.text_names.specs.Scopes.{look_up, owns, is_narrow, bits_of, meaning};
 ghost use Rattle.text_names.specs.Scopes.{meaning_by, sequence_named};
@@ -45,16 +45,11 @@ fn declare(
     Ok(())
 }
 
-/// Adds the names that the items declare to none.
-fn declare_all(
-    alloc: Global,
-    names: &mut IndexMap<String, OwnName>,
-    items: &[ItemTree],
-) -> Result<(), AllocError>
-    requires { entries_in names.old ≡ [] }
-    ensures { OnOk result
-        (look_up (entries_in names.new) ≡ look_up (owns (map item_of items.now))) }
+/// The names that the items declare.
+fn owns_of(alloc: Global, items: &[ItemTree]) -> Result<IndexMap<String, OwnName>, AllocError>
+    ensures { IfOk result (λ m. look_up (entries_in m) ≡ look_up (owns (map item_of items.now))) }
 {
+    let mut names = IndexMap::new(alloc);
     let mut counters = 0usize;
     let mut sequences = 0usize;
     for item in items {
@@ -62,28 +57,19 @@ fn declare_all(
             ItemTree::Counter(counter) => {
                 let width = Width::within(counter.width.value);
                 let own = Own::Counter(counters, width.bits);
-                declare(alloc, names, counter.name.text, OwnName { own })?;
+                declare(alloc, &mut names, counter.name.text, OwnName { own })?;
                 counters += 1;
                 continue;
             }
             ItemTree::Declaration(declaration) => {
                 let own = Own::Sequence(sequences);
-                declare(alloc, names, declaration.name.text, OwnName { own })?;
+                declare(alloc, &mut names, declaration.name.text, OwnName { own })?;
                 sequences += 1;
                 continue;
             }
             ItemTree::Assertion(_) => continue,
         }
     }
-    Ok(())
-}
-
-/// The names that the items declare.
-fn owns_of(alloc: Global, items: &[ItemTree]) -> Result<IndexMap<String, OwnName>, AllocError>
-    ensures { IfOk result (λ m. look_up (entries_in m) ≡ look_up (owns (map item_of items.now))) }
-{
-    let mut names = IndexMap::new(alloc);
-    declare_all(alloc, &mut names, items)?;
     Ok(names)
 }
 

@@ -3,7 +3,7 @@ use Rattle.text_trees.specs.Views.{item_of}
 use Rattle.text_names.specs.Scopes.{look_up, owns, owns_from}
 use Rattle.text_names.specs.Views.{entries_in}
 use Rattle.text_names.proofs.EntryLaws.{first_of}
-use Rattle.text_names.proofs.scope.declare_all.Given as goal
+use Rattle.text_names.proofs.scope.owns_of.Given as goal
 
 -- what is left decides where no name was found so far
 abbrev pub invariant-loop-item : goal.invariant-loop-item

@@ -7,7 +7,7 @@ use Rattle.text_names.specs.Scopes.{look_up, owns, owns_from}
 use Rattle.text_names.specs.Views.{entries_in}
 use Rattle.text_names.proofs.EntryLaws.{left-step, left-end}
 use Rattle.text_names.proofs.Lists.{at, past_end}
-use Rattle.text_names.proofs.scope.declare_all.Goals as goal
+use Rattle.text_names.proofs.scope.owns_of.Goals as goal
 
 pub loop-item-preserved-in-Counter : goal.loop-item-preserved-in-Counter
 loop-item-preserved-in-Counter c =
