@@ -1,8 +1,7 @@
 //! The times and changes of a dump.
 
-ghost use Rattle.std.specs.Prelude.{◌≡◌, ℕ, ◌<◌, ◌≤◌, ◌+◌, ◌++◌, ◌∷◌, [], List, map, length, drop};
-ghost use Rattle.std.specs.Prelude.{Ok, Err, OnOk, Some, IfOk, IfSome, slice_range, Result, Option};
-ghost use Rattle.std.specs.Prelude.{nat_lt};
+ghost use Rattle.std.specs.Prelude.{◌≡◌, ℕ, ◌<◌, ◌≤◌, ◌+◌, ◌++◌, List, map, length, drop, Ok, Err};
+ghost use Rattle.std.specs.Prelude.{Some, IfOk, IfSome, slice_range, Result, Option, nat_lt};
 ghost use Rattle.vcd_reader.specs.Faults.{Gives, read_on};
 ghost use Rattle.vcd_reader.specs.Variables.{place_of};
 ghost use Rattle.vcd_reader.specs.Index.{codes_in};
@@ -203,75 +202,6 @@ fn new_change(high: &mut Vec<u64>, code: u32, value: u128) -> Result<Change, All
     })
 }
 
-/// Puts one more step behind the others, with a copy of its changes.
-fn push_step(
-    alloc: Global,
-    steps: &mut Vec<Step>,
-    time: u64,
-    changes: &[Change],
-) -> Result<(), AllocError>
-    ensures { OnOk result ((high : List ℕ) → map (stored_step high) steps.new.items
-        ≡ map (stored_step high) steps.old.items
-        ++ record { time = time; changes = map (stored_change high) changes.now } ∷ []) }
-{
-    let changes = Vec::from_slice(alloc, changes)?;
-    steps.push(Step { time, changes })?;
-    Ok(())
-}
-
-/// Puts the steps of the body that begins there into an empty list, and the high parts of their
-/// wide values into another.
-fn read_items(
-    alloc: Global,
-    bytes: &[u8],
-    start: usize,
-    codes: &Codes,
-    steps: &mut Vec<Step>,
-    high: &mut Vec<u64>,
-) -> Result<(), ReadError>
-    requires start { start ≤ length bytes.now }
-    requires empty { (steps.old.items ≡ []) × (high.old.items ≡ []) }
-    ensures { Gives (λ _. map (stored_step high.new.items) steps.new.items) result
-        (kept_steps (steps_of (body (codes_in codes.now.variables.now) (length bytes.now) 0 0
-        (tokens_at bytes.now start)))) }
-{
-    let mut changes = Vec::new(alloc);
-    let mut count = 0u32;
-    let mut now = 0;
-    let mut at = start;
-    'items: loop {
-        let Some((item, end)) = next_item(bytes, at, codes)? else {
-            push_step(alloc, steps, now, &changes)?;
-            return Ok(());
-        };
-        at = end;
-        match item {
-            Item::Skipped => continue,
-            Item::Changed(code, value) => {
-                if !has_room(count) {
-                    return Err(ReadError::Fault(Fault::TooLarge));
-                }
-                let change = new_change(high, code, value)?;
-                changes.push(change)?;
-                count += 1;
-                continue;
-            }
-            Item::Timed(time, from) => {
-                if time < now {
-                    return Err(ReadError::Fault(Fault::TimeBack(from)));
-                }
-                if time == now {
-                    continue;
-                }
-                push_step(alloc, steps, now, &changes)?;
-                changes.clear();
-                now = time;
-                continue;
-            }
-        }
-    }
-}
-
 /// The steps of the body that begins there, and the high parts of their wide values.
 pub(crate) fn read_body(
     alloc: Global,
@@ -286,6 +216,44 @@ pub(crate) fn read_body(
 {
     let mut steps = Vec::new(alloc);
     let mut high = Vec::new(alloc);
-    read_items(alloc, bytes, start, codes, &mut steps, &mut high)?;
-    Ok((steps, high))
+    let mut changes = Vec::new(alloc);
+    let mut count = 0u32;
+    let mut now = 0;
+    let mut at = start;
+    'items: loop {
+        let Some((item, end)) = next_item(bytes, at, codes)? else {
+            let changes = Vec::from_slice(alloc, &changes)?;
+            steps.push(Step { time: now, changes })?;
+            return Ok((steps, high));
+        };
+        at = end;
+        match item {
+            Item::Skipped => continue,
+            Item::Changed(code, value) => {
+                if !has_room(count) {
+                    return Err(ReadError::Fault(Fault::TooLarge));
+                }
+                let change = new_change(&mut high, code, value)?;
+                changes.push(change)?;
+                count += 1;
+                continue;
+            }
+            Item::Timed(time, from) => {
+                if time < now {
+                    return Err(ReadError::Fault(Fault::TimeBack(from)));
+                }
+                if time == now {
+                    continue;
+                }
+                let done = Vec::from_slice(alloc, &changes)?;
+                steps.push(Step {
+                    time: now,
+                    changes: done,
+                })?;
+                changes.clear();
+                now = time;
+                continue;
+            }
+        }
+    }
 }

@@ -310,24 +310,17 @@ pub(crate) struct Declarations {
     pub(crate) end: usize,
 }
 
-/// Puts the header's declarations into empty lists, and tells where the body begins.
-fn read_sections(
-    alloc: Global,
-    bytes: &[u8],
-    scopes: &mut Vec<Scope>,
-    variables: &mut Vec<Variable>,
-    hints: &mut HashMap<u64, u32>,
-) -> Result<usize, ReadError>
-    requires empty { (scopes.old.items ≡ []) × (variables.old.items ≡ []) }
-    ensures high { IfOk result (λ end. end ≤ length bytes.now) }
-    ensures tree { IfOk result (λ _. IsTree scopes.new.items) }
+/// The declarations of the header.
+pub(crate) fn read_header(alloc: Global, bytes: &[u8]) -> Result<Declarations, ReadError>
+    ensures high { IfOk result (λ d. d.end ≤ length bytes.now) }
+    ensures tree { IfOk result (λ d. IsTree d.scopes.items) }
     ensures header { Gives
-        (λ end. (
-          map (declaration_of scopes.new.items) variables.new.items,
-          tokens_at bytes.now end,
-        ))
+        (λ d. (map (declaration_of d.scopes.items) d.variables.items, tokens_at bytes.now d.end))
         result (header [] [] (tokens_at bytes.now 0)) }
 {
+    let mut variables = Vec::new(alloc);
+    let mut scopes: Vec<Scope> = Vec::new(alloc);
+    let mut hints: HashMap<u64, u32> = HashMap::new(alloc);
     let mut scope = 0;
     let mut at = 0;
     'sections: loop {
@@ -335,15 +328,21 @@ fn read_sections(
             return Err(ReadError::Fault(Fault::Truncated));
         };
         match read_section(alloc, bytes, from, end, scope)? {
-            Section::Ended(stop) => return Ok(stop),
+            Section::Ended(stop) => {
+                return Ok(Declarations {
+                    scopes,
+                    variables,
+                    end: stop,
+                });
+            }
             Section::Opened(name, stop) => {
                 let name = &bytes[name.from..name.end];
-                scope = open_scope(alloc, scopes, hints, scope, name)?;
+                scope = open_scope(alloc, &mut scopes, &mut hints, scope, name)?;
                 at = stop;
                 continue;
             }
             Section::Closed(stop) => {
-                scope = outer_place(scopes, scope);
+                scope = outer_place(&scopes, scope);
                 at = stop;
                 continue;
             }
@@ -358,23 +357,4 @@ fn read_sections(
             }
         }
     }
-}
-
-/// The declarations of the header.
-pub(crate) fn read_header(alloc: Global, bytes: &[u8]) -> Result<Declarations, ReadError>
-    ensures high { IfOk result (λ d. d.end ≤ length bytes.now) }
-    ensures tree { IfOk result (λ d. IsTree d.scopes.items) }
-    ensures header { Gives
-        (λ d. (map (declaration_of d.scopes.items) d.variables.items, tokens_at bytes.now d.end))
-        result (header [] [] (tokens_at bytes.now 0)) }
-{
-    let mut scopes = Vec::new(alloc);
-    let mut variables = Vec::new(alloc);
-    let mut hints = HashMap::new(alloc);
-    let end = read_sections(alloc, bytes, &mut scopes, &mut variables, &mut hints)?;
-    Ok(Declarations {
-        scopes,
-        variables,
-        end,
-    })
 }

@@ -13,20 +13,20 @@ use Rattle.vcd_reader.specs.Sections.{text_at, tokens_at}
 use Rattle.vcd_reader.proofs.HeaderLaws.{header-none, fails-along}
 use Rattle.vcd_reader.proofs.ResumedLaws.{resumed-err}
 use Rattle.vcd_reader.proofs.ScopeLaws.{opened-top, opened-kept, tree-none}
-use Rattle.vcd_reader.proofs.header.read_sections.Goals as goal
+use Rattle.vcd_reader.proofs.header.read_header.Goals as goal
 
 pub sections-init : goal.sections-init
 sections-init c =
-    let scopes = c.args.scopes.now.items in
+    let scopes = c.new-scopes.result.items in
     record {
       high = omega arith;
-      tree = subst (λ (ss : List Scope). IsTree ss) (sym c.requires.empty.0) tree-none;
+      tree = subst (λ (ss : List Scope). IsTree ss) (sym c.new-scopes.ensures.items) tree-none;
       inside = omega arith;
       same = λ more.
           ap (λ (xs : List (List ℕ)). header xs [] (tokens_at c.args.bytes.now 0)) (sym (opened-top scopes))
           ∙ ap (λ (vs : List Variable). header (open_scopes scopes 0)
           (map (declaration_of (scopes ++ more)) vs) (tokens_at c.args.bytes.now 0))
-          (sym c.requires.empty.1);
+          (sym c.new-variables.ensures.items);
     }
 
 pub returns-in_default-clause-header : goal.returns-in_default-clause-header

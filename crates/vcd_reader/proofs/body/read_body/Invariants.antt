@@ -5,7 +5,7 @@ use Rattle.vcd_reader.specs.Body.{body, steps_of}
 use Rattle.vcd_reader.specs.Kept.{kept_result, kept_steps}
 use Rattle.vcd_reader.specs.Sections.{tokens_at}
 use Rattle.vcd_reader.proofs.BodyLaws.{joined}
-use Rattle.vcd_reader.proofs.body.read_items.Given as goal
+use Rattle.vcd_reader.proofs.body.read_body.Given as goal
 
 abbrev pub invariant-items : goal.invariant-items
 invariant-items l = record {

@@ -4,7 +4,7 @@ use Rattle.vcd_reader.specs.Stored.{declaration_of}
 use Rattle.vcd_reader.specs.Header.{header}
 use Rattle.vcd_reader.specs.Scopes.{open_scopes, IsTree}
 use Rattle.vcd_reader.specs.Sections.{tokens_at}
-use Rattle.vcd_reader.proofs.header.read_sections.Given as goal
+use Rattle.vcd_reader.proofs.header.read_header.Given as goal
 
 abbrev pub invariant-sections : goal.invariant-sections
 invariant-sections l = record {

@@ -2,7 +2,6 @@ use Rattle.std.proofs.Common.{◌≡◌, ◌∙◌, ◌++◌, ◌∷◌, ◌+◌
 use Rattle.std.proofs.Common.{arith, refl}
 use Rattle.std.proofs.lemmas.Bool.{ltb-true, ltb-false}
 use Rattle.std.proofs.lemmas.List.{append-nil}
-use Rattle.vcd_reader.specs.declared.step.Change.{Change}
 use Rattle.vcd_reader.specs.Index.{codes_in}
 use Rattle.vcd_reader.specs.Stored.{StoredChange, StoredStep, stored_change, stored_step}
 use Rattle.vcd_reader.specs.Body.{body}
@@ -11,15 +10,15 @@ use Rattle.vcd_reader.specs.Sections.{tokens_at}
 use Rattle.vcd_reader.proofs.BodyLaws.{joined, joined-none, joined-change, joined-step, applied-full}
 use Rattle.vcd_reader.proofs.BodyLaws.{applied-change, applied-back, applied-later}
 use Rattle.vcd_reader.proofs.ResumedLaws.{resumed-err}
-use Rattle.vcd_reader.proofs.StoredLaws.{change-pushed}
-use Rattle.vcd_reader.proofs.body.read_items.Goals as goal
+use Rattle.vcd_reader.proofs.StoredLaws.{step-pushed, change-pushed}
+use Rattle.vcd_reader.proofs.body.read_body.Goals as goal
 
 pub items-init : goal.items-init
 items-init c = record {
-  inside = c.requires.start;
-  wide = rw c.requires.empty.1 (omega arith);
+  inside = c.requires;
+  wide = rw c.new-high.ensures.items (omega arith);
   same = λ more.
-      rw (c.requires.empty.0, c.new-changes.ensures.items)
+      rw (c.new-steps.ensures.items, c.new-changes.ensures.items)
       (joined-none (body (codes_in c.args.codes.now.variables.now) (length c.args.bytes.now) 0 0
       (tokens_at c.args.bytes.now c.args.start)));
 }
@@ -44,9 +43,8 @@ returns-in_default c =
     ++ record { time = c.items.now; changes = cs } ∷ []))
     (append-nil (map (stored_change c.items.high.items) c.items.changes.items))
     ∙ ap (λ (ss : List StoredStep). Ok ss)
-    (sym (c.in_ok-push_step.ensures c.items.high.items
-    ∙ ap (λ (cs : List Change). map (stored_step c.items.high.items) c.items.steps.items
-    ++ record { time = c.items.now; changes = map (stored_change c.items.high.items) cs } ∷ []) c.deref.ensures.value))
+    (sym (step-pushed c.items.high.items c.items.steps.items _ _ c.items.changes.items
+    c.in_ok-push.ensures.items (c.in_ok-changes.ensures.items ∙ c.deref.ensures.value)))
 
 pub returns-then-not-has_room : goal.returns-then-not-has_room
 returns-then-not-has_room c =
@@ -120,8 +118,7 @@ items-preserved c = record {
       ∙ joined-step (map (stored_step high) steps) c.items.now c.in-Timed.time
       (map (stored_change high) changes) read
       ∙ ap (λ (ss : List StoredStep). joined ss c.in-Timed.time [] read)
-      (sym (c.in_ok-push_step-in-Timed.ensures high
-      ∙ ap (λ (cs : List Change). map (stored_step high) steps
-      ++ record { time = c.items.now; changes = map (stored_change high) cs } ∷ []) c.deref-in-Timed.ensures.value))
+      (sym (step-pushed high steps _ _ changes c.in_ok-push-in-Timed.ensures.items
+      (c.in_ok-done-in-Timed.ensures.items ∙ c.deref-in-Timed.ensures.value)))
       ∙ rw c.clear.ensures.items refl;
 }
