@@ -18,11 +18,11 @@
 
 mod code_lines;
 mod fault;
-mod fault_line;
-mod status;
-mod totals;
+mod lines;
+mod report_totals;
+mod statuses;
 
 pub use fault::Fault;
-pub use fault_line::fault_line;
-pub use status::status;
-pub use totals::totals;
+pub use lines::fault_line;
+pub use report_totals::totals;
+pub use statuses::status;
