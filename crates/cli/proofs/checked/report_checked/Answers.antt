@@ -58,8 +58,8 @@ report_by_programs-requires-clause-fit c =
     all_fit c.suite_law.ensures k c.args.text.now (items_of c.in_ok-file.file) c.in_ok-suite.suite
     c.in_ok-file.ensures.ok (c.in_ok-suite.ensures.ok k holds)
 
-pub returns-in-Err-clause-err : goal.returns-in-Err-clause-err
-returns-in-Err-clause-err c = λ k holds.
+pub returns-clause-err : goal.returns-clause-err
+returns-clause-err c = λ k holds.
     let d = c.args.dump in
     let text = c.args.text.now in
     let suite = c.in_ok-suite.suite in
