@@ -1,5 +1,5 @@
 -- What a build comes to.
-use Rattle.std.proofs.Common.{◌≡◌, List, ℕ, string_bytes}
+use Rattle.std.proofs.Common.{◌≡◌, List, ℕ}
 use Rattle.std.specs.Prelude.{Result, Ok, Err, IfOk, IfErr}
 use Rattle.grammar.specs.Trees.{ItemForm}
 use Rattle.assertions.specs.declared.assertion.Assertion.{Assertion}
@@ -35,11 +35,10 @@ use Rattle.outcomes.specs.declared.fault.Fault.TheVariants.{
 }
 use Rattle.outcomes.specs.Faults.{vcd_fault, type_fault, compile_fault}
 use Rattle.cli.specs.Reported.{HasItems, SaysSuite}
-use Rattle.cli.specs.Outcomes.{WhyNoItems, WhyNotTyped, IsMistyped, WhyNoReport}
+use Rattle.cli.specs.Outcomes.{WhyNoItems, WhyNotTyped, WhyNoReport}
 use Rattle.cli.specs.Builds.{
   IsNamed,
   WhyNoProgram,
-  SaysNone,
   WhyNotBuilt,
   Build,
   IsRefusedBuild,

@@ -11,7 +11,6 @@ use Rattle.std.proofs.Common.{
   Some,
   None,
   length,
-  map,
   cond,
   ap,
   sym,

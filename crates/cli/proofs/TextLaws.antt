@@ -21,7 +21,7 @@ use Rattle.std.proofs.Common.{
   ◌∙◌,
   subst,
 }
-use Rattle.std.specs.Prelude.{Result, Ok, Err, IfErr, IsErrAnd, string_bytes}
+use Rattle.std.specs.Prelude.{string_bytes}
 use Rattle.std.specs.Option.{option_map}
 use Rattle.std.specs.Str.{is_utf8}
 use Rattle.lexer.specs.declared.token.Token.{Token}
@@ -55,7 +55,7 @@ use Rattle.vcd_reader.specs.Variables.{Declared, variable_named, size_of}
 use Rattle.vcd_reader.specs.Dump.{Contents}
 use Rattle.cycle_window.specs.declared.fault.WindowFault.{WindowFault}
 use Rattle.cycle_window.specs.declared.fault.WindowFault.TheVariants as windows
-use Rattle.cycle_window.specs.Bound.{IsClockFault, OtherWidth, misfit}
+use Rattle.cycle_window.specs.Bound.{IsClockFault, misfit}
 use Rattle.outcomes.specs.declared.fault.Fault.{Fault}
 use Rattle.outcomes.specs.declared.fault.Fault.TheVariants.{
   Vcd,
@@ -86,7 +86,6 @@ use Rattle.cli.specs.Outcomes.{
   WhyNoItems,
   WhyNotTyped,
   WhyNoReport,
-  IsNotCompiled,
   WhyNoneByPrograms,
 }
 

@@ -6,7 +6,7 @@ ghost use Rattle.vcd_reader.specs.Held.{HoldsContents};
 ghost use Rattle.verdicts.specs.Shown.{data_of};
 ghost use Rattle.cli.specs.Reported.{HasReport};
 ghost use Rattle.cli.specs.Outcomes.{WhyNoReport, IsAnswered, WhyRunRefused};
-ghost use Rattle.outcomes.specs.Runs.{run_of, totals_of};
+ghost use Rattle.outcomes.specs.Runs.{run_of};
 
 use crate::text::{file_of, suite_of};
 use outcomes::{Fault, totals};

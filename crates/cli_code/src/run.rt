@@ -7,7 +7,7 @@ ghost use Rattle.cycle_window.specs.declared.fault.WindowFault.TheVariants.{BadS
 ghost use Rattle.cycle_window.specs.Bound.{IsBadSize};
 ghost use Rattle.verdicts.specs.Shown.{data_of};
 ghost use Rattle.outcomes.specs.declared.fault.Fault.TheVariants.{Window};
-ghost use Rattle.outcomes.specs.Runs.{run_of, totals_of};
+ghost use Rattle.outcomes.specs.Runs.{run_of};
 ghost use Rattle.cli_code.specs.Outcomes.{HasRunReport, WhyNoRunReport, IsRunAnswered};
 ghost use Rattle.cli_code.specs.Outcomes.{WhyRunFails, WhyNotRun};
 

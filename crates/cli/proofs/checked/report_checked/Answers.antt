@@ -1,6 +1,5 @@
 use Rattle.std.proofs.Common.{List, ℕ, refl, sym, subst, string_bytes}
 use Rattle.text_trees.specs.Views.{items_of}
-use Rattle.vcd_reader.specs.Variables.{Declared, variable_named}
 use Rattle.vcd_reader.specs.Held.{variables_of}
 use Rattle.cycle_window.specs.Bound.{IsClock, IsClockFault}
 use Rattle.cycle_window.specs.Held.{code_in}
