@@ -34,5 +34,6 @@ mod lines;
 mod report;
 mod taken;
 
+pub use line_so_far::LineSoFar;
 pub use lines::job_lines;
 pub use report::report_run;

@@ -14,7 +14,7 @@ use verdicts::{Counts, Failure, Line};
 
 /// What the line of a program says of the attempts that were taken in.
 #[derive(Drop)]
-pub(crate) struct LineSoFar {
+pub struct LineSoFar {
     pub(crate) counts: Counts,
     pub(crate) fails: Vec<Failure>,
 }
@@ -71,7 +71,7 @@ impl LineSoFar {
     ghost use Rattle.core_runs.specs.Taken.{TookIn};
 
     /// Of no attempt.
-    pub(crate) fn new(alloc: Global) -> LineSoFar
+    pub fn new(alloc: Global) -> LineSoFar
         ensures { TookIn result [] }
     {
         LineSoFar {
@@ -94,7 +94,7 @@ impl LineSoFar {
     }
 
     /// Takes in attempts, in their order.
-    pub(crate) fn take_in(&mut self, attempts: &[Decided]) -> Result<(), AllocError>
+    pub fn take_in(&mut self, attempts: &[Decided]) -> Result<(), AllocError>
         requires { attempts_of self.old.counts + length attempts.now < 2 ^ 64 }
         ensures took { (before : List Decided) → TookIn self.old before
             → OnOk result (TookIn self.new (before ++ attempts.now)) }
@@ -106,7 +106,7 @@ impl LineSoFar {
     }
 
     /// The line of a program with that name.
-    pub(crate) fn into_line(self, name: String) -> Line
+    pub fn into_line(self, name: String) -> Line
         ensures line { (attempts : List Decided) → TookIn self attempts
             → line result ≡ line_over (string_bytes name) attempts }
         ensures count { attempts_of result.counts ≡ attempts_of self.counts }

@@ -4,11 +4,12 @@ ghost use Rattle.std.specs.Prelude.{◌≡◌, ◌<◌, List, Option, Some, None
 ghost use Rattle.std.specs.Prelude.{replicate, get_or, slice_set, IfSome, ℕ};
 ghost use Rattle.std.specs.Borrow.{sem};
 ghost use Rattle.std.specs.Vec.Ownership.{FitsInBlock};
+ghost use base.Fml.{ftrue};
 ghost use denote.RawPtr.{Ptr};
 ghost use Rattle.raw_block.specs.Ownership.{IsHeld, places_owned, places_lent, right_owned};
 
 use std::alloc::Allocator;
-use std::marker::{Model, PhantomData, Send};
+use std::marker::{Model, PhantomData, Send, Sync};
 use std::mem::{align_of, size_of};
 use std_alloc::room::may_hold;
 
@@ -28,6 +29,8 @@ impl<T> Model for Places<T> {
 
 unsafe impl<T: Send> Send for Places<T> {}
 
+unsafe impl<T: Sync> Sync for Places<T> {}
+
 /// The right to give a block back to its allocator. It takes no space.
 pub struct Lease<T, A: Allocator> {
     marker: PhantomData<*const (T, A)>,
@@ -38,9 +41,14 @@ pub struct Lease<T, A: Allocator> {
 
 impl<T, A: Allocator> Model for Lease<T, A> {
     ghost also_owns = { λ l. right_owned T.row (A.dealloc_token l.alloc) l.start l.count };
+
+    ghost also_shares = { λ _ _ _. ftrue };
 }
 
 unsafe impl<T, A: Allocator + Send> Send for Lease<T, A> {}
+
+// A `&` to it holds nothing.
+unsafe impl<T, A: Allocator> Sync for Lease<T, A> {}
 
 /// A block of so many empty places, of a size that a block may have.
 fn allocate<T, A: Allocator>(alloc: &A, count: usize) -> Option<(Places<T>, Lease<T, A>)>

@@ -70,6 +70,20 @@ impl Job {
         })
     }
 
+    /// The dump.
+    pub fn dump(&self) -> &Dump
+        ensures { result.now ≡ self.now.dump }
+    {
+        &self.dump
+    }
+
+    /// The ticks of the job's clock.
+    pub fn clocks(&self) -> &Clocks
+        ensures { result.now ≡ self.now.clocks }
+    {
+        &self.clocks
+    }
+
     /// The job's programs, in source order.
     pub fn programs(&self) -> &[Verified]
         ensures { result.now ≡ (job_value self.now).programs }

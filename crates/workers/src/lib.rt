@@ -46,5 +46,7 @@ mod worker;
 pub use cores::Core;
 pub use job::Job;
 pub use job_fault::JobFault;
+pub use monitor::Monitor;
+pub use opening::{monitors_of, window_of};
 pub use run_fault::RunFault;
 pub use step::{Reply, Step};

@@ -6,6 +6,7 @@ ghost use Rattle.std.specs.Prelude.{vec_len, vec_capacity};
 ghost use Rattle.vcd_reader.specs.Dump.{Contents};
 ghost use Rattle.cycle_window.specs.Held.{end_in, IsOver};
 ghost use Rattle.workers.specs.States.{advanced};
+ghost use Rattle.machine.specs.Running.{open_ones};
 
 use arrayvec::ArrayVec;
 use batches::Batch;
@@ -18,7 +19,7 @@ use verifier::Verified;
 
 /// A program of a job at work.
 #[derive(Drop)]
-pub(crate) struct Monitor {
+pub struct Monitor {
     pub(crate) machine: Machine,
     /// Its signals' part of a row: from the first place up to the second, which is not in it.
     pub(crate) from: usize,
@@ -89,7 +90,7 @@ impl Monitor {
     }
 
     /// Makes room for what so many clocks decide: an attempt each, and those that are live.
-    pub(crate) fn reserve(&mut self, clocks: u64) -> Result<(), AllocError>
+    pub fn reserve(&mut self, clocks: u64) -> Result<(), AllocError>
         ensures same { IsUnmoved self.old self.new }
         ensures room { OnOk result (vec_len self.new.decided
             + self.new.attempts + clocks
@@ -102,7 +103,7 @@ impl Monitor {
     }
 
     /// The clocks up to one of the window's. There is room for what they decide.
-    pub(crate) fn advance(&mut self, window: &Window<'_>, to: u64)
+    pub fn advance(&mut self, window: &Window<'_>, to: u64)
         requires stands { Stands window.now self.old }
         requires ahead { self.old.machine.state.standing.now ≤ to }
         requires inside { to ≤ end_in window.now }
@@ -111,6 +112,7 @@ impl Monitor {
             + (to - self.old.machine.state.standing.now) ≤ vec_capacity self.old.decided }
         ensures stands { Stands window.now self.new }
         ensures same { IsSame self.old self.new }
+        ensures place { self.new.machine.state.standing.now ≡ to }
         ensures moved { (c : Contents) → IsOver window.now c →
             advanced (seen window.now c self.old) (to - self.old.machine.state.standing.now)
             (monitor_state self.old)
@@ -123,8 +125,18 @@ impl Monitor {
         }
     }
 
+    /// Its live attempts, as open ones, by start.
+    pub fn open_attempts(&self) -> ArrayVec<Decided, 1024>
+        requires { self.now.machine.program.header.limits.attempts ≤ 1024 }
+        ensures { result.items ≡ open_ones self.now.machine.state.standing.attempts }
+    {
+        let mut live = ArrayVec::new();
+        self.machine.open_starts(&mut live);
+        live
+    }
+
     /// What was decided since the last batch, as the batch of the clocks since.
-    pub(crate) fn take_batch(&mut self, alloc: Global, number: usize) -> Batch
+    pub fn take_batch(&mut self, alloc: Global, number: usize) -> Batch
         ensures batch { batch_state result ≡ batch number (monitor_state self.old) }
         ensures cleared { IsCleared self.old self.new }
     {

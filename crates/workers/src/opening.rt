@@ -18,7 +18,7 @@ use std::alloc::{AllocError, Global};
 use verifier::Verified;
 
 /// An empty window before the first clock, over the rows of all programs' signals.
-pub(crate) fn window_of<'j>(
+pub fn window_of<'j>(
     alloc: Global,
     job: &'j Job,
     size: usize,
@@ -31,7 +31,7 @@ pub(crate) fn window_of<'j>(
 }
 
 /// A monitor of each program, in order, each with its part of a row of all signals.
-pub(crate) fn monitors_of(alloc: Global, programs: &[Verified]) -> Result<Vec<Monitor>, AllocError>
+pub fn monitors_of(alloc: Global, programs: &[Verified]) -> Result<Vec<Monitor>, AllocError>
     ensures opened { IfOk result (λ ms.
         map monitor_state ms.items ≡ map opened_monitor programs.now) }
     ensures parts { IfOk result (λ ms. map part_of ms.items ≡ parts_from 0 programs.now) }

@@ -124,3 +124,9 @@ returns-clause-moved c = λ k over.
     c.loop-clock.self inv.same
     (subst (λ (n : ℕ). HasGone (rows_between (seen w k old) now n) old c.loop-clock.self) (sym back)
     (inv.gone k over))
+
+pub returns-clause-place : goal.returns-clause-place
+returns-clause-place c =
+    let inv = c.loop-clock.invariant in
+    let end : c.loop-clock.clock ≡ c.args.to = omega (arith, inv.most, c.loop-clock-test.false) in
+    inv.now ∙ end
