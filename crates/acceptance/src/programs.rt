@@ -2,7 +2,7 @@
 
 use crate::outcome::told;
 use crate::reports::has_line;
-use cli::Fault;
+use cli::{Fault, NoGate};
 use cli_code::{run_code, verify_code};
 use signals::{Counted, CutWriter};
 use std::alloc::{AllocError, Global};
@@ -62,7 +62,8 @@ const REPORT: &[u8] = b"svamon 1\nclocks 1\nmonitor r holds 0 vacuous 0 fails 1 
 fn report_of_a_program(rt: HostRuntime) -> Result<(), Fail> {
     let mut source = Counted::new(DUMP.as_bytes());
     let mut out = Counted::new(CutWriter::new(rt.alloc(), 1000)?);
-    let answer = run_code(rt.alloc(), &mut source, PROGRAM.as_slice(), 1024, &mut out);
+    let code = PROGRAM.as_slice();
+    let answer = run_code(&rt, rt.alloc(), &mut source, code, 4, 1024, &NoGate, &mut out);
     let told = told(rt.alloc(), answer)?;
     assert!(rt; told.totals == Some([0, 0, 1, 0, 0]));
     assert!(rt; out.inner.as_slice() == REPORT);

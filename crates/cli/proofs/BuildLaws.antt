@@ -21,6 +21,7 @@ use Rattle.outcomes.specs.declared.fault.Fault.TheVariants.{
   Parse,
   Typing,
   Compile,
+  BadWorkers,
   BadJob,
   Window,
   Port,
@@ -81,6 +82,7 @@ module _ (c : Contents) (text name : List ℕ) where
   without_items (Parse e) h = formless e h
   without_items (Typing e) h = absurd h
   without_items (Compile e) h = absurd h
+  without_items BadWorkers h = absurd h
   without_items BadJob h = absurd h
   without_items (Window e) h = absurd h
   without_items (Port e) h = absurd h
@@ -119,6 +121,7 @@ module _ (c : Contents) (text name : List ℕ) where
   without_program suite (Parse e) says h = absurd h
   without_program suite (Typing e) says h = absurd h
   without_program suite (Compile e) says h = record { suite = suite; says = says; why = h }
+  without_program suite BadWorkers says h = absurd h
   without_program suite BadJob says h = absurd h
   without_program suite (Window e) says h = absurd h
   without_program suite (Port e) says h = absurd h
@@ -143,6 +146,7 @@ module _ (b : Build) (c : Contents) (gave : GaveDump b.source_before.remaining b
   refused_build (Parse e) h = refused (Parse e) h
   refused_build (Typing e) h = refused (Typing e) h
   refused_build (Compile e) h = refused (Compile e) h
+  refused_build BadWorkers h = absurd h
   refused_build BadJob h = absurd h
   refused_build (Window e) h = absurd h
   refused_build (Port e) h = absurd h

@@ -3,3 +3,4 @@ pub mod PathLaws
 pub mod TextLaws
 pub mod ProgramLaws
 pub mod BuildLaws
+pub mod CheckedLaws

@@ -34,7 +34,7 @@ use Rattle.vcd_reader.specs.Dump.{Contents}
 use Rattle.cycle_window.specs.Ticks.{ticks_of, row_of}
 use Rattle.verdicts.specs.Lines.{LineData, ReportData, report_of}
 use Rattle.compiler.specs.Conditions.{IsFit}
-use Rattle.compiled_lines.specs.Lines.{IsWatched, AreVariables, rows_at, IsLineOf}
+use Rattle.compiled_lines.specs.Lines.{IsWatched, AreVariables, rows_at, IsLineOf, IsReportOf}
 use Rattle.suite_reports.specs.Named.{AreNamed}
 use Rattle.suite_reports.specs.Judged.{AreLinesOver}
 use Rattle.suite_reports.specs.Reported.{OverRows, Reports}
@@ -67,6 +67,14 @@ over_rows c suite signals code ticks n ls r are many is h = record {
   judged = lines_kept suite (rows_at c signals code) suite.assertions.items ls h;
   is = is ∙ ap (λ (k : ℕ). report_of k ls)
       (many ∙ ap length are ∙ sym (length-map (ticks_of c code) (row_of c signals)));
+}
+
+-- the report by several workers
+pub team_rows : (suite : Suite) (rows : List (List ℕ)) (r : ReportData) → IsReportOf suite rows r → OverRows suite rows r
+team_rows suite rows r of = record {
+  lines = r.lines;
+  judged = lines_kept suite rows suite.assertions.items r.lines of.lines;
+  is = of.is;
 }
 
 -- a suite's signals are watched

@@ -1,5 +1,5 @@
 -- What a run over a source, a text and a sink comes to.
-use Rattle.std.specs.Prelude.{◌≡◌, ℕ, List, None, string_bytes}
+use Rattle.std.specs.Prelude.{◌≡◌, ℕ, ◌≤◌, List, None, string_bytes}
 use Rattle.std.specs.Io.KnownBytes.{Appends}
 use Rattle.signals.specs.Source.{after_failure}
 use Rattle.signals.specs.Sink.{AppendsFront}
@@ -28,9 +28,11 @@ use Rattle.verdicts.specs.Lines.{ReportData}
 use Rattle.verdicts.specs.Texts.{report_text}
 use Rattle.outcomes.specs.declared.fault.Fault.{Fault}
 use Rattle.outcomes.specs.declared.fault.Fault.TheVariants.{Vcd, Lex, Parse, Typing, Compile}
-use Rattle.outcomes.specs.declared.fault.Fault.TheVariants.{BadJob, Window, Report, Memory}
+use Rattle.outcomes.specs.declared.fault.Fault.TheVariants.{BadWorkers, BadJob, Window, Report}
+use Rattle.outcomes.specs.declared.fault.Fault.TheVariants.{Memory}
 use Rattle.outcomes.specs.Runs.{Run, totals_of, IsUnwritten, IsUnread, IsOutOfMemory}
-use Rattle.outcomes.specs.Runs.{IsOutOfRange}
+use Rattle.outcomes.specs.Runs.{IsOutOfRange, IsUntouched}
+use Rattle.workers.specs.Values.{IsBadTeam}
 use Rattle.cli.specs.Named.{scope_over}
 use Rattle.cli.specs.Reported.{AreTokens, HasItems, SaysSuite, IsReport}
 
@@ -172,3 +174,11 @@ WhyCheckRefused r fault = WhyRunRefused r fault
 abbrev pub WhyNotChecked : ℕ → Run → Fault → Type 0
 WhyNotChecked window r (Window windows.BadSize) = IsOutOfRange window r
 WhyNotChecked window r fault = WhyCheckRefused r fault
+
+-- why nothing was checked by so many workers, or not all of the report written: first the window's
+-- size, then the number of workers
+abbrev pub WhyNotCheckedBy : ℕ → ℕ → Run → Fault → Type 0
+WhyNotCheckedBy workers window r (Window windows.BadSize) = IsOutOfRange window r
+WhyNotCheckedBy workers window r BadWorkers =
+    (1 ≤ window) × (window ≤ 65536) × IsBadTeam workers × IsUntouched r
+WhyNotCheckedBy workers window r fault = WhyCheckRefused r fault

@@ -1,18 +1,22 @@
 //! The calls behind the commands `check` and `judge`.
 
-ghost use Rattle.std.specs.Prelude.{◌≡◌, ◌↔◌, Err, IfOk, IfErr};
+ghost use Rattle.std.specs.Prelude.{◌≡◌, ◌↔◌, ◌≤◌, Err, IfOk, IfErr};
 ghost use Rattle.cycle_window.specs.declared.fault.WindowFault.TheVariants.{BadSize};
 ghost use Rattle.cycle_window.specs.Bound.{IsBadSize};
-ghost use Rattle.outcomes.specs.declared.fault.Fault.TheVariants.{Window};
-ghost use Rattle.cli.specs.Outcomes.{IsAnswered, WhyRunRefused, WhyNotChecked};
+ghost use Rattle.outcomes.specs.declared.fault.Fault.TheVariants.{Window, BadWorkers};
+ghost use Rattle.workers.specs.Values.{IsBadTeam};
+ghost use Rattle.cli.specs.Outcomes.{IsAnswered, WhyRunRefused, WhyNotChecked, WhyNotCheckedBy};
 ghost use Rattle.outcomes.specs.Runs.{run_of};
 
-use crate::checked::check_through;
+use crate::checked::{check_by_team, check_through};
 use crate::run::run_through;
+use compiled_lines::Gate;
 use cycle_window::WindowFault;
 use outcomes::Fault;
 use signals::{Sink, Source};
 use std::alloc::Global;
+use std::sync::Wait;
+use std::thread::Threads;
 
 /// Judges the assertions of a text over the dump that a source gives, by their programs, through
 /// windows of so many clocks, and writes the report.
@@ -46,6 +50,47 @@ pub fn check_one<'a, S: Source, W: Sink>(
         return Err(Fault::Window(WindowFault::BadSize));
     }
     check_through(alloc, source, text, window as usize, out)
+}
+
+/// Does what [`check_one`] does, by 1 to 64 workers, each a thread: `workers` and `gate` do not
+/// change what is written either. It may wait for them, and all have ended when it returns.
+///
+/// # Errors
+///
+/// Those of [`check_one`], and U1 where `workers` is out of its range, which is tested after C3 and
+/// before anything is read.
+pub fn check_all<
+    'a,
+    S: Source,
+    W: Sink,
+    G: Gate + Sync,
+    R: Threads + Wait + Sync,
+>(
+    rt: &R,
+    alloc: Global,
+    source: &mut S,
+    text: &'a str,
+    workers: u64,
+    window: u64,
+    gate: &G,
+    out: &mut W,
+) -> Result<[u64; 5], Fault<'a>>
+    ensures answered { IfOk result (IsAnswered (run_of text.entry.now
+        (S.state source.old) (S.state source.new) (W.state out.old) (W.state out.new))) }
+    ensures refused { IfErr result (WhyNotCheckedBy workers window (run_of text.entry.now
+        (S.state source.old) (S.state source.new) (W.state out.old) (W.state out.new))) }
+    ensures bad_size { IsBadSize window ↔ (result ≡ Err (Window BadSize)) }
+    ensures bad_team { (1 ≤ window) × (window ≤ 65536) × IsBadTeam workers
+        → result ≡ Err BadWorkers }
+{
+    if window < 1 || window > 65_536 {
+        return Err(Fault::Window(WindowFault::BadSize));
+    }
+    if workers < 1 || workers > 64 {
+        return Err(Fault::BadWorkers);
+    }
+    let (team, size) = (workers as usize, window as usize);
+    check_by_team(rt, alloc, source, text, team, size, gate, out)
 }
 
 /// Does what [`check_one`] does, by the slow judge, which makes no programs.

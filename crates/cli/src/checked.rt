@@ -1,24 +1,66 @@
 //! From bytes and text to the bytes of a report, by programs.
 
-ghost use Rattle.std.specs.Prelude.{◌≡◌, ◌≤◌, IfOk, IfErr};
+ghost use Rattle.std.specs.Prelude.{◌≡◌, ◌≤◌, IfOk, IfErr, string_bytes};
+ghost use Rattle.std.specs.List.{AllByRecursion};
 ghost use Rattle.vcd_reader.specs.Dump.{Contents};
-ghost use Rattle.vcd_reader.specs.Held.{HoldsContents};
+ghost use Rattle.vcd_reader.specs.Held.{HoldsContents, variables_of};
+ghost use Rattle.cycle_window.specs.Bound.{IsClock};
+ghost use Rattle.cycle_window.specs.Held.{AreClocksOf, code_in};
 ghost use Rattle.verdicts.specs.Shown.{data_of};
-ghost use Rattle.cli.specs.Reported.{HasReport};
+ghost use Rattle.compiler.specs.Conditions.{IsFit};
+ghost use Rattle.compiled_lines.specs.Lines.{IsWatched};
+ghost use Rattle.cli.specs.Reported.{HasReport, SaysSuite};
 ghost use Rattle.cli.specs.Outcomes.{WhyNoneByPrograms, IsAnswered, WhyCheckRefused};
 ghost use Rattle.outcomes.specs.Runs.{run_of};
 
 use crate::programs::{lines_fault, report_by_programs};
 use crate::text::{file_of, suite_of};
+use assertions::Suite;
+use compiled_lines::{Gate, suite_report};
 use cycle_window::Clocks;
 use outcomes::{Fault, totals};
 use signals::{Sink, Source};
 use std::alloc::Global;
+use std::sync::Wait;
+use std::thread::Threads;
 use suite_facts::suite_law;
 use vcd_reader::{Dump, read_dump};
 use verdicts::{Report, ReportFault, write_report};
 
-/// The report on a text over a dump, by its assertions' programs.
+/// A suite, and the ticks of its clock.
+#[derive(Drop)]
+struct TimedSuite {
+    suite: Suite,
+    clocks: Clocks,
+}
+
+/// The suite that a text says over a dump, and the ticks of its clock there.
+fn timed_suite<'a>(
+    alloc: Global,
+    dump: &Dump,
+    text: &'a str,
+) -> Result<TimedSuite, Fault<'a>>
+    requires held { (c : Contents) × HoldsContents dump.now c }
+    ensures says { (c : Contents) → HoldsContents dump.now c
+        → IfOk result (λ t. SaysSuite c text.entry.now t.suite) }
+    ensures clock { IfOk result (λ t.
+        IsClock (variables_of dump.now) (string_bytes t.suite.clock) (code_in t.clocks)) }
+    ensures ticks { IfOk result (λ t. AreClocksOf dump.now t.clocks) }
+    ensures watched { IfOk result (λ t.
+        AllByRecursion (IsWatched (variables_of dump.now)) t.suite.names.items) }
+    ensures fit { IfOk result (λ t.
+        AllByRecursion (IsFit t.suite) t.suite.assertions.items) }
+    ensures err { (c : Contents) → HoldsContents dump.now c
+        → IfErr result (WhyNoneByPrograms c text.entry.now) }
+{
+    suite_law();
+    let file = file_of(alloc, text)?;
+    let suite = suite_of(alloc, dump, &file)?;
+    let clocks = Clocks::of(alloc, dump, suite.clock())?;
+    Ok(TimedSuite { suite, clocks })
+}
+
+/// The report on a text over a dump, by its assertions' programs, on this thread.
 fn report_checked<'a>(
     alloc: Global,
     dump: Dump,
@@ -33,11 +75,33 @@ fn report_checked<'a>(
     ensures err { (c : Contents) → HoldsContents dump c
         → IfErr result (WhyNoneByPrograms c text.entry.now) }
 {
-    suite_law();
-    let file = file_of(alloc, text)?;
-    let suite = suite_of(alloc, &dump, &file)?;
-    let clocks = Clocks::of(alloc, &dump, suite.clock())?;
+    let TimedSuite { suite, clocks } = timed_suite(alloc, &dump, text)?;
     match report_by_programs(alloc, dump, clocks, &suite, size) {
+        Ok(report) => Ok(report),
+        Err(fault) => Err(lines_fault(fault)),
+    }
+}
+
+/// The same by 1 to 64 workers.
+fn report_by_team<'a, G: Gate + Sync, R: Threads + Wait + Sync>(
+    rt: &R,
+    alloc: Global,
+    dump: Dump,
+    text: &'a str,
+    workers: usize,
+    size: usize,
+    gate: &G,
+) -> Result<Report, Fault<'a>>
+    requires workers { (1 ≤ workers) × (workers ≤ 64) }
+    requires size { (1 ≤ size) × (size ≤ 65536) }
+    requires held { (c : Contents) × HoldsContents dump c }
+    ensures ok { (c : Contents) → HoldsContents dump c
+        → IfOk result (λ r. HasReport c text.entry.now (data_of r)) }
+    ensures err { (c : Contents) → HoldsContents dump c
+        → IfErr result (WhyNoneByPrograms c text.entry.now) }
+{
+    let TimedSuite { suite, clocks } = timed_suite(alloc, &dump, text)?;
+    match suite_report(rt, alloc, dump, clocks, &suite, workers, size, gate) {
         Ok(report) => Ok(report),
         Err(fault) => Err(lines_fault(fault)),
     }
@@ -61,6 +125,40 @@ pub(crate) fn check_through<'a, S: Source, W: Sink>(
 {
     let dump = read_dump(alloc, source)?;
     let report = report_checked(alloc, dump, text, size)?;
+    // An arm knows which fault it is; by `?` the search doesn't find why that one stands.
+    match write_report(alloc, &report, out) {
+        Ok(()) => Ok(totals(&report)),
+        Err(ReportFault::Memory) => Err(Fault::Memory),
+        Err(ReportFault::Write) => Err(Fault::Report(ReportFault::Write)),
+    }
+}
+
+/// The same by 1 to 64 workers.
+pub(crate) fn check_by_team<
+    'a,
+    S: Source,
+    W: Sink,
+    G: Gate + Sync,
+    R: Threads + Wait + Sync,
+>(
+    rt: &R,
+    alloc: Global,
+    source: &mut S,
+    text: &'a str,
+    workers: usize,
+    size: usize,
+    gate: &G,
+    out: &mut W,
+) -> Result<[u64; 5], Fault<'a>>
+    requires workers { (1 ≤ workers) × (workers ≤ 64) }
+    requires size { (1 ≤ size) × (size ≤ 65536) }
+    ensures answered { IfOk result (IsAnswered (run_of text.entry.now
+        (S.state source.old) (S.state source.new) (W.state out.old) (W.state out.new))) }
+    ensures refused { IfErr result (WhyCheckRefused (run_of text.entry.now
+        (S.state source.old) (S.state source.new) (W.state out.old) (W.state out.new))) }
+{
+    let dump = read_dump(alloc, source)?;
+    let report = report_by_team(rt, alloc, dump, text, workers, size, gate)?;
     // An arm knows which fault it is; by `?` the search doesn't find why that one stands.
     match write_report(alloc, &report, out) {
         Ok(()) => Ok(totals(&report)),

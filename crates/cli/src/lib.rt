@@ -2,6 +2,7 @@
 //!
 //! ```text
 //! let totals = check_one(alloc, &mut dump, text, 1024, &mut out)?;  // the report
+//! let totals = check_all(&rt, alloc, &mut dump, text, 4, 1024, &gate, &mut out)?; // by 4 workers
 //! let totals = judge_one(alloc, &mut dump, text, &mut out)?;        // the same, by the slow judge
 //! let bytes = build_one(alloc, &mut dump, text, "grant")?;          // an assertion's program
 //! ```
@@ -14,7 +15,8 @@
 //! to in `specs/Outcomes.antt`, what a build comes to in `specs/Builds.antt`; the report on a suite
 //! in `suite_reports`; faults, their lines and statuses in `outcomes`.
 //!
-//! Not promised: that memory suffices.
+//! Not promised: that memory suffices; of `check_all`, that it returns, and that two workers were at
+//! work at once.
 #![tactic(auto)]
 
 mod build;
@@ -26,6 +28,7 @@ mod run;
 mod text;
 
 pub use build::build_one;
-pub use check::{check_one, judge_one};
+pub use check::{check_all, check_one, judge_one};
 pub use command_line::{Request, WordsFault, read_words};
+pub use compiled_lines::{Gate, NoGate};
 pub use outcomes::{Fault, fault_line, status};

@@ -22,7 +22,7 @@ use Rattle.outcomes.specs.declared.fault.Fault.TheVariants.{
   Window,
   Port,
 }
-use Rattle.outcomes.specs.declared.fault.Fault.TheVariants.{BadJob}
+use Rattle.outcomes.specs.declared.fault.Fault.TheVariants.{BadWorkers, BadJob}
 use Rattle.outcomes.specs.declared.fault.Fault.TheVariants.{Report, Code}
 use Rattle.outcomes.specs.declared.fault.Fault.TheVariants.{Refused, NoAssertion, NotText, Words, File}
 use Rattle.outcomes.specs.declared.fault.Fault.TheVariants.{Memory}
@@ -41,6 +41,7 @@ no_program c code size (Lex e) h = absurd h
 no_program c code size (Parse e) h = absurd h
 no_program c code size (Typing e) h = absurd h
 no_program c code size (Compile e) h = absurd h
+no_program c code size BadWorkers h = absurd h
 no_program c code size BadJob h = absurd h
 no_program c code size (Window e) h = absurd h
 no_program c code size (Port e) h = absurd h
@@ -125,6 +126,7 @@ module _ (size : ℕ) (r : Run) (c : Contents) (gave : GaveDump r.source_before.
   refused_run (Parse e) h = absurd h
   refused_run (Typing e) h = absurd h
   refused_run (Compile e) h = absurd h
+  refused_run BadWorkers h = absurd h
   refused_run BadJob h = absurd h
   refused_run (Port e) h = absurd h
   refused_run (Report e) h = absurd h

@@ -16,9 +16,11 @@ use Rattle.verdicts.specs.Lines.{ReportData}
 use Rattle.verdicts.specs.Texts.{report_text}
 use Rattle.program_runs.specs.Reported.{Reports, WhyNoRun}
 use Rattle.outcomes.specs.declared.fault.Fault.{Fault}
-use Rattle.outcomes.specs.declared.fault.Fault.TheVariants.{Vcd, Window, Report, Code}
+use Rattle.outcomes.specs.declared.fault.Fault.TheVariants.{Vcd, BadWorkers, Window, Report, Code}
 use Rattle.outcomes.specs.declared.fault.Fault.TheVariants.{Refused, Memory}
 use Rattle.outcomes.specs.Runs.{Run, totals_of, IsUnwritten, IsUnread, IsOutOfMemory, IsOutOfRange}
+use Rattle.outcomes.specs.Runs.{IsUntouched}
+use Rattle.workers.specs.Values.{IsBadTeam}
 use Rattle.outcomes.specs.Codes.{SpellsAccepted, WhyNotAccepted}
 
 -- The bytes spell a program that the verifier accepts, and this is its report over the contents of
@@ -94,7 +96,10 @@ WhyRunFails size r (Report reports.Write) = IsCutRun r
 WhyRunFails size r Memory = IsOutOfMemory r
 WhyRunFails size r _ = ⊥
 
--- why nothing was run, or not all of the report written
-abbrev pub WhyNotRun : ℕ → Run → Fault → Type 0
-WhyNotRun window r (Window windows.BadSize) = IsOutOfRange window r
-WhyNotRun window r fault = WhyRunFails window r fault
+-- why nothing was run, or not all of the report written: first the window's size, then the number
+-- of workers
+abbrev pub WhyNotRun : ℕ → ℕ → Run → Fault → Type 0
+WhyNotRun workers window r (Window windows.BadSize) = IsOutOfRange window r
+WhyNotRun workers window r BadWorkers =
+    (1 ≤ window) × (window ≤ 65536) × IsBadTeam workers × IsUntouched r
+WhyNotRun workers window r fault = WhyRunFails window r fault

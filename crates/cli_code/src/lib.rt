@@ -3,7 +3,7 @@
 //!
 //! ```text
 //! verify_code(alloc, &code, &mut out)?;                              // the line of its limits
-//! let totals = run_code(alloc, &mut dump, &code, 1024, &mut out)?;   // the report
+//! let totals = run_code(&rt, alloc, &mut dump, &code, 4, 1024, &gate, &mut out)?; // the report
 //! ```
 //!
 //! The program is decoded and verified. `verify_code` writes the limits that it declares:
@@ -12,7 +12,7 @@
 //! history 0 stack 1 attempts 1 obligations 1 budget 14
 //! ```
 //!
-//! and a line feed; `run_code` has the machine run it over the dump's rows at the ticks of the
+//! and a line feed; `run_code` has so many workers run it over the dump's rows at the ticks of the
 //! clock that it names; the report has its one line. Each answers with the first fault of the
 //! first layer that has one; a call that is refused has written nothing, but where the sink itself
 //! failed: that holds a beginning of the text.
@@ -22,7 +22,8 @@
 //! over a dump in `program_runs`; which programs may run in `verifier`; faults, their lines and
 //! statuses in `outcomes`.
 //!
-//! Not promised: that the program means what its writer meant; that memory suffices.
+//! Not promised: that the program means what its writer meant; that memory suffices; and that
+//! `run_code` returns.
 #![tactic(auto)]
 
 mod limits;

@@ -6,48 +6,64 @@ ghost use Rattle.vcd_reader.specs.Held.{HoldsContents};
 ghost use Rattle.cycle_window.specs.declared.fault.WindowFault.TheVariants.{BadSize};
 ghost use Rattle.cycle_window.specs.Bound.{IsBadSize};
 ghost use Rattle.verdicts.specs.Shown.{data_of};
-ghost use Rattle.outcomes.specs.declared.fault.Fault.TheVariants.{Window};
+ghost use Rattle.outcomes.specs.declared.fault.Fault.TheVariants.{Window, BadWorkers};
+ghost use Rattle.workers.specs.Values.{IsBadTeam};
 ghost use Rattle.outcomes.specs.Runs.{run_of};
 ghost use Rattle.cli_code.specs.Outcomes.{HasRunReport, WhyNoRunReport, IsRunAnswered};
 ghost use Rattle.cli_code.specs.Outcomes.{WhyRunFails, WhyNotRun};
 
 use crate::verify::verified_of;
-use core_runs::report_run;
 use cycle_window::WindowFault;
 use outcomes::{Fault, totals};
 use signals::{Sink, Source};
 use std::alloc::Global;
+use std::sync::Wait;
+use std::thread::Threads;
+use threaded_runs::{Gate, report_run};
 use vcd_reader::{Dump, read_dump};
 use verdicts::{Report, ReportFault, write_report};
 
 /// The report of the program that bytes spell, over a dump.
-fn report_of(alloc: Global, dump: Dump, code: &[u8], size: usize) -> Result<Report, Fault<'static>>
+fn report_of<G: Gate + Sync, R: Threads + Wait + Sync>(
+    rt: &R,
+    alloc: Global,
+    dump: Dump,
+    code: &[u8],
+    workers: usize,
+    size: usize,
+    gate: &G,
+) -> Result<Report, Fault<'static>>
+    requires workers { (1 ≤ workers) × (workers ≤ 64) }
+    requires size { (1 ≤ size) × (size ≤ 65536) }
     ensures ok { (c : Contents) → HoldsContents dump c
         → IfOk result (λ r. HasRunReport c code.now (data_of r)) }
     ensures err { (c : Contents) → HoldsContents dump c
         → IfErr result (WhyNoRunReport c code.now size) }
 {
     let verified = verified_of(alloc, code)?;
-    Ok(report_run(alloc, dump, verified, size)?)
+    Ok(report_run(rt, alloc, dump, verified, workers, size, gate)?)
 }
 
 /// The same over the dump that a source gives, written.
-fn run_through<S: Source, W: Sink>(
+fn run_through<S: Source, W: Sink, G: Gate + Sync, R: Threads + Wait + Sync>(
+    rt: &R,
     alloc: Global,
     source: &mut S,
     code: &[u8],
+    workers: usize,
     size: usize,
+    gate: &G,
     out: &mut W,
 ) -> Result<[u64; 5], Fault<'static>>
-    requires some { 1 ≤ size }
-    requires most { size ≤ 65536 }
+    requires workers { (1 ≤ workers) × (workers ≤ 64) }
+    requires size { (1 ≤ size) × (size ≤ 65536) }
     ensures answered { IfOk result (IsRunAnswered (run_of code.now
         (S.state source.old) (S.state source.new) (W.state out.old) (W.state out.new))) }
     ensures refused { IfErr result (WhyRunFails size (run_of code.now
         (S.state source.old) (S.state source.new) (W.state out.old) (W.state out.new))) }
 {
     let dump = read_dump(alloc, source)?;
-    let report = report_of(alloc, dump, code, size)?;
+    let report = report_of(rt, alloc, dump, code, workers, size, gate)?;
     // An arm knows which fault it is; by `?` the search doesn't find why that one stands.
     match write_report(alloc, &report, out) {
         Ok(()) => Ok(totals(&report)),
@@ -57,32 +73,43 @@ fn run_through<S: Source, W: Sink>(
 }
 
 /// Runs the program that bytes spell over the dump that a source gives, on the clock that it names,
-/// through windows of so many clocks, and writes the report.
+/// by 1 to 64 workers, each a thread, through windows of so many clocks, and writes the report.
 ///
 /// The answer is the report's totals: how many attempts held, were vacuous, failed, were disabled,
-/// and are open. `window` is from 1 to 65,536, and does not change what is written.
+/// and are open. `window` is from 1 to 65,536. Neither it nor `workers` nor `gate` changes what is
+/// written. The call may wait for the workers, and all have ended when it returns.
 ///
 /// # Errors
 ///
-/// C3 where `window` is out of its range, before anything is read; then what is wrong with the dump
-/// (V1 to V8), with the bytes (B1 to B6), with the program (F1 to F15), with its clock (C1, C2) and
-/// with its signals (C4, C5), all before anything is written; G1 where the sink failed, which then
-/// holds a beginning of the report behind what it held before; and want of memory.
-pub fn run_code<S: Source, W: Sink>(
+/// C3 where `window` is out of its range, then U1 where `workers` is, before anything is read; then
+/// what is wrong with the dump (V1 to V8), with the bytes (B1 to B6), with the program (F1 to F15),
+/// with its clock (C1, C2) and with its signals (C4, C5), all before anything is written; G1 where
+/// the sink failed, which then holds a beginning of the report after what it held before; and want
+/// of memory.
+pub fn run_code<S: Source, W: Sink, G: Gate + Sync, R: Threads + Wait + Sync>(
+    rt: &R,
     alloc: Global,
     source: &mut S,
     code: &[u8],
+    workers: u64,
     window: u64,
+    gate: &G,
     out: &mut W,
 ) -> Result<[u64; 5], Fault<'static>>
     ensures answered { IfOk result (IsRunAnswered (run_of code.now
         (S.state source.old) (S.state source.new) (W.state out.old) (W.state out.new))) }
-    ensures refused { IfErr result (WhyNotRun window (run_of code.now
+    ensures refused { IfErr result (WhyNotRun workers window (run_of code.now
         (S.state source.old) (S.state source.new) (W.state out.old) (W.state out.new))) }
     ensures bad_size { IsBadSize window ↔ (result ≡ Err (Window BadSize)) }
+    ensures bad_team { (1 ≤ window) × (window ≤ 65536) × IsBadTeam workers
+        → result ≡ Err BadWorkers }
 {
     if window < 1 || window > 65_536 {
         return Err(Fault::Window(WindowFault::BadSize));
     }
-    run_through(alloc, source, code, window as usize, out)
+    if workers < 1 || workers > 64 {
+        return Err(Fault::BadWorkers);
+    }
+    let (team, size) = (workers as usize, window as usize);
+    run_through(rt, alloc, source, code, team, size, gate, out)
 }

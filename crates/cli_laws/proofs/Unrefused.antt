@@ -24,6 +24,7 @@ use Rattle.outcomes.specs.declared.fault.Fault.TheVariants.{
   Parse,
   Typing,
   Compile,
+  BadWorkers,
   BadJob,
   Window,
   Port,
@@ -102,6 +103,7 @@ unrefused c text report (Parse e) h k =
     absurd (not_itemless c text h.suite e h.says (itemless c text e k))
 unrefused c text report (Typing e) h k = absurd (not_mistyped c text h.suite e h.says k)
 unrefused c text report (Compile e) h k = absurd k
+unrefused c text report BadWorkers h k = absurd k
 unrefused c text report BadJob h k = absurd k
 unrefused c text report (Window e) h k = absurd (not_clockless c text report e h k)
 unrefused c text report (Port e) h k = absurd k

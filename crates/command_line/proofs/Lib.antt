@@ -1,2 +1,2 @@
 mod CommandLaws
-mod WindowLaws
+mod NumberLaws

@@ -30,12 +30,20 @@ word_rule name = record (new_rule name) { value_names = 1; required = true }
 abbrev pub axi_rule : Rule
 axi_rule = option_rule (codes "axi")
 
--- a window's size, 1,024 where it isn't given
-abbrev pub window_rule : Rule
-window_rule = record (option_rule (codes "window")) {
-  defaults = codes "1024" ∷ [];
-  parser = Some (Unsigned 1 65536);
+-- an option with a number from 1 to the most, and the default where it isn't given
+abbrev pub number_rule : Text → Text → ℕ → Rule
+number_rule name default most = record (option_rule name) {
+  defaults = default ∷ [];
+  parser = Some (Unsigned 1 most);
 }
+
+-- the number of workers, 1 to 64, 4 where it isn't given
+abbrev pub workers_rule : Rule
+workers_rule = number_rule (codes "workers") (codes "4") 64
+
+-- a window's size, 1 to 65,536, 1,024 where it isn't given
+abbrev pub window_rule : Rule
+window_rule = number_rule (codes "window") (codes "1024") 65536
 
 -- a command with an option for the dump, and one for another file
 abbrev pub dump_app : Text → Text → App
@@ -47,7 +55,7 @@ abbrev pub text_app : Text → App
 text_app name = with_rule (dump_app name (codes "sva")) axi_rule
 
 abbrev pub check_app : App
-check_app = with_rule (text_app (codes "check")) window_rule
+check_app = with_rule (with_rule (text_app (codes "check")) workers_rule) window_rule
 
 abbrev pub build_app : App
 build_app =
@@ -58,7 +66,8 @@ abbrev pub verify_app : App
 verify_app = with_rule (new_app (codes "verify")) (word_rule (codes "code"))
 
 abbrev pub run_app : App
-run_app = with_rule (dump_app (codes "run") (codes "code")) window_rule
+run_app =
+    with_rule (with_rule (dump_app (codes "run") (codes "code")) workers_rule) window_rule
 
 abbrev pub judge_app : App
 judge_app = text_app (codes "judge")
@@ -88,13 +97,18 @@ svamon_app =
 abbrev pub Gives : Text → List Row → Option (String Global) → Type 0
 Gives name rows given = first_of name rows ≡ option_map string_bytes given
 
--- the size of a window that the rows give, in decimal digits
-pub record IsWindow (rows : List Row) (size : ℕ) : Type 0 where
+-- the number from 1 to a limit that the rows give for an option, in decimal digits
+pub record IsNumber (name : Text) (limit : ℕ) (rows : List Row) (number : ℕ) : Type 0 where
   pub text : Text
-  pub given : one_of (codes "window") rows ≡ Some text
-  pub digits : ParsesUnsigned {E = Unit {0}} 64 10 text (Ok size)
-  pub least : 1 ≤ size
-  pub most : size ≤ 65536
+  pub given : one_of name rows ≡ Some text
+  pub digits : ParsesUnsigned {E = Unit {0}} 64 10 text (Ok number)
+  pub least : 1 ≤ number
+  pub most : number ≤ limit
+
+-- how many workers there are to be, and how many clocks a window is to have
+abbrev pub HasTeam : List Row → ℕ → ℕ → Type 0
+HasTeam rows workers window =
+    IsNumber (codes "workers") 64 rows workers × IsNumber (codes "window") 65536 rows window
 
 -- a dump, a text, and ports if there are any
 abbrev pub HasText : List Row → String Global → String Global → Option (String Global) → Type 0
@@ -114,19 +128,21 @@ HasProgram rows vcd code =
 
 -- the command that makes such a request
 abbrev pub command_of : Request → Text
-command_of (Check vcd sva axi window) = codes "check"
+command_of (Check vcd sva axi workers window) = codes "check"
 command_of (Build vcd sva axi name out) = codes "build"
 command_of (Verify code) = codes "verify"
-command_of (Run vcd code window) = codes "run"
+command_of (Run vcd code workers window) = codes "run"
 command_of (Judge vcd sva axi) = codes "judge"
 command_of (Rules axi) = codes "rules"
 
 -- the request has what the rows of its command give
 abbrev pub IsGiven : List Row → Request → Type 0
-IsGiven rows (Check vcd sva axi window) = HasText rows vcd sva axi × IsWindow rows window
+IsGiven rows (Check vcd sva axi workers window) =
+    HasText rows vcd sva axi × HasTeam rows workers window
 IsGiven rows (Build vcd sva axi name out) = HasText rows vcd sva axi × HasOutput rows name out
 IsGiven rows (Verify code) = Gives (codes "code") rows (Some code)
-IsGiven rows (Run vcd code window) = HasProgram rows vcd code × IsWindow rows window
+IsGiven rows (Run vcd code workers window) =
+    HasProgram rows vcd code × HasTeam rows workers window
 IsGiven rows (Judge vcd sva axi) = HasText rows vcd sva axi
 IsGiven rows (Rules axi) = Gives (codes "axi") rows (Some axi)
 

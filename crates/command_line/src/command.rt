@@ -3,7 +3,8 @@
 ghost use Rattle.std.specs.Prelude.{◌≡◌, Some, IfOk, true, false, codes};
 ghost use Rattle.clap.specs.Words.{App, app_of, rule_of, new_app, with_rule, with_subcommand};
 ghost use Rattle.clap.specs.declared.builder.value_parser.ValueParser.TheVariants.{Unsigned};
-ghost use Rattle.command_line.specs.Words.{file_rule, word_rule, axi_rule, window_rule};
+ghost use Rattle.command_line.specs.Words.{file_rule, word_rule, axi_rule, workers_rule};
+ghost use Rattle.command_line.specs.Words.{window_rule};
 ghost use Rattle.command_line.specs.Words.{text_app, check_app, build_app, verify_app, run_app};
 ghost use Rattle.command_line.specs.Words.{judge_app, rules_app, first_app, svamon_app};
 
@@ -51,11 +52,30 @@ fn axi_option<'a>(alloc: Global) -> Arg<'a>
     )
 }
 
+/// The option with a number from 1 to 64 as its value.
+fn within_teams<'a>(option: Arg<'a>) -> Arg<'a>
+    ensures { result ≡ record option.entry { value_parser = Some (Unsigned 1 64) } }
+{
+    option.value_parser(value_parser!(u64).range(1..65))
+}
+
 /// The option with a number from 1 to 65,536 as its value.
 fn within_sizes<'a>(option: Arg<'a>) -> Arg<'a>
     ensures { result ≡ record option.entry { value_parser = Some (Unsigned 1 65536) } }
 {
     option.value_parser(value_parser!(u64).range(1..65537))
+}
+
+fn workers_option<'a>(alloc: Global) -> Arg<'a>
+    ensures rule { rule_of result ≡ workers_rule }
+    ensures local { result.global ≡ false }
+{
+    let option = Arg::new(alloc, "workers")
+        .long("workers")
+        .value_name("WORKERS")
+        .default_value("4")
+        .help("How many workers there are, each a thread, from 1 to 64");
+    within_teams(option)
 }
 
 fn window_option<'a>(alloc: Global) -> Arg<'a>
@@ -105,7 +125,9 @@ fn check_command<'a>(alloc: Global) -> Result<Command<'a>, AllocError>
     ensures { IfOk result (λ c. app_of c ≡ check_app) }
 {
     let about = "Judges assertions over a dump and prints the report";
-    text_command(alloc, "check", about)?.arg(window_option(alloc))
+    text_command(alloc, "check", about)?
+        .arg(workers_option(alloc))?
+        .arg(window_option(alloc))
 }
 
 fn build_command<'a>(alloc: Global) -> Result<Command<'a>, AllocError>
@@ -129,7 +151,9 @@ fn run_command<'a>(alloc: Global) -> Result<Command<'a>, AllocError>
 {
     let about = "Runs a program over a dump and prints the report";
     let code = file_option(alloc, "code", "The program, in bytecode");
-    dump_command(alloc, "run", about, code)?.arg(window_option(alloc))
+    dump_command(alloc, "run", about, code)?
+        .arg(workers_option(alloc))?
+        .arg(window_option(alloc))
 }
 
 fn judge_command<'a>(alloc: Global) -> Result<Command<'a>, AllocError>

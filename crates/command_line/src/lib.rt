@@ -2,10 +2,10 @@
 //!
 //! ```text
 //! match read_words(alloc, &["svamon", "check", "--vcd", "top.vcd", "--sva", "rules.sva"]) {
-//!     Ok(Request::Check { vcd, sva, axi, window }) => ..,   // the two paths, None, and 1,024
+//!     Ok(Request::Check { vcd, sva, axi, workers, window }) => ..,   // paths, None, 4 and 1,024
 //!     Ok(Request::Build { vcd, sva, axi, name, out }) => ..,
 //!     Ok(Request::Verify { code }) => ..,
-//!     Ok(Request::Run { vcd, code, window }) => ..,
+//!     Ok(Request::Run { vcd, code, workers, window }) => ..,
 //!     Ok(Request::Judge { vcd, sva, axi }) => ..,
 //!     Ok(Request::Rules { axi }) => ..,
 //!     Err(WordsFault::Words(error)) => ..,             // `{error}` is the text to show
@@ -17,8 +17,8 @@
 //! (`subcommand_of`, for a command written out in `specs/Words.antt`): the command that is named,
 //! and for each of its options the value behind it or else its default; the file of `verify` is a
 //! word alone, and `--axi` may be left out where a text is read, which gives None. The contract of
-//! `read_words` says that a request is that command with those values, and that a window has from
-//! 1 to 65,536 clocks. Not promised: which words are refused, and with what text; tests show that.
+//! `read_words` says that a request is that command with those values, that there are 1 to 64
+//! workers, and that a window has from 1 to 65,536 clocks. Not promised: which words are refused, and with what text; tests show that.
 #![tactic(auto)]
 
 mod command;

@@ -2,7 +2,7 @@
 
 ghost use Rattle.std.specs.Prelude.{IfOk, Some, codes, map};
 ghost use Rattle.clap.specs.Words.{found_of, rows_of};
-ghost use Rattle.command_line.specs.Words.{Gives, IsWindow, IsRequest, IsNamed, IsAsked};
+ghost use Rattle.command_line.specs.Words.{Gives, IsNumber, IsRequest, IsNamed, IsAsked};
 
 use crate::command::svamon_command;
 use crate::fault::WordsFault;
@@ -30,14 +30,14 @@ fn text_of(alloc: Global, options: &ArgMatches, name: &str) -> Result<String, Wo
     }
 }
 
-/// The window's size: `clap` refuses any that is no number or out of range.
-fn window_of(options: &ArgMatches) -> Result<u64, WordsFault>
-    ensures { IfOk result (IsWindow (rows_of (found_of options.now))) }
+/// The number of an option: `clap` refuses any that is no number or out of range.
+fn number_of(options: &ArgMatches, name: &str, most: u64) -> Result<u64, WordsFault>
+    ensures { IfOk result (IsNumber name.now most (rows_of (found_of options.now))) }
 {
-    match options.get_one::<u64>("window") {
-        Some(window) => {
-            if 1 <= window && window <= 65536 {
-                return Ok(window);
+    match options.get_one::<u64>(name) {
+        Some(number) => {
+            if 1 <= number && number <= most {
+                return Ok(number);
             }
             Err(WordsFault::OutOfMemory)
         }
@@ -48,11 +48,13 @@ fn window_of(options: &ArgMatches) -> Result<u64, WordsFault>
 fn check_request(alloc: Global, options: &ArgMatches) -> Result<Request, WordsFault>
     ensures { IfOk result (IsRequest (codes "check") (rows_of (found_of options.now))) }
 {
-    let window = window_of(options)?;
+    let workers = number_of(options, "workers", 64)?;
+    let window = number_of(options, "window", 65536)?;
     Ok(Request::Check {
         vcd: text_of(alloc, options, "vcd")?,
         sva: text_of(alloc, options, "sva")?,
         axi: option_of(alloc, options, "axi")?,
+        workers,
         window,
     })
 }
@@ -80,10 +82,12 @@ fn verify_request(alloc: Global, options: &ArgMatches) -> Result<Request, WordsF
 fn run_request(alloc: Global, options: &ArgMatches) -> Result<Request, WordsFault>
     ensures { IfOk result (IsRequest (codes "run") (rows_of (found_of options.now))) }
 {
-    let window = window_of(options)?;
+    let workers = number_of(options, "workers", 64)?;
+    let window = number_of(options, "window", 65536)?;
     Ok(Request::Run {
         vcd: text_of(alloc, options, "vcd")?,
         code: text_of(alloc, options, "code")?,
+        workers,
         window,
     })
 }

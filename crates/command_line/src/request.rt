@@ -3,12 +3,15 @@
 /// What the words ask for. Paths are as they were given.
 #[derive(Drop)]
 pub enum Request {
-    /// Judges the assertions of a text over a dump, through windows of so many clocks.
+    /// Judges the assertions of a text over a dump, by so many workers through windows of so many
+    /// clocks.
     Check {
         vcd: String,
         sva: String,
         /// A port file: the rules of its ports stand behind the text.
         axi: Option<String>,
+        /// From 1 to 64.
+        workers: u64,
         /// From 1 to 65,536.
         window: u64,
     },
@@ -27,10 +30,12 @@ pub enum Request {
     Verify {
         code: String,
     },
-    /// Runs a program over a dump, through windows of so many clocks.
+    /// Runs a program over a dump, by so many workers through windows of so many clocks.
     Run {
         vcd: String,
         code: String,
+        /// From 1 to 64.
+        workers: u64,
         /// From 1 to 65,536.
         window: u64,
     },

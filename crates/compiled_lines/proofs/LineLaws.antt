@@ -46,7 +46,9 @@ use Rattle.machine.specs.Running.{open_ones}
 use Rattle.vcd_reader.specs.Variables.{Declared, variable_named, size_of}
 use Rattle.vcd_reader.specs.Dump.{Contents}
 use Rattle.cycle_window.specs.Bound.{first_refused}
-use Rattle.verdicts.specs.Lines.{LineData, line_data_of}
+use Rattle.verdicts.specs.Lines.{LineData, ReportData, line_data_of, report_of}
+use Rattle.std.proofs.lemmas.List.{length-map}
+use Rattle.threaded_runs.specs.Reports.{IsJobReport}
 use Rattle.verdict_lines.specs.Laws.{AreVerdicts}
 use Rattle.program_runs.specs.Lines.{line_over, IsLineOver}
 use Rattle.cycle_window.specs.Ticks.{ticks_of, row_of}
@@ -54,7 +56,7 @@ use Rattle.vcd_reader.specs.declared.dump.Dump.{Dump}
 use Rattle.vcd_reader.specs.Held.{HoldsContents, variables_of, steps_in, high_of}
 use Rattle.vcd_reader.specs.Stored.{stored_step}
 use Rattle.cycle_window.specs.declared.clocks.Clocks.{Clocks}
-use Rattle.cycle_window.specs.Held.{code_in}
+use Rattle.cycle_window.specs.Held.{code_in, ticks_in, AreClocksOf}
 use Rattle.workers.specs.declared.job.Job.{Job}
 use Rattle.workers.specs.Values.{Says, job_value}
 use Rattle.core_runs.specs.Lines.{AreLinesOf}
@@ -63,7 +65,7 @@ use Rattle.workers.specs.Wanted.{wanted_in}
 use Rattle.compiler.specs.Programs.{IsProgramOf}
 use Rattle.assertion_programs.specs.Laws.{AreVerdictsOver}
 use Rattle.assertion_programs.proofs.Decides.{programs-decide}
-use Rattle.compiled_lines.specs.Lines.{IsWatched, AreVariables, rows_at, IsLineOf}
+use Rattle.compiled_lines.specs.Lines.{IsWatched, AreVariables, rows_at, IsLineOf, IsReportOf}
 use Rattle.compiled_lines.specs.Faults.{IsMadeOf}
 use Rattle.compiled_lines.proofs.RowLaws.{own-rows, are-rows, none-refused}
 
@@ -209,3 +211,27 @@ all-lines j d k suite ps ls c signals programs dump clocks made watched holds na
     AllZip (IsLineOf suite (rows_at c signals (code_in x))) suite.assertions.items ls) clocks
     (are-lines c (code_in j.clocks) suite signals named seen suite.assertions.items j.programs.items
     ls own (lines says))
+
+-- so is their report
+pub all-reported :
+    (j : Job) (d : Dump) (k : Clocks) (suite : Suite) (r : ReportData)
+    (c : Contents) (signals : List ℕ) →
+    j.dump ≡ d → j.clocks ≡ k →
+    AllZip (IsMadeOf suite) suite.assertions.items j.programs.items → AreClocksOf d k →
+    AllByRecursion (IsWatched (variables_of d)) suite.names.items →
+    HoldsContents d c → AreVariables c suite signals →
+    (Says (job_value j) c → IsJobReport (job_value j) c r) →
+    IsReportOf suite (rows_at c signals (code_in k)) r
+all-reported j d k suite r c signals dump clocks made of watched holds named told =
+    let says : Says (job_value j) c = record {
+      variables = ap variables_of dump ∙ holds.variables;
+      steps = ap (λ (x : Dump). map (stored_step (high_of x)) (steps_in x)) dump ∙ holds.steps;
+    } in
+    let many : length (ticks_in j.clocks) ≡ length (rows_at c signals (code_in k)) =
+    ap (λ (x : Clocks). length (ticks_in x)) clocks ∙ ap length (of c holds)
+    ∙ sym (length-map (ticks_of c (code_in k)) (row_of c signals)) in
+    record {
+      lines = all-lines j d k suite j.programs.items r.lines c signals refl dump clocks made watched holds named
+          (λ said. (told said).lines);
+      is = (told says).is ∙ ap (λ (n : ℕ). report_of n r.lines) many;
+    }

@@ -1,5 +1,6 @@
 -- The lines of assertions over the rows of a suite's signals.
-use Rattle.std.specs.Prelude.{◌≡◌, ℕ, List, map, Some, string_bytes}
+use Rattle.std.specs.Prelude.{◌≡◌, ℕ, List, length, map, Some, string_bytes}
+use Rattle.std.specs.List.{AllZip}
 use Rattle.std.specs.Option.{option_map}
 use Rattle.signals.specs.declared.verdict.Verdict.{Verdict}
 use Rattle.assertions.specs.declared.signal.Signal.{Signal}
@@ -8,7 +9,7 @@ use Rattle.assertions.specs.declared.suite.Suite.{Suite}
 use Rattle.vcd_reader.specs.Variables.{Declared, variable_named, size_of}
 use Rattle.vcd_reader.specs.Dump.{Contents}
 use Rattle.cycle_window.specs.Ticks.{ticks_of, row_of}
-use Rattle.verdicts.specs.Lines.{LineData, line_data_of}
+use Rattle.verdicts.specs.Lines.{LineData, ReportData, line_data_of, report_of}
 use Rattle.assertion_programs.specs.Laws.{AreVerdictsOver}
 
 -- The path of a signal names a variable of the signal's width.
@@ -32,3 +33,8 @@ pub record IsLineOf (suite : Suite) (rows : List (List ℕ)) (a : Assertion) (li
   pub verdicts : List Verdict
   pub judged : AreVerdictsOver suite rows a verdicts
   pub is : line ≡ line_data_of (string_bytes a.name) verdicts
+
+-- A report over rows of a suite's signals: the lines of its assertions, and the sums of them.
+pub record IsReportOf (suite : Suite) (rows : List (List ℕ)) (report : ReportData) : Type 0 where
+  pub lines : AllZip (IsLineOf suite rows) suite.assertions.items report.lines
+  pub is : report ≡ report_of (length rows) report.lines

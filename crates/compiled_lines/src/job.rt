@@ -1,15 +1,20 @@
 //! The job of a suite's programs.
 
 ghost use Rattle.std.specs.Prelude.{◌≡◌, List, None, IfOk, IfErr};
+ghost use Rattle.std.specs.List.{AllByRecursion, AllZip};
 ghost use Rattle.bytecode.specs.Values.{ProgramData};
 ghost use Rattle.vcd_reader.specs.Variables.{Declared};
 ghost use Rattle.vcd_reader.specs.Held.{variables_of};
 ghost use Rattle.cycle_window.specs.Bound.{first_refused};
 ghost use Rattle.cycle_window.specs.Held.{AreClocksOf};
 ghost use Rattle.workers.specs.Wanted.{wanted_in, WhyUnfit};
-ghost use Rattle.compiled_lines.specs.Faults.{IsNoMisfit, WhyNoJob};
+ghost use Rattle.compiler.specs.Conditions.{IsFit};
+ghost use Rattle.compiled_lines.specs.Lines.{IsWatched};
+ghost use Rattle.compiled_lines.specs.Faults.{IsNoMisfit, IsMadeOf, WhyNoJob, WhyNoLines};
 
 use crate::fault::LinesFault;
+use crate::programs::programs_of;
+use assertions::Suite;
 use cycle_window::Clocks;
 use std::alloc::Global;
 use vcd_reader::Dump;
@@ -30,7 +35,7 @@ fn job_fault(fault: JobFault) -> LinesFault
 }
 
 /// The job of programs whose signals all name variables of their widths.
-pub(crate) fn job_of(
+fn job_of(
     alloc: Global,
     programs: Vec<Verified>,
     dump: Dump,
@@ -48,4 +53,24 @@ pub(crate) fn job_of(
         Ok(job) => Ok(job),
         Err(fault) => Err(job_fault(fault)),
     }
+}
+
+/// The job of the programs of a suite's assertions, in their order.
+pub(crate) fn suite_job(
+    alloc: Global,
+    dump: Dump,
+    clocks: Clocks,
+    suite: &Suite,
+) -> Result<Job, LinesFault>
+    requires clocks { AreClocksOf dump clocks }
+    requires watched { AllByRecursion (IsWatched (variables_of dump)) suite.now.names.items }
+    requires fit { AllByRecursion (IsFit suite.now) suite.now.assertions.items }
+    ensures made { IfOk result (λ j.
+        AllZip (IsMadeOf suite.now) suite.now.assertions.items j.programs.items) }
+    ensures dump { IfOk result (λ j. j.dump ≡ dump) }
+    ensures clocks { IfOk result (λ j. j.clocks ≡ clocks) }
+    ensures refused { IfErr result (WhyNoLines suite.now) }
+{
+    let programs = programs_of(alloc, suite)?;
+    job_of(alloc, programs, dump, clocks)
 }

@@ -13,8 +13,7 @@ ghost use Rattle.compiled_lines.specs.Lines.{IsWatched, AreVariables, rows_at, I
 ghost use Rattle.compiled_lines.specs.Faults.{WhyNoLines};
 
 use crate::fault::LinesFault;
-use crate::job::job_of;
-use crate::programs::programs_of;
+use crate::job::suite_job;
 use assertions::Suite;
 use core_runs::job_lines;
 use cycle_window::Clocks;
@@ -23,8 +22,8 @@ use vcd_reader::Dump;
 use verdicts::Line;
 use workers::RunFault;
 
-/// The fault of a run of one worker through windows of an allowed size.
-fn want_of_memory(fault: RunFault) -> LinesFault
+/// The fault of a run of an allowed number of workers, through windows of an allowed size.
+pub(crate) fn want_of_memory(fault: RunFault) -> LinesFault
     requires { fault ≡ runs.Memory }
     ensures { result ≡ Memory }
 {
@@ -54,8 +53,7 @@ pub fn lines_of(
         suite.now.assertions.items (map line ls.items)) }
     ensures refused { IfErr result (WhyNoLines suite.now) }
 {
-    let programs = programs_of(alloc, suite)?;
-    let job = job_of(alloc, programs, dump, clocks)?;
+    let job = suite_job(alloc, dump, clocks, suite)?;
     // An arm knows that it is want of memory, as `want_of_memory` asks; a `From` can't ask it.
     match job_lines(alloc, &job, size) {
         Ok(lines) => Ok(lines),

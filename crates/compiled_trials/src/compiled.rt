@@ -1,12 +1,14 @@
 //! Compiled assertions: refusals at their borders, and programs that are built and run.
 
 use acceptance::told;
-use cli::{build_one, check_one};
+use cli::{NoGate, build_one, check_all, check_one};
 use cli_code::run_code;
 use program_files::decode;
 use signals::{Counted, CutWriter};
 use std::alloc::{AllocError, Global};
+use std::sync::Wait;
 use std::test::Fail;
+use std::thread::Threads;
 
 /// A dump with one tick, at which x is 1 and y is 0, and v of 8 bits is 3.
 const DUMP: &str =
@@ -177,13 +179,19 @@ const EIGHT_LINES: [&str; 8] = [
     "monitor m7 holds 504 vacuous 512 fails 0 disabled 984 open 0",
 ];
 
-/// What it writes of the eight, through windows of so many clocks.
-fn eight_report(rt: &impl AllocGlobal, dump: &str, window: u64) -> Result<String, Fail> {
+/// What it writes of the eight, by so many workers through windows of so many clocks.
+fn eight_report<R: Threads + Wait + Sync + AllocGlobal>(
+    rt: &R,
+    dump: &str,
+    workers: u64,
+    window: u64,
+) -> Result<String, Fail> {
+    let alloc = rt.alloc();
     let mut source = Counted::new(dump.as_bytes());
-    let mut out = Counted::new(CutWriter::new(rt.alloc(), 50_000)?);
+    let mut out = Counted::new(CutWriter::new(alloc, 50_000)?);
     let told = told(
-        rt.alloc(),
-        check_one(rt.alloc(), &mut source, EIGHT, window, &mut out),
+        alloc,
+        check_all(rt, alloc, &mut source, EIGHT, workers, window, &NoGate, &mut out),
     )?;
     if told.totals.is_none() {
         return Err(Fail::from("it is refused"));
@@ -192,15 +200,15 @@ fn eight_report(rt: &impl AllocGlobal, dump: &str, window: u64) -> Result<String
 }
 
 #[test]
-fn eight_monitors_any_window(rt: HostRuntime) -> Result<(), Fail> {
+fn eight_monitors_any_team_and_window(rt: HostRuntime) -> Result<(), Fail> {
     let dump = counting_dump(&rt, 2000)?;
-    let first = eight_report(&rt, dump.as_str(), 1)?;
+    let first = eight_report(&rt, dump.as_str(), 1, 1)?;
     for line in EIGHT_LINES {
         assert!(rt; first.as_str().contains(line), "{line}");
     }
-    for window in [2, 1000, 65_536] {
-        let other = eight_report(&rt, dump.as_str(), window)?;
-        assert!(rt; other.as_str() == first.as_str(), "windows of {window}");
+    for (workers, window) in [(8, 1), (1, 1000), (8, 1000), (3, 7), (64, 65_536)] {
+        let other = eight_report(&rt, dump.as_str(), workers, window)?;
+        assert!(rt; other.as_str() == first.as_str(), "{workers} workers, windows of {window}");
     }
     Ok(())
 }
@@ -279,12 +287,16 @@ fn first_fault_of_a_program(rt: HostRuntime) -> Result<(), Fail> {
 }
 
 /// What is written by a program over the dump.
-fn report_run(rt: &impl AllocGlobal, code: &[u8]) -> Result<String, Fail> {
+fn report_run<R: Threads + Wait + Sync + AllocGlobal>(
+    rt: &R,
+    code: &[u8],
+) -> Result<String, Fail> {
+    let alloc = rt.alloc();
     let mut source = Counted::new(DUMP.as_bytes());
-    let mut out = Counted::new(CutWriter::new(rt.alloc(), 10_000)?);
+    let mut out = Counted::new(CutWriter::new(alloc, 10_000)?);
     let told = told(
-        rt.alloc(),
-        run_code(rt.alloc(), &mut source, code, 1024, &mut out),
+        alloc,
+        run_code(rt, alloc, &mut source, code, 2, 1024, &NoGate, &mut out),
     )?;
     if told.totals.is_none() {
         return Ok(told.line);

@@ -7,7 +7,7 @@
 //!
 //! ```text
 //! let bytes = build_one(rt.alloc(), &mut dump, text, "r")?;
-//! let answer = run_code(rt.alloc(), &mut dump, bytes.as_slice(), 1024, &mut out);
+//! let answer = run_code(&rt, alloc, &mut dump, bytes.as_slice(), 2, 1024, &NoGate, &mut out);
 //! assert!(rt; told(rt.alloc(), answer)?.totals == Some([0, 0, 1, 0, 0]));
 //! ```
 //!

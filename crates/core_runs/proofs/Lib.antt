@@ -3,5 +3,4 @@ pub mod RoundLaws
 pub mod CoreLaws
 pub mod TurnLaws
 pub mod LineLaws
-pub mod ReportLaws
 pub mod TakenLaws

@@ -12,7 +12,7 @@ use signals::{Decided, Verdict};
 use std::alloc::{AllocError, Global};
 use verdicts::{Counts, Failure, Line};
 
-/// What the line of a program says of the attempts that were taken in.
+/// A line in the making: what the line of a program says of the attempts that were taken in.
 #[derive(Drop)]
 pub struct LineSoFar {
     pub(crate) counts: Counts,
@@ -109,7 +109,7 @@ impl LineSoFar {
     pub fn into_line(self, name: String) -> Line
         ensures line { (attempts : List Decided) → TookIn self attempts
             → line result ≡ line_over (string_bytes name) attempts }
-        ensures count { attempts_of result.counts ≡ attempts_of self.counts }
+        ensures counts { result.counts ≡ self.counts }
     {
         Line {
             name,

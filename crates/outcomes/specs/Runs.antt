@@ -50,3 +50,9 @@ pub record IsOutOfRange (window : ℕ) (r : Run) : Type 0 where
   pub unread : r.source_after.remaining ≡ r.source_before.remaining
   pub calls : r.source_after.failures ≡ r.source_before.failures
   pub unwritten : IsUnwritten r
+
+-- nothing was read or written
+pub record IsUntouched (r : Run) : Type 0 where
+  pub unread : r.source_after.remaining ≡ r.source_before.remaining
+  pub calls : r.source_after.failures ≡ r.source_before.failures
+  pub unwritten : IsUnwritten r

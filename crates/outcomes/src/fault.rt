@@ -25,6 +25,8 @@ pub enum Fault<'a> {
     Typing(TypeFault),
     /// An assertion has no program.
     Compile(CompileFault),
+    /// U1: there are to be no workers, or more than 64.
+    BadWorkers,
     /// U3: the text has more assertions than a job may have programs, 4,096.
     BadJob,
     Window(WindowFault),

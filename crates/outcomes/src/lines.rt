@@ -106,6 +106,7 @@ pub fn fault_line(alloc: Global, fault: &Fault) -> Result<String, AllocError> {
         Fault::Parse(fault) => parse_line(alloc, fault),
         Fault::Typing(fault) => type_line(alloc, fault),
         Fault::Compile(fault) => compile_line(alloc, *fault),
+        Fault::BadWorkers => String::from_str(alloc, "svamon: U1 BadWorkers"),
         Fault::BadJob => String::from_str(alloc, "svamon: U3 BadJob"),
         Fault::Window(fault) => window_line(alloc, fault),
         Fault::Port(fault) => port_line(alloc, *fault),

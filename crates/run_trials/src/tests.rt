@@ -4,7 +4,7 @@ use crate::told::told;
 use std::test::Fail;
 
 /// The file of `r: assert property (@(posedge top.clk) top.x |-> top.y);`.
-const OVERLAPPED: &str = "5356414d0100000001000100010000000eff02000172\
+pub(crate) const OVERLAPPED: &str = "5356414d0100000001000100010000000eff02000172\
     0007746f702e636c6b0002010005746f702e78010005746f702e790000\
     00050200013200020002320134\
     000000000000000000000000000000010100034000000242\
@@ -13,7 +13,7 @@ const OVERLAPPED: &str = "5356414d0100000001000100010000000eff02000172\
     43";
 
 /// The file of a program of two positions: attempts that `x`, then `y` decide.
-const TWO_POSITIONS: &str = "5356414d01000000010002000100000019ff02000172\
+pub(crate) const TWO_POSITIONS: &str = "5356414d01000000010002000100000019ff02000172\
     0007746f702e636c6b0002010005746f702e78010005746f702e790000\
     00050200013200020002320134\
     00000000000000000000000000000001020003400000024101\
@@ -33,13 +33,13 @@ const KEPT: &str = "$scope module top $end\n$var wire 1 ! clk $end\n\
     #0\n0!\n1\"\n1#\n#5\n1!\n";
 
 /// Three ticks, with `x` 1, 0, 1 and `y` 0, 1, 0.
-const THREE: &str = "$scope module top $end\n$var wire 1 ! clk $end\n\
+pub(crate) const THREE: &str = "$scope module top $end\n$var wire 1 ! clk $end\n\
     $var wire 1 \" x $end\n$var wire 1 # y $end\n$upscope $end\n$enddefinitions $end\n\
     #0\n0!\n1\"\n0#\n#5\n1!\n#6\n0!\n0\"\n1#\n#7\n1!\n#8\n0!\n1\"\n0#\n#9\n1!\n";
 
 #[test]
 fn fails_at_its_tick(rt: HostRuntime) -> Result<(), Fail> {
-    let report = told(rt.alloc(), BROKEN, OVERLAPPED, 1024)?;
+    let report = told(&rt, BROKEN, OVERLAPPED, 1, 1024)?;
     assert!(rt;
         report.as_str()
             == "svamon 1\nclocks 1\nmonitor r holds 0 vacuous 0 fails 1 disabled 0 open 0\n\
@@ -50,7 +50,7 @@ fn fails_at_its_tick(rt: HostRuntime) -> Result<(), Fail> {
 
 #[test]
 fn holds_at_its_tick(rt: HostRuntime) -> Result<(), Fail> {
-    let report = told(rt.alloc(), KEPT, OVERLAPPED, 1024)?;
+    let report = told(&rt, KEPT, OVERLAPPED, 4, 1024)?;
     assert!(rt;
         report.as_str()
             == "svamon 1\nclocks 1\nmonitor r holds 1 vacuous 0 fails 0 disabled 0 open 0\n\
@@ -62,14 +62,14 @@ fn holds_at_its_tick(rt: HostRuntime) -> Result<(), Fail> {
 /// The attempt at tick 0 holds at tick 1, which is of another window where windows are of one
 /// clock, and that at tick 2 is open behind the last.
 #[test]
-fn any_window(rt: HostRuntime) -> Result<(), Fail> {
-    for size in [1, 2, 1000] {
-        let report = told(rt.alloc(), THREE, TWO_POSITIONS, size)?;
+fn any_team_and_window(rt: HostRuntime) -> Result<(), Fail> {
+    for (workers, size) in [(1, 1), (2, 2), (64, 1000)] {
+        let report = told(&rt, THREE, TWO_POSITIONS, workers, size)?;
         assert!(rt;
             report.as_str()
                 == "svamon 1\nclocks 3\nmonitor r holds 1 vacuous 1 fails 0 disabled 0 open 1\n\
             total holds 1 vacuous 1 fails 0 disabled 0 open 1\n",
-            "windows of {size}"
+            "{workers} workers, windows of {size}"
         );
     }
     Ok(())
@@ -79,27 +79,22 @@ fn any_window(rt: HostRuntime) -> Result<(), Fail> {
 #[test]
 fn refusals(rt: HostRuntime) -> Result<(), Fail> {
     let cases = [
-        ("$enddefinitions $end", 0, "C1 NoClock"),
+        ("$enddefinitions $end", "C1 NoClock"),
         (
             "$var wire 2 ! top.clk $end $enddefinitions $end",
-            0,
             "C2 ClockWidth",
         ),
         (
             "$var wire 1 ! top.clk $end $var wire 2 # top.y $end $enddefinitions $end",
-            0,
             "C4 NoSignal top.x",
         ),
         (
             "$var wire 1 ! top.clk $end $var wire 2 # top.x $end $enddefinitions $end",
-            0,
             "C5 SignalWidth top.x",
         ),
-        (KEPT, 0, "C3 BadSize"),
-        (KEPT, 65_537, "C3 BadSize"),
     ];
-    for (dump, size, fault) in cases {
-        let answer = told(rt.alloc(), dump, OVERLAPPED, size)?;
+    for (dump, fault) in cases {
+        let answer = told(&rt, dump, OVERLAPPED, 1, 1)?;
         assert!(rt; answer.as_str() == fault);
     }
     Ok(())

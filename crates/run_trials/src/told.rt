@@ -1,13 +1,15 @@
 //! What a run tells: the text of its report, or its fault.
 
-ghost use Rattle.std.specs.Prelude.{◌<◌};
+ghost use Rattle.std.specs.Prelude.{◌<◌, ◌≤◌};
 
-use core_runs::report_run;
+use crate::job::text_of;
 use program_files::decode;
-use signals::{Counted, CutWriter};
+use signals::Counted;
 use std::alloc::{AllocError, Global};
+use std::sync::Wait;
+use std::thread::Threads;
+use threaded_runs::{NoGate, report_run};
 use vcd_reader::{Dump, read_dump};
-use verdicts::{Report, write_report};
 use verifier::{Verified, verify};
 
 /// The value of a hexadecimal digit, 0 for other bytes.
@@ -31,7 +33,7 @@ fn bytes_of(alloc: Global, digits: &str) -> Result<Vec<u8>, AllocError> {
 }
 
 /// The program of a file, where it is accepted.
-fn verified_of(alloc: Global, code: &str) -> Result<Option<Verified>, AllocError> {
+pub(crate) fn verified_of(alloc: Global, code: &str) -> Result<Option<Verified>, AllocError> {
     let bytes = bytes_of(alloc, code)?;
     let Ok(program) = decode(alloc, bytes.as_slice()) else {
         return Ok(None);
@@ -42,44 +44,43 @@ fn verified_of(alloc: Global, code: &str) -> Result<Option<Verified>, AllocError
     }
 }
 
-/// The text of a report.
-fn text_of(alloc: Global, report: &Report) -> Result<String, AllocError> {
-    let mut out = Counted::new(CutWriter::new(alloc, 1000)?);
-    if write_report(alloc, report, &mut out).is_err() {
-        return String::from_str(alloc, "not written");
-    }
-    match std::str::from_utf8(out.inner.as_slice()) {
-        Ok(text) => String::from_str(alloc, text),
-        Err(_) => String::from_str(alloc, "no text"),
-    }
-}
-
 /// What a run over a dump tells.
-fn told_over(
-    alloc: Global,
+fn told_over<R: Threads + Wait + Sync + AllocGlobal>(
+    rt: &R,
     dump: Dump,
     verified: Verified,
+    workers: usize,
     size: usize,
-) -> Result<String, AllocError> {
-    match report_run(alloc, dump, verified, size) {
-        Ok(report) => text_of(alloc, &report),
+) -> Result<String, AllocError>
+    requires workers { (1 ≤ workers) × (workers ≤ 64) }
+    requires size { (1 ≤ size) × (size ≤ 65536) }
+{
+    let alloc = rt.alloc();
+    match report_run(rt, alloc, dump, verified, workers, size, &NoGate) {
+        Ok(report) => text_of(alloc, &report, 1000),
         Err(fault) => format!(in alloc; "{fault}"),
     }
 }
 
-/// What a run of a file of bytecode over the text of a dump tells, through windows of that size.
-pub(crate) fn told(
-    alloc: Global,
+/// What a run of a file of bytecode over the text of a dump tells, by so many workers through windows
+/// of that size.
+pub(crate) fn told<R: Threads + Wait + Sync + AllocGlobal>(
+    rt: &R,
     dump: &str,
     code: &str,
+    workers: usize,
     size: usize,
-) -> Result<String, AllocError> {
+) -> Result<String, AllocError>
+    requires workers { (1 ≤ workers) × (workers ≤ 64) }
+    requires size { (1 ≤ size) × (size ≤ 65536) }
+{
+    let alloc = rt.alloc();
     let Some(verified) = verified_of(alloc, code)? else {
         return String::from_str(alloc, "no program");
     };
     let mut source = Counted::new(dump.as_bytes());
     match read_dump(alloc, &mut source) {
-        Ok(dump) => told_over(alloc, dump, verified, size),
+        Ok(dump) => told_over(rt, dump, verified, workers, size),
         Err(_) => String::from_str(alloc, "no dump"),
     }
 }

@@ -1,10 +1,10 @@
 //! The program `svamon`: checks SystemVerilog assertions over recorded waveforms.
 //!
 //! ```text
-//! svamon check --vcd top.vcd --sva rules.sva [--axi ports.txt] [--window 1024]
+//! svamon check --vcd top.vcd --sva rules.sva [--axi ports.txt] [--workers 4] [--window 1024]
 //! svamon judge --vcd top.vcd --sva rules.sva [--axi ports.txt]
 //! svamon build --vcd top.vcd --sva rules.sva [--axi ports.txt] --name r --out r.svm
-//! svamon run --vcd top.vcd --code r.svm [--window 1024]
+//! svamon run --vcd top.vcd --code r.svm [--workers 4] [--window 1024]
 //! svamon verify r.svm
 //! svamon rules --axi ports.txt
 //! ```
@@ -14,7 +14,7 @@
 //! memory, and 4 for a file that can't be opened, read or written.
 //!
 //! It opens files (`shell`) and hands over what is in them; what a command answers is said by the
-//! contracts of `cli` (`check_one`, `judge_one`, `build_one`), of `cli_code` (`verify_code`,
+//! contracts of `cli` (`check_all`, `judge_one`, `build_one`), of `cli_code` (`verify_code`,
 //! `run_code`) and of `axi4_rules` (`port_rules`, `joined_text`), whose definitions stand in their
 //! `specs/`.
 //!

@@ -1,6 +1,6 @@
 //! The commands, from the words of the command line to the answer.
 
-use cli::{Fault, Request, build_one, check_one, judge_one};
+use cli::{Fault, NoGate, Request, build_one, check_all, judge_one};
 use cli_code::{run_code, verify_code};
 use shell::{
     open, print_rules, read_assertions, read_bytes, refuse_words, request_of, shown_status,
@@ -11,30 +11,48 @@ use std::env::Env;
 use std::fs::Files;
 use std::io;
 use std::io::{Eprint, Print};
+use std::sync::Wait;
+use std::thread::Threads;
 
-/// Judges a text over a dump, through windows of so many clocks, or by the slow judge where there
-/// is no window; the report goes to standard output.
-fn judge_text<'a, R: Files + Print + AllocGlobal>(
+/// By how many workers, and through windows of how many clocks.
+#[derive(Clone, Copy)]
+struct Team {
+    workers: u64,
+    window: u64,
+}
+
+/// Judges a text over a dump by a team, or by the slow judge where there is none; the report goes to
+/// standard output.
+fn judge_text<'a, R: Files + Print + AllocGlobal + Threads + Wait + Sync>(
     rt: &R,
     dump: R::File,
     text: &'a str,
-    window: Option<u64>,
+    team: Option<Team>,
 ) -> Result<[u64; 5], Fault<'a>> {
     let mut dump = Counted::new(dump);
     let mut out = Counted::new(io::writer(rt));
-    match window {
-        Some(window) => check_one(rt.alloc(), &mut dump, text, window, &mut out),
+    match team {
+        Some(Team { workers, window }) => check_all(
+            rt,
+            rt.alloc(),
+            &mut dump,
+            text,
+            workers,
+            window,
+            &NoGate,
+            &mut out,
+        ),
         None => judge_one(rt.alloc(), &mut dump, text, &mut out),
     }
 }
 
 /// Opens the dump, then reads the text, and judges it.
-fn serve_text<R: Files + Print + Eprint + AllocGlobal>(
+fn serve_text<R: Files + Print + Eprint + AllocGlobal + Threads + Wait + Sync>(
     rt: &R,
     vcd: &str,
     sva: &str,
     axi: Option<&str>,
-    window: Option<u64>,
+    team: Option<Team>,
 ) -> u8 {
     let dump = match open(rt, vcd) {
         Ok(dump) => dump,
@@ -44,7 +62,7 @@ fn serve_text<R: Files + Print + Eprint + AllocGlobal>(
         Ok(text) => text,
         Err(fault) => return shown_status(rt, Err(fault)),
     };
-    shown_status(rt, judge_text(rt, dump, text.as_str(), window))
+    shown_status(rt, judge_text(rt, dump, text.as_str(), team))
 }
 
 /// Compiles an assertion of a text over a dump, and makes a file of its program.
@@ -107,29 +125,29 @@ fn serve_code<R: Files + Print + Eprint + AllocGlobal>(rt: &R, path: &str) -> u8
     }
 }
 
-/// Runs a program over a dump, through windows of so many clocks; the report goes to standard
-/// output.
-fn run_bytes<R: Files + Print + AllocGlobal>(
+/// Runs a program over a dump by a team; the report goes to standard output.
+fn run_bytes<R: Files + Print + AllocGlobal + Threads + Wait + Sync>(
     rt: &R,
     dump: R::File,
     code: &[u8],
-    window: u64,
+    team: Team,
 ) -> Result<[u64; 5], Fault<'static>> {
     let mut dump = Counted::new(dump);
     let mut out = Counted::new(io::writer(rt));
-    run_code(rt.alloc(), &mut dump, code, window, &mut out)
+    let Team { workers, window } = team;
+    run_code(rt, rt.alloc(), &mut dump, code, workers, window, &NoGate, &mut out)
 }
 
 /// Opens the dump, then reads the program, and runs it.
-fn run_file<R: Files + Print + AllocGlobal>(
+fn run_file<R: Files + Print + AllocGlobal + Threads + Wait + Sync>(
     rt: &R,
     vcd: &str,
     code: &str,
-    window: u64,
+    team: Team,
 ) -> Result<[u64; 5], Fault<'static>> {
     let dump = open(rt, vcd)?;
     let bytes = read_bytes(rt, code)?;
-    run_bytes(rt, dump, bytes.as_slice(), window)
+    run_bytes(rt, dump, bytes.as_slice(), team)
 }
 
 /// The path of an option that may be left out.
@@ -141,14 +159,27 @@ fn path_of(option: &Option<String>) -> Option<&str> {
 }
 
 /// Does what the words ask for.
-fn serve<R: Files + Print + Eprint + AllocGlobal>(rt: &R, request: &Request) -> u8 {
+fn serve<R: Files + Print + Eprint + AllocGlobal + Threads + Wait + Sync>(
+    rt: &R,
+    request: &Request,
+) -> u8 {
     match request {
         Request::Check {
             vcd,
             sva,
             axi,
+            workers,
             window,
-        } => serve_text(rt, vcd.as_str(), sva.as_str(), path_of(axi), Some(*window)),
+        } => serve_text(
+            rt,
+            vcd.as_str(),
+            sva.as_str(),
+            path_of(axi),
+            Some(Team {
+                workers: *workers,
+                window: *window,
+            }),
+        ),
         Request::Build {
             vcd,
             sva,
@@ -164,8 +195,17 @@ fn serve<R: Files + Print + Eprint + AllocGlobal>(rt: &R, request: &Request) -> 
             out.as_str(),
         ),
         Request::Verify { code } => serve_code(rt, code.as_str()),
-        Request::Run { vcd, code, window } => {
-            shown_status(rt, run_file(rt, vcd.as_str(), code.as_str(), *window))
+        Request::Run {
+            vcd,
+            code,
+            workers,
+            window,
+        } => {
+            let team = Team {
+                workers: *workers,
+                window: *window,
+            };
+            shown_status(rt, run_file(rt, vcd.as_str(), code.as_str(), team))
         }
         Request::Judge { vcd, sva, axi } => {
             serve_text(rt, vcd.as_str(), sva.as_str(), path_of(axi), None)
@@ -175,7 +215,7 @@ fn serve<R: Files + Print + Eprint + AllocGlobal>(rt: &R, request: &Request) -> 
 }
 
 /// Does what the words of the command line ask for, and answers the status that a shell sees.
-pub fn answer<R: Files + Env + Print + Eprint + AllocGlobal>(rt: &R) -> u8 {
+pub fn answer<R: Files + Env + Print + Eprint + AllocGlobal + Threads + Wait + Sync>(rt: &R) -> u8 {
     let words = match words_of(rt) {
         Ok(words) => words,
         Err(error) => return refuse_words(rt, &error),

@@ -5,7 +5,7 @@ use Rattle.cli_code.proofs.RunLaws.{unbound}
 use Rattle.cli_code.proofs.run.report_of.Goals as goal
 
 pub returns-in_err-report_run-clause-err : goal.returns-in_err-report_run-clause-err
-returns-in_err-report_run-clause-err c = λ k holds.
+returns-in_err-report_run-clause-err g c = λ k holds.
     let fault = c.in_err-report_run.field-0.0 in
     err_is c.from_residual-in_err-report_run.result (window_fault fault)
     (WhyNoRunReport k c.args.code.now c.args.size) c.from_residual-in_err-report_run.ensures.1
@@ -13,7 +13,7 @@ returns-in_err-report_run-clause-err c = λ k holds.
     (c.in_err-report_run.ensures.refused k holds))
 
 pub returns-clause-ok : goal.returns-clause-ok
-returns-clause-ok c = λ k holds. record {
+returns-clause-ok g c = λ k holds. record {
   program = c.in_ok-verified.verified;
   accepted = c.in_ok-verified.ensures.ok;
   reports = c.in_ok-report_run.ensures.report k holds;

@@ -12,5 +12,7 @@ pub returns : goal.returns
 returns c =
     let dump = with_rule (new_app (codes "run")) (file_rule (codes "vcd")) in
     let files = c.in_ok-dump_command.ensures ∙ ap (λ (r : Rule). with_rule dump r) c.file_option-code.ensures.rule in
-    IfOk-weaker c.arg.result _ _
-    (λ r h. one_option _ r _ _ _ h files c.window_option.ensures.rule c.window_option.ensures.local) c.arg.ensures
+    let team =
+    one_option _ _ _ _ _ c.in_ok-arg.ensures files c.workers_option.ensures.rule c.workers_option.ensures.local in
+    IfOk-weaker c.arg-2.result _ _
+    (λ r h. one_option _ r _ _ _ h team c.window_option.ensures.rule c.window_option.ensures.local) c.arg-2.ensures

@@ -83,7 +83,7 @@ returns-clause-count c =
     let p = c.args.verified.now in
     let published = published_by v.state.board i in
     let took = c.in_ok-take_in.ensures.took published c.requires.took in
-    c.into_line.ensures.count
+    ap attempts_of c.into_line.ensures.counts
     ∙ took.many
     ∙ same-traced v.job _ (length v.job.ticks) c.requires.trace
     (λ k says.

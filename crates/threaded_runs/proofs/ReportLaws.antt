@@ -53,6 +53,7 @@ use Rattle.workers.specs.declared.job.Job.{Job}
 use Rattle.workers.specs.Jobs.{sampled}
 use Rattle.workers.specs.Values.{JobValue, Says, job_value, rows_over}
 use Rattle.core_runs.specs.Lines.{AreLinesOf}
+use Rattle.threaded_runs.specs.Reports.{IsJobReport}
 use Rattle.core_runs.proofs.CoreLaws.{ForContents, same-traced}
 use Rattle.core_runs.proofs.LineLaws.{job-traced}
 
@@ -115,16 +116,14 @@ says j d c dump holds = record {
 
 -- the report of the line over all rows
 pub reports :
-    (j : Job) (d : Dump) (clocks : Clocks) (c : Contents) (p : ProgramData) (n : ℕ)
-    (ls : List LineData) (r : ReportData) →
+    (j : Job) (d : Dump) (clocks : Clocks) (c : Contents) (p : ProgramData) (r : ReportData) →
     j.programs.items ≡ p ∷ [] → j.dump ≡ d → j.clocks ≡ clocks → HoldsContents d c →
     IsClock (variables_of d) p.header.clock (code_in clocks) → HasSignals (variables_of d) p →
-    n ≡ length (ticks_in clocks) → (Says (job_value j) c → AreLinesOf (job_value j) c ls) →
-    r ≡ report_of n ls → Reports c p r
-reports j d clocks c p n ls r programs dump at holds (v, is_named, bit, code) signals many lines
-    is =
+    (Says (job_value j) c → IsJobReport (job_value j) c r) → Reports c p r
+reports j d clocks c p r programs dump at holds (v, is_named, bit, code) signals told =
     let said = says j d c dump holds in
-    let one = has-line (job_value j) c p ls programs (lines said) in
+    let ls = r.lines in
+    let one = has-line (job_value j) c p ls programs (told said).lines in
     let variables = sampled c.variables p in
     let none : HasSignals c.variables p =
     subst (λ (vs : List Declared). HasSignals vs p) holds.variables signals in
@@ -132,10 +131,10 @@ reports j d clocks c p n ls r programs dump at holds (v, is_named, bit, code) si
     ap code_in at ∙ code ∙ ap (λ (vs : List Declared). code_number vs v) holds.variables in
     let rows : rows_over (job_value j) c p ≡ rows_of c v variables =
     ap (λ (k : ℕ). map (row_of c variables) (ticks_of c k)) coded in
-    let ticks : ticks_in clocks ≡ ticks_of c (code_number c.variables v) =
-    ap ticks_in (sym at) ∙ (job-traced j).ticks c said ∙ ap (ticks_of c) coded in
-    let all : n ≡ length (rows_of c v variables) =
-    many ∙ ap length ticks
+    let ticks : ticks_in j.clocks ≡ ticks_of c (code_number c.variables v) =
+    (job-traced j).ticks c said ∙ ap (ticks_of c) coded in
+    let all : length (ticks_in j.clocks) ≡ length (rows_of c v variables) =
+    ap length ticks
     ∙ sym (length-map (ticks_of c (code_number c.variables v)) (row_of c variables)) in
     record {
       clock = v;
@@ -146,7 +145,7 @@ reports j d clocks c p n ls r programs dump at holds (v, is_named, bit, code) si
           (all-named c.variables p.signals none) none;
       line = one.line;
       ran = subst (λ (rs : List (List ℕ)). IsLineOver p rs one.line) rows one.ran;
-      is = is ∙ ap (λ (k : ℕ). report_of k ls) all
+      is = (told said).is ∙ ap (λ (k : ℕ). report_of k ls) all
           ∙ ap (report_of (length (rows_of c v variables))) one.are;
     }
 
@@ -175,21 +174,19 @@ all-counted R p (l ∷ m ∷ ls) n below h all = absurd h.1
 
 -- an attempt for each clock
 pub counted :
-    (j : Job) (clocks : Clocks) (p : ProgramData) (n : ℕ) (ls : List Line) (r : ReportData) →
-    j.programs.items ≡ p ∷ [] → j.clocks ≡ clocks → n ≡ length (ticks_in clocks) → n < 2 ^ 64 →
-    ForContents (job_value j) (λ c. AreLinesOf (job_value j) c (map line ls)) →
+    (j : Job) (p : ProgramData) (ls : List Line) (r : ReportData) →
+    j.programs.items ≡ p ∷ [] → r.lines ≡ map line ls → r.clocks < 2 ^ 64 →
+    ForContents (job_value j) (λ c. IsJobReport (job_value j) c r) →
     All (λ l. attempts_of l.counts ≡ length (ticks_in j.clocks)) ls →
-    r ≡ report_of n (map line ls) → attempts_of r.total ≡ r.clocks
-counted j clocks p n ls r programs at many below lines all is =
-    let same : length (ticks_in j.clocks) ≡ n =
-    ap (λ (k : Clocks). length (ticks_in k)) at ∙ sym many in
-    let each = subst (λ (k : ℕ). All (λ (l : Line). attempts_of l.counts ≡ k) ls) same all in
-    let total : attempts_of (total_of (map line ls)) ≡ n =
-    same-traced (job_value j) (attempts_of (total_of (map line ls))) n (job-traced j) (λ c said.
-    let rule : ProgramData → LineData → Type 0 = λ q l.
-    IsLineOver q (rows_over (job_value j) c q) l in
-    all-counted rule p ls n below
-    (subst (λ (ps : List ProgramData). AllZip rule ps (map line ls)) programs (lines c said))
-    each) in
-    ap (λ (d : ReportData). attempts_of d.total) is ∙ total
-    ∙ sym (ap (λ (d : ReportData). d.clocks) is)
+    attempts_of r.total ≡ r.clocks
+counted j p ls r programs lines below told all =
+    same-traced (job_value j) (attempts_of r.total) r.clocks (job-traced j) (λ c said.
+    let rule : ProgramData → LineData → Type 0 = λ q l. IsLineOver q (rows_over (job_value j) c q) l in
+    let same : r.clocks ≡ length (ticks_in j.clocks) = ap (λ (d : ReportData). d.clocks) (told c said).is in
+    let each = subst (λ (k : ℕ). All (λ (l : Line). attempts_of l.counts ≡ k) ls) (sym same) all in
+    let are =
+    subst (λ (ps : List ProgramData). AllZip rule ps (map line ls)) programs
+    (subst (λ (ds : List LineData). AllZip rule j.programs.items ds) lines (told c said).lines) in
+    ap (λ (d : ReportData). attempts_of d.total) (told c said).is
+    ∙ ap (λ (ds : List LineData). attempts_of (total_of ds)) lines
+    ∙ all-counted rule p ls r.clocks below are each)

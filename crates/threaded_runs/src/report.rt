@@ -1,23 +1,26 @@
 //! The report of one program.
 
-ghost use Rattle.std.specs.Prelude.{◌≡◌, ◌≢◌, ℕ, ◌∷◌, ◌≤◌, [], List, IfOk, IfErr, map};
+ghost use Rattle.std.specs.Prelude.{◌≡◌, ◌∷◌, ◌≤◌, [], List, IfOk, IfErr, map};
 ghost use Rattle.bytecode.specs.Values.{ProgramData};
 ghost use Rattle.vcd_reader.specs.Variables.{Declared};
 ghost use Rattle.vcd_reader.specs.Dump.{Contents};
 ghost use Rattle.vcd_reader.specs.Held.{HoldsContents, variables_of};
+ghost use Rattle.cycle_window.specs.declared.fault.WindowFault.TheVariants as faults;
 ghost use Rattle.cycle_window.specs.Bound.{IsClock, IsClockFault, IsSignalFault};
 ghost use Rattle.cycle_window.specs.Held.{code_in, AreClocksOf};
 ghost use Rattle.verdicts.specs.Shown.{data_of};
 ghost use Rattle.program_runs.specs.Lines.{attempts_of};
-ghost use Rattle.program_runs.specs.Reported.{HasClock, HasSignals, Reports, WhyNoRun, wanted_slot};
+ghost use Rattle.program_runs.specs.Reported.{HasSignals, Reports, WhyNoRun, wanted_slot};
 ghost use Rattle.workers.specs.declared.run_fault.RunFault.TheVariants as runs;
-ghost use Rattle.workers.specs.Values.{WhyNoCore};
 ghost use Rattle.workers.specs.Wanted.{WhyUnfit};
-ghost use Rattle.core_runs.specs.Faults.{IsOfSignals};
+ghost use Rattle.threaded_runs.specs.Faults.{IsOfSignals};
 
-use crate::lines::job_lines;
+use crate::run::run;
 use cycle_window::{Clocks, WindowFault};
+use rounds::work::Gate;
 use std::alloc::Global;
+use std::sync::Wait;
+use std::thread::Threads;
 use vcd_reader::Dump;
 use verdicts::Report;
 use verifier::Verified;
@@ -67,32 +70,37 @@ fn job_of(alloc: Global, dump: Dump, verified: Verified, clocks: Clocks) -> Resu
     }
 }
 
-/// The fault of a run of one worker, over a dump that has the program's clock and signals.
-fn size_fault(fault: RunFault) -> WindowFault
-    requires { fault ≢ runs.BadWorkers }
-    ensures { (vs : List Declared) (p : ProgramData) (size : ℕ) → HasClock vs p → HasSignals vs p
-        → WhyNoCore 1 size fault → WhyNoRun vs p size result }
+/// The fault of a run of an allowed number of workers, through windows of an allowed size.
+fn want_of_memory(fault: RunFault) -> WindowFault
+    requires { fault ≡ runs.Memory }
+    ensures { result ≡ faults.Memory }
 {
     match fault {
-        RunFault::BadSize => WindowFault::BadSize,
         RunFault::Memory => WindowFault::Memory,
-        RunFault::BadWorkers => unreachable!(),
+        _ => unreachable!(),
     }
 }
 
-/// The report of a verified program over a dump, on the clock that it names, by a core of one
-/// worker through windows of so many clocks, 1 to 65,536. The size changes no report.
-pub fn report_run(
+/// The report of a verified program over a dump, on the clock that it names, by 1 to 64 workers
+/// through windows of so many clocks, 1 to 65,536. Neither the number of workers nor the size nor
+/// the gate changes it.
+///
+/// # Errors
+///
+/// C1 and C2 of the clock, C4 and C5 of the first signal that has one, and want of memory.
+pub fn report_run<G: Gate + Sync, R: Threads + Wait + Sync>(
+    rt: &R,
     alloc: Global,
     dump: Dump,
     verified: Verified,
+    workers: usize,
     size: usize,
+    gate: &G,
 ) -> Result<Report, WindowFault>
+    requires workers { (1 ≤ workers) × (workers ≤ 64) }
+    requires size { (1 ≤ size) × (size ≤ 65536) }
     ensures report { (c : Contents) → HoldsContents dump c
         → IfOk result (λ r. Reports c verified (data_of r)) }
-    // A window of no clock, or of more than 65,536, has no report.
-    ensures some { IfOk result (λ _. 1 ≤ size) }
-    ensures most { IfOk result (λ _. size ≤ 65536) }
     // One attempt begins at each clock, and each is counted once.
     ensures count { IfOk result (λ r. attempts_of r.total ≡ r.clocks) }
     // The first cause that stands.
@@ -100,11 +108,10 @@ pub fn report_run(
         → IfErr result (WhyNoRun c.variables verified size) }
 {
     let clocks = clocks_of(alloc, &dump, &verified)?;
-    let count = clocks.len();
     let job = job_of(alloc, dump, verified, clocks)?;
-    // An arm knows that it is none of the workers, as `size_fault` asks; a `From` can't ask it.
-    match job_lines(alloc, &job, size) {
-        Err(fault) => Err(size_fault(fault)),
-        Ok(lines) => Ok(Report::new(count, lines)),
+    // An arm knows that it is want of memory, as `want_of_memory` asks; a `From` can't ask it.
+    match run(rt, alloc, &job, workers, size, gate) {
+        Ok(report) => Ok(report),
+        Err(fault) => Err(want_of_memory(fault)),
     }
 }

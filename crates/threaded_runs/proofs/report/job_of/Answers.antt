@@ -2,7 +2,7 @@ use Rattle.std.proofs.Common.{List, [], ◌∷◌, ◌++◌, ap, ◌∙◌, subs
 use Rattle.bytecode.specs.Values.{ProgramData}
 use Rattle.vcd_reader.specs.Held.{variables_of}
 use Rattle.workers.specs.Wanted.{WhyUnfit}
-use Rattle.core_runs.proofs.report.job_of.Goals as goal
+use Rattle.threaded_runs.proofs.report.job_of.Goals as goal
 
 pub returns-in-Err-clause-fault : goal.returns-in-Err-clause-fault
 returns-in-Err-clause-fault c =

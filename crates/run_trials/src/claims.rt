@@ -1,0 +1,1 @@
+//! Claims from a bench, and one worker's round.

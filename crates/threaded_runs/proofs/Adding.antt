@@ -1,0 +1,177 @@
+-- What workers and lines count, kind by kind.
+use Rattle.std.proofs.Common.{◌≡◌, ℕ, zero, suc, ◌+◌, ◌<◌, ◌≤◌, Bool, List, [], ◌∷◌, ◌++◌, length, map, take, Some}
+use Rattle.std.proofs.Common.{refl, sym, ap, ◌∙◌, subst, arith}
+use Rattle.std.specs.Prelude.{slice_get, count_by}
+use Rattle.std.specs.List.{sum_by}
+use Rattle.std.proofs.lemmas.List.{map-append}
+use Rattle.std.proofs.lemmas.List.Sums.{sum_by-cons, sum_by-append, sum_by_push}
+use Rattle.std.proofs.lemmas.Option.{slice_get_within}
+use Rattle.signals.specs.declared.verdict.Verdict.{Verdict}
+use Rattle.signals.specs.declared.verdict.Decided.{Decided}
+use Rattle.bytecode.specs.Values.{ProgramData}
+use Rattle.vcd_reader.specs.Dump.{Contents}
+use Rattle.cycle_window.specs.declared.window.Window.{Window}
+use Rattle.cycle_window.specs.Held.{first_in, end_in}
+use Rattle.checked_machine.specs.Machine.{Attempt}
+use Rattle.machine.specs.Running.{open_ones}
+use Rattle.batches.specs.Batches.{batch_of}
+use Rattle.verdicts.specs.declared.line.Line.{Line}
+use Rattle.verdicts.specs.Tallies.{tally_of}
+use Rattle.verdicts.specs.Lines.{LineData, ReportData, line}
+use Rattle.verdicts.specs.declared.line.Counts.{Counts}
+use Rattle.workers.specs.declared.job.Job.{Job}
+use Rattle.workers.specs.Values.{Says, job_value, rows_over}
+use Rattle.core_runs.specs.declared.line_so_far.LineSoFar.{LineSoFar}
+use Rattle.core_runs.specs.Taken.{TookIn}
+use Rattle.core_runs.proofs.CoreLaws.{same-traced}
+use Rattle.core_runs.proofs.LineLaws.{job-traced}
+use Rattle.board.specs.declared.board.Board.{Board}
+use Rattle.board.specs.Receipts.{shown_by}
+use Rattle.tally.specs.Counts.{count_of}
+use Rattle.rounds.specs.declared.work.Published.{Published}
+use Rattle.rounds.specs.Works.{IsPublished, published_count}
+use Rattle.rounds.specs.Adding.{kind_of}
+use Rattle.threaded_runs.specs.Between.{IsTold}
+use Rattle.threaded_runs.specs.Taking.{Takes}
+use Rattle.threaded_runs.specs.Tallied.{count_in, told_by, said_by}
+use Rattle.threaded_runs.proofs.Telling.{program-of}
+
+-- a tally, kind by kind
+tallied : (k : ℕ) (vs : List Verdict) → count_in k (tally_of vs) ≡ count_by (kind_of k) vs
+tallied zero vs = refl
+tallied (suc zero) vs = refl
+tallied (suc (suc zero)) vs = refl
+tallied (suc (suc (suc k))) vs = refl
+
+pub sum_by-map : {X Y : Type 0} (f : Y → ℕ) (g : X → Y) (xs : List X)
+    → sum_by f (map g xs) ≡ sum_by (λ x. f (g x)) xs
+sum_by-map f g [] = refl
+sum_by-map f g (x ∷ xs) =
+    sum_by-cons f (g x) (map g xs) ∙ ap (λ n. f (g x) + n) (sum_by-map f g xs)
+    ∙ sym (sum_by-cons (λ y. f (g y)) x xs)
+
+-- the attempts that were taken in, kind by kind
+took-count : (k : ℕ) (l : LineSoFar) (ds : List Decided) → TookIn l ds → count_in k l.counts ≡ count_of (kind_of k) ds
+took-count k l ds took =
+    ap (count_in k) took.counts ∙ tallied k (map (λ (d : Decided). d.verdict) ds)
+    ∙ sum_by-map _ (λ (d : Decided). d.verdict) ds
+
+count-append : (is : Verdict → Bool) (xs ys : List Decided) → count_of is (xs ++ ys) ≡ count_of is xs + count_of is ys
+count-append is xs ys = sum_by-append _ xs ys
+
+more-count : (k : ℕ) (old new : LineSoFar) (before ds : List Decided) → TookIn old before → TookIn new (before ++ ds)
+    → count_in k new.counts ≡ count_in k old.counts + count_of (kind_of k) ds
+more-count k old new before ds was is =
+    took-count k new (before ++ ds) is ∙ count-append (kind_of k) before ds
+    ∙ ap (λ n. n + count_of (kind_of k) ds) (sym (took-count k old before was))
+
+-- those that are open count in none of the four
+none-open : (k : ℕ) (live : List Attempt) → count_of (kind_of k) (open_ones live) ≡ 0
+none-open k [] = refl
+none-open zero (a ∷ live) = sum_by-cons _ _ (open_ones live) ∙ none-open zero live
+none-open (suc zero) (a ∷ live) = sum_by-cons _ _ (open_ones live) ∙ none-open (suc zero) live
+none-open (suc (suc zero)) (a ∷ live) = sum_by-cons _ _ (open_ones live) ∙ none-open (suc (suc zero)) live
+none-open (suc (suc (suc k))) (a ∷ live) = sum_by-cons _ _ (open_ones live) ∙ none-open (suc (suc (suc k))) live
+
+-- a round in the line of one monitor
+module _ (j : Job) (w : Window) (board : Board) (i : ℕ) (old new : LineSoFar) (p : Published)
+    (number : p.monitor.number ≡ i) (is : IsPublished j w board p) (told : IsTold j (first_in w) i old) where
+  pub round-count : Takes old (shown_by p.receipt).decided.items new → (k : ℕ)
+      → count_in k new.counts ≡ count_in k old.counts + count_of (kind_of k) (shown_by p.receipt).decided.items
+  round-count takes k =
+      let q : ProgramData = p.monitor.monitor.value.machine.program in
+      let ds = (shown_by p.receipt).decided.items in
+      let at = program-of j w board i p number is in
+      same-traced (job_value j) (count_in k new.counts) (count_in k old.counts + count_of (kind_of k) ds)
+      (job-traced j) (λ c says.
+      let before = batch_of q (rows_over (job_value j) c q) 0 (first_in w) in
+      let was = told.took c says q at in
+      more-count k old new before ds was (takes before was))
+
+-- the live attempts in the line of one monitor
+pub end-count : (j : Job) (at i : ℕ) (old new : LineSoFar) (p : ProgramData) (live : List Attempt)
+    → IsTold j at i old → slice_get j.programs.items i ≡ Some p → Takes old (open_ones live) new
+    → (k : ℕ) → count_in k new.counts ≡ count_in k old.counts
+end-count j at i old new p live told is takes k =
+    same-traced (job_value j) (count_in k new.counts) (count_in k old.counts) (job-traced j) (λ c says.
+    let before = batch_of p (rows_over (job_value j) c p) 0 at in
+    let was = told.took c says p is in
+    let more = more-count k old new before (open_ones live) was (takes before was) in
+    let none = none-open k live in
+    omega (arith, more, none))
+
+-- what all lines took in, after a round
+pub sum-told : (k : ℕ) (ls new : List LineSoFar) (ps : List Published) → length ls ≡ length ps → length new ≡ length ps
+    → ((i : ℕ) (l m : LineSoFar) (p : Published) → slice_get ls i ≡ Some l → slice_get ps i ≡ Some p
+    → slice_get new i ≡ Some m
+    → count_in k m.counts ≡ count_in k l.counts + count_of (kind_of k) (shown_by p.receipt).decided.items)
+    → told_by k new ≡ told_by k ls + published_count (kind_of k) ps
+sum-told k [] [] [] a b each = refl
+sum-told k [] [] (p ∷ ps) a b each = absurd (omega (arith, a))
+sum-told k [] (m ∷ new) [] a b each = absurd (omega (arith, b))
+sum-told k [] (m ∷ new) (p ∷ ps) a b each = absurd (omega (arith, a))
+sum-told k (l ∷ ls) [] [] a b each = absurd (omega (arith, a))
+sum-told k (l ∷ ls) [] (p ∷ ps) a b each = absurd (omega (arith, b))
+sum-told k (l ∷ ls) (m ∷ new) [] a b each = absurd (omega (arith, a))
+sum-told k (l ∷ ls) (m ∷ new) (p ∷ ps) a b each =
+    let one = each 0 l m p refl refl refl in
+    let rest =
+    sum-told k ls new ps (omega (arith, a)) (omega (arith, b)) (λ i x y q at of to. each (suc i) x y q at of to) in
+    let x = sum_by-cons (λ (s : LineSoFar). count_in k s.counts) l ls in
+    let y = sum_by-cons (λ (s : LineSoFar). count_in k s.counts) m new in
+    let z = sum_by-cons (λ (q : Published). count_of (kind_of k) (shown_by q.receipt).decided.items) p ps in
+    omega (arith, one, rest, x, y, z)
+
+-- before the first round
+pub none-told-by : (k : ℕ) (ls : List LineSoFar) → ((i : ℕ) (l : LineSoFar) → slice_get ls i ≡ Some l → TookIn l [])
+    → told_by k ls ≡ 0
+none-told-by k [] none = refl
+none-told-by k (l ∷ ls) none =
+    let one = took-count k l [] (none 0 l refl) in
+    let rest = none-told-by k ls (λ i x at. none (suc i) x at) in
+    let x = sum_by-cons (λ (s : LineSoFar). count_in k s.counts) l ls in
+    omega (arith, one, rest, x)
+
+-- what lines say, as the report's definition has it
+pub said-line : (k : ℕ) (ls : List Line) → sum_by (λ (l : LineData). count_in k l.counts) (map line ls) ≡ said_by k ls
+said-line k ls = sum_by-map (λ (l : LineData). count_in k l.counts) line ls
+
+-- one line more says what its line in the making took in
+pub said-more : (k : ℕ) (ls new : List Line) (l : Line) (ts : List LineSoFar) (i : ℕ) (t : LineSoFar)
+    → new ≡ ls ++ l ∷ [] → slice_get ts i ≡ Some t → count_in k l.counts ≡ count_in k t.counts
+    → said_by k ls ≡ told_by k (take i ts) → said_by k new ≡ told_by k (take (i + 1) ts)
+said-more k ls new l ts i t is at one all =
+    let x = ap (said_by k) is ∙ sum_by_push (λ (m : Line). count_in k m.counts) ls l in
+    let y = told-front k ts i t at in
+    omega (arith, x, y, one, all)
+  where
+    told-front : (k : ℕ) (ts : List LineSoFar) (i : ℕ) (t : LineSoFar) → slice_get ts i ≡ Some t
+        → told_by k (take (i + 1) ts) ≡ told_by k (take i ts) + count_in k t.counts
+    told-front k [] i t at = absurd cc
+    told-front k (u ∷ ts) zero t at =
+        let same : u ≡ t = cc in
+        ap (λ (v : LineSoFar). count_in k v.counts) same
+    told-front k (u ∷ ts) (suc i) t at =
+        let rest = told-front k ts i t at in
+        let f = λ (v : LineSoFar). count_in k v.counts in
+        let x = sum_by-cons f u (take (i + 1) ts) in
+        let y = sum_by-cons f u (take i ts) in
+        omega (arith, rest, x, y)
+
+pub take-length : {A : Type 0} (n : ℕ) (xs : List A) → length xs ≤ n → take n xs ≡ xs
+take-length zero [] le = refl
+take-length zero (x ∷ xs) le = absurd (omega (arith, le))
+take-length (suc n) [] le = refl
+take-length {A = A} (suc n) (x ∷ xs) le = ap (λ (ys : List A). x ∷ ys) (take-length n xs (omega (arith, le)))
+
+abbrev pub counts : ℕ → ℕ → ℕ → ℕ → ℕ → Counts
+counts h v f d o = record { holds = h; vacuous = v; fails = f; disabled = d; still_open = o }
+
+abbrev pub report-of-counts : ℕ → List LineData → Counts → ReportData
+report-of-counts n ls c = record { clocks = n; lines = ls; total = c }
+
+-- the report with these totals
+pub with-total : {n m : ℕ} {ls ks : List LineData} {h h' v v' f f' d d' o o' : ℕ}
+    → h ≡ h' → v ≡ v' → f ≡ f' → d ≡ d' → n ≡ m → ls ≡ ks → o ≡ o'
+    → report-of-counts n ls (counts h v f d o) ≡ report-of-counts m ks (counts h' v' f' d' o')
+with-total e1 e2 e3 e4 e5 e6 e7 = λ i. report-of-counts (e5 i) (e6 i) (counts (e1 i) (e2 i) (e3 i) (e4 i) (e7 i))
