@@ -15,7 +15,7 @@ ghost use Rattle.workers.specs.declared.run_fault.RunFault.TheVariants as runs;
 ghost use Rattle.workers.specs.Wanted.{WhyUnfit};
 ghost use Rattle.threaded_runs.specs.Faults.{IsOfSignals};
 
-use crate::run::run;
+use crate::runs::run;
 use cycle_window::{Clocks, WindowFault};
 use rounds::work::Gate;
 use std::alloc::Global;

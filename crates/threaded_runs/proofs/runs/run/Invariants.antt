@@ -1,4 +1,4 @@
-use Rattle.threaded_runs.proofs.run.run.Given as goal
+use Rattle.threaded_runs.proofs.runs.run.Given as goal
 
 abbrev pub ghosts-run_in : goal.ghosts-run_in
 ghosts-run_in g a = record {
