@@ -109,7 +109,7 @@ puts-range a (suc n) =
 
 -- so many workers from a on, with these done lists
 abbrev pub crew : (ℕ → List ℕ) → ℕ → ℕ → List WorkerState
-crew E a n = map (λ (w : ℕ). with_done (E w)) (range_with_len a n)
+crew E a n = map with_done (map E (range_with_len a n))
 
 -- x is in front of v's done list, and v is none of them
 done-out : (E : ℕ → List ℕ) (v x a n : ℕ) (xs : List ℕ) → v < a

@@ -1,21 +1,5 @@
 -- A monitor that runs through a window.
-use Rattle.std.proofs.Common.{
-  ◌≡◌,
-  ℕ,
-  ◌+◌,
-  ◌-◌,
-  ◌≤◌,
-  List,
-  [],
-  ◌++◌,
-  length,
-  refl,
-  sym,
-  ap,
-  ◌∙◌,
-  subst,
-  arith,
-}
+use Rattle.std.proofs.Common.{◌≡◌, ℕ, ◌+◌, ◌-◌, ◌≤◌, List, ◌++◌, length, refl, sym, ap, ◌∙◌, subst, arith}
 use Rattle.signals.specs.declared.verdict.Decided.{Decided}
 use Rattle.checked_machine.specs.Runs.{run_from}
 use Rattle.batches.specs.Batches.{rows_between, batch_of, decided_in, HasCome}

@@ -1,5 +1,5 @@
 -- A core before its first step.
-use Rattle.std.proofs.Common.{◌≡◌, ℕ, Some, length, refl, sym, ap, subst}
+use Rattle.std.proofs.Common.{◌≡◌, ℕ, Some, refl, sym, ap, subst}
 use Rattle.std.specs.Prelude.{slice_get}
 use Rattle.std.specs.List.{range_with_len}
 use Rattle.std.proofs.lemmas.List.{length-map}

@@ -11,7 +11,7 @@ use Rattle.std.proofs.Common.{
   [],
   ◌∷◌,
   length,
-  Option,
+  map,
   Some,
   Bool,
   true,
@@ -29,10 +29,10 @@ use Rattle.std.specs.List.{range_with_len}
 use Rattle.std.proofs.lemmas.List.{length-set}
 use Rattle.std.proofs.lemmas.Option.{slice_get_within}
 use Rattle.workers.proofs.FloorLaws.{each-set}
-use Rattle.round_steps.specs.Steps.{owned_from}
+use Rattle.round_steps.specs.Steps.{owned_from, owned_by, owned_lists}
 use Rattle.round_steps.specs.Rounds.{AreOwners}
-use Rattle.round_steps.specs.Owners.{RisesFrom, total, IsDealt, AreDealt, AreOwned}
-use Rattle.round_steps.proofs.ListLaws.{written, unwritten}
+use Rattle.round_steps.specs.Owners.{RisesFrom, Rises, total, AreDealt}
+use Rattle.round_steps.proofs.ListLaws.{written, unwritten, mapped}
 
 -- rising numbers rise from less, too
 rises-low : (low high : ℕ) (xs : List ℕ) → low ≤ high → RisesFrom high xs → RisesFrom low xs
@@ -54,7 +54,7 @@ owned-rises (v ∷ owners) low w =
 
 -- the lists E of so many workers from a on, where v has x in front
 abbrev weighed : (ℕ → ℕ) → (ℕ → List ℕ) → ℕ → ℕ → ℕ
-weighed h E a n = total (λ w. total h (E w)) (range_with_len a n)
+weighed h E a n = total (total h) (map E (range_with_len a n))
 
 abbrev pub fronted : (ℕ → List ℕ) → ℕ → ℕ → ℕ → List ℕ
 fronted E v x w = front (v == w) x (E w)
@@ -108,12 +108,16 @@ weighed-all h n (v ∷ owners) low known =
     ∙ ap (λ (k : ℕ). h low + k)
     (weighed-all h n owners (low + 1) (λ i w is. known (suc i) w is))
 
-pub owned-are-all : (monitors crew : ℕ) (owners : List ℕ) → AreOwners monitors crew owners
-    → IsDealt crew owners
-owned-are-all monitors crew owners h =
+pub owners-are-dealt : (monitors crew : ℕ) (owners : List ℕ) → AreOwners monitors crew owners
+    → AreDealt monitors (owned_lists owners crew)
+owners-are-dealt monitors crew owners o =
     record {
-      rises = λ w. owned-rises owners 0 w;
-      all = λ h'. weighed-all h' crew owners 0 h.known;
+      rise = λ w xs is.
+          let r = mapped (owned_by owners) (range_with_len 0 crew) w xs is in
+          subst Rises r.same (owned-rises owners 0 r.of);
+      all = λ h.
+          weighed-all h crew owners 0 o.known
+          ∙ ap (λ (n : ℕ). total h (range_with_len 0 n)) o.each;
     }
 
 -- each of lists rises
@@ -269,8 +273,30 @@ owns-from (suc count) low lists rise all =
     rises-more low xs (still w xs is) (each-none (total (only low)) next w xs without is) in
     owns-step low count f.at f.rest lists f.is (owns-from count (low + 1) next further left)
 
-pub lists-have-owners : (monitors : ℕ) (lists : List (List ℕ)) → AreDealt monitors lists
-    → (owners : List ℕ) × AreOwned monitors lists owners
-lists-have-owners monitors lists dealt =
+-- lists by their places
+listed : (E : ℕ → List ℕ) (a : ℕ) (lists : List (List ℕ))
+    → ((w : ℕ) (xs : List ℕ) → slice_get lists w ≡ Some xs → E (a + w) ≡ xs)
+    → map E (range_with_len a (length lists)) ≡ lists
+listed E a [] h = refl
+listed E a (xs ∷ lists) h =
+    let here : a ≡ a + 0 = omega arith in
+    let rest : (w : ℕ) (ys : List ℕ) → slice_get lists w ≡ Some ys → E ((a + 1) + w) ≡ ys = λ w ys is.
+    let next : (a + 1) + w ≡ a + suc w = omega arith in
+    ap E next ∙ h (suc w) ys is in
+    ap (λ (ys : List ℕ). ys ∷ map E (range_with_len (a + 1) (length lists)))
+    (ap E here ∙ h 0 xs refl)
+    ∙ ap (λ (yss : List (List ℕ)). xs ∷ yss) (listed E (a + 1) lists rest)
+
+pub dealt-have-owners : (monitors : ℕ) (lists : List (List ℕ)) → AreDealt monitors lists →
+    (owners : List ℕ) × AreOwners monitors (length lists) owners
+    × (owned_lists owners (length lists) ≡ lists)
+dealt-have-owners monitors lists dealt =
     let o = owns-from monitors 0 lists dealt.rise dealt.all in
-    (o.owners, record { of = record { each = o.long; known = o.known }; owned = o.owned })
+    let same : (w : ℕ) (xs : List ℕ) → slice_get lists w ≡ Some xs → owned_by o.owners (0 + w) ≡ xs
+    = λ w xs is.
+    let e : 0 + w ≡ w = omega arith in
+    ap (owned_by o.owners) e ∙ o.owned w xs is in (
+      o.owners,
+      record { each = o.long; known = o.known },
+      listed (owned_by o.owners) 0 lists same,
+    )

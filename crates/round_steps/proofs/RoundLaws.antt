@@ -1,69 +1,15 @@
 -- A round of any owners.
-use Rattle.std.proofs.Common.{
-  ◌≡◌,
-  ℕ,
-  zero,
-  suc,
-  ◌+◌,
-  ◌<◌,
-  ◌≤◌,
-  List,
-  [],
-  ◌∷◌,
-  ◌++◌,
-  length,
-  map,
-  Option,
-  Some,
-  None,
-  Bool,
-  true,
-  cond,
-  refl,
-  sym,
-  ap,
-  ◌∙◌,
-  subst,
-  arith,
-}
-use Rattle.std.specs.Prelude.{slice_get, ◌&&◌, ◌==◌, nat_lt, option_and_then, replicate}
+use Rattle.std.proofs.Common.{◌≡◌, ℕ, suc, ◌+◌, ◌<◌, ◌≤◌, List, [], ◌∷◌, ◌++◌, length, map, Some, None, Bool}
+use Rattle.std.proofs.Common.{true, cond, refl, sym, ap, ◌∙◌, subst, arith}
+use Rattle.std.specs.Prelude.{slice_get, ◌&&◌, ◌==◌, nat_lt, option_and_then}
 use Rattle.std.specs.List.{list_all, range_with_len}
 use Rattle.std.proofs.lemmas.List.{length-map, length-replicate}
-use Rattle.workers.specs.declared.step.Step.{Step}
 use Rattle.workers.specs.declared.step.Step.TheVariants as steps
-use Rattle.workers.specs.States.{
-  CoreState,
-  WorkerState,
-  MonitorState,
-  BatchState,
-  Setting,
-  place,
-  is_at,
-  is_idle,
-  is_free,
-  cleared,
-  batch,
-  put_done,
-  emptied,
-  next_slide,
-  next_gather,
-}
-use Rattle.round_steps.specs.Steps.{after, turns, working_steps, round_steps, owned_by}
-use Rattle.round_steps.specs.Rounds.{
-  IsWaiting,
-  IsAtRest,
-  AreOwners,
-  with_done,
-  next_end,
-  next_clocks,
-  further,
-  all_further,
-  batches_from,
-  all_done,
-  worked,
-  gathered,
-  round_batch,
-}
+use Rattle.workers.specs.States.{CoreState, WorkerState, MonitorState, Setting, place, is_at, is_idle}
+use Rattle.workers.specs.States.{is_free, cleared, put_done, emptied, next_slide, next_gather}
+use Rattle.round_steps.specs.Steps.{after, turns, working_steps, round_steps, owned_by, owned_lists}
+use Rattle.round_steps.specs.Rounds.{IsWaiting, IsAtRest, AreOwners, with_done, next_end, next_clocks}
+use Rattle.round_steps.specs.Rounds.{further, all_further, batches_from, worked, gathered}
 use Rattle.round_steps.specs.Laws.{IsRound}
 use Rattle.round_steps.proofs.ListLaws.{mapped}
 use Rattle.round_steps.proofs.GatherLaws.{
@@ -74,7 +20,7 @@ use Rattle.round_steps.proofs.GatherLaws.{
   all-emptied,
   none-done,
 }
-use Rattle.round_steps.proofs.MonitorLaws.{Goes, goes, waits, batch-is}
+use Rattle.round_steps.proofs.MonitorLaws.{goes, waits, batch-is}
 use Rattle.round_steps.proofs.TurnLaws.{from, after-append, amid, EachGoes, all-turns}
 
 -- all monitors stand at a clock
@@ -138,7 +84,7 @@ module _ (g : Setting) (n : ℕ) (owners : List ℕ) (s : CoreState) (h : IsAtRe
 
   abbrev done_by : ℕ → CoreState
   done_by count =
-      amid a b (all_further g k s.monitors) [] (all_done owners count)
+      amid a b (all_further g k s.monitors) [] (map with_done (owned_lists owners count))
       (s.board ++ batches_from g k 0 s.monitors)
 
   working : after g s (working_steps owners k) ≡ Some (worked g owners s)
@@ -157,15 +103,15 @@ module _ (g : Setting) (n : ℕ) (owners : List ℕ) (s : CoreState) (h : IsAtRe
 
   gathers : next_gather (done_by n) ≡ Some (gathered g s)
   gathers =
-      let free : list_all is_free (all_done owners n) ≡ true = all-free (owned_by owners) 0 n in
+      let free : list_all is_free (crew (owned_by owners) 0 n) ≡ true = all-free (owned_by owners) 0 n in
       let next =
-      ended (put_done (all_done owners n) []) (map emptied (all_done owners n)) in
-      let waiting : put_done (all_done owners n) [] ≡ s.waiting =
+      ended (put_done (crew (owned_by owners) 0 n) []) (map emptied (crew (owned_by owners) 0 n)) in
+      let waiting : put_done (crew (owned_by owners) 0 n) [] ≡ s.waiting =
       put-all n owners o.known ∙ ap (range_with_len 0) o.each ∙ sym h.waiting in
-      let workers : map emptied (all_done owners n) ≡ s.workers =
+      let workers : map emptied (crew (owned_by owners) 0 n) ≡ s.workers =
       all-emptied (owned_by owners) 0 n ∙ sym h.workers in
       ap (λ (x : Bool). cond x (Some next) None) free
-      ∙ ap (λ (ws : List ℕ). Some (ended ws (map emptied (all_done owners n)))) waiting
+      ∙ ap (λ (ws : List ℕ). Some (ended ws (map emptied (crew (owned_by owners) 0 n)))) waiting
       ∙ ap (λ (ws : List WorkerState). Some (ended s.waiting ws)) workers
 
   whole : after g s (round_steps owners k) ≡ Some (gathered g s)

@@ -8,7 +8,7 @@ use Rattle.checked_machine.specs.Machine.{opening, clocks}
 use Rattle.batches.specs.Batches.{batch_of}
 use Rattle.workers.specs.States.{MonitorState, WorkerState, BatchState, CoreState, Setting}
 use Rattle.workers.specs.States.{place, advanced, cleared, batch}
-use Rattle.round_steps.specs.Steps.{owned_by}
+use Rattle.round_steps.specs.Steps.{owned_lists}
 
 -- The monitor stands at this clock with nothing to publish. Its program is accepted by the
 -- verifier and has a row for each clock of the trace, and over the rows before this clock the
@@ -22,7 +22,7 @@ pub record IsWaiting (g : Setting) (clock : ℕ) (m : MonitorState) : Type 0 whe
   pub state : clocks m.program (opening m.program) (take clock (g.rows m.program))
       ≡ done m.state 0
 
--- a worker with nothing in its hand
+-- a worker with an empty hand, and these in its done list
 abbrev pub with_done : List ℕ → WorkerState
 with_done numbers = record { hand = None; done = numbers }
 
@@ -46,37 +46,33 @@ next_end g s = min g.clocks (s.end + g.size)
 abbrev pub next_clocks : Setting → CoreState → ℕ
 next_clocks g s = next_end g s - s.end
 
--- the monitor behind k clocks more of its rows
+-- the monitor after k clocks more of its rows
 abbrev pub further : Setting → ℕ → MonitorState → MonitorState
 further g k m = advanced (g.rows m.program) k m
 
--- the monitors behind k clocks more, which they have published
+-- the monitors after k clocks more, with nothing left to publish
 abbrev pub all_further : Setting → ℕ → List MonitorState → List MonitorState
 all_further g k monitors = map (λ m. cleared (further g k m)) monitors
 
--- what monitors, numbered from low on, publish behind k clocks more, in source order
+-- what monitors, numbered from low on, publish after k clocks more, in source order
 abbrev pub batches_from : Setting → ℕ → ℕ → List MonitorState → List BatchState
 batches_from g k low [] = []
 batches_from g k low (m ∷ monitors) =
     batch low (further g k m) ∷ batches_from g k (low + 1) monitors
 
--- so many workers, each with the monitors that it owns in its done list
-abbrev pub all_done : List ℕ → ℕ → List WorkerState
-all_done owners crew = map (λ w. with_done (owned_by owners w)) (range_with_len 0 crew)
-
--- behind a round's steps but the last: all monitors are published, and their numbers stand in the
--- done lists of their owners
+-- After a round's steps but the last: all monitors have published, and each worker has those that
+-- it owns in its done list.
 abbrev pub worked : Setting → List ℕ → CoreState → CoreState
 worked g owners s = record {
   first = s.end;
   end = next_end g s;
   monitors = all_further g (next_clocks g s) s.monitors;
   waiting = [];
-  workers = all_done owners (length s.workers);
+  workers = map with_done (owned_lists owners (length s.workers));
   board = s.board ++ batches_from g (next_clocks g s) 0 s.monitors;
 }
 
--- behind the last step: all monitors wait again
+-- After the last step: all monitors wait again, and no worker has any.
 abbrev pub gathered : Setting → CoreState → CoreState
 gathered g s = record {
   first = s.end;

@@ -1,11 +1,12 @@
 -- The steps of a round in which each monitor is run by some worker.
 use Rattle.std.specs.Prelude.{ℕ, ◌+◌, ◌==◌, if◌then◌else◌, List, [], ◌∷◌, ◌++◌, Option, Some}
-use Rattle.std.specs.Prelude.{option_and_then}
+use Rattle.std.specs.Prelude.{map, option_and_then}
+use Rattle.std.specs.List.{range_with_len}
 use Rattle.workers.specs.declared.step.Step.{Step}
 use Rattle.workers.specs.declared.step.Step.TheVariants as steps
 use Rattle.workers.specs.States.{CoreState, Setting, next}
 
--- the state behind steps, where each is allowed in its turn
+-- the state after steps, where each is allowed in its turn
 abbrev pub after : Setting → CoreState → List Step → Option CoreState
 after g s [] = Some s
 after g s (step ∷ rest) = option_and_then (λ t. after g t rest) (next g s step)
@@ -33,3 +34,7 @@ owned_from low (v ∷ owners) w =
 -- the monitors that w owns, in source order
 abbrev pub owned_by : List ℕ → ℕ → List ℕ
 owned_by owners w = owned_from 0 owners w
+
+-- what each of so many workers owns, worker by worker
+abbrev pub owned_lists : List ℕ → ℕ → List (List ℕ)
+owned_lists owners crew = map (owned_by owners) (range_with_len 0 crew)

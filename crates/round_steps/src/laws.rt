@@ -1,7 +1,7 @@
 //! Laws of rounds, each a call that does nothing.
 
 ghost use Rattle.round_steps.specs.Laws.{RoundsAreSteps, CoresRestAtFirst};
-ghost use Rattle.round_steps.specs.Laws.{OwnersAreDealt, ListsHaveOwners};
+ghost use Rattle.round_steps.specs.Laws.{OwnersAreDealt, DealtHaveOwners};
 
 /// A round is a list of the core's steps, whichever workers run the monitors.
 pub fn round_law()
@@ -18,7 +18,7 @@ pub fn owned_law()
     ensures { OwnersAreDealt }
 {}
 
-/// Rising lists that together are all monitors, each once, are what the workers of a round own.
+/// Rising lists that together are all monitors, each once, are what some round's workers own.
 pub fn owners_law()
-    ensures { ListsHaveOwners }
+    ensures { DealtHaveOwners }
 {}
