@@ -1,18 +1,19 @@
 -- What workers and lines count, kind by kind.
 use Rattle.std.proofs.Common.{◌≡◌, ℕ, zero, suc, ◌+◌, ◌<◌, ◌≤◌, Bool, List, [], ◌∷◌, ◌++◌, length, map, take, Some}
-use Rattle.std.proofs.Common.{refl, sym, ap, ◌∙◌, subst, arith}
+use Rattle.std.proofs.Common.{All, false, cond, get_or, refl, sym, ap, ◌∙◌, subst, arith}
 use Rattle.std.specs.Prelude.{slice_get, count_by}
 use Rattle.std.specs.List.{sum_by}
-use Rattle.std.proofs.lemmas.List.{map-append}
-use Rattle.std.proofs.lemmas.List.Sums.{sum_by-cons, sum_by-append, sum_by_push}
+use Rattle.std.proofs.lemmas.List.{map-append, length-map}
+use Rattle.std.proofs.lemmas.List.Sums.{sum_by-cons, sum_by-append, sum_by_push, sum_by_more}
 use Rattle.std.proofs.lemmas.Option.{slice_get_within}
 use Rattle.signals.specs.declared.verdict.Verdict.{Verdict}
+use Rattle.signals.specs.declared.verdict.Verdict.TheVariants as outcome
 use Rattle.signals.specs.declared.verdict.Decided.{Decided}
 use Rattle.bytecode.specs.Values.{ProgramData}
 use Rattle.vcd_reader.specs.Dump.{Contents}
 use Rattle.cycle_window.specs.declared.window.Window.{Window}
 use Rattle.cycle_window.specs.Held.{first_in, end_in}
-use Rattle.checked_machine.specs.Machine.{Attempt}
+use Rattle.checked_machine.specs.Clocks.{Attempt}
 use Rattle.machine.specs.Running.{open_ones}
 use Rattle.batches.specs.Batches.{batch_of}
 use Rattle.verdicts.specs.declared.line.Line.{Line}
@@ -27,14 +28,18 @@ use Rattle.core_runs.proofs.CoreLaws.{same-traced}
 use Rattle.core_runs.proofs.LineLaws.{job-traced}
 use Rattle.board.specs.declared.board.Board.{Board}
 use Rattle.board.specs.Receipts.{shown_by}
+use Rattle.program_runs.specs.Lines.{attempts_of}
 use Rattle.tally.specs.Counts.{count_of}
+use Rattle.tally.specs.Shares.{each_capped}
 use Rattle.rounds.specs.declared.work.Published.{Published}
 use Rattle.rounds.specs.Works.{IsPublished, published_count}
 use Rattle.rounds.specs.Adding.{kind_of}
 use Rattle.threaded_runs.specs.Between.{IsTold}
 use Rattle.threaded_runs.specs.Taking.{Takes}
 use Rattle.threaded_runs.specs.Tallied.{count_in, told_by, said_by}
-use Rattle.threaded_runs.proofs.Telling.{program-of}
+use Rattle.workers.proofs.FloorLaws.{get-some, get-mapped}
+use Rattle.core_runs.proofs.TakenLaws.{some-at}
+use Rattle.threaded_runs.proofs.Telling.{program-of, some-is, all-at, all-each}
 
 -- a tally, kind by kind
 tallied : (k : ℕ) (vs : List Verdict) → count_in k (tally_of vs) ≡ count_by (kind_of k) vs
@@ -66,12 +71,25 @@ more-count k old new before ds was is =
     ∙ ap (λ n. n + count_of (kind_of k) ds) (sym (took-count k old before was))
 
 -- those that are open count in none of the four
+count-open : (is : Verdict → Bool) → is outcome.Open ≡ false → (live : List Attempt)
+    → count_of is (open_ones live) ≡ 0
+count-open is never [] = refl
+count-open is never (a ∷ live) =
+    let rest = count-open is never live in
+    let one = sum_by-cons (λ (d : Decided). cond (is d.verdict) 1 0) (record { start = a.start; verdict = outcome.Open })
+    (open_ones live) in
+    let weight : Bool → ℕ = (λ b. cond b 1 0) in
+    let none = ap weight never in
+    omega (arith, rest, one, none)
+
+open-none : (k : ℕ) → kind_of k outcome.Open ≡ false
+open-none zero = refl
+open-none (suc zero) = refl
+open-none (suc (suc zero)) = refl
+open-none (suc (suc (suc k))) = refl
+
 none-open : (k : ℕ) (live : List Attempt) → count_of (kind_of k) (open_ones live) ≡ 0
-none-open k [] = refl
-none-open zero (a ∷ live) = sum_by-cons _ _ (open_ones live) ∙ none-open zero live
-none-open (suc zero) (a ∷ live) = sum_by-cons _ _ (open_ones live) ∙ none-open (suc zero) live
-none-open (suc (suc zero)) (a ∷ live) = sum_by-cons _ _ (open_ones live) ∙ none-open (suc (suc zero)) live
-none-open (suc (suc (suc k))) (a ∷ live) = sum_by-cons _ _ (open_ones live) ∙ none-open (suc (suc (suc k))) live
+none-open k live = count-open (kind_of k) (open-none k) live
 
 -- a round in the line of one monitor
 module _ (j : Job) (w : Window) (board : Board) (i : ℕ) (old new : LineSoFar) (p : Published)
@@ -147,16 +165,12 @@ said-more k ls new l ts i t is at one all =
   where
     told-front : (k : ℕ) (ts : List LineSoFar) (i : ℕ) (t : LineSoFar) → slice_get ts i ≡ Some t
         → told_by k (take (i + 1) ts) ≡ told_by k (take i ts) + count_in k t.counts
-    told-front k [] i t at = absurd cc
-    told-front k (u ∷ ts) zero t at =
-        let same : u ≡ t = cc in
-        ap (λ (v : LineSoFar). count_in k v.counts) same
-    told-front k (u ∷ ts) (suc i) t at =
-        let rest = told-front k ts i t at in
+    told-front k ts i t at =
+        let lt = slice_get_within ts i t at in
         let f = λ (v : LineSoFar). count_in k v.counts in
-        let x = sum_by-cons f u (take (i + 1) ts) in
-        let y = sum_by-cons f u (take i ts) in
-        omega (arith, rest, x, y)
+        sum_by_more f ts i t lt
+        ∙ ap (λ (v : LineSoFar). told_by k (take i ts) + count_in k v.counts)
+        (some-is (get_or ts i t) t (sym (get-some ts i t lt) ∙ at))
 
 pub take-length : {A : Type 0} (n : ℕ) (xs : List A) → length xs ≤ n → take n xs ≡ xs
 take-length zero [] le = refl
@@ -175,3 +189,21 @@ pub with-total : {n m : ℕ} {ls ks : List LineData} {h h' v v' f f' d d' o o' :
     → h ≡ h' → v ≡ v' → f ≡ f' → d ≡ d' → n ≡ m → ls ≡ ks → o ≡ o'
     → report-of-counts n ls (counts h v f d o) ≡ report-of-counts m ks (counts h' v' f' d' o')
 with-total e1 e2 e3 e4 e5 e6 e7 = λ i. report-of-counts (e5 i) (e6 i) (counts (e1 i) (e2 i) (e3 i) (e4 i) (e7 i))
+
+-- lines that say the same count as many attempts
+pub all-counts : (n : ℕ) (xs ys : List Line) → map line xs ≡ map line ys
+    → All (λ (l : Line). attempts_of l.counts ≡ n) ys → All (λ (l : Line). attempts_of l.counts ≡ n) xs
+all-counts n xs ys same all = all-each (λ (l : Line). attempts_of l.counts ≡ n) xs (λ i x at.
+    let lt = slice_get_within xs i x at in
+    let long = sym (length-map xs line) ∙ (ap length same ∙ length-map ys line) in
+    let y = some-at ys i (omega (arith, lt, long)) in
+    let is : line x ≡ line y.0 =
+    some-is (line x) (line y.0)
+    (sym (get-mapped line xs i x at) ∙ (ap (λ (ds : List LineData). slice_get ds i) same ∙ get-mapped line ys i y.0 y.1)) in
+    ap (λ (d : LineData). attempts_of d.counts) is
+    ∙ all-at (λ (l : Line). attempts_of l.counts ≡ n) ys i y.0 all y.1)
+
+-- four sums at once
+pub four-held : (a b : ℕ → ℕ) → ((k : ℕ) → a k ≡ b k)
+    → each_capped (a 0 ∷ a 1 ∷ a 2 ∷ a 3 ∷ []) ≡ each_capped (b 0 ∷ b 1 ∷ b 2 ∷ b 3 ∷ [])
+four-held a b same = λ i. each_capped (same 0 i ∷ same 1 i ∷ same 2 i ∷ same 3 i ∷ [])

@@ -175,18 +175,18 @@ all-counted R p (l ∷ m ∷ ls) n below h all = absurd h.1
 -- an attempt for each clock
 pub counted :
     (j : Job) (p : ProgramData) (ls : List Line) (r : ReportData) →
-    j.programs.items ≡ p ∷ [] → r.lines ≡ map line ls → r.clocks < 2 ^ 64 →
+    j.programs.items ≡ p ∷ [] → r.lines ≡ map line ls → length (ticks_in j.clocks) < 2 ^ 64 →
     ForContents (job_value j) (λ c. IsJobReport (job_value j) c r) →
     All (λ l. attempts_of l.counts ≡ length (ticks_in j.clocks)) ls →
     attempts_of r.total ≡ r.clocks
 counted j p ls r programs lines below told all =
     same-traced (job_value j) (attempts_of r.total) r.clocks (job-traced j) (λ c said.
     let rule : ProgramData → LineData → Type 0 = λ q l. IsLineOver q (rows_over (job_value j) c q) l in
-    let same : r.clocks ≡ length (ticks_in j.clocks) = ap (λ (d : ReportData). d.clocks) (told c said).is in
-    let each = subst (λ (k : ℕ). All (λ (l : Line). attempts_of l.counts ≡ k) ls) (sym same) all in
+    let n = length (ticks_in j.clocks) in
     let are =
     subst (λ (ps : List ProgramData). AllZip rule ps (map line ls)) programs
     (subst (λ (ds : List LineData). AllZip rule j.programs.items ds) lines (told c said).lines) in
     ap (λ (d : ReportData). attempts_of d.total) (told c said).is
     ∙ ap (λ (ds : List LineData). attempts_of (total_of ds)) lines
-    ∙ all-counted rule p ls r.clocks below are each)
+    ∙ all-counted rule p ls n below are all
+    ∙ sym (ap (λ (d : ReportData). d.clocks) (told c said).is))

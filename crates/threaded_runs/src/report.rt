@@ -109,6 +109,7 @@ pub fn report_run<G: Gate + Sync, R: Threads + Wait + Sync>(
 {
     let clocks = clocks_of(alloc, &dump, &verified)?;
     let job = job_of(alloc, dump, verified, clocks)?;
+    let _count = job.clocks().len();
     // An arm knows that it is want of memory, as `want_of_memory` asks; a `From` can't ask it.
     match run(rt, alloc, &job, workers, size, gate) {
         Ok(report) => Ok(report),

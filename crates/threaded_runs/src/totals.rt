@@ -36,8 +36,7 @@ pub(crate) fn shares_of<L: Tallying>(
 /// open.
 pub(crate) fn report_with(clocks: u64, lines: Vec<Line>, totals: [u64; 4]) -> Report
     requires { AreTotals totals lines.items }
-    ensures report { data_of result ≡ report_of clocks (map line lines.items) }
-    ensures lines { result.lines.items ≡ lines.items }
+    ensures { data_of result ≡ report_of clocks (map line lines.items) }
 {
     let [holds, vacuous, fails, disabled] = totals;
     let report = Report::new(clocks, lines);

@@ -1,7 +1,7 @@
-use Rattle.std.proofs.Common.{List, map, subst}
-use Rattle.vcd_reader.specs.Variables.{Declared}
+use Rattle.std.proofs.Common.{refl, ap, length, arith}
+use Rattle.cycle_window.specs.declared.clocks.Clocks.{Clocks}
+use Rattle.cycle_window.specs.Held.{ticks_in}
 use Rattle.verdicts.specs.Shown.{data_of}
-use Rattle.program_runs.specs.Reported.{WhyNoRun}
 use Rattle.threaded_runs.proofs.ReportLaws.{reports, counted}
 use Rattle.threaded_runs.proofs.report.report_run.Goals as goal
 
@@ -16,4 +16,6 @@ pub returns-in-Ok-clause-count : goal.returns-in-Ok-clause-count
 returns-in-Ok-clause-count g c =
     let of = c.in_ok-job.ensures in
     counted c.in_ok-job.job c.args.verified c.in-Ok.report.lines.items (data_of c.in-Ok.report)
-    of.programs ? c.in-Ok.ensures.report c.in-Ok.ensures.count
+    of.programs refl
+    (omega (arith, c.len-count.type_inv, c.len-count.ensures, ap (λ (k : Clocks). length (ticks_in k)) c.clocks.ensures))
+    c.in-Ok.ensures.report c.in-Ok.ensures.count

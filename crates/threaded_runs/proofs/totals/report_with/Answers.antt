@@ -5,8 +5,8 @@ use Rattle.threaded_runs.specs.Tallied.{count_in, said_by}
 use Rattle.threaded_runs.proofs.Adding.{said-line, with-total}
 use Rattle.threaded_runs.proofs.totals.report_with.Goals as goal
 
-pub returns-clause-report : goal.returns-clause-report
-returns-clause-report c =
+pub returns : goal.returns
+returns c =
     let ls = c.args.lines.items in
     let is = c.requires in
     let held : (k : ℕ) → held_count (sum_by (λ (l : LineData). count_in k l.counts) (map line ls)) ≡ held_count (said_by k ls) =
@@ -20,6 +20,3 @@ returns-clause-report c =
     let lines = ap (λ (d : ReportData). d.lines) new in
     let open_ones = ap (λ (d : ReportData). d.total.still_open) new in
     with-total holds vacuous fails disabled clocks lines open_ones
-
-pub returns-clause-lines : goal.returns-clause-lines
-returns-clause-lines c = ?
