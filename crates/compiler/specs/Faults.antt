@@ -4,14 +4,11 @@ use Rattle.std.specs.Prelude.{Option, Some, None, slice_get, string_bytes}
 use Rattle.std.specs.List.{list_any}
 use Rattle.assertion_reads.specs.Marks.{places_from}
 use Rattle.assertions.specs.declared.sequence.Sequence.{Sequence}
-use Rattle.assertions.specs.declared.sequence.Boolean.TheVariants.{One}
 use Rattle.assertions.specs.declared.signal.Signal.{Signal}
 use Rattle.assertions.specs.declared.assertion.Assertion.{Assertion}
 use Rattle.assertions.specs.declared.suite.Suite.{Suite}
 use Rattle.assertions.specs.Shapes.{written_form}
-use Rattle.inference.specs.Sections.{size_of}
-use Rattle.positions.specs.Laws.{section_for}
-use Rattle.positions.specs.Sequences.{atom_of}
+use Rattle.positions.specs.Sequences.{largest}
 use Rattle.compiler.specs.declared.fault.CompileFault.{CompileFault}
 use Rattle.compiler.specs.declared.fault.CompileFault.TheVariants.{TooManyAtoms, CodeTooLong}
 use Rattle.compiler.specs.declared.fault.CompileFault.TheVariants.{TooManySlots, TextTooLong}
@@ -39,11 +36,11 @@ has_long_text suite a places =
 abbrev pub HasLongText : Suite → Assertion → List Bool → Type 0
 HasLongText suite a signals = IsTrue (has_long_text suite a (places_from 0 signals))
 
--- how many instructions the section of a side has
+-- the most instructions that a table on the way to the section of a side makes up
 abbrev pub side_size : Sequence → ℕ
-side_size s = size_of (section_for atom_of One (written_form s)).blocks
+side_size s = largest (written_form s)
 
--- a part of the program would have over 4,096 instructions
+-- a part of the program, or a table on the way to one, would have over 4,096 instructions
 abbrev pub HasLongCode : Suite → Assertion → List Bool → List Bool → Type 0
 HasLongCode suite a signals counters =
     (4096 < length (code_over suite a signals counters))

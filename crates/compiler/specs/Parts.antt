@@ -58,6 +58,8 @@ pub record AreParts (suite : Suite) (a : Assertion) (signals counters : List Boo
   pub short_sample : length p.sample ≤ 4096
   pub short_antecedent : size_of p.antecedent.blocks ≤ 4096
   pub short_consequent : size_of p.consequent.blocks ≤ 4096
+  pub light_antecedent : side_size a.antecedent ≤ 4096
+  pub light_consequent : side_size a.consequent ≤ 4096
 
 -- Why code was not made: it would be too long, or memory ran out.
 abbrev pub IsCodeFault : Suite → Assertion → List Bool → List Bool → CompileFault → Type 0

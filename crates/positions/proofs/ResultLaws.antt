@@ -8,6 +8,10 @@ pub ok_same : {X E : Type 0} (r : Result X E) (a b : X) → IfOk r (λ t. t ≡ 
 ok_same (Ok x) a b h e = h ∙ e
 ok_same (Err f) a b h e = h
 
+pub err_more : {X : Type 0} (r : Result X SectionFault) (n m : ℕ) → IfErr r (IsLong n) → n ≤ m → IfErr r (IsLong m)
+err_more (Ok x) n m h le = h
+err_more (Err f) n m h le = λ is. let over = h is in omega (arith, over, le)
+
 pub err_same : {X : Type 0} (r : Result X SectionFault) (n m : ℕ) → IfErr r (IsLong n) → n ≡ m → IfErr r (IsLong m)
 err_same (Ok x) n m h e = h
 err_same (Err f) n m h e = λ is. subst (λ k. 4096 < k) e (h is)

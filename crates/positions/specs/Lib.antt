@@ -1,6 +1,7 @@
 pub mod Plans
 pub mod States
 pub mod Tables
+pub mod Living
 pub mod Sections
 pub mod Rows
 pub mod Views

@@ -1,10 +1,11 @@
 -- Tables as lists: for each position a list of edges, each made from another.
-use Rattle.std.specs.Prelude.{ℕ, ◌+◌, ◌*◌, ◌-◌, ◌<◌, ◌≤◌, ◌==◌, nat_le}
+use Rattle.std.specs.Prelude.{ℕ, zero, suc, ◌+◌, ◌*◌, ◌-◌, ◌<◌, ◌≤◌, ◌==◌, nat_le}
 use Rattle.std.specs.Prelude.{Bool, true, false, ◌&&◌, ◌||◌, List}
 use Rattle.std.specs.Prelude.{[], ◌∷◌, ◌++◌, length, map, Option, None, sum_by}
-use Rattle.std.specs.Prelude.{slice_get, unwrap_or, min, if◌then◌else◌}
+use Rattle.std.specs.Prelude.{slice_get, slice_index_or, unwrap_or, min, if◌then◌else◌}
 use Rattle.std.specs.List.{flat_map}
-use Rattle.positions.specs.Tables.{Edge, Table, EachOf, shift, picked, numbers}
+use Rattle.positions.specs.Tables.{Edge, Table, EachOf, shift, picked, numbers, products, coupled}
+use Rattle.positions.specs.Living.{lives_for, sift, sifted_edge}
 use Rattle.positions.specs.Sections.{edge_size, with_atom, coded, rows_of}
 
 -- Positions in order, each by its edges; those that begin; whether an empty match is there.
@@ -202,6 +203,38 @@ both_data t u =
           ++ picked t.empty (shift (n * m + n) u.starts));
       empty = t.empty && u.empty;
     }
+
+-- the pairs alone, where the second table has so many positions
+abbrev pub couple_row : ℕ → List (Edge ℕ) → List (Edge ℕ) → List (Edge ℕ)
+couple_row size es fs = flat_map (λ e. map (coupled size e) fs) es
+
+abbrev pub pair_data : TableData → TableData → TableData
+pair_data t u = record {
+  rows = flat_map (λ es. map (couple_row (length u.rows) es) u.rows) t.rows;
+  starts = products (length u.rows) t.starts u.starts;
+  empty = t.empty && u.empty;
+}
+
+-- whether a list has a mark at a place; one that isn't there is none
+abbrev pub marked : List Bool → ℕ → Bool
+marked marks p = slice_index_or marks p false
+
+-- the positions of these rows that may still come to an end
+abbrev pub lives_in : List (List (Edge ℕ)) → ℕ → Bool
+lives_in rows p = lives_for (length rows) (row_at rows) (length rows) p
+
+-- what is kept of the first so many rows
+abbrev pub kept_rows : (ℕ → Bool) → List (List (Edge ℕ)) → ℕ → List (List (Edge ℕ))
+kept_rows keeps rows zero = []
+kept_rows keeps rows (suc n) =
+    kept_rows keeps rows n ++ picked (keeps n) (map (sifted_edge keeps) (row_at rows n) ∷ [])
+
+abbrev pub sift_data : TableData → TableData
+sift_data t = record {
+  rows = kept_rows (lives_in t.rows) t.rows (length t.rows);
+  starts = sift (lives_in t.rows) t.starts;
+  empty = t.empty;
+}
 
 -- Few positions, and what is entered is there.
 pub record IsPlaced (d : TableData) : Type 0 where

@@ -50,6 +50,7 @@ pub(crate) fn both(alloc: Global, first: &Table, second: &Table) -> Result<Table
     requires few { length first.now.rows * length second.now.rows
         + length first.now.rows + length second.now.rows ≤ 127 }
     ensures ok { IfOk result (λ t. t ≡ both_data first.now second.now) }
+    ensures short { IfOk result (λ t. rows_size t.rows ≤ 4096) }
     ensures err { IfErr result (IsLong (rows_size (both_data first.now second.now).rows)) }
 {
     let pairing = Pairing {

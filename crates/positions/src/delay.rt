@@ -60,6 +60,7 @@ pub(crate) fn apart(
     requires second_placed { IsPlaced second.now }
     requires few { length first.now.rows + length second.now.rows + most ≤ 127 }
     ensures ok { IfOk result (λ t. t ≡ apart_data shares first.now second.now least most) }
+    ensures short { IfOk result (λ t. rows_size t.rows ≤ 4096) }
     ensures err { IfErr result
         (IsLong (rows_size (apart_data shares first.now second.now least most).rows)) }
 {
@@ -79,6 +80,7 @@ pub(crate) fn lead_in(
     requires placed { IsPlaced body.now }
     requires few { length body.now.rows + most ≤ 127 }
     ensures ok { IfOk result (λ t. t ≡ lead_in_data least most body.now) }
+    ensures short { IfOk result (λ t. rows_size t.rows ≤ 4096) }
     ensures err { IfErr result (IsLong (rows_size (lead_in_data least most body.now).rows)) }
 {
     let delay = ticks(alloc, least, most)?;

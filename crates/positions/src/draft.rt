@@ -1,6 +1,6 @@
 //! Rows in the making.
 
-ghost use Rattle.std.specs.Prelude.{◌≡◌, ◌+◌, ◌<◌, [], ◌∷◌, map, All, OnOk, IfErr};
+ghost use Rattle.std.specs.Prelude.{◌≡◌, ◌+◌, ◌<◌, ◌≤◌, [], ◌∷◌, map, All, OnOk, IfErr};
 ghost use Rattle.positions.specs.Faults.{IsLong};
 ghost use Rattle.positions.specs.Rows.{DraftData, draft_size, rows_size, edges_size};
 ghost use Rattle.positions.specs.Rows.{with_edges, closed, with_rows, changed, change_all};
@@ -131,7 +131,8 @@ impl Draft {
 
     /// The table of the rows that are done.
     pub fn table(self, starts: Vec<u8>, empty: bool) -> Table
-        ensures { result ≡ record { rows = self.rows; starts = starts.items; empty = empty } }
+        ensures made { result ≡ record { rows = self.rows; starts = starts.items; empty = empty } }
+        ensures short { rows_size result.rows ≤ 4096 }
     {
         let _ = &self.room;
         Table::new(self.rows, starts, empty)

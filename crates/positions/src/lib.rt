@@ -28,6 +28,7 @@
 mod block;
 mod both;
 mod change;
+mod coupling;
 mod delay;
 mod draft;
 mod edge;
@@ -38,10 +39,13 @@ mod laws;
 mod lead;
 mod link;
 mod list;
+mod living;
+mod pair;
 mod pairing;
 mod repeat;
 mod section;
 mod sequence;
+mod sift;
 mod table;
 
 pub use fault::SectionFault;

@@ -9,13 +9,14 @@ ghost use Rattle.assertions.specs.Shapes.{written_form};
 ghost use Rattle.assertions.specs.Listed.{EachBoolean, IsListed};
 ghost use Rattle.positions.specs.Rows.{IsPlaced};
 ghost use Rattle.positions.specs.Sections.{bits};
-ghost use Rattle.positions.specs.Sequences.{atom_of, coded_section};
+ghost use Rattle.positions.specs.Sequences.{atom_of, largest, coded_section};
 ghost use Rattle.positions.specs.Laws.{section_for};
 ghost use Rattle.positions.specs.Faults.{IsLong};
 
 use crate::block::blocks_for;
 use crate::fault::SectionFault;
 use crate::sequence::table_of;
+use crate::sift::sift;
 use crate::table::Table;
 use assertions::Sequence;
 use bytecode::Section;
@@ -54,9 +55,10 @@ pub fn positions_of(alloc: Global, sequence: &Sequence) -> Result<Section, Secti
     ensures ok { IfOk result
         (λ s. section_data s ≡ section_for atom_of One (written_form sequence.now)) }
     ensures short { IfOk result (λ s. size_of (section_data s).blocks ≤ 4096) }
-    ensures err { IfErr result
-        (IsLong (size_of (section_for atom_of One (written_form sequence.now)).blocks)) }
+    ensures light { IfOk result (λ s. largest (written_form sequence.now) ≤ 4096) }
+    ensures err { IfErr result (IsLong (largest (written_form sequence.now))) }
 {
     let table = table_of(alloc, sequence)?;
-    Ok(section_at(alloc, &table)?)
+    let kept = sift(alloc, &table)?;
+    Ok(section_at(alloc, &kept)?)
 }
