@@ -2,7 +2,8 @@
 use Rattle.std.proofs.Common.{◌≡◌, ◌<◌, ◌≤◌, ℕ, Bool, List, length, arith, ap, sym, ◌∙◌, inl, inr}
 use Rattle.assertions.specs.declared.assertion.Assertion.{Assertion}
 use Rattle.assertions.specs.declared.suite.Suite.{Suite}
-use Rattle.bytecode.specs.Values.{ProgramData}
+use Rattle.inference.specs.Sections.{size_of}
+use Rattle.bytecode.specs.Values.{ProgramData, SectionData}
 use Rattle.compiler.specs.declared.fault.CompileFault.{CompileFault}
 use Rattle.compiler.specs.declared.fault.CompileFault.TheVariants.{TooManyAtoms, CodeTooLong}
 use Rattle.compiler.specs.declared.fault.CompileFault.TheVariants.{TooManySlots, TextTooLong, Memory}
@@ -13,8 +14,12 @@ use Rattle.compiler.specs.Parts.{AreParts}
 module _ (suite : Suite) (a : Assertion) (signals counters : List Bool) (p : ProgramData) where
   short : AreParts suite a signals counters p → HasLongCode suite a signals counters → ⊥
   short parts (inl long) = omega (arith, long, parts.short_sample, ap length parts.sample)
-  short parts (inr (inl long)) = omega (arith, long, parts.light_antecedent)
-  short parts (inr (inr long)) = omega (arith, long, parts.light_consequent)
+  short parts (inr (inl (inl long))) =
+      omega (arith, long, parts.short_antecedent, ap (λ (s : SectionData). size_of s.blocks) parts.antecedent)
+  short parts (inr (inl (inr long))) = omega (arith, long, parts.light_antecedent)
+  short parts (inr (inr (inl long))) =
+      omega (arith, long, parts.short_consequent, ap (λ (s : SectionData). size_of s.blocks) parts.consequent)
+  short parts (inr (inr (inr long))) = omega (arith, long, parts.light_consequent)
 
   none : AreCounted suite a signals counters → AreParts suite a signals counters p → (fault : CompileFault)
       → rank fault < rank Memory →

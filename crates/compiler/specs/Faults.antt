@@ -3,12 +3,11 @@ use Rattle.std.specs.Prelude.{◌⊎◌, ℕ, ◌<◌, ◌≤◌, Bool, false, �
 use Rattle.std.specs.Prelude.{Option, Some, None, slice_get, string_bytes}
 use Rattle.std.specs.List.{list_any}
 use Rattle.assertion_reads.specs.Marks.{places_from}
-use Rattle.assertions.specs.declared.sequence.Sequence.{Sequence}
 use Rattle.assertions.specs.declared.signal.Signal.{Signal}
 use Rattle.assertions.specs.declared.assertion.Assertion.{Assertion}
 use Rattle.assertions.specs.declared.suite.Suite.{Suite}
 use Rattle.assertions.specs.Shapes.{written_form}
-use Rattle.positions.specs.Sequences.{largest}
+use Rattle.positions.specs.Lengths.{HasLongSection}
 use Rattle.compiler.specs.declared.fault.CompileFault.{CompileFault}
 use Rattle.compiler.specs.declared.fault.CompileFault.TheVariants.{TooManyAtoms, CodeTooLong}
 use Rattle.compiler.specs.declared.fault.CompileFault.TheVariants.{TooManySlots, TextTooLong}
@@ -36,15 +35,12 @@ has_long_text suite a places =
 abbrev pub HasLongText : Suite → Assertion → List Bool → Type 0
 HasLongText suite a signals = IsTrue (has_long_text suite a (places_from 0 signals))
 
--- the most instructions that a table on the way to the section of a side makes up
-abbrev pub side_size : Sequence → ℕ
-side_size s = largest (written_form s)
-
--- a part of the program, or a table on the way to one, would have over 4,096 instructions
+-- a part of the program would have over 4,096 instructions, or a table on the way to the section of
+-- a side over 65,535
 abbrev pub HasLongCode : Suite → Assertion → List Bool → List Bool → Type 0
 HasLongCode suite a signals counters =
     (4096 < length (code_over suite a signals counters))
-    ⊎ ((4096 < side_size a.antecedent) ⊎ (4096 < side_size a.consequent))
+    ⊎ (HasLongSection (written_form a.antecedent) ⊎ HasLongSection (written_form a.consequent))
 
 -- The fault stands, of an assertion that reads these signals and counters.
 abbrev pub StandsOver : Suite → Assertion → List Bool → List Bool → CompileFault → Type 0

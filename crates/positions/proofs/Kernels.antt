@@ -88,38 +88,34 @@ module _ (B : Type 0) (holds : B → ℕ → Bool) (true_one : B) where
       → Spaced (shape p) (shape q) n i j → Spaced r s n i j
   Spaced-back r s p q er es n i j h = (h.0, h.1, (er i h.0).1 h.2, h.3, (es h.1 j).1 h.4)
 
-  -- r and s share a tick in a match only where they may
-  abbrev pub Shares : Bool → Seq B → Seq B → Type 0
-  Shares shares r s = (i e j : ℕ) → i ≤ e → e < j → Matches holds r i (e + 1) → Matches holds s e j → IsTrue shares
-
-  apart-forth : (shares : Bool) (r s : Seq B) (p q : Plan B) → Shares shares r s → Same r (shape p) → Same s (shape q)
+  apart-forth : (r s : Seq B) (p q : Plan B) → Same r (shape p) → Same s (shape q)
       → (least most : ℕ) → least ≤ most → (i j d : ℕ) → least ≤ d → d ≤ most
-      → Matches holds (after true_one r s d) i j → Matches holds (shape (apart shares true_one p q least most)) i j
-  apart-forth shares r s p q may er es zero zero le i j zero low high h =
-      Linked-link B holds shares false p skip q i j
-      (inl (may i h.0 j h.1 h.2 h.3 h.4, h.0, h.1, h.2, (er i (h.0 + 1)).0 h.3, (es h.0 j).0 h.4))
-  apart-forth shares r s p q may er es zero zero le i j (suc d) low high h = absurd (omega arith)
-  apart-forth shares r s p q may er es zero (suc most) le i j zero low high h =
-      Linked-link B holds shares true p (loop (tick true_one) 0 most) q i j
-      (inl (may i h.0 j h.1 h.2 h.3 h.4, h.0, h.1, h.2, (er i (h.0 + 1)).0 h.3, (es h.0 j).0 h.4))
-  apart-forth shares r s p q may er es zero (suc most) le i j (suc d) low high h =
+      → Matches holds (after true_one r s d) i j → Matches holds (shape (apart true_one p q least most)) i j
+  apart-forth r s p q er es zero zero le i j zero low high h =
+      Linked-link B holds true false p skip q i j
+      (inl (refl, h.0, h.1, h.2, (er i (h.0 + 1)).0 h.3, (es h.0 j).0 h.4))
+  apart-forth r s p q er es zero zero le i j (suc d) low high h = absurd (omega arith)
+  apart-forth r s p q er es zero (suc most) le i j zero low high h =
+      Linked-link B holds true true p (loop (tick true_one) 0 most) q i j
+      (inl (refl, h.0, h.1, h.2, (er i (h.0 + 1)).0 h.3, (es h.0 j).0 h.4))
+  apart-forth r s p q er es zero (suc most) le i j (suc d) low high h =
       let x = Spaced-forth r s p q er es d i j (after-Spaced r s d i j h) in
-      Linked-link B holds shares true p (loop (tick true_one) 0 most) q i j
+      Linked-link B holds true true p (loop (tick true_one) 0 most) q i j
       (inr (refl, x.0, x.1, x.2, (d, omega arith, omega arith, x.3), x.4))
-  apart-forth shares r s p q may er es (suc least) most le i j zero low high h = absurd (omega arith)
-  apart-forth shares r s p q may er es (suc least) most le i j (suc d) low high h =
+  apart-forth r s p q er es (suc least) most le i j zero low high h = absurd (omega arith)
+  apart-forth r s p q er es (suc least) most le i j (suc d) low high h =
       let x = Spaced-forth r s p q er es d i j (after-Spaced r s d i j h) in
       (x.1, (x.0, x.2, (d, omega arith, omega arith, x.3)), x.4)
 
-  apart-back : (shares : Bool) (r s : Seq B) (p q : Plan B) → Same r (shape p) → Same s (shape q) → (least most : ℕ)
-      → least ≤ most → (i j : ℕ) → Matches holds (shape (apart shares true_one p q least most)) i j → (d : ℕ)
+  apart-back : (r s : Seq B) (p q : Plan B) → Same r (shape p) → Same s (shape q) → (least most : ℕ)
+      → least ≤ most → (i j : ℕ) → Matches holds (shape (apart true_one p q least most)) i j → (d : ℕ)
       × (least ≤ d) × (d ≤ most) × Matches holds (after true_one r s d) i j
-  apart-back shares r s p q er es zero zero le i j h = elim (link-Linked B holds shares false p skip q i j h) [
+  apart-back r s p q er es zero zero le i j h = elim (link-Linked B holds true false p skip q i j h) [
     | inl x ↦ (0, omega arith, omega arith, (x.1, x.2, x.3, (er i (x.1 + 1)).1 x.4, (es x.1 j).1 x.5))
     | inr x ↦ (let no : false ≡ true = x.0 in cc)
   ]
-  apart-back shares r s p q er es zero (suc most) le i j h =
-      elim (link-Linked B holds shares true p (loop (tick true_one) 0 most) q i j h) [
+  apart-back r s p q er es zero (suc most) le i j h =
+      elim (link-Linked B holds true true p (loop (tick true_one) 0 most) q i j h) [
         | inl x ↦ (0, omega arith, omega arith, (x.1, x.2, x.3, (er i (x.1 + 1)).1 x.4, (es x.1 j).1 x.5))
         | inr x ↦
             let c : ℕ = x.4.0 in (
@@ -129,7 +125,7 @@ module _ (B : Type 0) (holds : B → ℕ → Bool) (true_one : B) where
               Spaced-after r s c i j (Spaced-back r s p q er es c i j (x.1, x.2, x.3, x.4.3, x.5)),
             )
       ]
-  apart-back shares r s p q er es (suc least) most le i j h =
+  apart-back r s p q er es (suc least) most le i j h =
       let c : ℕ = h.1.2.0 in (
         suc c,
         omega (arith, h.1.2.1),
@@ -172,18 +168,17 @@ module _ (B : Type 0) (holds : B → ℕ → Bool) (true_one : B) where
   plan-kernel (boolean b) ordered = λ i j. (λ h. h, λ h. h)
   plan-kernel (delay r least most s) ordered =
       moving-kernel (delay r least most s)
-      (apart true true_one (plan true_one r) (plan true_one s) least most) ordered (λ i j.
+      (apart true_one (plan true_one r) (plan true_one s) least most) ordered (λ i j.
       let er = plan-kernel r ordered.1 in
       let es = plan-kernel s ordered.2 in
       let sum : least + (most - least) ≡ most = omega (arith, ordered.0) in (
         λ h.
             let x = one_of-some (after true_one (kernel true_one r) (kernel true_one s)) least (most - least) i j h in
-            apart-forth true (kernel true_one r) (kernel true_one s) (plan true_one r)
-            (plan true_one s) (λ i e j from past front rest. refl) er es least most ordered.0 i j x.0 x.1
+            apart-forth (kernel true_one r) (kernel true_one s) (plan true_one r) (plan true_one s) er es least most ordered.0 i j x.0 x.1
             (omega (arith, x.2, sum)) x.3,
         λ h.
             let x =
-            apart-back true (kernel true_one r) (kernel true_one s) (plan true_one r)
+            apart-back (kernel true_one r) (kernel true_one s) (plan true_one r)
             (plan true_one s) er es least most ordered.0 i j h in
             some-one_of (after true_one (kernel true_one r) (kernel true_one s)) least (most - least) i j x.0 x.1
             (omega (arith, x.2, sum)) x.3,

@@ -14,9 +14,9 @@ err_more (Err f) n m h le = λ is. let over = h is in omega (arith, over, le)
 
 pub err_same : {X : Type 0} (r : Result X SectionFault) (n m : ℕ) → IfErr r (IsLong n) → n ≡ m → IfErr r (IsLong m)
 err_same (Ok x) n m h e = h
-err_same (Err f) n m h e = λ is. subst (λ k. 4096 < k) e (h is)
+err_same (Err f) n m h e = λ is. subst (λ k. 65535 < k) e (h is)
 
-pub never_long : {X : Type 0} (r : Result X SectionFault) (n : ℕ) → IfErr r (IsLong n) → n ≤ 4096
+pub never_long : {X : Type 0} (r : Result X SectionFault) (n : ℕ) → IfErr r (IsLong n) → n ≤ 65535
     → IfErr r (λ f. f ≡ Memory)
 never_long (Ok x) n h le = h
 never_long (Err TooLong) n h le = absurd (omega (arith, h refl))

@@ -97,7 +97,7 @@ pub still-for : (w : Written Boolean) → weighs w ≡ false → L w ≡ still_d
 still-for (boolean b) still = cc
 still-for (delay r least most s) still =
     still-moving (weighs (delay r least most s)) (admits_empty (delay r least most s))
-    (apart true One (plan One r) (plan One s) least most) still
+    (apart One (plan One r) (plan One s) least most) still
 still-for (lead least most s) still =
     still-moving (weighs (lead least most s)) (admits_empty (lead least most s))
     (link false true (loop (tick One) least most) skip (plan One s)) still
@@ -181,14 +181,6 @@ made-lead s least most takes =
     (table_for s) (rises s)
     ∙ ap (λ t. link_data false true t (still_data true) (L s)) (made-ticks least most)
 
-and-yes : (b : Bool) → b ≡ (b && true)
-and-yes true = refl
-and-yes false = refl
-
-and-no : (b : Bool) → false ≡ (b && false)
-and-no true = refl
-and-no false = refl
-
 never-zero : (n : ℕ) → (suc n == 0) ≡ false
 never-zero n =
     false_from_ne_true (suc n == 0) (λ e. let zero_is : suc n ≡ 0 = eqb-true (suc n) 0 e in omega (arith, zero_is))
@@ -197,25 +189,21 @@ gap-some : (least most : ℕ) → gap_data least (suc most) ≡ repeat_data (tic
 gap-some least most =
     ap (λ b. if b then still_data true else repeat_data (tick_data None) (least - 1) (suc most - 1)) (never-zero most)
 
-made-apart : (shares : Bool) (p q : Plan Boolean) (least most : ℕ) → least ≤ most → IsRising (table_of q) →
-    listed atom_of (table_of (apart shares One p q least most)) ≡ apart_data shares (listed atom_of (table_of p))
+made-apart : (p q : Plan Boolean) (least most : ℕ) → least ≤ most → IsRising (table_of q) →
+    listed atom_of (table_of (apart One p q least most)) ≡ apart_data (listed atom_of (table_of p))
     (listed atom_of (table_of q)) least most
-made-apart shares p q zero zero le up =
-    listed-link Boolean atom_of shares false (table_of p) (table_of {B = Boolean} skip) (table_of q) up
-    ∙ ap (λ b. link_data b false (listed atom_of (table_of p)) (still_data true) (listed atom_of (table_of q)))
-    (and-yes shares)
-made-apart shares p q zero (suc most) le up =
+made-apart p q zero zero le up =
+    listed-link Boolean atom_of true false (table_of p) (table_of {B = Boolean} skip) (table_of q) up
+made-apart p q zero (suc most) le up =
     let some : nat_le 1 (suc most) ≡ true = le-leb 1 (suc most) (omega arith) in
     let less : most ≡ suc most - 1 = omega arith in
-    listed-link Boolean atom_of shares true (table_of p) (loop_table (tick_table One) 0 most) (table_of q) up
-    ∙ ap (λ g. link_data shares true (listed atom_of (table_of p)) g (listed atom_of (table_of q)))
+    listed-link Boolean atom_of true true (table_of p) (loop_table (tick_table One) 0 most) (table_of q) up
+    ∙ ap (λ g. link_data true true (listed atom_of (table_of p)) g (listed atom_of (table_of q)))
     (made-ticks 0 most ∙ ap (repeat_data (tick_data None) 0) less ∙ sym (gap-some 0 most))
-    ∙ ap (λ b. link_data b true (listed atom_of (table_of p)) (gap_data 0 (suc most)) (listed atom_of (table_of q)))
-    (and-yes shares)
-    ∙ ap (λ b. link_data (shares && true) b (listed atom_of (table_of p)) (gap_data 0 (suc most))
+    ∙ ap (λ b. link_data true b (listed atom_of (table_of p)) (gap_data 0 (suc most))
     (listed atom_of (table_of q))) (sym some)
-made-apart shares p q (suc least) zero le up = absurd (omega arith)
-made-apart shares p q (suc least) (suc most) le up =
+made-apart p q (suc least) zero le up = absurd (omega arith)
+made-apart p q (suc least) (suc most) le up =
     let some : nat_le 1 (suc most) ≡ true = le-leb 1 (suc most) (omega arith) in
     let less : least ≡ suc least - 1 = omega arith in
     listed-link Boolean atom_of false true (table_of p) (loop_table (tick_table One) least (suc most - 1)) (table_of q)
@@ -224,18 +212,18 @@ made-apart shares p q (suc least) (suc most) le up =
     (made-ticks least (suc most - 1) ∙ ap (λ k. repeat_data (tick_data None) k (suc most - 1)) less
     ∙ sym (gap-some (suc least) most))
     ∙ ap (λ b. link_data b true (listed atom_of (table_of p)) (gap_data (suc least) (suc most))
-    (listed atom_of (table_of q))) (and-no shares ∙ ap (λ b. shares && b) (sym (never-zero least)))
-    ∙ ap (λ b. link_data (shares && (suc least == 0)) b (listed atom_of (table_of p)) (gap_data (suc least) (suc most))
+    (listed atom_of (table_of q))) (sym (never-zero least))
+    ∙ ap (λ b. link_data (suc least == 0) b (listed atom_of (table_of p)) (gap_data (suc least) (suc most))
     (listed atom_of (table_of q))) (sym some)
 
 pub made-delay : (r s : Written Boolean) (least most : ℕ) → IsOrdered (delay r least most s)
     → IsTrue (weighs (delay r least most s)) →
-    L (delay r least most s) ≡ apart_data true (L r) (L s) least most
+    L (delay r least most s) ≡ apart_data (L r) (L s) least most
 made-delay r s least most ordered takes =
     ap (λ p. listed atom_of (table_of p))
     (moving-true (weighs (delay r least most s)) (admits_empty (delay r least most s))
-    (apart true One (plan One r) (plan One s) least most) takes)
-    ∙ made-apart true (plan One r) (plan One s) least most ordered.0 (rises s)
+    (apart One (plan One r) (plan One s) least most) takes)
+    ∙ made-apart (plan One r) (plan One s) least most ordered.0 (rises s)
 
 -- a repetition of something that weighs has a copy
 pub repeat-told : (r : Written Boolean) (least most : ℕ) → IsTrue (weighs (repeat r least most)) → 1 ≤ most
@@ -268,7 +256,7 @@ all-within w parts bound le own = elim (cases_Bool (weighs w)) [
   | inr off ↦ omega (arith, if-false {A = ℕ} (weighs w) (max parts (rows_size (L w).rows)) 0 off)
 ]
 
-pub none-within : (w : Written Boolean) (parts : ℕ) → weighs w ≡ false → at_least_own w parts ≤ 4096
+pub none-within : (w : Written Boolean) (parts : ℕ) → weighs w ≡ false → at_least_own w parts ≤ 65535
 none-within w parts off = omega (arith, if-false {A = ℕ} (weighs w) (max parts (rows_size (L w).rows)) 0 off)
 
 -- what lies between has its place

@@ -166,11 +166,11 @@ moving-size true e p n le = le
 moving-size false true p n le = omega arith
 moving-size false false p n le = omega arith
 
-apart-size : (shares : Bool) (true_one : Boolean) (r s : Plan Boolean) (least most : ℕ) → least ≤ most
-    → (table_of (apart shares true_one r s least most)).size ≤ (table_of r).size + (table_of s).size + most
-apart-size shares true_one r s zero zero le = omega arith
-apart-size shares true_one r s zero (suc most) le = let one : most * 1 ≡ most = omega arith in omega (arith, one)
-apart-size shares true_one r s (suc least) most le =
+apart-size : (true_one : Boolean) (r s : Plan Boolean) (least most : ℕ) → least ≤ most
+    → (table_of (apart true_one r s least most)).size ≤ (table_of r).size + (table_of s).size + most
+apart-size true_one r s zero zero le = omega arith
+apart-size true_one r s zero (suc most) le = let one : most * 1 ≡ most = omega arith in omega (arith, one)
+apart-size true_one r s (suc least) most le =
     let one : (most - 1) * 1 ≡ most - 1 = omega arith in omega (arith, one)
 
 pub size-weight : (true_one : Boolean) (w : Written Boolean) → IsOrdered w
@@ -178,11 +178,11 @@ pub size-weight : (true_one : Boolean) (w : Written Boolean) → IsOrdered w
 size-weight true_one (boolean b) ordered = omega arith
 size-weight true_one (delay r least most s) ordered =
     moving-size (weighs (delay r least most s)) (admits_empty (delay r least most s))
-    (apart true true_one (plan true_one r) (plan true_one s) least most)
+    (apart true_one (plan true_one r) (plan true_one s) least most)
     (weight (delay r least most s))
     (omega (
       arith,
-      apart-size true true_one (plan true_one r) (plan true_one s) least most ordered.0,
+      apart-size true_one (plan true_one r) (plan true_one s) least most ordered.0,
       size-weight true_one r ordered.1,
       size-weight true_one s ordered.2,
     ))

@@ -144,19 +144,19 @@ module _ (B : Type 0) (Q : B → Type 0) where
   moving-of false true r h = tt
   moving-of false false r h = (tt, tt, tt)
 
-  apart-of : (shares : Bool) (true_one : B) (r s : Plan B) (least most : ℕ) → Q true_one → Of r → Of s
-      → Of (apart shares true_one r s least most)
-  apart-of shares true_one r s zero zero q g h = (g, tt, h)
-  apart-of shares true_one r s zero (suc most) q g h = (g, q, h)
-  apart-of shares true_one r s (suc least) most q g h = (g, q, h)
+  apart-of : (true_one : B) (r s : Plan B) (least most : ℕ) → Q true_one → Of r → Of s
+      → Of (apart true_one r s least most)
+  apart-of true_one r s zero zero q g h = (g, tt, h)
+  apart-of true_one r s zero (suc most) q g h = (g, q, h)
+  apart-of true_one r s (suc least) most q g h = (g, q, h)
 
   -- A boolean that a delay needs may not occur: then nothing is made from the delay.
   pub sequence-of : (true_one : B) (w : Written B) → ((b : B) → Occurs true_one b w → Q b) → Of (plan true_one w)
   sequence-of true_one (boolean b) h = h b refl
   sequence-of true_one (delay r least most s) h =
       moving-of (weighs (delay r least most s)) (admits_empty (delay r least most s))
-      (apart true true_one (plan true_one r) (plan true_one s) least most)
-      (apart-of true true_one (plan true_one r) (plan true_one s) least most
+      (apart true_one (plan true_one r) (plan true_one s) least most)
+      (apart-of true_one (plan true_one r) (plan true_one s) least most
       (h true_one (inl refl))
       (sequence-of true_one r (λ b o. h b (inr (inl o)))) (sequence-of true_one s (λ b o. h b (inr (inr o)))))
   sequence-of true_one (lead least most s) h =

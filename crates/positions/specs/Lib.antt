@@ -8,3 +8,4 @@ pub mod Views
 pub mod Faults
 pub mod Sequences
 pub mod Laws
+pub mod Lengths

@@ -33,11 +33,11 @@ shape (link true false r g s) = fuse (shape r) (shape s)
 shape (link false true r g s) = chop (chop (shape r) (shape g)) (shape s)
 shape (link false false r g s) = fuse none none
 
--- r ##[least:most] s, where the two may share a tick or not
-abbrev pub apart : {B : Type 0} → Bool → B → Plan B → Plan B → ℕ → ℕ → Plan B
-apart shares true_one r s zero zero = link shares false r skip s
-apart shares true_one r s zero (suc most) = link shares true r (loop (tick true_one) 0 most) s
-apart shares true_one r s (suc least) most =
+-- r ##[least:most] s
+abbrev pub apart : {B : Type 0} → B → Plan B → Plan B → ℕ → ℕ → Plan B
+apart true_one r s zero zero = link true false r skip s
+apart true_one r s zero (suc most) = link true true r (loop (tick true_one) 0 most) s
+apart true_one r s (suc least) most =
     link false true r (loop (tick true_one) least (most - 1)) s
 
 -- whether it weighs anything: else no match of it takes a tick
@@ -54,7 +54,7 @@ abbrev pub plan : {B : Type 0} → B → Written B → Plan B
 plan true_one (boolean b) = tick b
 plan true_one (delay r least most s) =
     moving (weighs (delay r least most s)) (admits_empty (delay r least most s))
-    (apart true true_one (plan true_one r) (plan true_one s) least most)
+    (apart true_one (plan true_one r) (plan true_one s) least most)
 plan true_one (lead least most s) =
     moving (weighs (lead least most s)) (admits_empty (lead least most s))
     (link false true (loop (tick true_one) least most) skip (plan true_one s))

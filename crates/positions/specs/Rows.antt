@@ -174,14 +174,16 @@ repeat_data t least most = record {
 abbrev pub pairs_data : ℕ → List ℕ → List ℕ → List ℕ
 pairs_data size xs ys = flat_map (λ x. shift (x * size) ys) xs
 
--- two edges at once, where the tables have so many positions
+-- where each of two edges leads to alone, where the tables have so many positions
+abbrev pub lone_data : ℕ → ℕ → Edge ℕ → Edge ℕ → List ℕ
+lone_data n m e f =
+    picked f.accepts (shift (n * m) e.enters) ++ picked e.accepts (shift (n * m + n) f.enters)
+
+-- two edges at once
 abbrev pub paired_data : ℕ → ℕ → Edge ℕ → Edge ℕ → Edge ℕ
 paired_data n m e f = record {
   wanted = e.wanted ++ f.wanted;
-  enters =
-      pairs_data m e.enters f.enters
-      ++ (picked f.accepts (shift (n * m) e.enters)
-      ++ picked e.accepts (shift (n * m + n) f.enters));
+  enters = pairs_data m e.enters f.enters ++ lone_data n m e f;
   accepts = e.accepts && f.accepts;
 }
 
@@ -207,6 +209,14 @@ both_data t u =
 -- the pairs alone, where the second table has so many positions
 abbrev pub couple_row : ℕ → List (Edge ℕ) → List (Edge ℕ) → List (Edge ℕ)
 couple_row size es fs = flat_map (λ e. map (coupled size e) fs) es
+
+-- two edges at once, where each also goes on alone or not
+abbrev pub joint_data : Bool → ℕ → ℕ → Edge ℕ → Edge ℕ → Edge ℕ
+joint_data true n m = paired_data n m
+joint_data false n m = coupled m
+
+abbrev pub joint_row : Bool → ℕ → ℕ → List (Edge ℕ) → List (Edge ℕ) → List (Edge ℕ)
+joint_row alone n m es fs = flat_map (λ e. map (joint_data alone n m e) fs) es
 
 abbrev pub pair_data : TableData → TableData → TableData
 pair_data t u = record {
@@ -249,9 +259,9 @@ abbrev pub gap_data : ℕ → ℕ → TableData
 gap_data least most =
     if most == 0 then still_data true else repeat_data (tick_data None) (least - 1) (most - 1)
 
-abbrev pub apart_data : Bool → TableData → TableData → ℕ → ℕ → TableData
-apart_data shares t u least most =
-    link_data (shares && least == 0) (nat_le 1 most) t (gap_data least most) u
+abbrev pub apart_data : TableData → TableData → ℕ → ℕ → TableData
+apart_data t u least most =
+    link_data (least == 0) (nat_le 1 most) t (gap_data least most) u
 
 abbrev pub lead_in_data : ℕ → ℕ → TableData → TableData
 lead_in_data least most u =

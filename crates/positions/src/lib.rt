@@ -28,7 +28,6 @@
 mod block;
 mod both;
 mod change;
-mod coupling;
 mod delay;
 mod draft;
 mod edge;

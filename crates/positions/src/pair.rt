@@ -4,9 +4,9 @@ ghost use Rattle.std.specs.Prelude.{◌≡◌, ◌*◌, ◌≤◌, length, IfOk,
 ghost use Rattle.positions.specs.Rows.{pair_data, rows_size, IsPlaced};
 ghost use Rattle.positions.specs.Faults.{IsLong};
 
-use crate::coupling::Coupling;
 use crate::draft::Draft;
 use crate::fault::SectionFault;
+use crate::pairing::Pairing;
 use crate::table::Table;
 use std::alloc::Global;
 
@@ -16,15 +16,16 @@ pub(crate) fn pair(alloc: Global, first: &Table, second: &Table) -> Result<Table
     requires second_placed { IsPlaced second.now }
     requires few { length first.now.rows * length second.now.rows ≤ 127 }
     ensures ok { IfOk result (λ t. t ≡ pair_data first.now second.now) }
-    ensures short { IfOk result (λ t. rows_size t.rows ≤ 4096) }
+    ensures short { IfOk result (λ t. rows_size t.rows ≤ 65535) }
     ensures err { IfErr result (IsLong (rows_size (pair_data first.now second.now).rows)) }
 {
-    let coupling = Coupling {
+    let pairing = Pairing {
         first: first.len(),
         second: second.len(),
+        alone: false,
     };
     let mut draft = Draft::new(alloc);
-    coupling.put_all(alloc, &mut draft, first.rows(), second.rows())?;
-    let starts = coupling.pairs(alloc, first.starts(), second.starts())?;
+    pairing.put_all(alloc, &mut draft, first.rows(), second.rows())?;
+    let starts = pairing.pairs(alloc, first.starts(), second.starts())?;
     Ok(draft.table(starts, first.admits_empty() && second.admits_empty()))
 }

@@ -10,9 +10,9 @@ ghost use Rattle.positions.specs.Faults.{IsLong};
 use crate::both::both;
 use crate::delay::{apart, lead_in};
 use crate::either::{during, either, tick};
-use crate::pair::pair;
 use crate::extent::{is_nullable, is_weighty};
 use crate::fault::SectionFault;
+use crate::pair::pair;
 use crate::repeat::repeat;
 use crate::table::Table;
 use assertions::{Boolean, Sequence};
@@ -35,7 +35,7 @@ pub(crate) fn table_of(alloc: Global, sequence: &Sequence) -> Result<Table, Sect
     requires bound { weight (written_form sequence.now) ≤ 127 }
     requires listed { EachBoolean (IsListed 127) (written_form sequence.now) }
     ensures ok { IfOk result (λ t. t ≡ listed_for (written_form sequence.now)) }
-    ensures short { IfOk result (λ t. largest (written_form sequence.now) ≤ 4096) }
+    ensures short { IfOk result (λ t. largest (written_form sequence.now) ≤ 65535) }
     ensures err { IfErr result (IsLong (largest (written_form sequence.now))) }
 {
     if !is_weighty(sequence) {
@@ -46,14 +46,7 @@ pub(crate) fn table_of(alloc: Global, sequence: &Sequence) -> Result<Table, Sect
         Sequence::Delay(first, least, most, second) => {
             let front = table_of(alloc, first)?;
             let rest = table_of(alloc, second)?;
-            apart(
-                alloc,
-                true,
-                &front,
-                &rest,
-                *least as usize,
-                *most as usize,
-            )
+            apart(alloc, &front, &rest, *least as usize, *most as usize)
         }
         Sequence::Lead(least, most, body) => {
             let table = table_of(alloc, body)?;

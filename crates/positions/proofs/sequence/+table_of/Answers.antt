@@ -30,10 +30,10 @@ sides-light r s takes bound =
     (omega (arith, bound, x), omega (arith, bound, y))
 
 short_on : (r : Result TableData SectionFault) (d : TableData) (w v : Written Boolean) → w ≡ v → IfOk r (λ t. t ≡ d)
-    → IfOk r (λ t. rows_size t.rows ≤ 4096) → d ≡ listed_for w
-    → (rows_size (listed_for v).rows ≤ 4096 → largest v ≤ 4096) → IfOk r (λ t. largest w ≤ 4096)
+    → IfOk r (λ t. rows_size t.rows ≤ 65535) → d ≡ listed_for w
+    → (rows_size (listed_for v).rows ≤ 65535 → largest v ≤ 65535) → IfOk r (λ t. largest w ≤ 65535)
 short_on (Ok t) d w v e is short same all =
-    let own : rows_size (listed_for v).rows ≤ 4096 =
+    let own : rows_size (listed_for v).rows ≤ 65535 =
     omega (
       arith,
       ap (λ (x : TableData). rows_size x.rows) is,
@@ -177,11 +177,11 @@ returns-in_ok-rest-in-Delay-clause-ok t c =
     let ordered : IsOrdered (delay r c.in-Delay.least c.in-Delay.most s) = subst IsOrdered e c.requires.ordered in
     let bound : weight (delay r c.in-Delay.least c.in-Delay.most s) ≤ 127 =
     subst (λ w. weight w ≤ 127) e c.requires.bound in
-    let same : apart_data true c.in_ok-front-in-Delay.front c.in_ok-rest-in-Delay.rest
+    let same : apart_data c.in_ok-front-in-Delay.front c.in_ok-rest-in-Delay.rest
     c.in-Delay.least c.in-Delay.most ≡ listed_for (written_form c.args.sequence.now) =
-    ap (λ x. apart_data true x c.in_ok-rest-in-Delay.rest c.in-Delay.least
+    ap (λ x. apart_data x c.in_ok-rest-in-Delay.rest c.in-Delay.least
     c.in-Delay.most) c.in_ok-front-in-Delay.ensures.ok
-    ∙ ap (λ x. apart_data true (listed_for r) x c.in-Delay.least c.in-Delay.most)
+    ∙ ap (λ x. apart_data (listed_for r) x c.in-Delay.least c.in-Delay.most)
     c.in_ok-rest-in-Delay.ensures.ok
     ∙ sym (made-delay r s c.in-Delay.least c.in-Delay.most ordered takes)
     ∙ sym (told (written_form c.args.sequence.now) (delay r c.in-Delay.least c.in-Delay.most s) e) in
@@ -201,11 +201,11 @@ returns-in_ok-rest-in-Delay-clause-err t c =
     let ordered : IsOrdered (delay r c.in-Delay.least c.in-Delay.most s) = subst IsOrdered e c.requires.ordered in
     let bound : weight (delay r c.in-Delay.least c.in-Delay.most s) ≤ 127 =
     subst (λ w. weight w ≤ 127) e c.requires.bound in
-    let same : apart_data true c.in_ok-front-in-Delay.front c.in_ok-rest-in-Delay.rest
+    let same : apart_data c.in_ok-front-in-Delay.front c.in_ok-rest-in-Delay.rest
     c.in-Delay.least c.in-Delay.most ≡ listed_for (written_form c.args.sequence.now) =
-    ap (λ x. apart_data true x c.in_ok-rest-in-Delay.rest c.in-Delay.least
+    ap (λ x. apart_data x c.in_ok-rest-in-Delay.rest c.in-Delay.least
     c.in-Delay.most) c.in_ok-front-in-Delay.ensures.ok
-    ∙ ap (λ x. apart_data true (listed_for r) x c.in-Delay.least c.in-Delay.most)
+    ∙ ap (λ x. apart_data (listed_for r) x c.in-Delay.least c.in-Delay.most)
     c.in_ok-rest-in-Delay.ensures.ok
     ∙ sym (made-delay r s c.in-Delay.least c.in-Delay.most ordered takes)
     ∙ sym (told (written_form c.args.sequence.now) (delay r c.in-Delay.least c.in-Delay.most s) e) in
@@ -692,16 +692,16 @@ returns-in_ok-rest-in-Delay-clause-short t c =
     let ordered : IsOrdered (delay r c.in-Delay.least c.in-Delay.most s) = subst IsOrdered e c.requires.ordered in
     let bound : weight (delay r c.in-Delay.least c.in-Delay.most s) ≤ 127 =
     subst (λ w. weight w ≤ 127) e c.requires.bound in
-    let same : apart_data true c.in_ok-front-in-Delay.front c.in_ok-rest-in-Delay.rest
+    let same : apart_data c.in_ok-front-in-Delay.front c.in_ok-rest-in-Delay.rest
     c.in-Delay.least c.in-Delay.most ≡ listed_for (written_form c.args.sequence.now) =
-    ap (λ x. apart_data true x c.in_ok-rest-in-Delay.rest c.in-Delay.least
+    ap (λ x. apart_data x c.in_ok-rest-in-Delay.rest c.in-Delay.least
     c.in-Delay.most) c.in_ok-front-in-Delay.ensures.ok
-    ∙ ap (λ x. apart_data true (listed_for r) x c.in-Delay.least c.in-Delay.most)
+    ∙ ap (λ x. apart_data (listed_for r) x c.in-Delay.least c.in-Delay.most)
     c.in_ok-rest-in-Delay.ensures.ok
     ∙ sym (made-delay r s c.in-Delay.least c.in-Delay.most ordered takes)
     ∙ sym (told (written_form c.args.sequence.now) (delay r c.in-Delay.least c.in-Delay.most s) e) in
     short_on c.apart.result _ (written_form c.args.sequence.now) (delay r c.in-Delay.least c.in-Delay.most s) e c.apart.ensures.ok c.apart.ensures.short same
-    (λ own. all-within (delay r c.in-Delay.least c.in-Delay.most s) (max (largest r) (largest s)) 4096 (omega (arith, c.in_ok-front-in-Delay.ensures.short, c.in_ok-rest-in-Delay.ensures.short)) own)
+    (λ own. all-within (delay r c.in-Delay.least c.in-Delay.most s) (max (largest r) (largest s)) 65535 (omega (arith, c.in_ok-front-in-Delay.ensures.short, c.in_ok-rest-in-Delay.ensures.short)) own)
 
 pub returns-in_ok-rest-in-Or-clause-short : goal.returns-in_ok-rest-in-Or-clause-short
 returns-in_ok-rest-in-Or-clause-short t c =
@@ -720,7 +720,7 @@ returns-in_ok-rest-in-Or-clause-short t c =
     ∙ ap (either_data (listed_for r)) c.in_ok-rest-in-Or.ensures.ok
     ∙ sym (made-or r s takes) ∙ sym (told (written_form c.args.sequence.now) (or r s) e) in
     short_on c.either.result _ (written_form c.args.sequence.now) (or r s) e c.either.ensures.ok c.either.ensures.short same
-    (λ own. all-within (or r s) (max (largest r) (largest s)) 4096 (omega (arith, c.in_ok-front-in-Or.ensures.short, c.in_ok-rest-in-Or.ensures.short)) own)
+    (λ own. all-within (or r s) (max (largest r) (largest s)) 65535 (omega (arith, c.in_ok-front-in-Or.ensures.short, c.in_ok-rest-in-Or.ensures.short)) own)
 
 pub returns-in_ok-rest-in-And-clause-short : goal.returns-in_ok-rest-in-And-clause-short
 returns-in_ok-rest-in-And-clause-short t c =
@@ -739,7 +739,7 @@ returns-in_ok-rest-in-And-clause-short t c =
     ∙ ap (both_data (listed_for r)) c.in_ok-rest-in-And.ensures.ok
     ∙ sym (made-and r s takes) ∙ sym (told (written_form c.args.sequence.now) (and r s) e) in
     short_on c.both.result _ (written_form c.args.sequence.now) (and r s) e c.both.ensures.ok c.both.ensures.short same
-    (λ own. all-within (and r s) (max (largest r) (largest s)) 4096 (omega (arith, c.in_ok-front-in-And.ensures.short, c.in_ok-rest-in-And.ensures.short)) own)
+    (λ own. all-within (and r s) (max (largest r) (largest s)) 65535 (omega (arith, c.in_ok-front-in-And.ensures.short, c.in_ok-rest-in-And.ensures.short)) own)
 
 pub returns-in_ok-table-in-Lead-clause-short : goal.returns-in_ok-table-in-Lead-clause-short
 returns-in_ok-table-in-Lead-clause-short t c =
@@ -757,7 +757,7 @@ returns-in_ok-table-in-Lead-clause-short t c =
     ∙ sym (made-lead r c.in-Lead.least c.in-Lead.most takes)
     ∙ sym (told (written_form c.args.sequence.now) (lead c.in-Lead.least c.in-Lead.most r) e) in
     short_on c.lead_in.result _ (written_form c.args.sequence.now) (lead c.in-Lead.least c.in-Lead.most r) e c.lead_in.ensures.ok c.lead_in.ensures.short same
-    (λ own. all-within (lead c.in-Lead.least c.in-Lead.most r) (largest r) 4096 (omega (arith, c.in_ok-table-in-Lead.ensures.short)) own)
+    (λ own. all-within (lead c.in-Lead.least c.in-Lead.most r) (largest r) 65535 (omega (arith, c.in_ok-table-in-Lead.ensures.short)) own)
 
 pub returns-in_ok-table-in-Repeat-clause-short : goal.returns-in_ok-table-in-Repeat-clause-short
 returns-in_ok-table-in-Repeat-clause-short t c =
@@ -776,7 +776,7 @@ returns-in_ok-table-in-Repeat-clause-short t c =
     ∙ sym (made-repeat r c.in-Repeat.least c.in-Repeat.most takes)
     ∙ sym (told (written_form c.args.sequence.now) (repeat r c.in-Repeat.least c.in-Repeat.most) e) in
     short_on c.repeat.result _ (written_form c.args.sequence.now) (repeat r c.in-Repeat.least c.in-Repeat.most) e c.repeat.ensures.ok c.repeat.ensures.short same
-    (λ own. all-within (repeat r c.in-Repeat.least c.in-Repeat.most) (largest r) 4096 (omega (arith, c.in_ok-table-in-Repeat.ensures.short)) own)
+    (λ own. all-within (repeat r c.in-Repeat.least c.in-Repeat.most) (largest r) 65535 (omega (arith, c.in_ok-table-in-Repeat.ensures.short)) own)
 
 pub returns-in_ok-table-in-Throughout-clause-short : goal.returns-in_ok-table-in-Throughout-clause-short
 returns-in_ok-table-in-Throughout-clause-short t c =
@@ -795,7 +795,7 @@ returns-in_ok-table-in-Throughout-clause-short t c =
     ∙ sym (made-throughout c.in-Throughout.boolean r takes)
     ∙ sym (told (written_form c.args.sequence.now) (throughout c.in-Throughout.boolean r) e) in
     short_on c.during.result _ (written_form c.args.sequence.now) (throughout c.in-Throughout.boolean r) e c.during.ensures.ok c.during.ensures.short same
-    (λ own. all-within (throughout c.in-Throughout.boolean r) (largest r) 4096 (omega (arith, c.in_ok-table-in-Throughout.ensures.short)) own)
+    (λ own. all-within (throughout c.in-Throughout.boolean r) (largest r) 65535 (omega (arith, c.in_ok-table-in-Throughout.ensures.short)) own)
 
 pub returns-in_err-front-in-Intersect-clause-err : goal.returns-in_err-front-in-Intersect-clause-err
 returns-in_err-front-in-Intersect-clause-err t c =
@@ -929,10 +929,10 @@ returns-in_ok-rest-in-Intersect-clause-short t c =
     ∙ ap (pair_data (listed_for r)) c.in_ok-rest-in-Intersect.ensures.ok
     ∙ sym (made-intersect r s takes) ∙ sym (told (written_form c.args.sequence.now) (intersect r s) e) in
     short_on c.pair.result _ (written_form c.args.sequence.now) (intersect r s) e c.pair.ensures.ok c.pair.ensures.short same
-    (λ own. all-within (intersect r s) (max (largest r) (largest s)) 4096 (omega (arith, c.in_ok-front-in-Intersect.ensures.short, c.in_ok-rest-in-Intersect.ensures.short)) own)
+    (λ own. all-within (intersect r s) (max (largest r) (largest s)) 65535 (omega (arith, c.in_ok-front-in-Intersect.ensures.short, c.in_ok-rest-in-Intersect.ensures.short)) own)
 
 -- nothing is made from what weighs nothing
-still-largest : (w : Written Boolean) → weighs w ≡ false → largest w ≤ 4096
+still-largest : (w : Written Boolean) → weighs w ≡ false → largest w ≤ 65535
 still-largest (boolean b) quiet = cc
 still-largest (delay r least most s) quiet =
     none-within (delay r least most s) (max (largest r) (largest s)) quiet
