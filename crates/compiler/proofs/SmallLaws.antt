@@ -111,6 +111,6 @@ pub small-have-code : SmallHaveCode
 small-have-code suite a signals counters reading small (inl code) =
     omega (arith, code, short-code suite a signals counters reading small)
 small-have-code suite a signals counters reading small (inr (inl side)) =
-    omega (arith, side, small-side (written_form a.antecedent) a.antecedent_ordered small.antecedent)
+    small-side (written_form a.antecedent) a.antecedent_ordered small.antecedent side
 small-have-code suite a signals counters reading small (inr (inr side)) =
-    omega (arith, side, small-side (written_form a.consequent) a.consequent_ordered small.consequent)
+    small-side (written_form a.consequent) a.consequent_ordered small.consequent side
