@@ -54,43 +54,31 @@ fn push_antecedent(
     }
 }
 
-/// The antecedents that are written, and the consequents, in the order of the text.
-pub(crate) fn all_sides(alloc: Global, assertions: &[Resolved]) -> Result<Vec<Side>, AllocError>
+/// All sides that are written, and the consequents among them, in the order of the text.
+#[derive(Drop)]
+pub(crate) struct Sides {
+    pub all: Vec<Side>,
+    pub consequents: Vec<Side>,
+}
+
+/// The sides of assertions.
+pub(crate) fn written_sides(alloc: Global, assertions: &[Resolved]) -> Result<Sides, AllocError>
     requires { AreKnown assertions.now }
-    ensures { IfOk result (λ v. v.items ≡ sides_in assertions.now) }
+    ensures all { IfOk result (λ v. v.all.items ≡ sides_in assertions.now) }
+    ensures consequents { IfOk result (λ v. v.consequents.items ≡ consequents_in assertions.now) }
 {
-    let mut sides = Vec::new(alloc);
+    let mut all = Vec::new(alloc);
+    let mut consequents = Vec::with_capacity(alloc, assertions.len())?;
     for assertion in assertions {
         push_antecedent(
             alloc,
-            &mut sides,
+            &mut all,
             &assertion.antecedent,
             assertion.antecedent_at,
         )?;
-        sides.push(side_of(
-            alloc,
-            &assertion.consequent,
-            assertion.consequent_at,
-        )?)?;
+        let consequent = side_of(alloc, &assertion.consequent, assertion.consequent_at)?;
+        all.push(consequent)?;
+        consequents.push(consequent)?;
     }
-    Ok(sides)
-}
-
-/// The consequents, in the order of the text.
-pub(crate) fn all_consequents(
-    alloc: Global,
-    assertions: &[Resolved],
-) -> Result<Vec<Side>, AllocError>
-    requires { AreKnown assertions.now }
-    ensures { IfOk result (λ v. v.items ≡ consequents_in assertions.now) }
-{
-    let mut sides = Vec::with_capacity(alloc, assertions.len())?;
-    for assertion in assertions {
-        sides.push(side_of(
-            alloc,
-            &assertion.consequent,
-            assertion.consequent_at,
-        )?)?;
-    }
-    Ok(sides)
+    Ok(Sides { all, consequents })
 }

@@ -23,7 +23,7 @@ ghost use Rattle.types_suites.specs.Resolved.{HasBodies};
 ghost use Rattle.types.specs.Resolved.{HasResolved};
 
 use crate::clocks::first_clock;
-use crate::sides::{all_consequents, all_sides};
+use crate::sides::written_sides;
 use crate::stages::{check_cycles, check_expressions, check_sides};
 use assertions::Suite;
 use std::alloc::Global;
@@ -86,9 +86,8 @@ fn check_resolved(alloc: Global, resolved: &[Resolved]) -> Result<(), TypeFault>
         (consequents_in resolved.now)
         → IfErr result (IsTypeFault s items) }
 {
-    let sides = all_sides(alloc, resolved)?;
-    let consequents = all_consequents(alloc, resolved)?;
-    check_sides(sides.as_slice(), consequents.as_slice())
+    let sides = written_sides(alloc, resolved)?;
+    check_sides(sides.all.as_slice(), sides.consequents.as_slice())
 }
 
 /// The assertions of items whose expressions have no fault, with the entries of their sides, or the
