@@ -20,8 +20,9 @@ use Rattle.positions.proofs.Effects.{bits-Has, Has-bits, all_now, made_by, block
 use Rattle.positions.proofs.Effects.{bit-by, by-accepts, accepts-by}
 use Rattle.positions.proofs.Lists.{SomeOf-each, SomeOf-map, map-SomeOf}
 use Rattle.positions.proofs.Standing.{Stands, Stands-below, Stands-local, Stands-At, At-Stands}
-use Rattle.positions.specs.Living.{lives, rank, sifted}
+use Rattle.positions.specs.Living.{lives, is_kept, rank, sifted}
 use Rattle.positions.proofs.Sifting.{sifted-rising, from, from-lives, sifted-Stands, Stands-sifted, sifted-Accepts}
+use Rattle.positions.proofs.Sifting.{Stands-kept}
 use Rattle.positions.proofs.Sifting.{Accepts-sifted, lives-accepts, Left-lives, lives-Left}
 
 -- a set with no position is 0
@@ -149,15 +150,17 @@ module _ (B : Type 0) (t : Table B) (up : IsRising t) (atom : B → Option ℕ) 
       let x = Match-ends B seen r c k h in
       let on = (spells.accepts seen x.0 (c + k)).1 x.2 in
       let living = lives-accepts B t up seen (spells.number x.0) (c + k) (spells.below x.0) on in
-      Stands-accepts B (sifted t) (sifted-rising B t up) atom rows c k (rank (lives t) (spells.number x.0))
-      (Stands-sifted B t up seen c k (spells.number x.0) (At-Stands B t up r spells seen c k x.0 x.1) living)
-      (Accepts-sifted B t up seen (spells.number x.0) (c + k) living on)
+      let stands = At-Stands B t up r spells seen c k x.0 x.1 in
+      Stands-accepts B (sifted t) (sifted-rising B t up) atom rows c k (rank (is_kept t) (spells.number x.0))
+      (Stands-sifted B t up seen c k (spells.number x.0) stands living)
+      (Accepts-sifted B t up seen (spells.number x.0) (c + k)
+      (Stands-kept B t up seen c k (spells.number x.0) stands living) on)
 
   over-forth : (c k : ℕ) → places s c k ≡ 0 → IsOver seen (shape r) (c + k) c
   over-forth c k none j past h =
       let holds : B → ℕ → Bool = sat seen (c + k) in
       let x = Match-At B holds r c k j past h in
-      let n : ℕ = rank (lives t) (spells.number x.0) in
+      let n : ℕ = rank (is_kept t) (spells.number x.0) in
       let stands =
       Stands-sifted B t up holds c k (spells.number x.0) (At-Stands B t up r spells holds c k x.0 x.1)
       (Left-lives B t up r spells holds x.0 (c + k) j x.2) in
@@ -178,7 +181,7 @@ module _ (B : Type 0) (t : Table B) (up : IsRising t) (atom : B → Option ℕ) 
       let y = Stands-At B t up r spells holds c k (from B t up q) (sifted-Stands B t up holds c k q stands) in
       let rest =
       lives-Left B t up r spells holds y.0 (c + k) (λ b i late. or_left (nat_le (c + k) i) (seen b i) (le-leb (c + k) i late))
-      (subst (λ p. IsTrue (lives t p)) (sym y.1) f.1) in
+      (subst (λ p. IsTrue (lives t p)) (sym y.1) f) in
       over rest.0 (Left-after B holds r y.0 (c + k) rest.0 rest.1) (At-Match B holds r c k rest.0 y.0 y.2 rest.1))
 
   pub section-follows : Follows seen (shape r) s

@@ -3,16 +3,17 @@ use Rattle.std.proofs.Common.{◌≡◌, ◌∙◌, inl, inr, ℕ, zero, suc, �
 use Rattle.std.proofs.Common.{if◌then◌else◌}
 use Rattle.std.proofs.Common.{List, [], ◌∷◌, ◌++◌, length, map, Option, refl, sym, ap, arith, length-append}
 use Rattle.std.specs.Prelude.{IsTrue, nat_lt, sum_by}
-use Rattle.std.specs.List.{list_any}
+use Rattle.std.specs.List.{list_any, flat_map}
 use Rattle.std.proofs.Math.Path.{fun_ext}
 use Rattle.std.proofs.lemmas.Bool.{cases_Bool, cases_lt, le-ltb}
 use Rattle.std.proofs.lemmas.List.{append-nil}
 use Rattle.std.proofs.lemmas.List.Sums.{sum_by-append, sum_by-cons}
 use Rattle.positions.specs.Tables.{Edge, Table, picked}
-use Rattle.positions.specs.Living.{leads, lives_for, lives, rank, place, sift, sifted_edge, sifted}
+use Rattle.positions.specs.Living.{leads, lives_for, lives, is_among, led_to, is_kept, rank, place, sift, sifted_edge}
+use Rattle.positions.specs.Living.{sifted}
 use Rattle.positions.specs.Sections.{edge_size, numbered, coded, rows_of}
-use Rattle.positions.specs.Rows.{TableData, listed, row_at, edges_size, row_size, rows_size, lives_in, kept_rows}
-use Rattle.positions.specs.Rows.{sift_data}
+use Rattle.positions.specs.Rows.{TableData, listed, row_at, edges_size, row_size, rows_size, lives_in, kept_in}
+use Rattle.positions.specs.Rows.{kept_rows, sift_data}
 use Rattle.positions.proofs.ListedLaws.{rows_of-length, rows_of-append, rows_of-same, row_at-rows, map-square, table}
 use Rattle.positions.proofs.ListedLaws.{same_table}
 use Rattle.positions.proofs.Sifting.{if-true, if-false, rank-place, place-rank}
@@ -60,55 +61,74 @@ module _ (B : Type 0) (atom : B → Option ℕ) (t : Table B) where
       ∙ lives_for-same t.size (row_at rows) (coded atom t) row-at t.size p
       ∙ lives-coded t.size p)
 
+  -- what something leads to
+  enters-num : (es : List (Edge B)) → flat_map (λ e. e.enters) (map (numbered atom) es) ≡ flat_map (λ e. e.enters) es
+  enters-num [] = refl
+  enters-num (e ∷ es) = ap (λ qs. e.enters ++ qs) (enters-num es)
+
+  led-listed : (n : ℕ) → n ≤ t.size → led_to t.starts (row_at rows) n ≡ led_to t.starts t.row n
+  led-listed zero le = refl
+  led-listed (suc n) le =
+      let led : List ℕ = led_to t.starts t.row n in
+      ap (λ qs. qs ++ picked (is_among qs n) (flat_map (λ e. e.enters) (row_at rows n))) (led-listed n (omega arith))
+      ∙ ap (λ es. led ++ picked (is_among led n) (flat_map (λ e. e.enters) es)) (row-at n (omega arith))
+      ∙ ap (λ qs. led ++ picked (is_among led n) qs) (enters-num (t.row n))
+
+  kept-listed : kept_in (listed atom t) ≡ is_kept t
+  kept-listed = fun_ext (λ p.
+      ap (λ f. f p && is_among (led_to t.starts (row_at rows) (length rows)) p) lives-listed
+      ∙ ap (λ n. lives t p && is_among (led_to t.starts (row_at rows) n) p) count
+      ∙ ap (λ qs. lives t p && is_among qs p) (led-listed t.size (omega arith)))
+
   kept-row : (q : ℕ) → q < (sifted t).size → coded atom (sifted t) q
-      ≡ map (sifted_edge (lives t)) (row_at rows (place (lives t) t.size q))
+      ≡ map (sifted_edge (is_kept t)) (row_at rows (place (is_kept t) t.size q))
   kept-row q below =
-      let f = rank-place (lives t) t.size q below in
-      map-square (sifted_edge (lives t)) (numbered atom) (sifted_edge (lives t)) (numbered atom)
-      (t.row (place (lives t) t.size q)) (λ e. refl)
-      ∙ ap (map (sifted_edge (lives t))) (sym (row-at (place (lives t) t.size q) f.0))
+      let f = rank-place (is_kept t) t.size q below in
+      map-square (sifted_edge (is_kept t)) (numbered atom) (sifted_edge (is_kept t)) (numbered atom)
+      (t.row (place (is_kept t) t.size q)) (λ e. refl)
+      ∙ ap (map (sifted_edge (is_kept t))) (sym (row-at (place (is_kept t) t.size q) f.0))
 
   kept-all : (n : ℕ) → n ≤ t.size
-      → rows_of (λ q. map (sifted_edge (lives t)) (row_at rows (place (lives t) t.size q))) 0 (rank (lives t) n)
-      ≡ kept_rows (lives t) rows n
+      → rows_of (λ q. map (sifted_edge (is_kept t)) (row_at rows (place (is_kept t) t.size q))) 0 (rank (is_kept t) n)
+      ≡ kept_rows (is_kept t) rows n
   kept-all zero le = refl
   kept-all (suc n) le =
-      let f : ℕ → List (Edge ℕ) = λ q. map (sifted_edge (lives t)) (row_at rows (place (lives t) t.size q)) in
-      let it : List (Edge ℕ) = map (sifted_edge (lives t)) (row_at rows n) in
+      let f : ℕ → List (Edge ℕ) = λ q. map (sifted_edge (is_kept t)) (row_at rows (place (is_kept t) t.size q)) in
+      let it : List (Edge ℕ) = map (sifted_edge (is_kept t)) (row_at rows n) in
       let before = kept-all n (omega arith) in
-      elim (cases_Bool (lives t n)) [
+      elim (cases_Bool (is_kept t n)) [
         | inl on ↦
-            let more : rank (lives t) (suc n) ≡ rank (lives t) n + 1 =
-            omega (arith, if-true {A = ℕ} (lives t n) 1 0 on) in
-            let none : 0 + rank (lives t) n ≡ rank (lives t) n = omega arith in
+            let more : rank (is_kept t) (suc n) ≡ rank (is_kept t) n + 1 =
+            omega (arith, if-true {A = ℕ} (is_kept t n) 1 0 on) in
+            let none : 0 + rank (is_kept t) n ≡ rank (is_kept t) n = omega arith in
             ap (rows_of f 0) more
-            ∙ rows_of-append f 0 (rank (lives t) n) 1
-            ∙ ap (λ k. rows_of f 0 (rank (lives t) n) ++ f k ∷ []) none
-            ∙ ap (λ k. rows_of f 0 (rank (lives t) n) ++ map (sifted_edge (lives t)) (row_at rows k) ∷ [])
-            (place-rank (lives t) t.size n (omega arith) on)
+            ∙ rows_of-append f 0 (rank (is_kept t) n) 1
+            ∙ ap (λ k. rows_of f 0 (rank (is_kept t) n) ++ f k ∷ []) none
+            ∙ ap (λ k. rows_of f 0 (rank (is_kept t) n) ++ map (sifted_edge (is_kept t)) (row_at rows k) ∷ [])
+            (place-rank (is_kept t) t.size n (omega arith) on)
             ∙ ap (λ xs. xs ++ it ∷ []) before
-            ∙ ap (λ b. kept_rows (lives t) rows n ++ picked b (it ∷ [])) (sym on)
+            ∙ ap (λ b. kept_rows (is_kept t) rows n ++ picked b (it ∷ [])) (sym on)
         | inr off ↦
-            let same : rank (lives t) (suc n) ≡ rank (lives t) n =
-            omega (arith, if-false {A = ℕ} (lives t n) 1 0 off) in
+            let same : rank (is_kept t) (suc n) ≡ rank (is_kept t) n =
+            omega (arith, if-false {A = ℕ} (is_kept t n) 1 0 off) in
             ap (rows_of f 0) same
             ∙ before
-            ∙ sym (append-nil (kept_rows (lives t) rows n))
-            ∙ ap (λ b. kept_rows (lives t) rows n ++ picked b (it ∷ [])) (sym off)
+            ∙ sym (append-nil (kept_rows (is_kept t) rows n))
+            ∙ ap (λ b. kept_rows (is_kept t) rows n ++ picked b (it ∷ [])) (sym off)
       ]
 
   pub listed-sifted : listed atom (sifted t) ≡ sift_data (listed atom t)
   listed-sifted =
       same_table _ _ _ _ _ _
       (rows_of-same (coded atom (sifted t))
-      (λ q. map (sifted_edge (lives t)) (row_at rows (place (lives t) t.size q))) 0 0 (sifted t).size (λ q below.
+      (λ q. map (sifted_edge (is_kept t)) (row_at rows (place (is_kept t) t.size q))) 0 0 (sifted t).size (λ q below.
       let e : 0 + q ≡ q = omega arith in
       ap (coded atom (sifted t)) e ∙ kept-row q below
-      ∙ ap (λ k. map (sifted_edge (lives t)) (row_at rows (place (lives t) t.size k))) (sym e))
+      ∙ ap (λ k. map (sifted_edge (is_kept t)) (row_at rows (place (is_kept t) t.size k))) (sym e))
       ∙ kept-all t.size (omega arith))
       refl refl
-      ∙ ap (λ n. table (kept_rows (lives t) rows n) (sift (lives t) t.starts) t.empty) (sym count)
-      ∙ ap (λ keeps. table (kept_rows keeps rows (length rows)) (sift keeps t.starts) t.empty) (sym lives-listed)
+      ∙ ap (λ n. table (kept_rows (is_kept t) rows n) (sift (is_kept t) t.starts) t.empty) (sym count)
+      ∙ ap (λ keeps. table (kept_rows keeps rows (length rows)) (sift keeps t.starts) t.empty) (sym kept-listed)
 
 -- no longer
 

@@ -15,7 +15,7 @@ use Rattle.assertions.specs.Written.{IsOrdered}
 use Rattle.assertions.specs.Emptiness.{admits_empty}
 use Rattle.positions.specs.Plans.{Plan, tick, skip, any, all, pair, under, loop, link, apart, moving, weighs}
 use Rattle.positions.specs.Plans.{plan}
-use Rattle.positions.specs.Living.{lives, sifted}
+use Rattle.positions.specs.Living.{is_kept, sifted}
 use Rattle.positions.specs.States.{State, First}
 use Rattle.positions.specs.Tables.{Edge, Table, SomeOf, EachOf, Has, Fires, IsRising, table_of, tick_table, loop_table}
 use Rattle.positions.specs.Tables.{shift}
@@ -125,7 +125,7 @@ pub kept-placed : (w : Written Boolean) → IsOrdered w → weight w ≤ 127 →
 kept-placed w ordered bound =
     subst IsPlaced (kept-for w)
     (placed Boolean atom_of (sifted (table_for w)) (sifted-rising Boolean (table_for w) (rises w))
-    (omega (arith, rank-few (lives (table_for w)) (table_for w).size, size-weight One w ordered, bound)))
+    (omega (arith, rank-few (is_kept (table_for w)) (table_for w).size, size-weight One w ordered, bound)))
 
 pub length-for : (w : Written Boolean) → IsOrdered w → length (L w).rows ≤ weight w
 length-for w ordered =

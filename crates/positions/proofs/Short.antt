@@ -21,10 +21,10 @@ use Rattle.positions.specs.Sections.{coded}
 use Rattle.positions.specs.Laws.{IsPlain, booleans, section_for, SectionIsShort}
 use Rattle.positions.proofs.Shapes.{edge-length}
 use Rattle.positions.proofs.Theorem.{size-weight}
-use Rattle.positions.specs.Living.{lives, rank, sift, sifted_edge, sifted}
+use Rattle.positions.specs.Living.{is_kept, rank, sift, sifted_edge, sifted}
 use Rattle.positions.proofs.Rising.{rising}
 use Rattle.positions.proofs.Spelling.{spelling}
-use Rattle.positions.proofs.Sifting.{if-true, if-false, rank-up, rank-next, rank-few, from, from-lives}
+use Rattle.positions.proofs.Sifting.{if-true, if-false, rank-up, rank-next, rank-few, from, from-kept}
 use Rattle.assertions.specs.declared.sequence.Boolean.TheVariants.{One}
 use Rattle.positions.specs.Rows.{rows_size}
 use Rattle.positions.specs.Sequences.{atom_of, listed_for, at_least_own, largest}
@@ -310,36 +310,36 @@ module _ (B : Type 0) where
   -- what is kept of it
   module _ (most : ℕ) (t : Table B) (a : AreSingle most t) (up : IsRising t) where
     Climbs-sift : (low high : ℕ) (qs : List ℕ) → Climbs low high qs
-        → Climbs (rank (lives t) low) (rank (lives t) high) (sift (lives t) qs)
-    Climbs-sift low high [] h = rank-up (lives t) low high h
-    Climbs-sift low high (q ∷ qs) h = elim (cases_Bool (lives t q)) [
+        → Climbs (rank (is_kept t) low) (rank (is_kept t) high) (sift (is_kept t) qs)
+    Climbs-sift low high [] h = rank-up (is_kept t) low high h
+    Climbs-sift low high (q ∷ qs) h = elim (cases_Bool (is_kept t q)) [
       | inl on ↦
-          let next : rank (lives t) (q + 1) ≡ rank (lives t) q + 1 = rank-next (lives t) q on in
-          subst (λ b. Climbs (rank (lives t) low) (rank (lives t) high)
-          (picked b (rank (lives t) q ∷ []) ++ sift (lives t) qs)) (sym on)
-          (rank-up (lives t) low q h.0,
-          subst (λ k. Climbs k (rank (lives t) high) (sift (lives t) qs)) next (Climbs-sift (q + 1) high qs h.1))
+          let next : rank (is_kept t) (q + 1) ≡ rank (is_kept t) q + 1 = rank-next (is_kept t) q on in
+          subst (λ b. Climbs (rank (is_kept t) low) (rank (is_kept t) high)
+          (picked b (rank (is_kept t) q ∷ []) ++ sift (is_kept t) qs)) (sym on)
+          (rank-up (is_kept t) low q h.0,
+          subst (λ k. Climbs k (rank (is_kept t) high) (sift (is_kept t) qs)) next (Climbs-sift (q + 1) high qs h.1))
       | inr off ↦
-          subst (λ b. Climbs (rank (lives t) low) (rank (lives t) high)
-          (picked b (rank (lives t) q ∷ []) ++ sift (lives t) qs)) (sym off)
-          (Climbs-low (rank (lives t) low) (rank (lives t) (q + 1)) (rank (lives t) high) (sift (lives t) qs)
-          (rank-up (lives t) low (q + 1) (omega (arith, h.0))) (Climbs-sift (q + 1) high qs h.1))
+          subst (λ b. Climbs (rank (is_kept t) low) (rank (is_kept t) high)
+          (picked b (rank (is_kept t) q ∷ []) ++ sift (is_kept t) qs)) (sym off)
+          (Climbs-low (rank (is_kept t) low) (rank (is_kept t) (q + 1)) (rank (is_kept t) high) (sift (is_kept t) qs)
+          (rank-up (is_kept t) low (q + 1) (omega (arith, h.0))) (Climbs-sift (q + 1) high qs h.1))
     ]
 
     sifted-single : AreSingle most (sifted t)
     sifted-single = record {
       starts = Climbs-sift 0 t.size t.starts a.starts;
       row = λ q below.
-          let f = from-lives B t up q below in
+          let f = from-kept B t up q below in
           let p : ℕ = from B t up q in
           let s = a.row p f.0 in
-          let next : rank (lives t) (p + 1) ≡ q + 1 = omega (arith, rank-next (lives t) p f.1, f.2) in
+          let next : rank (is_kept t) (p + 1) ≡ q + 1 = omega (arith, rank-next (is_kept t) p f.1, f.2) in
           record {
-            edge = sifted_edge (lives t) s.edge;
-            alone = ap (map (sifted_edge (lives t))) s.alone;
+            edge = sifted_edge (is_kept t) s.edge;
+            alone = ap (map (sifted_edge (is_kept t))) s.alone;
             wanted = s.wanted;
             enters =
-                subst (λ k. Climbs k (rank (lives t) t.size) (sift (lives t) s.edge.enters)) next
+                subst (λ k. Climbs k (rank (is_kept t) t.size) (sift (is_kept t) s.edge.enters)) next
                 (Climbs-sift (p + 1) t.size s.edge.enters s.enters);
           };
     }
@@ -454,7 +454,7 @@ law-section_is_short atom true_one w ordered plain =
     let whole : Table Boolean = table_of (plan true_one w) in
     let up = rising Boolean (plan true_one w) whole (spelling Boolean (plan true_one w)) in
     let t : Table Boolean = sifted whole in
-    let small : t.size ≤ weight w = omega (arith, rank-few (lives whole) whole.size, size-weight true_one w ordered) in
+    let small : t.size ≤ weight w = omega (arith, rank-few (is_kept whole) whole.size, size-weight true_one w ordered) in
     let same : t.size + (weight w - t.size) ≡ weight w = omega (arith, small) in
     let s : ℕ = size_of (section_for atom true_one w).blocks in
     let zero_plus : 0 + t.size ≡ t.size = omega arith in

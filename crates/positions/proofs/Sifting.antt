@@ -2,15 +2,16 @@
 use Rattle.std.proofs.Common.{◌≡◌, ◌∙◌, ◌⊎◌, inl, inr, ℕ, zero, suc, ◌+◌, ◌<◌, ◌≤◌, Bool, true, false, ◌&&◌, ◌||◌}
 use Rattle.std.proofs.Common.{if◌then◌else◌, List, [], ◌∷◌, ◌++◌, refl, sym, ap, subst, arith}
 use Rattle.std.specs.Prelude.{IsTrue, map, ◌==◌, nat_lt}
-use Rattle.std.specs.List.{list_any}
+use Rattle.std.specs.List.{list_any, flat_map}
 use Rattle.std.proofs.lemmas.Bool.{cases_Bool, cases_eq, or_cases, or_left, or_right, and_parts, and_from, both_ways}
 use Rattle.std.proofs.lemmas.Bool.{false_from_ne_true, eqb-true, eq-eqb, lt-ltb, ltb-true}
 use Rattle.positions.specs.Plans.{Plan}
 use Rattle.positions.specs.States.{State, Steps, Left}
 use Rattle.positions.specs.Tables.{Edge, Table, SomeOf, EachOf, Has, Fires, Enters, Accepts, IsRising, Spells, picked}
-use Rattle.positions.specs.Living.{leads, lives_for, lives, rank, place, sift, sifted_edge, sifted}
+use Rattle.positions.specs.Living.{leads, lives_for, lives, is_among, led_to, is_kept, rank, place, sift, sifted_edge}
+use Rattle.positions.specs.Living.{sifted}
 use Rattle.positions.proofs.Lists.{SomeOf-each, SomeOf-map, map-SomeOf, SomeOf-append, append-SomeOf, SomeOf-picked}
-use Rattle.positions.proofs.Lists.{picked-SomeOf, SomeOf-Has, Has-SomeOf, EachOf-all}
+use Rattle.positions.proofs.Lists.{picked-SomeOf, flat-SomeOf, SomeOf-Has, Has-SomeOf, EachOf-all}
 use Rattle.positions.proofs.Ticks.{Left-goes, goes-Left}
 use Rattle.positions.proofs.Standing.{Stands, Stands-below}
 
@@ -262,85 +263,132 @@ module _ (B : Type 0) (t : Table B) (up : IsRising t) where
         → IsTrue (lives t (spells.number x)) → (j : ℕ) × Left holds r x i j
     lives-Left holds x i free h = lives-for-Left holds t.size x i free h
 
+  -- something leads to each position that stands
+  abbrev Led : ℕ → List ℕ
+  Led n = led_to t.starts t.row n
+
+  led-more : (n m q : ℕ) → n ≤ m → Has (Led n) q → Has (Led m) q
+  led-more n zero q le h = let e : n ≡ 0 = omega arith in subst (λ k. Has (Led k) q) e h
+  led-more n (suc m) q le h = elim (cases_eq n (suc m)) [
+    | inl e ↦ subst (λ k. Has (Led k) q) e h
+    | inr other ↦
+        append-SomeOf (λ x. x ≡ q) (Led m) (picked (is_among (Led m) m) (flat_map (λ e. e.enters) (t.row m)))
+        (inl (led-more n m q (omega arith) h))
+  ]
+
+  Has-among : (qs : List ℕ) (q : ℕ) → Has qs q → IsTrue (is_among qs q)
+  Has-among qs q h =
+      any-some (λ x. x == q) qs (SomeOf-each (λ x. x ≡ q) (λ x. IsTrue (x == q)) qs (λ x e. eq-eqb x q e) h)
+
+  led-on : (p q : ℕ) → Has (Led p) p → SomeOf (λ (e : Edge B). Has e.enters q) (t.row p) → Has (Led (suc p)) q
+  led-on p q here on =
+      append-SomeOf (λ x. x ≡ q) (Led p) (picked (is_among (Led p) p) (flat_map (λ e. e.enters) (t.row p)))
+      (inr (picked-SomeOf (λ x. x ≡ q) (is_among (Led p) p) (flat_map (λ e. e.enters) (t.row p))
+      (Has-among (Led p) p here)
+      (flat-SomeOf (λ x. x ≡ q) (λ (e : Edge B). e.enters) (t.row p) on)))
+
+  Stands-led : (holds : B → ℕ → Bool) (c k q : ℕ) → Stands B t up holds c k q → Has (Led q) q
+  Stands-led holds c zero q h = led-more 0 q q (omega arith) h
+  Stands-led holds c (suc k) q h =
+      let below = Stands-below B t up holds c k h.0 h.1 in
+      let on =
+      SomeOf-each (λ e. Fires holds (c + k) e × Has e.enters q) (λ (e : Edge B). Has e.enters q) (t.row h.0)
+      (λ e x. x.1) h.2 in
+      let later = up.enters h.0 q below on in
+      led-more (suc h.0) q q (omega (arith, later.0)) (led-on h.0 q (Stands-led holds c k h.0 h.1) on)
+
+  pub Stands-kept : (holds : B → ℕ → Bool) (c k p : ℕ) → Stands B t up holds c k p → IsTrue (lives t p)
+      → IsTrue (is_kept t p)
+  Stands-kept holds c k p h on =
+      let below = Stands-below B t up holds c k p h in
+      and_from (lives t p) (is_among (Led t.size) p) on
+      (Has-among (Led t.size) p (led-more p t.size p (omega (arith, below)) (Stands-led holds c k p h)))
+
   -- the position of t that has the number q in what is kept
   abbrev pub from : ℕ → ℕ
-  from q = place (lives t) t.size q
+  from q = place (is_kept t) t.size q
 
-  pub from-lives : (q : ℕ) → q < (sifted t).size → (from q < t.size) × IsTrue (lives t (from q))
-      × (rank (lives t) (from q) ≡ q)
-  from-lives q below = rank-place (lives t) t.size q below
+  pub from-kept : (q : ℕ) → q < (sifted t).size → (from q < t.size) × IsTrue (is_kept t (from q))
+      × (rank (is_kept t) (from q) ≡ q)
+  from-kept q below = rank-place (is_kept t) t.size q below
 
-  from-rank : (p : ℕ) → IsTrue (lives t p) → from (rank (lives t) p) ≡ p
-  from-rank p on = place-rank (lives t) t.size p (lives-below p on) on
+  kept-lives : (p : ℕ) → IsTrue (is_kept t p) → IsTrue (lives t p)
+  kept-lives p h = (and_parts (lives t p) (is_among (led_to t.starts t.row t.size) p) h).0
+
+  pub from-lives : (q : ℕ) → q < (sifted t).size → IsTrue (lives t (from q))
+  from-lives q below = kept-lives (from q) (from-kept q below).1
+
+  from-rank : (p : ℕ) → IsTrue (is_kept t p) → from (rank (is_kept t) p) ≡ p
+  from-rank p on = place-rank (is_kept t) t.size p (lives-below p (kept-lives p on)) on
 
   -- an edge of what is kept, and the edge that it was
   sifted-some : (P : Edge B → Type 0) (es : List (Edge B)) (q : ℕ)
-      → SomeOf (λ e. P e × Has (sift (lives t) e.enters) q) es → (x : ℕ) × SomeOf (λ e. P e × Has e.enters x) es
-      × IsTrue (lives t x) × (rank (lives t) x ≡ q)
+      → SomeOf (λ e. P e × Has (sift (is_kept t) e.enters) q) es → (x : ℕ) × SomeOf (λ e. P e × Has e.enters x) es
+      × IsTrue (is_kept t x) × (rank (is_kept t) x ≡ q)
   sifted-some P [] q h = absurd h
   sifted-some P (e ∷ es) q (inl h) =
-      let k = sift-Has (lives t) e.enters q h.1 in (k.0, inl (h.0, k.1), k.2, k.3)
+      let k = sift-Has (is_kept t) e.enters q h.1 in (k.0, inl (h.0, k.1), k.2, k.3)
   sifted-some P (e ∷ es) q (inr h) = let k = sifted-some P es q h in (k.0, inr k.1, k.2, k.3)
 
   some-sifted : (P : Edge B → Type 0) (es : List (Edge B)) (x : ℕ) → SomeOf (λ e. P e × Has e.enters x) es
-      → IsTrue (lives t x) → SomeOf (λ e. P e × Has (sift (lives t) e.enters) (rank (lives t) x)) es
+      → IsTrue (is_kept t x) → SomeOf (λ e. P e × Has (sift (is_kept t) e.enters) (rank (is_kept t) x)) es
   some-sifted P es x h on =
-      SomeOf-each (λ e. P e × Has e.enters x) (λ e. P e × Has (sift (lives t) e.enters) (rank (lives t) x)) es
-      (λ e a. (a.0, Has-sift (lives t) e.enters x a.1 on)) h
+      SomeOf-each (λ e. P e × Has e.enters x) (λ e. P e × Has (sift (is_kept t) e.enters) (rank (is_kept t) x)) es
+      (λ e a. (a.0, Has-sift (is_kept t) e.enters x a.1 on)) h
 
   pub sifted-rising : IsRising (sifted t)
   sifted-rising = record {
     starts = λ q h.
-        let k = sift-Has (lives t) t.starts q h in
-        let less = rank-below (lives t) k.0 t.size (up.starts k.0 k.1) k.2 in
+        let k = sift-Has (is_kept t) t.starts q h in
+        let less = rank-below (is_kept t) k.0 t.size (up.starts k.0 k.1) k.2 in
         omega (arith, k.3, less);
     enters = λ p q below h.
-        let f = from-lives p below in
+        let f = from-kept p below in
         let here =
-        SomeOf-map (λ (e : Edge B). Has e.enters q) (sifted_edge (lives t)) (t.row (from p)) h in
+        SomeOf-map (λ (e : Edge B). Has e.enters q) (sifted_edge (is_kept t)) (t.row (from p)) h in
         let k =
         sifted-some (λ e. Unit {0}) (t.row (from p)) q
-        (SomeOf-each (λ e. Has (sift (lives t) e.enters) q) (λ e. Unit {0} × Has (sift (lives t) e.enters) q)
+        (SomeOf-each (λ e. Has (sift (is_kept t) e.enters) q) (λ e. Unit {0} × Has (sift (is_kept t) e.enters) q)
         (t.row (from p)) (λ e x. (tt, x)) here) in
         let later =
         up.enters (from p) k.0 f.0
         (SomeOf-each (λ (e : Edge B). Unit {0} × Has e.enters k.0) (λ e. Has e.enters k.0) (t.row (from p))
         (λ e x. x.1) k.1) in
-        let more = rank-below (lives t) (from p) k.0 later.0 f.1 in
-        let less = rank-below (lives t) k.0 t.size later.1 k.2 in
+        let more = rank-below (is_kept t) (from p) k.0 later.0 f.1 in
+        let less = rank-below (is_kept t) k.0 t.size later.1 k.2 in
         (omega (arith, k.3, more, f.2), omega (arith, k.3, less));
   }
 
   pub sifted-Accepts : (holds : B → ℕ → Bool) (q i : ℕ) → Accepts holds (sifted t) q i → Accepts holds t (from q) i
   sifted-Accepts holds q i h =
-      SomeOf-map (λ (e : Edge B). Fires holds i e × (e.accepts ≡ true)) (sifted_edge (lives t)) (t.row (from q)) h
+      SomeOf-map (λ (e : Edge B). Fires holds i e × (e.accepts ≡ true)) (sifted_edge (is_kept t)) (t.row (from q)) h
 
-  pub Accepts-sifted : (holds : B → ℕ → Bool) (p i : ℕ) → IsTrue (lives t p) → Accepts holds t p i
-      → Accepts holds (sifted t) (rank (lives t) p) i
+  pub Accepts-sifted : (holds : B → ℕ → Bool) (p i : ℕ) → IsTrue (is_kept t p) → Accepts holds t p i
+      → Accepts holds (sifted t) (rank (is_kept t) p) i
   Accepts-sifted holds p i on h =
-      map-SomeOf (λ (e : Edge B). Fires holds i e × (e.accepts ≡ true)) (sifted_edge (lives t))
-      (t.row (from (rank (lives t) p)))
+      map-SomeOf (λ (e : Edge B). Fires holds i e × (e.accepts ≡ true)) (sifted_edge (is_kept t))
+      (t.row (from (rank (is_kept t) p)))
       (subst (λ k. Accepts holds t k i) (sym (from-rank p on)) h)
 
   sifted-Enters : (holds : B → ℕ → Bool) (p i q : ℕ) → Enters holds (sifted t) p i q → (x : ℕ)
-      × Enters holds t (from p) i x × IsTrue (lives t x) × (rank (lives t) x ≡ q)
+      × Enters holds t (from p) i x × IsTrue (is_kept t x) × (rank (is_kept t) x ≡ q)
   sifted-Enters holds p i q h =
       sifted-some (Fires holds i) (t.row (from p)) q
-      (SomeOf-map (λ (e : Edge B). Fires holds i e × Has e.enters q) (sifted_edge (lives t)) (t.row (from p)) h)
+      (SomeOf-map (λ (e : Edge B). Fires holds i e × Has e.enters q) (sifted_edge (is_kept t)) (t.row (from p)) h)
 
-  Enters-sifted : (holds : B → ℕ → Bool) (p i x : ℕ) → IsTrue (lives t p) → Enters holds t p i x → IsTrue (lives t x)
-      → Enters holds (sifted t) (rank (lives t) p) i (rank (lives t) x)
+  Enters-sifted : (holds : B → ℕ → Bool) (p i x : ℕ) → IsTrue (is_kept t p) → Enters holds t p i x → IsTrue (is_kept t x)
+      → Enters holds (sifted t) (rank (is_kept t) p) i (rank (is_kept t) x)
   Enters-sifted holds p i x on h also =
-      map-SomeOf (λ (e : Edge B). Fires holds i e × Has e.enters (rank (lives t) x)) (sifted_edge (lives t))
-      (t.row (from (rank (lives t) p)))
-      (some-sifted (Fires holds i) (t.row (from (rank (lives t) p))) x
+      map-SomeOf (λ (e : Edge B). Fires holds i e × Has e.enters (rank (is_kept t) x)) (sifted_edge (is_kept t))
+      (t.row (from (rank (is_kept t) p)))
+      (some-sifted (Fires holds i) (t.row (from (rank (is_kept t) p))) x
       (subst (λ k. Enters holds t k i x) (sym (from-rank p on)) h) also)
 
   -- it stands where t does, so far as that lives
   pub sifted-Stands : (holds : B → ℕ → Bool) (c k q : ℕ) → Stands B (sifted t) sifted-rising holds c k q
       → Stands B t up holds c k (from q)
   sifted-Stands holds c zero q h =
-      let x = sift-Has (lives t) t.starts q h in
+      let x = sift-Has (is_kept t) t.starts q h in
       let e : x.0 ≡ from q = sym (from-rank x.0 x.2) ∙ ap from x.3 in
       subst (λ p. Has t.starts p) e x.1
   sifted-Stands holds c (suc k) q h =
@@ -349,12 +397,13 @@ module _ (B : Type 0) (t : Table B) (up : IsRising t) where
       (from h.0, sifted-Stands holds c k h.0 h.1, subst (λ p. Enters holds t (from h.0) (c + k) p) e x.1)
 
   pub Stands-sifted : (holds : B → ℕ → Bool) (c k p : ℕ) → Stands B t up holds c k p → IsTrue (lives t p)
-      → Stands B (sifted t) sifted-rising holds c k (rank (lives t) p)
-  Stands-sifted holds c zero p h on = Has-sift (lives t) t.starts p h on
+      → Stands B (sifted t) sifted-rising holds c k (rank (is_kept t) p)
+  Stands-sifted holds c zero p h on = Has-sift (is_kept t) t.starts p h (Stands-kept holds c zero p h on)
   Stands-sifted holds c (suc k) p h on =
       let below = Stands-below B t up holds c k h.0 h.1 in
       let before = lives-enters holds h.0 (c + k) p below h.2 on in (
-        rank (lives t) h.0,
+        rank (is_kept t) h.0,
         Stands-sifted holds c k h.0 h.1 before,
-        Enters-sifted holds h.0 (c + k) p before h.2 on,
+        Enters-sifted holds h.0 (c + k) p (Stands-kept holds c k h.0 h.1 before) h.2
+            (Stands-kept holds c (suc k) p h on),
       )

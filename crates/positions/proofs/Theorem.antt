@@ -9,7 +9,7 @@ use Rattle.assertions.specs.Written.{Written, boolean, delay, lead, repeat, or, 
 use Rattle.assertions.specs.Written.{ticks, after, later, kernel, weight, IsOrdered}
 use Rattle.positions.specs.Plans.{Plan, tick, skip, any, all, pair, under, loop, link, shape, apart, moving}
 use Rattle.positions.specs.Plans.{weighs, plan}
-use Rattle.positions.specs.Living.{lives, sifted}
+use Rattle.positions.specs.Living.{is_kept, sifted}
 use Rattle.positions.proofs.Sifting.{sifted-rising, rank-few}
 use Rattle.assertions.specs.Emptiness.{admits_empty}
 use Rattle.positions.specs.Tables.{Table, table_of}
@@ -229,6 +229,6 @@ law-section_is_small atom true_one w ordered =
     omega (
       arith,
       blocks-length (coded atom (sifted t)) 0 0 (sifted t).size,
-      rank-few (lives t) t.size,
+      rank-few (is_kept t) t.size,
       size-weight true_one w ordered,
     )

@@ -12,7 +12,7 @@ use Rattle.positions.specs.Tables.{Edge, Table, EachOf, shift, shifted, picked, 
 use Rattle.positions.specs.Tables.{any_table, wanting, under_table, onward, leading, joined, fusing, crossing}
 use Rattle.positions.specs.Tables.{link_table, copies, looping, loop_table, paired, all_table, coupled, pair_table}
 use Rattle.positions.specs.Tables.{table_of}
-use Rattle.positions.specs.Living.{lives, place, sifted_edge, sifted}
+use Rattle.positions.specs.Living.{is_kept, place, sifted_edge, sifted}
 use Rattle.positions.specs.Laws.{Occurs}
 
 module _ (B : Type 0) (Q : B → Type 0) where
@@ -114,7 +114,7 @@ module _ (B : Type 0) (Q : B → Type 0) where
 
   pub sifted-wants : (t : Table B) → Rows t → Rows (sifted t)
   sifted-wants t g q =
-      each-map (sifted_edge (lives t)) (λ e k. k) (t.row (place (lives t) t.size q)) (g (place (lives t) t.size q))
+      each-map (sifted_edge (is_kept t)) (λ e k. k) (t.row (place (is_kept t) t.size q)) (g (place (is_kept t) t.size q))
 
   -- each boolean of a plan
   abbrev Of : Plan B → Type 0

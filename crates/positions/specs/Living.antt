@@ -1,7 +1,8 @@
--- Which positions of a table may still come to an end, and the table of these alone.
+-- Which positions of a table something leads to and may still come to an end, and the table of these
+-- alone.
 use Rattle.std.specs.Prelude.{ℕ, zero, suc, ◌+◌, ◌==◌, nat_lt, Bool, true, false, ◌&&◌, ◌||◌}
 use Rattle.std.specs.Prelude.{if◌then◌else◌, List, [], ◌∷◌, ◌++◌, map}
-use Rattle.std.specs.List.{list_any}
+use Rattle.std.specs.List.{list_any, flat_map}
 use Rattle.positions.specs.Tables.{Edge, Table, picked}
 
 -- Were every boolean true: the edge accepts, or leads to a position that passes.
@@ -18,6 +19,22 @@ lives_for size row (suc ticks) p =
 -- Each tick leads to a later position, so there are no more ticks than positions.
 abbrev pub lives : {B : Type 0} → Table B → ℕ → Bool
 lives t p = lives_for t.size t.row t.size p
+
+-- whether a number is in a list
+abbrev pub is_among : List ℕ → ℕ → Bool
+is_among qs q = list_any (λ x. x == q) qs
+
+-- What is begun with, and what is entered from those of the first so many positions that something
+-- leads to.
+abbrev pub led_to : {B : Type 0} → List ℕ → (ℕ → List (Edge B)) → ℕ → List ℕ
+led_to starts row zero = starts
+led_to starts row (suc p) =
+    led_to starts row p
+    ++ picked (is_among (led_to starts row p) p) (flat_map (λ e. e.enters) (row p))
+
+-- Something leads to the position, and it lives.
+abbrev pub is_kept : {B : Type 0} → Table B → ℕ → Bool
+is_kept t p = lives t p && is_among (led_to t.starts t.row t.size) p
 
 -- how many of the positions below p are kept: the number that a kept p has from then on
 abbrev pub rank : (ℕ → Bool) → ℕ → ℕ
@@ -38,11 +55,11 @@ abbrev pub sifted_edge : {B : Type 0} → (ℕ → Bool) → Edge B → Edge B
 sifted_edge keeps e =
     record { wanted = e.wanted; enters = sift keeps e.enters; accepts = e.accepts }
 
--- the table of the positions that may still come to an end
+-- the table of the positions that are kept
 abbrev pub sifted : {B : Type 0} → Table B → Table B
 sifted t = record {
-  size = rank (lives t) t.size;
-  row = λ q. map (sifted_edge (lives t)) (t.row (place (lives t) t.size q));
-  starts = sift (lives t) t.starts;
+  size = rank (is_kept t) t.size;
+  row = λ q. map (sifted_edge (is_kept t)) (t.row (place (is_kept t) t.size q));
+  starts = sift (is_kept t) t.starts;
   empty = t.empty;
 }

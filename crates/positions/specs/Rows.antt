@@ -5,7 +5,7 @@ use Rattle.std.specs.Prelude.{[], ◌∷◌, ◌++◌, length, map, Option, None
 use Rattle.std.specs.Prelude.{slice_get, slice_index_or, unwrap_or, min, if◌then◌else◌}
 use Rattle.std.specs.List.{flat_map}
 use Rattle.positions.specs.Tables.{Edge, Table, EachOf, shift, picked, numbers, products, coupled}
-use Rattle.positions.specs.Living.{lives_for, sift, sifted_edge}
+use Rattle.positions.specs.Living.{lives_for, is_among, led_to, sift, sifted_edge}
 use Rattle.positions.specs.Sections.{edge_size, with_atom, coded, rows_of}
 
 -- Positions in order, each by its edges; those that begin; whether an empty match is there.
@@ -233,6 +233,11 @@ marked marks p = slice_index_or marks p false
 abbrev pub lives_in : List (List (Edge ℕ)) → ℕ → Bool
 lives_in rows p = lives_for (length rows) (row_at rows) (length rows) p
 
+-- the positions of a table that something leads to, and that may still come to an end
+abbrev pub kept_in : TableData → ℕ → Bool
+kept_in t p =
+    lives_in t.rows p && is_among (led_to t.starts (row_at t.rows) (length t.rows)) p
+
 -- what is kept of the first so many rows
 abbrev pub kept_rows : (ℕ → Bool) → List (List (Edge ℕ)) → ℕ → List (List (Edge ℕ))
 kept_rows keeps rows zero = []
@@ -241,8 +246,8 @@ kept_rows keeps rows (suc n) =
 
 abbrev pub sift_data : TableData → TableData
 sift_data t = record {
-  rows = kept_rows (lives_in t.rows) t.rows (length t.rows);
-  starts = sift (lives_in t.rows) t.starts;
+  rows = kept_rows (kept_in t) t.rows (length t.rows);
+  starts = sift (kept_in t) t.starts;
   empty = t.empty;
 }
 

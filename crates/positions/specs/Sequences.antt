@@ -35,7 +35,7 @@ largest (and r s) = at_least_own (and r s) (max (largest r) (largest s))
 largest (intersect r s) = at_least_own (intersect r s) (max (largest r) (largest s))
 largest (throughout b r) = at_least_own (throughout b r) (largest r)
 
--- what is kept of it: the positions that may still come to an end
+-- what is kept of it
 abbrev pub kept_for : Written Boolean → TableData
 kept_for w = sift_data (listed_for w)
 

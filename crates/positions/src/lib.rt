@@ -41,6 +41,7 @@ mod list;
 mod living;
 mod pair;
 mod pairing;
+mod reach;
 mod repeat;
 mod section;
 mod sequence;

@@ -1,4 +1,4 @@
-//! Tables of the positions that may still come to an end.
+//! Tables of the positions that are kept.
 
 ghost use Rattle.std.specs.Prelude.{◌≡◌, ◌++◌, length, map, OnOk, IfOk};
 ghost use Rattle.positions.specs.Living.{sift, sifted_edge};
@@ -7,7 +7,8 @@ ghost use Rattle.positions.specs.Views.{edge_data, rows_data};
 
 use crate::edge::Edge;
 use crate::list::put_edge;
-use crate::living::{is_marked, living, rank_of};
+use crate::living::{is_marked, rank_of};
+use crate::reach::kept;
 use crate::table::Table;
 use std::alloc::{AllocError, Global};
 
@@ -69,11 +70,11 @@ fn rows_kept(
     Ok(all)
 }
 
-/// The table of the positions that may still come to an end.
+/// The table of the positions that something leads to, and that may still come to an end.
 pub(crate) fn sift(alloc: Global, table: &Table) -> Result<Table, AllocError>
     ensures { IfOk result (λ t. t ≡ sift_data table.now) }
 {
-    let marks = living(alloc, table.rows())?;
+    let marks = kept(alloc, table)?;
     let rows = rows_kept(alloc, table.rows(), marks.as_slice())?;
     let mut starts = Vec::new(alloc);
     put_kept(&mut starts, table.starts(), marks.as_slice())?;
