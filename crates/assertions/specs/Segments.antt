@@ -1,5 +1,6 @@
 -- Sequences, and the segments of ticks that they match (IEEE 1800-2017, 16.9 and annex F.5).
-use Rattle.std.specs.Prelude.{◌≡◌, ◌⊎◌, ℕ, zero, suc, ◌+◌, ◌*◌, ◌<◌, ◌≤◌, ◌==◌, max, min, Bool, true}
+use Rattle.std.specs.Prelude.{◌≡◌, ◌⊎◌, ℕ, zero, suc, ◌+◌, ◌*◌, ◌<◌, ◌≤◌, ◌==◌, max, min, Bool}
+use Rattle.std.specs.Prelude.{true}
 use Rattle.std.specs.Prelude.{◌&&◌, ◌||◌, nat_le, IsTrue}
 use Rattle.assertions.specs.Quantifiers.{some_in, each_in}
 

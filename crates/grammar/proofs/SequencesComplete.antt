@@ -98,7 +98,8 @@ intersection-none : (d : ℕ) (inner : Inner) (s : SequenceForm) (ts : List Toke
     → intersection_behind d inner s ts ≡ Some (s, ts)
 unfolding intersection_behind expect
 intersection-none d inner s ts h =
-    rw (each-none (is Intersect) (λ t. during_with d inner) ts (expect-precedence Intersect 14 precedence-Intersect ts h)) refl
+    rw (each-none (is Intersect) (λ t. during_with d inner) ts
+    (expect-precedence Intersect 14 precedence-Intersect ts h)) refl
 
 conjunction-none : (d : ℕ) (inner : Inner) (s : SequenceForm) (ts : List Token) → (next_precedence ts ≡ 15 → ⊥)
     → conjunction_behind d inner s ts ≡ Some (s, ts)
@@ -654,7 +655,8 @@ mutual
       → length ts ≤ i → 14 < next_precedence rest → many (is Intersect) (λ t. during d) i ts
       ≡ Some (list_of_others more, rest)
   meets-many (no_meet {d = d} {ts = ts}) i len le =
-      many-none (is Intersect) (λ t. during d) i ts (expect-precedence Intersect 14 precedence-Intersect ts (λ e. omega arith))
+      many-none (is Intersect) (λ t. during d) i ts
+      (expect-precedence Intersect 14 precedence-Intersect ts (λ e. omega arith))
   meets-many (one_meet k w f) zero len le = absurd (omega arith)
   meets-many (one_meet {d = d} {t = t} {s = s} {more = more} {ts = ts} {us = us} {rest = rest} k w f) (suc i)
       len le =

@@ -35,7 +35,8 @@ use Rattle.grammar.proofs.ReaderLaws.{absent, present, optional-sound, each-soun
 use Rattle.grammar.proofs.Complete.{spells-read}
 use Rattle.grammar.proofs.Sound.{is_sound, spells-sound}
 use Rattle.std.proofs.Common.{arith}
-use Rattle.grammar.proofs.SequencesComplete.{body, repetition, during, intersection, conjunction, seq, expression-opening}
+use Rattle.grammar.proofs.SequencesComplete.{body, repetition, during, intersection, conjunction, seq}
+use Rattle.grammar.proofs.SequencesComplete.{expression-opening}
 
 abbrev pub IsSoundBelow : ℕ → Type 0
 IsSoundBelow zero = Unit {0}
@@ -400,7 +401,8 @@ conjuncts-sound : (d : ℕ) → IsSoundBelow d
     → Reads (each (is And) (λ t. intersection d)) (λ xs ts rest. AreConjuncts d (others_of xs) ts rest)
 conjuncts-sound d inner ts p h =
     each-sound (is And) (λ t. intersection d) (λ xs us vs. AreConjuncts d (others_of xs) us vs) (λ us. no_conjunct)
-    (λ t a xs us vs rest is_and read more. one_conjunct (is-true And t is_and) (intersection-sound d inner us (a, vs) read)
+    (λ t a xs us vs rest is_and read more. one_conjunct (is-true And t is_and)
+    (intersection-sound d inner us (a, vs) read)
     more) ts p h
 
 conjuncts-end : {d : ℕ} {ts rest : List Token} → AreConjuncts d no_other ts rest → ts ≡ rest

@@ -57,7 +57,8 @@ unfoldable pub mark : Token → Mark
 mark t = mark_of_terminal (terminal t) t.kind
 
 -- How loosely a token joins what stands before it to what follows: 1 to 9 are the levels of the
--- left operators, from the tightest, 10 is ?, 11 throughout, 12 [*, 13 ##, 14 intersect, 15 and, 16 or,
+-- left operators, from the tightest, 10 is ?, 11 throughout, 12 [*, 13 ##, 14 intersect, 15 and, 16
+-- or,
 -- 17 the implications. 0 goes on with a path, 100 with nothing.
 abbrev pub precedence_of_other : Kind → ℕ
 precedence_of_other (kind.Symbol symbol.Question) = 10

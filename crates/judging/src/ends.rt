@@ -9,8 +9,8 @@ ghost use Rattle.assertions.specs.Shapes.{shape};
 ghost use Rattle.judging.specs.Tables.{behind, held_at, IsRelation};
 
 use crate::relation::{
-    both, composition_behind, intersection_of, last_ticks, moved_places, next, places_throughout, repetition_of,
-    same, starts_behind, union_of,
+    both, composition_behind, intersection_of, last_ticks, moved_places, next, places_throughout,
+    repetition_of, same, starts_behind, union_of,
 };
 use crate::row::{every_place, some_mark};
 use crate::seen::Seen;

@@ -78,44 +78,22 @@ fn range_of_delays(rt: HostRuntime) -> Result<(), Fail> {
 #[test]
 fn both_of_two(rt: HostRuntime) -> Result<(), Fail> {
     let alloc = rt.alloc();
-    // a and (b ##1 c): two pairs of positions, a alone, b alone, c alone
+    // a and (b ##1 c): both together, then c alone; nothing leads to a, b or c beside others
     let long = Sequence::Delay(boolean(alloc, 1)?, 1, 1, boolean(alloc, 2)?);
     let sequence = Sequence::And(boolean(alloc, 0)?, Box::new(alloc, long)?);
     let section = positions_of(alloc, &sequence)?;
     let first = [
         BlockInstr::Unless(0, 3),
         BlockInstr::Unless(1, 3),
-        BlockInstr::Enter(4),
+        BlockInstr::Enter(1),
         BlockInstr::Stop,
     ];
     let second = [
-        BlockInstr::Unless(0, 7),
-        BlockInstr::Unless(2, 7),
+        BlockInstr::Unless(2, 6),
         BlockInstr::Accept,
         BlockInstr::Stop,
     ];
-    let third = [
-        BlockInstr::Unless(0, 10),
-        BlockInstr::Accept,
-        BlockInstr::Stop,
-    ];
-    let fourth = [
-        BlockInstr::Unless(1, 13),
-        BlockInstr::Enter(4),
-        BlockInstr::Stop,
-    ];
-    let fifth = [
-        BlockInstr::Unless(2, 16),
-        BlockInstr::Accept,
-        BlockInstr::Stop,
-    ];
-    let blocks = [
-        first.as_slice(),
-        second.as_slice(),
-        third.as_slice(),
-        fourth.as_slice(),
-        fifth.as_slice(),
-    ];
+    let blocks = [first.as_slice(), second.as_slice()];
     assert!(rt; is_section(&section, 1, blocks.as_slice()));
     Ok(())
 }
@@ -150,7 +128,11 @@ fn visited(section: &Section, set: u128, atoms: &[bool]) -> (u128, bool) {
             }
         }
         base = base.saturating_add(block.len());
-        position = if position < 128 { position + 1 } else { position };
+        position = if position < 128 {
+            position + 1
+        } else {
+            position
+        };
     }
     (entered, accepted)
 }
@@ -181,8 +163,8 @@ fn lengths_that_never_meet(rt: HostRuntime) -> Result<(), Fail> {
     let never = Sequence::Intersect(Box::new(alloc, first)?, Box::new(alloc, second)?);
     let sequence = Sequence::Or(Box::new(alloc, never)?, boolean(alloc, 4)?);
     let section = positions_of(alloc, &sequence)?;
-    // e, and two pairs that nothing leads to: a beside the gap, and b beside d
-    assert!(rt; section.blocks.len() == 3);
+    // e alone: the pairs that can still end, a beside the gap, and b beside d, are never met
+    assert!(rt; section.blocks.len() == 1);
     let rows = [
         [true, true, true, true, false].as_slice(),
         [true, true, true, true, false].as_slice(),
@@ -200,8 +182,8 @@ fn lengths_two_and_three(rt: HostRuntime) -> Result<(), Fail> {
     let sequence = Sequence::Intersect(Box::new(alloc, first)?, Box::new(alloc, second)?);
     assert!(rt; assertions::weight_of(&sequence) == Some(18));
     let section = positions_of(alloc, &sequence)?;
-    // of 15 pairs those whose lengths meet; 4 of them are reached
-    assert!(rt; section.blocks.len() == 11);
+    // of 15 pairs 11 have lengths that meet, and 4 of these are ever met
+    assert!(rt; section.blocks.len() == 4);
     let b = [true, true, false].as_slice();
     let a = [true, false, false].as_slice();
     let ac = [true, false, true].as_slice();

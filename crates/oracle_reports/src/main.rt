@@ -5,7 +5,8 @@
 //! reports are printed; they must be those of a judge who shares no text with svamon
 //! (`scripts/axi4_judge.py`).
 //!
-//! Each text goes through `check_one` by windows of 1, 2, 3, 1,000, 1,024 and 65,536 clocks and through
+//! Each text goes through `check_one` by windows of 1, 2, 3, 1,000, 1,024 and 65,536 clocks and
+//! through
 //! `judge_one`; where one of them tells another thing than the others, the program ends with an
 //! error. The ports go through `judge_one` and `check_one` by windows of 3 clocks.
 //!

@@ -256,7 +256,8 @@ unfolding intersection_behind
 meet-fails d s ts x f = failing x _ _ (λ none. rw (none) refl) f
 
 pub meet-ok : (d : ℕ) (s : SequenceForm) (ts : List Token) (xs : List SequenceForm) (us : List Token)
-    → each (is Intersect) (λ t. during_with d (sequences d)) ts ≡ Some (xs, us) → intersection_behind d (sequences d) s ts
+    → each (is Intersect) (λ t. during_with d (sequences d)) ts ≡ Some (xs, us) → intersection_behind d
+    (sequences d) s ts
     ≡ Some (with_others junctions.Intersect s xs, us)
 unfolding intersection_behind
 meet-ok d s ts xs us h = rw (h) refl
@@ -268,7 +269,8 @@ unfolding conjunction_behind
 conjunction-fails d s ts x f = failing x _ _ (λ none. rw (none) refl) f
 
 pub conjunction-ok : (d : ℕ) (s : SequenceForm) (ts : List Token) (xs : List SequenceForm) (us : List Token)
-    → each (is And) (λ t. intersection_with d (sequences d)) ts ≡ Some (xs, us) → conjunction_behind d (sequences d) s ts
+    → each (is And) (λ t. intersection_with d (sequences d)) ts ≡ Some (xs, us) → conjunction_behind d
+    (sequences d) s ts
     ≡ Some (with_others junctions.And s xs, us)
 unfolding conjunction_behind
 conjunction-ok d s ts xs us h = rw (h) refl
@@ -360,7 +362,8 @@ pub conjunct-fail1 : (d : ℕ) (ts : List Token) (x : Stop) → Fails x (through
 unfolding intersection_with throughout_reader
 conjunct-fail1 d ts x f = failing x _ _ (λ none. rw (none) refl) f
 
-pub conjunct-tail : (d : ℕ) (ts : List Token) (s : SequenceForm) (us : List Token) → throughout_reader d ts ≡ Some (s, us)
+pub conjunct-tail : (d : ℕ) (ts : List Token) (s : SequenceForm) (us : List Token) → throughout_reader d ts ≡ Some
+    (s, us)
     → intersection_with d (sequences d) ts ≡ intersection_behind d (sequences d) s us
 unfolding intersection_with throughout_reader
 conjunct-tail d ts s us h = rw (h) refl
@@ -370,7 +373,8 @@ pub side-fail1 : (d : ℕ) (ts : List Token) (x : Stop) → Fails x (intersectio
 unfolding conjunction_with
 side-fail1 d ts x f = failing x _ _ (λ none. rw (none) refl) f
 
-pub side-tail : (d : ℕ) (ts : List Token) (s : SequenceForm) (us : List Token) → intersection_with d (sequences d) ts ≡ Some (s, us)
+pub side-tail : (d : ℕ) (ts : List Token) (s : SequenceForm) (us : List Token) → intersection_with d
+    (sequences d) ts ≡ Some (s, us)
     → conjunction_with d (sequences d) ts ≡ conjunction_behind d (sequences d) s us
 unfolding conjunction_with
 side-tail d ts s us h = rw (h) refl

@@ -159,8 +159,7 @@ module _ (B : Type 0) (r s : Plan B) (t u : Table B) (sr : Spells r t) (ss : Spe
         let z = (ss.enters holds x.1 i k.1).0 k.4 in
         ((y.0, z.0), ap (λ n. n * u.size + ss.number z.0) y.1 ∙ ap (λ n. k.0 * u.size + n) z.1 ∙ k.2, (y.2, z.2)),
     λ h. subst (EnterIn B holds i q) (sym (pair-row x))
-        (Enter-couple B u.size holds i q (t.row (sr.number x.0)) (u.row (ss.number x.1))
-        (
+        (Enter-couple B u.size holds i q (t.row (sr.number x.0)) (u.row (ss.number x.1)) (
           sr.number h.0.0,
           ss.number h.0.1,
           h.1,

@@ -180,7 +180,8 @@ module _ (B : Type 0) (t : Table B) (up : IsRising t) (atom : B → Option ℕ) 
       let f = from-lives B t up q (Stands-below B (sifted t) (sifted-rising B t up) holds c k q stands) in
       let y = Stands-At B t up r spells holds c k (from B t up q) (sifted-Stands B t up holds c k q stands) in
       let rest =
-      lives-Left B t up r spells holds y.0 (c + k) (λ b i late. or_left (nat_le (c + k) i) (seen b i) (le-leb (c + k) i late))
+      lives-Left B t up r spells holds y.0 (c + k)
+      (λ b i late. or_left (nat_le (c + k) i) (seen b i) (le-leb (c + k) i late))
       (subst (λ p. IsTrue (lives t p)) (sym y.1) f) in
       over rest.0 (Left-after B holds r y.0 (c + k) rest.0 rest.1) (At-Match B holds r c k rest.0 y.0 y.2 rest.1))
 

@@ -174,7 +174,8 @@ module _ (B : Type 0) (holds : B → ℕ → Bool) (true_one : B) where
       let sum : least + (most - least) ≡ most = omega (arith, ordered.0) in (
         λ h.
             let x = one_of-some (after true_one (kernel true_one r) (kernel true_one s)) least (most - least) i j h in
-            apart-forth (kernel true_one r) (kernel true_one s) (plan true_one r) (plan true_one s) er es least most ordered.0 i j x.0 x.1
+            apart-forth (kernel true_one r) (kernel true_one s) (plan true_one r)
+            (plan true_one s) er es least most ordered.0 i j x.0 x.1
             (omega (arith, x.2, sum)) x.3,
         λ h.
             let x =

@@ -25,7 +25,8 @@ pub rows_of-length : {A : Type 0} (row : ℕ → A) (p n : ℕ) → length (rows
 rows_of-length row p zero = refl
 rows_of-length row p (suc n) = ap suc (rows_of-length row (p + 1) n)
 
-pub rows_of-append : {A : Type 0} (row : ℕ → A) (p m n : ℕ) → rows_of row p (m + n) ≡ rows_of row p m ++ rows_of row (p + m)
+pub rows_of-append : {A : Type 0} (row : ℕ → A) (p m n : ℕ) → rows_of row p (m + n) ≡ rows_of row p m ++ rows_of row
+    (p + m)
     n
 rows_of-append row p zero n =
     let a : 0 + n ≡ n = omega arith in

@@ -1,7 +1,8 @@
 -- The table of each sequence, by its parts: equal to the form's, placed, and with no part longer than the whole.
 use Rattle.std.proofs.Common.{◌≡◌, ◌∙◌, ◌⊎◌, inl, inr, ℕ, zero, suc, ◌+◌, ◌-◌, ◌*◌, ◌<◌, ◌≤◌, Bool, true, false, ◌&&◌}
 use Rattle.std.proofs.Common.{◌||◌}
-use Rattle.std.proofs.Common.{if◌then◌else◌, max, List, [], ◌∷◌, length, map, nat_le, Option, None, refl, sym, ap, subst}
+use Rattle.std.proofs.Common.{if◌then◌else◌, max, List, [], ◌∷◌, length, map, nat_le, Option, None, refl, sym, ap}
+use Rattle.std.proofs.Common.{subst}
 use Rattle.std.proofs.Common.{arith}
 use Rattle.std.specs.Prelude.{IsTrue, ◌==◌}
 use Rattle.std.specs.List.{flat_map}

@@ -1,6 +1,7 @@
 -- The section of a plain sequence is short.
 use Rattle.std.proofs.Common.{◌≡◌, ◌∙◌, inl, inr, ℕ, zero, suc, ◌+◌, ◌-◌, ◌*◌, ◌/◌, ◌%◌, ◌<◌, ◌≤◌, min, max, Bool, true}
-use Rattle.std.proofs.Common.{false, ◌&&◌, if◌then◌else◌, List, [], ◌∷◌, ◌++◌, length, Option, Some, None, refl, sym, ap}
+use Rattle.std.proofs.Common.{false, ◌&&◌, if◌then◌else◌, List, [], ◌∷◌, ◌++◌, length, Option, Some, None, refl, sym}
+use Rattle.std.proofs.Common.{ap}
 use Rattle.std.proofs.Common.{subst, arith, length-append}
 use Rattle.std.specs.Prelude.{map, IsTrue}
 use Rattle.std.proofs.Math.Nat.{mul-le-mul_right, mul-le-mul_left}
@@ -316,9 +317,10 @@ module _ (B : Type 0) where
       | inl on ↦
           let next : rank (is_kept t) (q + 1) ≡ rank (is_kept t) q + 1 = rank-next (is_kept t) q on in
           subst (λ b. Climbs (rank (is_kept t) low) (rank (is_kept t) high)
-          (picked b (rank (is_kept t) q ∷ []) ++ sift (is_kept t) qs)) (sym on)
-          (rank-up (is_kept t) low q h.0,
-          subst (λ k. Climbs k (rank (is_kept t) high) (sift (is_kept t) qs)) next (Climbs-sift (q + 1) high qs h.1))
+          (picked b (rank (is_kept t) q ∷ []) ++ sift (is_kept t) qs)) (sym on) (
+            rank-up (is_kept t) low q h.0,
+            subst (λ k. Climbs k (rank (is_kept t) high) (sift (is_kept t) qs)) next (Climbs-sift (q + 1) high qs h.1),
+          )
       | inr off ↦
           subst (λ b. Climbs (rank (is_kept t) low) (rank (is_kept t) high)
           (picked b (rank (is_kept t) q ∷ []) ++ sift (is_kept t) qs)) (sym off)
@@ -454,7 +456,8 @@ law-section_is_short atom true_one w ordered plain =
     let whole : Table Boolean = table_of (plan true_one w) in
     let up = rising Boolean (plan true_one w) whole (spelling Boolean (plan true_one w)) in
     let t : Table Boolean = sifted whole in
-    let small : t.size ≤ weight w = omega (arith, rank-few (is_kept whole) whole.size, size-weight true_one w ordered) in
+    let small : t.size ≤ weight w = omega
+    (arith, rank-few (is_kept whole) whole.size, size-weight true_one w ordered) in
     let same : t.size + (weight w - t.size) ≡ weight w = omega (arith, small) in
     let s : ℕ = size_of (section_for atom true_one w).blocks in
     let zero_plus : 0 + t.size ≡ t.size = omega arith in

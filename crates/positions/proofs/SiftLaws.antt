@@ -206,9 +206,19 @@ all-kept d rows marks count made starts empty is lives all kept begin none =
     ∙ ap (λ xs. record { rows = kept_rows (marked marks) rows count; starts = xs; empty = empty }) begin
     ∙ ap (λ b. record { rows = kept_rows (marked marks) rows count; starts = sift (marked marks) d.starts; empty = b })
     none
-    ∙ ap (λ n. record { rows = kept_rows (marked marks) rows n; starts = sift (marked marks) d.starts; empty = d.empty })
+    ∙ ap (λ n. record {
+      rows = kept_rows (marked marks) rows n;
+      starts = sift
+          (marked marks) d.starts;
+      empty = d.empty;
+    })
     all
     ∙ ap (λ keeps. record { rows = kept_rows keeps rows (length rows); starts = sift keeps d.starts; empty = d.empty })
     same
-    ∙ ap (λ xs. record { rows = kept_rows (kept_in d) xs (length xs); starts = sift (kept_in d) d.starts; empty = d.empty })
+    ∙ ap (λ xs. record {
+      rows = kept_rows (kept_in d) xs (length xs);
+      starts = sift
+          (kept_in d) d.starts;
+      empty = d.empty;
+    })
     is

@@ -33,7 +33,8 @@ module _ (keeps : ℕ → Bool) where
   ]
 
   pub rank-next : (p : ℕ) → IsTrue (keeps p) → rank keeps (p + 1) ≡ rank keeps p + 1
-  rank-next p kept = omega (arith, if-true {A = ℕ} (keeps p) 1 0 kept, ap (rank keeps) (let e : p + 1 ≡ suc p = omega arith in e))
+  rank-next p kept = omega
+      (arith, if-true {A = ℕ} (keeps p) 1 0 kept, ap (rank keeps) (let e : p + 1 ≡ suc p = omega arith in e))
 
   pub rank-below : (p n : ℕ) → p < n → IsTrue (keeps p) → rank keeps p < rank keeps n
   rank-below p n lt kept = omega (arith, if-true {A = ℕ} (keeps p) 1 0 kept, rank-up (suc p) n (omega arith))
@@ -376,7 +377,8 @@ module _ (B : Type 0) (t : Table B) (up : IsRising t) where
       sifted-some (Fires holds i) (t.row (from p)) q
       (SomeOf-map (λ (e : Edge B). Fires holds i e × Has e.enters q) (sifted_edge (is_kept t)) (t.row (from p)) h)
 
-  Enters-sifted : (holds : B → ℕ → Bool) (p i x : ℕ) → IsTrue (is_kept t p) → Enters holds t p i x → IsTrue (is_kept t x)
+  Enters-sifted : (holds : B → ℕ → Bool) (p i x : ℕ) → IsTrue (is_kept t p) → Enters holds t p i x → IsTrue
+      (is_kept t x)
       → Enters holds (sifted t) (rank (is_kept t) p) i (rank (is_kept t) x)
   Enters-sifted holds p i x on h also =
       map-SomeOf (λ (e : Edge B). Fires holds i e × Has e.enters (rank (is_kept t) x)) (sifted_edge (is_kept t))

@@ -114,7 +114,8 @@ module _ (B : Type 0) (Q : B → Type 0) where
 
   pub sifted-wants : (t : Table B) → Rows t → Rows (sifted t)
   sifted-wants t g q =
-      each-map (sifted_edge (is_kept t)) (λ e k. k) (t.row (place (is_kept t) t.size q)) (g (place (is_kept t) t.size q))
+      each-map (sifted_edge (is_kept t)) (λ e k. k) (t.row (place (is_kept t) t.size q))
+      (g (place (is_kept t) t.size q))
 
   -- each boolean of a plan
   abbrev Of : Plan B → Type 0

@@ -1,4 +1,5 @@
--- Which positions of a table something leads to and may still come to an end, and the table of these
+-- Which positions of a table something leads to and may still come to an end, and the table of
+-- these
 -- alone.
 use Rattle.std.specs.Prelude.{ℕ, zero, suc, ◌+◌, ◌==◌, nat_lt, Bool, true, false, ◌&&◌, ◌||◌}
 use Rattle.std.specs.Prelude.{if◌then◌else◌, List, [], ◌∷◌, ◌++◌, map}

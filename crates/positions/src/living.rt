@@ -53,11 +53,7 @@ fn is_any_leading(row: &[Edge], marks: &[bool]) -> bool
 }
 
 /// The positions with an edge that does.
-fn marked_before(
-    alloc: Global,
-    rows: &[Vec<Edge>],
-    marks: &[bool],
-) -> Result<Vec<bool>, AllocError>
+fn marked_before(alloc: Global, rows: &[Vec<Edge>], marks: &[bool]) -> Result<Vec<bool>, AllocError>
     ensures { IfOk result (λ v. v.items
         ≡ map (list_any (leads (marked marks.now))) (rows_data rows.now)) }
 {

@@ -61,7 +61,8 @@ impl Pairing {
         requires second { IsBelow self.now.second other.now }
         requires alone { self.now.alone ≡ true }
         ensures { OnOk result (list.new.items ≡ list.old.items
-            ++ lone_data self.now.first self.now.second (edge_data edge.now) (edge_data other.now)) }
+            ++ lone_data self.now.first self.now.second (edge_data edge.now)
+            (edge_data other.now)) }
     {
         if other.accepts {
             put_moved(list, &edge.enters, self.first_alone())?;
@@ -177,11 +178,13 @@ impl Pairing {
         requires begun { draft.old.begun ≡ [] }
         ensures ok { OnOk result (draft.new ≡ with_rows draft.old
             (flat_map
-            (λ es. map (joint_row self.now.alone self.now.first self.now.second es) (rows_data seconds.now))
+            (λ es. map (joint_row self.now.alone self.now.first self.now.second es)
+            (rows_data seconds.now))
             (rows_data firsts.now))) }
         ensures err { IfErr result (IsLong (draft_size draft.old + rows_size
             (flat_map
-            (λ es. map (joint_row self.now.alone self.now.first self.now.second es) (rows_data seconds.now))
+            (λ es. map (joint_row self.now.alone self.now.first self.now.second es)
+            (rows_data seconds.now))
             (rows_data firsts.now)))) }
     {
         for edges in firsts {

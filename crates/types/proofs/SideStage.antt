@@ -23,17 +23,20 @@ module _ (s : Scope) (items : List ItemForm) (ys : List Side)
   pub clear_7 : ClearTo s items 6 → least (places_where is_wide ys) ≡ None → ClearTo s items 7
   clear_7 clear e =
       clear_next s items 6 clear (λ fault r h. nowhere (places_where is_wide ys) e (byte_of fault)
-      (side_there Any (λ w. 127 < weight w) is_wide tells_wide (outlines_of s items) (sides_of s (assertions_of items)) ys
+      (side_there Any (λ w. 127 < weight w) is_wide tells_wide (outlines_of s items)
+      (sides_of s (assertions_of items)) ys
       all (all_any ys) (byte_of fault) (of_rank s items 7 fault r h)))
 
   pub first_7 : (at : ℕ) → ClearTo s items 6 → least (places_where is_wide ys) ≡ Some at → IsFirst s items (TooWide at)
   first_7 at clear e =
       let l = least_stands (places_where is_wide ys) at e in
       first_at s items 6 (TooWide at) clear (omega arith)
-      (side_back Any (λ w. 127 < weight w) is_wide tells_wide (outlines_of s items) (sides_of s (assertions_of items)) ys
+      (side_back Any (λ w. 127 < weight w) is_wide tells_wide (outlines_of s items)
+      (sides_of s (assertions_of items)) ys
       all (all_any ys) at l.stands)
       (λ other r h. l.lowest (byte_of other)
-      (side_there Any (λ w. 127 < weight w) is_wide tells_wide (outlines_of s items) (sides_of s (assertions_of items)) ys
+      (side_there Any (λ w. 127 < weight w) is_wide tells_wide (outlines_of s items)
+      (sides_of s (assertions_of items)) ys
       all (all_any ys) (byte_of other) (of_rank s items 7 other r h)))
 
   pub clear_8 : AreLight ys → ClearTo s items 7 → least (places_where is_degenerate ys) ≡ None → ClearTo s items 8

@@ -72,9 +72,9 @@ same_ticks w u o h = by_both (cases_Bool (takes_ticks u)) (cases_Bool (takes_tic
 -- What is told of an entry's sequence is so of what is meant.
 entry_says : (e : Entry) (w : Written Boolean) → IsEntry w e → e.facts.weight ≤ 127 → entry_ticks e ≡ takes_ticks w
 entry_says e w h low = elim (cases_Bool (nat_lt 127 e.facts.weight)) [
-      | inl over ↦ absurd (let l = ltb-true 127 e.facts.weight over in omega (arith, l, low))
-      | inr under ↦ rw under (told e.sequence (h.same (omega (arith, h.facts.weighs, low))))
-    ]
+  | inl over ↦ absurd (let l = ltb-true 127 e.facts.weight over in omega (arith, l, low))
+  | inr under ↦ rw under (told e.sequence (h.same (omega (arith, h.facts.weighs, low))))
+]
   where
     told : (o : Option (Box Sequence Global)) → HasSame w o → sequence_ticks o ≡ takes_ticks w
     told None s = elim s [ ]

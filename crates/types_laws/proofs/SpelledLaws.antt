@@ -6,7 +6,8 @@ use Rattle.expressions.specs.Terms.{Samples}
 use Rattle.assertions.specs.declared.sequence.Boolean.{Boolean}
 use Rattle.assertions.specs.declared.sequence.Boolean.TheVariants.{One}
 use Rattle.assertions.specs.Segments.{sat}
-use Rattle.assertions.specs.Written.{Written, boolean, delay, lead, repeat, or, and, intersect, throughout, kernel, after, later}
+use Rattle.assertions.specs.Written.{Written, boolean, delay, lead, repeat, or, and, intersect, throughout, kernel}
+use Rattle.assertions.specs.Written.{after, later}
 use Rattle.types_sequences.specs.Drafts.{Draft, spelling_of, named_within, Spells}
 use Rattle.types_sequences.specs.Outlines.{map_draft, map_written}
 use Rattle.types_sequences.specs.Entries.{Alike}

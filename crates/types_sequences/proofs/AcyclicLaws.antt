@@ -4,7 +4,8 @@ use Rattle.std.proofs.Common.{arith}
 use Rattle.std.specs.Prelude.{option_map, option_and_then}
 use Rattle.assertions.specs.Written.{Written}
 use Rattle.assertions.specs.Written as written
-use Rattle.types_sequences.specs.Drafts.{Draft, boolean, name, delay, lead, repeat, or, and, intersect, throughout, IsIn}
+use Rattle.types_sequences.specs.Drafts.{Draft, boolean, name, delay, lead, repeat, or, and, intersect, throughout}
+use Rattle.types_sequences.specs.Drafts.{IsIn}
 use Rattle.types_sequences.specs.Drafts.{uses, uses_of, both_there, spelling_of, named_within, reaches_by, IsCyclic}
 use Rattle.types_sequences.proofs.InLaws.{in_either}
 

@@ -8,8 +8,10 @@ use Rattle.assertions.specs.Written.{Written, kernel, weight, IsOrdered}
 use Rattle.assertions.specs.Emptiness.{admits_empty, bare, lasts, takes_ticks}
 use Rattle.assertions.specs.Quantifiers.{some_in}
 use Rattle.assertions.specs.Segments.{always, is_match}
-use Rattle.types_sequences.specs.Drafts.{Draft, boolean, name, delay, lead, repeat, or, and, intersect, throughout, IsIn}
-use Rattle.types_sequences.specs.Drafts.{uses, uses_of, uses_at, both_there, spelling_of, named_within, Spells, reaches_by}
+use Rattle.types_sequences.specs.Drafts.{Draft, boolean, name, delay, lead, repeat, or, and, intersect, throughout}
+use Rattle.types_sequences.specs.Drafts.{IsIn}
+use Rattle.types_sequences.specs.Drafts.{uses, uses_of, uses_at, both_there, spelling_of, named_within, Spells}
+use Rattle.types_sequences.specs.Drafts.{reaches_by}
 use Rattle.types_sequences.specs.Drafts.{IsCyclic}
 use Rattle.types_sequences.specs.Outlines.{map_draft, map_written}
 use Rattle.types_sequences.proofs.SpellLaws.{spelled_deeper}

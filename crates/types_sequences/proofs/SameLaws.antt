@@ -3,7 +3,8 @@ use Rattle.std.proofs.Common.{◌≡◌, inl, inr, ℕ, ◌+◌, ◌-◌, ◌*�
 use Rattle.std.proofs.Math.Nat.{mul-le-mul_left, mul-le-mul}
 use Rattle.assertions.specs.declared.sequence.Boolean.{Boolean}
 use Rattle.assertions.specs.declared.sequence.Boolean.TheVariants.{One}
-use Rattle.assertions.specs.Written.{Written, boolean, delay, lead, repeat, or, and, intersect, throughout, kernel, weight}
+use Rattle.assertions.specs.Written.{Written, boolean, delay, lead, repeat, or, and, intersect, throughout, kernel}
+use Rattle.assertions.specs.Written.{weight}
 use Rattle.assertions.specs.Written.{after, later, IsOrdered}
 use Rattle.assertions.specs.Emptiness.{admits_empty}
 use Rattle.types_sequences.specs.Entries.{SaysSame}
@@ -85,7 +86,8 @@ says_and v w a b x y =
           (y.alike holds);
     }
 
-pub says_intersect : (v w a b : Written Boolean) → SaysSame v a → SaysSame w b → SaysSame (intersect v w) (intersect a b)
+pub says_intersect : (v w a b : Written Boolean) → SaysSame v a → SaysSame w b → SaysSame (intersect v w)
+    (intersect a b)
 says_intersect v w a b x y =
     record {
       ordered = (x.ordered, y.ordered);

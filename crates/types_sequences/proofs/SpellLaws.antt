@@ -134,7 +134,8 @@ has_and bodies r s a b e x y f =
 
 pub has_intersect : (bodies : List (Draft Boolean)) (r s : Draft Boolean) (a b e : Entry) → HasEntry bodies r a
     → HasEntry bodies s b →
-    ((v w : Written Boolean) → IsEntry v a → IsEntry w b → IsEntry (written.intersect v w) e) → HasEntry bodies (intersect r s) e
+    ((v w : Written Boolean) → IsEntry v a → IsEntry w b → IsEntry (written.intersect v w) e) → HasEntry bodies
+    (intersect r s) e
 has_intersect bodies r s a b e x y f =
     let both = spell_both bodies r s x.meant y.meant x.spells y.spells in
     record {

@@ -3,7 +3,8 @@
 ghost use Rattle.std.specs.Prelude.{◌≡◌, ◌+◌, ◌≤◌, IfOk};
 ghost use Rattle.assertions.specs.declared.sequence.Boolean.{Boolean};
 ghost use Rattle.assertions.specs.declared.sequence.Boolean.TheVariants.{Listed};
-ghost use Rattle.assertions.specs.Written.{Written, boolean, delay, lead, repeat, or, and, intersect};
+ghost use Rattle.assertions.specs.Written.{Written, boolean, delay, lead, repeat, or, and};
+ghost use Rattle.assertions.specs.Written.{intersect};
 ghost use Rattle.assertions.specs.Written.{throughout, weight, IsOrdered};
 ghost use Rattle.types_sequences.specs.Entries.{IsFacts, HasSame, IsEntry};
 

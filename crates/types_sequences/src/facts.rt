@@ -2,7 +2,8 @@
 
 ghost use Rattle.std.specs.Prelude.{◌≡◌, ◌+◌, ◌&&◌, nat_le, min};
 ghost use Rattle.assertions.specs.declared.sequence.Boolean.{Boolean};
-ghost use Rattle.assertions.specs.Written.{Written, boolean, delay, lead, repeat, or, and, intersect};
+ghost use Rattle.assertions.specs.Written.{Written, boolean, delay, lead, repeat, or, and};
+ghost use Rattle.assertions.specs.Written.{intersect};
 ghost use Rattle.assertions.specs.Written.{throughout};
 ghost use Rattle.types_sequences.specs.Entries.{IsFacts};
 

@@ -4,7 +4,8 @@ ghost use Rattle.std.specs.Prelude.{◌≡◌, ◌+◌, ◌≤◌, true, false, 
 ghost use Rattle.assertions.specs.declared.sequence.Boolean.{Boolean};
 ghost use Rattle.assertions.specs.declared.sequence.Boolean.TheVariants.{One};
 ghost use Rattle.assertions.specs.Shapes.{written_form};
-ghost use Rattle.assertions.specs.Written.{Written, boolean, delay, lead, repeat, or, and, intersect};
+ghost use Rattle.assertions.specs.Written.{Written, boolean, delay, lead, repeat, or, and};
+ghost use Rattle.assertions.specs.Written.{intersect};
 ghost use Rattle.assertions.specs.Written.{throughout, weight, IsOrdered};
 ghost use Rattle.assertions.specs.Emptiness.{admits_empty};
 ghost use Rattle.types_sequences.specs.Entries.{SaysSame, HasSame};

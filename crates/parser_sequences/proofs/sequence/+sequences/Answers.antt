@@ -93,7 +93,8 @@ read_intersection-meets-preserved t c = (
     c.in-Some.ensures.shorter,
     c.meets.invariant.0,
   ),
-  subst (λ (ts : List Token). Turns (is Intersect) (λ t. during_with c.args.depth (sequences c.args.depth)) c.args.tokens.now
+  subst (λ (ts : List Token). Turns (is Intersect)
+      (λ t. during_with c.args.depth (sequences c.args.depth)) c.args.tokens.now
       (map sequence_of c.push_sequence.new.found.items) ts) (sym c.same-left.ensures)
       (turns-next (is Intersect) (λ t. during_with c.args.depth (sequences c.args.depth)) _ _ _ c.meets.invariant.1 _ _
       (expect-lead Intersect _ _ c.in-Some.ensures.token) c.in-Some.ensures.shorter _ _ _
@@ -121,7 +122,8 @@ read_conjunction-returns-in_default-clause-read t c =
 pub read_conjunction-returns-in-Err-clause-read : goal.read_conjunction-returns-in-Err-clause-read
 read_conjunction-returns-in-Err-clause-read t c =
     conjunction-fails _ _ _ _
-    (turns-fail (is And) (λ t. intersection_with c.args.depth (sequences c.args.depth)) _ _ _ c.conjuncts.invariant.1 _ _
+    (turns-fail (is And)
+    (λ t. intersection_with c.args.depth (sequences c.args.depth)) _ _ _ c.conjuncts.invariant.1 _ _
     (expect-lead And _ _ c.in-Some.ensures.token) c.in-Some.ensures.shorter _
     c.in-Err.ensures.read)
 
@@ -134,9 +136,11 @@ read_conjunction-conjuncts-preserved t c = (
     c.in-Some.ensures.shorter,
     c.conjuncts.invariant.0,
   ),
-  subst (λ (ts : List Token). Turns (is And) (λ t. intersection_with c.args.depth (sequences c.args.depth)) c.args.tokens.now
+  subst (λ (ts : List Token). Turns (is And)
+      (λ t. intersection_with c.args.depth (sequences c.args.depth)) c.args.tokens.now
       (map sequence_of c.push_sequence.new.found.items) ts) (sym c.same-left.ensures)
-      (turns-next (is And) (λ t. intersection_with c.args.depth (sequences c.args.depth)) _ _ _ c.conjuncts.invariant.1 _ _
+      (turns-next (is And)
+      (λ t. intersection_with c.args.depth (sequences c.args.depth)) _ _ _ c.conjuncts.invariant.1 _ _
       (expect-lead And _ _ c.in-Some.ensures.token) c.in-Some.ensures.shorter _ _ _
       (omega (arith, c.in-Ok.ensures.shorter))
       c.in-Ok.ensures.read (ap (map sequence_of) c.in-Ok-push_sequence.ensures.ok

@@ -89,7 +89,8 @@ returns-in_err-front-in-Delay-clause-err t c =
     subst (λ w. weight w ≤ 127) e c.requires.bound in
     long_on _ _ _ _ c.from_residual-in_err-front-in-Delay.ensures.1 c.in_err-front-in-Delay.ensures.err
     (most_as (written_form c.args.sequence.now) (delay r c.in-Delay.least c.in-Delay.most s) _ e
-    (part-within (delay r c.in-Delay.least c.in-Delay.most s) (max (largest r) (largest s)) (largest r) takes (omega arith)))
+    (part-within (delay r c.in-Delay.least c.in-Delay.most s) (max (largest r) (largest s)) (largest r) takes
+    (omega arith)))
 
 pub returns-in_err-rest-in-Delay-clause-err : goal.returns-in_err-rest-in-Delay-clause-err
 returns-in_err-rest-in-Delay-clause-err t c =
@@ -107,7 +108,8 @@ returns-in_err-rest-in-Delay-clause-err t c =
     subst (λ w. weight w ≤ 127) e c.requires.bound in
     long_on _ _ _ _ c.from_residual-in_err-rest-in-Delay.ensures.1 c.in_err-rest-in-Delay.ensures.err
     (most_as (written_form c.args.sequence.now) (delay r c.in-Delay.least c.in-Delay.most s) _ e
-    (part-within (delay r c.in-Delay.least c.in-Delay.most s) (max (largest r) (largest s)) (largest s) takes (omega arith)))
+    (part-within (delay r c.in-Delay.least c.in-Delay.most s) (max (largest r) (largest s)) (largest s) takes
+    (omega arith)))
 
 pub apart-requires-clause-first_placed : goal.apart-requires-clause-first_placed
 apart-requires-clause-first_placed t c =
@@ -210,7 +212,8 @@ returns-in_ok-rest-in-Delay-clause-err t c =
     ∙ sym (made-delay r s c.in-Delay.least c.in-Delay.most ordered takes)
     ∙ sym (told (written_form c.args.sequence.now) (delay r c.in-Delay.least c.in-Delay.most s) e) in
     err_more c.apart.result _ _ c.apart.ensures.err
-    (own_as (written_form c.args.sequence.now) (delay r c.in-Delay.least c.in-Delay.most s) _ e same (own-within (delay r c.in-Delay.least c.in-Delay.most s) (max (largest r) (largest s)) takes))
+    (own_as (written_form c.args.sequence.now) (delay r c.in-Delay.least c.in-Delay.most s) _ e same
+    (own-within (delay r c.in-Delay.least c.in-Delay.most s) (max (largest r) (largest s)) takes))
 
 pub returns-in_err-front-in-Or-clause-err : goal.returns-in_err-front-in-Or-clause-err
 returns-in_err-front-in-Or-clause-err t c =
@@ -223,7 +226,8 @@ returns-in_err-front-in-Or-clause-err t c =
     let ordered : IsOrdered (or r s) = subst IsOrdered e c.requires.ordered in
     let bound : weight (or r s) ≤ 127 = subst (λ w. weight w ≤ 127) e c.requires.bound in
     long_on _ _ _ _ c.from_residual-in_err-front-in-Or.ensures.1 c.in_err-front-in-Or.ensures.err
-    (most_as (written_form c.args.sequence.now) (or r s) _ e (part-within (or r s) (max (largest r) (largest s)) (largest r) takes (omega arith)))
+    (most_as (written_form c.args.sequence.now) (or r s) _ e
+    (part-within (or r s) (max (largest r) (largest s)) (largest r) takes (omega arith)))
 
 pub returns-in_err-rest-in-Or-clause-err : goal.returns-in_err-rest-in-Or-clause-err
 returns-in_err-rest-in-Or-clause-err t c =
@@ -237,7 +241,8 @@ returns-in_err-rest-in-Or-clause-err t c =
     let ordered : IsOrdered (or r s) = subst IsOrdered e c.requires.ordered in
     let bound : weight (or r s) ≤ 127 = subst (λ w. weight w ≤ 127) e c.requires.bound in
     long_on _ _ _ _ c.from_residual-in_err-rest-in-Or.ensures.1 c.in_err-rest-in-Or.ensures.err
-    (most_as (written_form c.args.sequence.now) (or r s) _ e (part-within (or r s) (max (largest r) (largest s)) (largest s) takes (omega arith)))
+    (most_as (written_form c.args.sequence.now) (or r s) _ e
+    (part-within (or r s) (max (largest r) (largest s)) (largest s) takes (omega arith)))
 
 pub either-requires-clause-first_placed : goal.either-requires-clause-first_placed
 either-requires-clause-first_placed t c =
@@ -319,7 +324,8 @@ returns-in_ok-rest-in-Or-clause-err t c =
     ∙ ap (either_data (listed_for r)) c.in_ok-rest-in-Or.ensures.ok
     ∙ sym (made-or r s takes) ∙ sym (told (written_form c.args.sequence.now) (or r s) e) in
     err_more c.either.result _ _ c.either.ensures.err
-    (own_as (written_form c.args.sequence.now) (or r s) _ e same (own-within (or r s) (max (largest r) (largest s)) takes))
+    (own_as (written_form c.args.sequence.now) (or r s) _ e same
+    (own-within (or r s) (max (largest r) (largest s)) takes))
 
 pub returns-in_err-front-in-And-clause-err : goal.returns-in_err-front-in-And-clause-err
 returns-in_err-front-in-And-clause-err t c =
@@ -332,7 +338,8 @@ returns-in_err-front-in-And-clause-err t c =
     let ordered : IsOrdered (and r s) = subst IsOrdered e c.requires.ordered in
     let bound : weight (and r s) ≤ 127 = subst (λ w. weight w ≤ 127) e c.requires.bound in
     long_on _ _ _ _ c.from_residual-in_err-front-in-And.ensures.1 c.in_err-front-in-And.ensures.err
-    (most_as (written_form c.args.sequence.now) (and r s) _ e (part-within (and r s) (max (largest r) (largest s)) (largest r) takes (omega arith)))
+    (most_as (written_form c.args.sequence.now) (and r s) _ e
+    (part-within (and r s) (max (largest r) (largest s)) (largest r) takes (omega arith)))
 
 pub returns-in_err-rest-in-And-clause-err : goal.returns-in_err-rest-in-And-clause-err
 returns-in_err-rest-in-And-clause-err t c =
@@ -346,7 +353,8 @@ returns-in_err-rest-in-And-clause-err t c =
     let ordered : IsOrdered (and r s) = subst IsOrdered e c.requires.ordered in
     let bound : weight (and r s) ≤ 127 = subst (λ w. weight w ≤ 127) e c.requires.bound in
     long_on _ _ _ _ c.from_residual-in_err-rest-in-And.ensures.1 c.in_err-rest-in-And.ensures.err
-    (most_as (written_form c.args.sequence.now) (and r s) _ e (part-within (and r s) (max (largest r) (largest s)) (largest s) takes (omega arith)))
+    (most_as (written_form c.args.sequence.now) (and r s) _ e
+    (part-within (and r s) (max (largest r) (largest s)) (largest s) takes (omega arith)))
 
 pub both-requires-clause-first_placed : goal.both-requires-clause-first_placed
 both-requires-clause-first_placed t c =
@@ -435,7 +443,8 @@ returns-in_ok-rest-in-And-clause-err t c =
     ∙ ap (both_data (listed_for r)) c.in_ok-rest-in-And.ensures.ok
     ∙ sym (made-and r s takes) ∙ sym (told (written_form c.args.sequence.now) (and r s) e) in
     err_more c.both.result _ _ c.both.ensures.err
-    (own_as (written_form c.args.sequence.now) (and r s) _ e same (own-within (and r s) (max (largest r) (largest s)) takes))
+    (own_as (written_form c.args.sequence.now) (and r s) _ e same
+    (own-within (and r s) (max (largest r) (largest s)) takes))
 
 pub returns-in_err-table-in-Lead-clause-err : goal.returns-in_err-table-in-Lead-clause-err
 returns-in_err-table-in-Lead-clause-err t c =
@@ -510,7 +519,8 @@ returns-in_ok-table-in-Lead-clause-err t c =
     ∙ sym (made-lead r c.in-Lead.least c.in-Lead.most takes)
     ∙ sym (told (written_form c.args.sequence.now) (lead c.in-Lead.least c.in-Lead.most r) e) in
     err_more c.lead_in.result _ _ c.lead_in.ensures.err
-    (own_as (written_form c.args.sequence.now) (lead c.in-Lead.least c.in-Lead.most r) _ e same (own-within (lead c.in-Lead.least c.in-Lead.most r) (largest r) takes))
+    (own_as (written_form c.args.sequence.now) (lead c.in-Lead.least c.in-Lead.most r) _ e same
+    (own-within (lead c.in-Lead.least c.in-Lead.most r) (largest r) takes))
 
 pub returns-in_err-table-in-Repeat-clause-err : goal.returns-in_err-table-in-Repeat-clause-err
 returns-in_err-table-in-Repeat-clause-err t c =
@@ -612,7 +622,8 @@ returns-in_ok-table-in-Repeat-clause-err t c =
     ∙ sym (made-repeat r c.in-Repeat.least c.in-Repeat.most takes)
     ∙ sym (told (written_form c.args.sequence.now) (repeat r c.in-Repeat.least c.in-Repeat.most) e) in
     err_more c.repeat.result _ _ c.repeat.ensures.err
-    (own_as (written_form c.args.sequence.now) (repeat r c.in-Repeat.least c.in-Repeat.most) _ e same (own-within (repeat r c.in-Repeat.least c.in-Repeat.most) (largest r) takes))
+    (own_as (written_form c.args.sequence.now) (repeat r c.in-Repeat.least c.in-Repeat.most) _ e same
+    (own-within (repeat r c.in-Repeat.least c.in-Repeat.most) (largest r) takes))
 
 pub returns-in_err-table-in-Throughout-clause-err : goal.returns-in_err-table-in-Throughout-clause-err
 returns-in_err-table-in-Throughout-clause-err t c =
@@ -676,7 +687,8 @@ returns-in_ok-table-in-Throughout-clause-err t c =
     ∙ sym (made-throughout c.in-Throughout.boolean r takes)
     ∙ sym (told (written_form c.args.sequence.now) (throughout c.in-Throughout.boolean r) e) in
     err_more c.during.result _ _ c.during.ensures.err
-    (own_as (written_form c.args.sequence.now) (throughout c.in-Throughout.boolean r) _ e same (own-within (throughout c.in-Throughout.boolean r) (largest r) takes))
+    (own_as (written_form c.args.sequence.now) (throughout c.in-Throughout.boolean r) _ e same
+    (own-within (throughout c.in-Throughout.boolean r) (largest r) takes))
 
 pub returns-in_ok-rest-in-Delay-clause-short : goal.returns-in_ok-rest-in-Delay-clause-short
 returns-in_ok-rest-in-Delay-clause-short t c =
@@ -700,8 +712,10 @@ returns-in_ok-rest-in-Delay-clause-short t c =
     c.in_ok-rest-in-Delay.ensures.ok
     ∙ sym (made-delay r s c.in-Delay.least c.in-Delay.most ordered takes)
     ∙ sym (told (written_form c.args.sequence.now) (delay r c.in-Delay.least c.in-Delay.most s) e) in
-    short_on c.apart.result _ (written_form c.args.sequence.now) (delay r c.in-Delay.least c.in-Delay.most s) e c.apart.ensures.ok c.apart.ensures.short same
-    (λ own. all-within (delay r c.in-Delay.least c.in-Delay.most s) (max (largest r) (largest s)) 65535 (omega (arith, c.in_ok-front-in-Delay.ensures.short, c.in_ok-rest-in-Delay.ensures.short)) own)
+    short_on c.apart.result _ (written_form c.args.sequence.now)
+    (delay r c.in-Delay.least c.in-Delay.most s) e c.apart.ensures.ok c.apart.ensures.short same
+    (λ own. all-within (delay r c.in-Delay.least c.in-Delay.most s) (max (largest r) (largest s)) 65535
+    (omega (arith, c.in_ok-front-in-Delay.ensures.short, c.in_ok-rest-in-Delay.ensures.short)) own)
 
 pub returns-in_ok-rest-in-Or-clause-short : goal.returns-in_ok-rest-in-Or-clause-short
 returns-in_ok-rest-in-Or-clause-short t c =
@@ -719,8 +733,10 @@ returns-in_ok-rest-in-Or-clause-short t c =
     ap (λ x. either_data x c.in_ok-rest-in-Or.rest) c.in_ok-front-in-Or.ensures.ok
     ∙ ap (either_data (listed_for r)) c.in_ok-rest-in-Or.ensures.ok
     ∙ sym (made-or r s takes) ∙ sym (told (written_form c.args.sequence.now) (or r s) e) in
-    short_on c.either.result _ (written_form c.args.sequence.now) (or r s) e c.either.ensures.ok c.either.ensures.short same
-    (λ own. all-within (or r s) (max (largest r) (largest s)) 65535 (omega (arith, c.in_ok-front-in-Or.ensures.short, c.in_ok-rest-in-Or.ensures.short)) own)
+    short_on c.either.result _ (written_form c.args.sequence.now)
+    (or r s) e c.either.ensures.ok c.either.ensures.short same
+    (λ own. all-within (or r s) (max (largest r) (largest s)) 65535
+    (omega (arith, c.in_ok-front-in-Or.ensures.short, c.in_ok-rest-in-Or.ensures.short)) own)
 
 pub returns-in_ok-rest-in-And-clause-short : goal.returns-in_ok-rest-in-And-clause-short
 returns-in_ok-rest-in-And-clause-short t c =
@@ -739,7 +755,8 @@ returns-in_ok-rest-in-And-clause-short t c =
     ∙ ap (both_data (listed_for r)) c.in_ok-rest-in-And.ensures.ok
     ∙ sym (made-and r s takes) ∙ sym (told (written_form c.args.sequence.now) (and r s) e) in
     short_on c.both.result _ (written_form c.args.sequence.now) (and r s) e c.both.ensures.ok c.both.ensures.short same
-    (λ own. all-within (and r s) (max (largest r) (largest s)) 65535 (omega (arith, c.in_ok-front-in-And.ensures.short, c.in_ok-rest-in-And.ensures.short)) own)
+    (λ own. all-within (and r s) (max (largest r) (largest s)) 65535
+    (omega (arith, c.in_ok-front-in-And.ensures.short, c.in_ok-rest-in-And.ensures.short)) own)
 
 pub returns-in_ok-table-in-Lead-clause-short : goal.returns-in_ok-table-in-Lead-clause-short
 returns-in_ok-table-in-Lead-clause-short t c =
@@ -756,8 +773,10 @@ returns-in_ok-table-in-Lead-clause-short t c =
     ap (lead_in_data c.in-Lead.least c.in-Lead.most) c.in_ok-table-in-Lead.ensures.ok
     ∙ sym (made-lead r c.in-Lead.least c.in-Lead.most takes)
     ∙ sym (told (written_form c.args.sequence.now) (lead c.in-Lead.least c.in-Lead.most r) e) in
-    short_on c.lead_in.result _ (written_form c.args.sequence.now) (lead c.in-Lead.least c.in-Lead.most r) e c.lead_in.ensures.ok c.lead_in.ensures.short same
-    (λ own. all-within (lead c.in-Lead.least c.in-Lead.most r) (largest r) 65535 (omega (arith, c.in_ok-table-in-Lead.ensures.short)) own)
+    short_on c.lead_in.result _ (written_form c.args.sequence.now)
+    (lead c.in-Lead.least c.in-Lead.most r) e c.lead_in.ensures.ok c.lead_in.ensures.short same
+    (λ own. all-within (lead c.in-Lead.least c.in-Lead.most r) (largest r) 65535
+    (omega (arith, c.in_ok-table-in-Lead.ensures.short)) own)
 
 pub returns-in_ok-table-in-Repeat-clause-short : goal.returns-in_ok-table-in-Repeat-clause-short
 returns-in_ok-table-in-Repeat-clause-short t c =
@@ -775,8 +794,10 @@ returns-in_ok-table-in-Repeat-clause-short t c =
     ap ((λ x. repeat_data x c.in-Repeat.least c.in-Repeat.most)) c.in_ok-table-in-Repeat.ensures.ok
     ∙ sym (made-repeat r c.in-Repeat.least c.in-Repeat.most takes)
     ∙ sym (told (written_form c.args.sequence.now) (repeat r c.in-Repeat.least c.in-Repeat.most) e) in
-    short_on c.repeat.result _ (written_form c.args.sequence.now) (repeat r c.in-Repeat.least c.in-Repeat.most) e c.repeat.ensures.ok c.repeat.ensures.short same
-    (λ own. all-within (repeat r c.in-Repeat.least c.in-Repeat.most) (largest r) 65535 (omega (arith, c.in_ok-table-in-Repeat.ensures.short)) own)
+    short_on c.repeat.result _ (written_form c.args.sequence.now)
+    (repeat r c.in-Repeat.least c.in-Repeat.most) e c.repeat.ensures.ok c.repeat.ensures.short same
+    (λ own. all-within (repeat r c.in-Repeat.least c.in-Repeat.most) (largest r) 65535
+    (omega (arith, c.in_ok-table-in-Repeat.ensures.short)) own)
 
 pub returns-in_ok-table-in-Throughout-clause-short : goal.returns-in_ok-table-in-Throughout-clause-short
 returns-in_ok-table-in-Throughout-clause-short t c =
@@ -794,8 +815,10 @@ returns-in_ok-table-in-Throughout-clause-short t c =
     ∙ ap (during_data (atom_of c.in-Throughout.boolean)) c.in_ok-table-in-Throughout.ensures.ok
     ∙ sym (made-throughout c.in-Throughout.boolean r takes)
     ∙ sym (told (written_form c.args.sequence.now) (throughout c.in-Throughout.boolean r) e) in
-    short_on c.during.result _ (written_form c.args.sequence.now) (throughout c.in-Throughout.boolean r) e c.during.ensures.ok c.during.ensures.short same
-    (λ own. all-within (throughout c.in-Throughout.boolean r) (largest r) 65535 (omega (arith, c.in_ok-table-in-Throughout.ensures.short)) own)
+    short_on c.during.result _ (written_form c.args.sequence.now)
+    (throughout c.in-Throughout.boolean r) e c.during.ensures.ok c.during.ensures.short same
+    (λ own. all-within (throughout c.in-Throughout.boolean r) (largest r) 65535
+    (omega (arith, c.in_ok-table-in-Throughout.ensures.short)) own)
 
 pub returns-in_err-front-in-Intersect-clause-err : goal.returns-in_err-front-in-Intersect-clause-err
 returns-in_err-front-in-Intersect-clause-err t c =
@@ -808,7 +831,8 @@ returns-in_err-front-in-Intersect-clause-err t c =
     let ordered : IsOrdered (intersect r s) = subst IsOrdered e c.requires.ordered in
     let bound : weight (intersect r s) ≤ 127 = subst (λ w. weight w ≤ 127) e c.requires.bound in
     long_on _ _ _ _ c.from_residual-in_err-front-in-Intersect.ensures.1 c.in_err-front-in-Intersect.ensures.err
-    (most_as (written_form c.args.sequence.now) (intersect r s) _ e (part-within (intersect r s) (max (largest r) (largest s)) (largest r) takes (omega arith)))
+    (most_as (written_form c.args.sequence.now) (intersect r s) _ e
+    (part-within (intersect r s) (max (largest r) (largest s)) (largest r) takes (omega arith)))
 
 pub returns-in_err-rest-in-Intersect-clause-err : goal.returns-in_err-rest-in-Intersect-clause-err
 returns-in_err-rest-in-Intersect-clause-err t c =
@@ -822,7 +846,8 @@ returns-in_err-rest-in-Intersect-clause-err t c =
     let ordered : IsOrdered (intersect r s) = subst IsOrdered e c.requires.ordered in
     let bound : weight (intersect r s) ≤ 127 = subst (λ w. weight w ≤ 127) e c.requires.bound in
     long_on _ _ _ _ c.from_residual-in_err-rest-in-Intersect.ensures.1 c.in_err-rest-in-Intersect.ensures.err
-    (most_as (written_form c.args.sequence.now) (intersect r s) _ e (part-within (intersect r s) (max (largest r) (largest s)) (largest s) takes (omega arith)))
+    (most_as (written_form c.args.sequence.now) (intersect r s) _ e
+    (part-within (intersect r s) (max (largest r) (largest s)) (largest s) takes (omega arith)))
 
 pub pair-requires-clause-first_placed : goal.pair-requires-clause-first_placed
 pair-requires-clause-first_placed t c =
@@ -910,7 +935,8 @@ returns-in_ok-rest-in-Intersect-clause-err t c =
     ∙ ap (pair_data (listed_for r)) c.in_ok-rest-in-Intersect.ensures.ok
     ∙ sym (made-intersect r s takes) ∙ sym (told (written_form c.args.sequence.now) (intersect r s) e) in
     err_more c.pair.result _ _ c.pair.ensures.err
-    (own_as (written_form c.args.sequence.now) (intersect r s) _ e same (own-within (intersect r s) (max (largest r) (largest s)) takes))
+    (own_as (written_form c.args.sequence.now) (intersect r s) _ e same
+    (own-within (intersect r s) (max (largest r) (largest s)) takes))
 
 pub returns-in_ok-rest-in-Intersect-clause-short : goal.returns-in_ok-rest-in-Intersect-clause-short
 returns-in_ok-rest-in-Intersect-clause-short t c =
@@ -928,8 +954,10 @@ returns-in_ok-rest-in-Intersect-clause-short t c =
     ap (λ x. pair_data x c.in_ok-rest-in-Intersect.rest) c.in_ok-front-in-Intersect.ensures.ok
     ∙ ap (pair_data (listed_for r)) c.in_ok-rest-in-Intersect.ensures.ok
     ∙ sym (made-intersect r s takes) ∙ sym (told (written_form c.args.sequence.now) (intersect r s) e) in
-    short_on c.pair.result _ (written_form c.args.sequence.now) (intersect r s) e c.pair.ensures.ok c.pair.ensures.short same
-    (λ own. all-within (intersect r s) (max (largest r) (largest s)) 65535 (omega (arith, c.in_ok-front-in-Intersect.ensures.short, c.in_ok-rest-in-Intersect.ensures.short)) own)
+    short_on c.pair.result _ (written_form c.args.sequence.now)
+    (intersect r s) e c.pair.ensures.ok c.pair.ensures.short same
+    (λ own. all-within (intersect r s) (max (largest r) (largest s)) 65535
+    (omega (arith, c.in_ok-front-in-Intersect.ensures.short, c.in_ok-rest-in-Intersect.ensures.short)) own)
 
 -- nothing is made from what weighs nothing
 still-largest : (w : Written Boolean) → weighs w ≡ false → largest w ≤ 65535

@@ -16,7 +16,7 @@ loop-place-preserved c =
       | then-is_marked+in_ok-kept_row+in_ok-push w ↦
           keep-next (marked c.args.marks.now) (rows_data c.args.rows.now) c.loop-place.place c.is_marked.result
           (rows_data c.loop-place.all.items) (rows_data c.if-is_marked.all.items) c.loop-place.invariant
-          c.is_marked.ensures 
+          c.is_marked.ensures
           (ap (λ (v : Vec (Vec code.Edge Global) Global). rows_data v.items) w.all-is
           ∙ rows-put c.loop-place.all.items w.in_ok-kept_row.field-0 w.push.new.self.items w.in_ok-push.ensures.items
           ∙ ap (λ es. rows_data c.loop-place.all.items ++ es ∷ [])
@@ -30,7 +30,7 @@ loop-place-preserved c =
       | else-is_marked w ↦
           keep-next (marked c.args.marks.now) (rows_data c.args.rows.now) c.loop-place.place c.is_marked.result
           (rows_data c.loop-place.all.items) (rows_data c.if-is_marked.all.items) c.loop-place.invariant
-          c.is_marked.ensures 
+          c.is_marked.ensures
           (ap (λ (v : Vec (Vec code.Edge Global) Global). rows_data v.items) w.all-is
           ∙ sym (append-nil (rows_data c.loop-place.all.items))
           ∙ ap (λ b. rows_data c.loop-place.all.items

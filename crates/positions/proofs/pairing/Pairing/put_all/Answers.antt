@@ -12,7 +12,8 @@ returns-in_err-put_rows-clause-err c =
     (rows_data c.args.seconds.now))) c.deref.ensures.value in
     long_on _ _ _ _ c.from_residual.ensures.1 c.in_err-put_rows.ensures.err
     (rows-flat-view
-    (λ es. map (joint_row c.args.self.now.alone c.args.self.now.first c.args.self.now.second es) (rows_data c.args.seconds.now)) row_data
+    (λ es. map (joint_row c.args.self.now.alone c.args.self.now.first c.args.self.now.second es)
+    (rows_data c.args.seconds.now)) row_data
     c.args.firsts.now c.loop-edges.edges-index c.edges-item.result c.args.draft.now c.loop-edges.draft _
     c.loop-edges-test.true c.requires.begun
     c.loop-edges.invariant c.edges-item.is (omega (arith, same)))

@@ -7,4 +7,5 @@ abbrev pub invariant-loop-other : goal.invariant-loop-other
 invariant-loop-other l =
     l.draft
     ≡ with_edges l.fn.draft
-    (map (joint_data l.self.alone l.self.first l.self.second (edge_data l.edge)) (map edge_data (take l.other-index l.row)))
+    (map (joint_data l.self.alone l.self.first l.self.second (edge_data l.edge))
+    (map edge_data (take l.other-index l.row)))

@@ -7,4 +7,5 @@ abbrev pub invariant-loop-edge : goal.invariant-loop-edge
 invariant-loop-edge l =
     l.draft
     ≡ with_edges l.fn.draft
-    (joint_row l.self.alone l.self.first l.self.second (map edge_data (take l.edge-index l.edges)) (map edge_data l.row))
+    (joint_row l.self.alone l.self.first l.self.second (map edge_data (take l.edge-index l.edges))
+    (map edge_data l.row))

@@ -7,4 +7,5 @@ abbrev pub invariant-loop-row : goal.invariant-loop-row
 invariant-loop-row l =
     l.draft
     ≡ with_rows l.fn.draft
-    (map (joint_row l.self.alone l.self.first l.self.second (map edge_data l.edges)) (rows_data (take l.row-index l.rows)))
+    (map (joint_row l.self.alone l.self.first l.self.second (map edge_data l.edges))
+    (rows_data (take l.row-index l.rows)))
