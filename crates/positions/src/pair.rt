@@ -10,6 +10,13 @@ use crate::pairing::Pairing;
 use crate::table::Table;
 use std::alloc::Global;
 
+/// Whether an empty match is there.
+fn admits_empty(first: &Table, second: &Table) -> bool
+    ensures { result ≡ (pair_data first.now second.now).empty }
+{
+    first.admits_empty() && second.admits_empty()
+}
+
 /// Both of two, from the same tick to the same tick: the pairs of their positions.
 pub(crate) fn pair(alloc: Global, first: &Table, second: &Table) -> Result<Table, SectionFault>
     requires first_placed { IsPlaced first.now }
@@ -27,5 +34,6 @@ pub(crate) fn pair(alloc: Global, first: &Table, second: &Table) -> Result<Table
     let mut draft = Draft::new(alloc);
     pairing.put_all(alloc, &mut draft, first.rows(), second.rows())?;
     let starts = pairing.pairs(alloc, first.starts(), second.starts())?;
-    Ok(draft.table(starts, first.admits_empty() && second.admits_empty()))
+    let empty = admits_empty(first, second);
+    Ok(draft.table(starts, empty))
 }
