@@ -99,6 +99,10 @@ def both(r, s):
     return lambda i, n: {max(j, k) for j in r(i, n) for k in s(i, n)}
 
 
+def meet(r, s):
+    return lambda i, n: r(i, n) & s(i, n)
+
+
 def throughout(value, r):
     return lambda i, n: {j for j in r(i, n) if all(k >= n or value(k) for k in range(i, j))}
 

@@ -1,10 +1,10 @@
 #!/usr/bin/env python3
 """Texts with chains of many parts: scripts/long_chains.py SVAMON [PARTS]
 
-By `##1`, `##0`, `and` and `or`, chains of up to PARTS parts (100,000) stand in a named sequence that
-nothing uses, below `[*0]` in an antecedent, where they take no tick, and as a consequent, where they
-weigh too much. What `svamon check` answers follows from that: the report of the rest, or Y9 at the
-chain's first token.
+By `##1`, `##0`, `and`, `or` and `intersect`, chains of up to PARTS parts (100,000) stand in a named
+sequence that nothing uses, below `[*0]` in an antecedent, where they take no tick, and as a consequent,
+where they weigh too much, or by `intersect`, where they weigh 1, have too many booleans. What `svamon
+check` answers follows from that: the report of the rest, or Y9 at the chain's first token, or K1.
 """
 import os
 import subprocess
@@ -25,13 +25,15 @@ REPORT = "\n".join([
 HEAD = "r: assert property (@(posedge top.clk) "
 
 
-def cases(chain):
-    """Texts with a chain, each with the status, standard output and standard error that it must have."""
+def cases(sign, parts):
+    """Texts with a chain of so many parts, each with the status, standard output and standard error that it must have."""
+    chain = f" {sign} ".join(["top.y"] * parts)
     rule = f"{HEAD}top.x |-> top.y);\n"
     yield "not used", f"sequence s; {chain} endsequence\n{rule}", (1, REPORT, "")
     yield "no tick", f"{HEAD}({chain})[*0] or top.x |-> top.y);\n", (1, REPORT, "")
     front = f"{HEAD}top.x |-> "
-    yield "too heavy", f"{front}{chain});\n", (2, "", f"svamon: Y9 TooWide {len(front)}\n")
+    fault = "K1 TooManyAtoms" if sign == "intersect" else f"Y9 TooWide {len(front)}"
+    yield "refused", f"{front}{chain});\n", (2, "", f"svamon: {fault}\n")
 
 
 def check(svamon, path):
@@ -45,8 +47,8 @@ def main(svamon, most):
     with tempfile.TemporaryDirectory() as room:
         path, parts = f"{room}/text.sva", 1_000
         while parts <= most:
-            for sign in ("##1", "##0", "and", "or"):
-                for name, text, wanted in cases(f" {sign} ".join(["top.y"] * parts)):
+            for sign in ("##1", "##0", "and", "or", "intersect"):
+                for name, text, wanted in cases(sign, parts):
                     with open(path, "w") as it:
                         it.write(text)
                     answer, took = check(svamon, path)

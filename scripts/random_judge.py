@@ -28,7 +28,7 @@ draw = values.draw
 
 
 # sequences, as tuples; the operators from the tightest
-LOOSENESS = {'boolean': 0, 'name': 0, 'repeat': 1, 'delay': 2, 'lead': 2, 'throughout': 3, 'and': 4, 'or': 5}
+LOOSENESS = {'boolean': 0, 'name': 0, 'repeat': 1, 'delay': 2, 'lead': 2, 'throughout': 3, 'intersect': 4, 'and': 5, 'or': 6}
 
 
 def bounds():
@@ -53,7 +53,7 @@ def sequence(names, declared, depth):
         return ('repeat', part(), *bounds())
     if kind == 4:
         return ('throughout', values.expression(names, draw.choice([0, 1, 2])), part())
-    return (draw.choice(['and', 'or']), part(), part())
+    return (draw.choice(['and', 'or', 'intersect']), part(), part())
 
 
 def weight(tree, bodies):
@@ -71,7 +71,7 @@ def weight(tree, bodies):
     if kind == 'throughout':
         return weight(tree[2], bodies)
     left, right = weight(tree[1], bodies), weight(tree[2], bodies)
-    return (left + 1) * (right + 1) if kind == 'and' else left + right
+    return {'and': (left + 1) * (right + 1), 'intersect': left * right, 'or': left + right}[kind]
 
 
 def truth(tree, trace):
@@ -101,7 +101,7 @@ def matcher(tree, bodies, trace):
         return judge.repeat(part(tree[1]), tree[2], tree[3])
     if kind == 'throughout':
         return judge.throughout(truth(tree[1], trace), part(tree[2]))
-    return (judge.both if kind == 'and' else judge.either)(part(tree[1]), part(tree[2]))
+    return {'and': judge.both, 'intersect': judge.meet, 'or': judge.either}[kind](part(tree[1]), part(tree[2]))
 
 
 # expressions as one writes them; the operators of two operands from the tightest
@@ -173,7 +173,7 @@ def gap(low, high):
     return '##[%s]' % many if ':' in many else '##' + many
 
 
-def written(tree, loosest=5):
+def written(tree, loosest=6):
     """The sequence as one writes it, in brackets where it is looser than it may be."""
     kind = tree[0]
     if kind == 'boolean':

@@ -13,8 +13,8 @@ import sys
 TOKEN = re.compile(r'''\s+|//.*|/\*.*?\*/|(?P<word>[A-Za-z_][A-Za-z0-9_$]*)|(?P<system>\$[A-Za-z0-9_]*)
     |(?P<number>[0-9][0-9_]*'[bodhBODH][0-9a-fA-F_]+|'[bodhBODH][0-9a-fA-F_]+|[0-9][0-9_]*)
     |(?P<symbol>\|->|\|=>|\[\*|\#\#|<<|>>|<=|>=|==|!=|&&|\|\||~&|~\||~\^|\^~|[(){}\[\],;:?@.\#+\-<>&|^~!=*/%])''', re.X)
-KEYWORDS = set('sequence endsequence assert assume property posedge disable iff or and throughout'.split())
-FOREIGN = set('''intersect within first_match strong weak not if else case always nexttime eventually until s_always s_nexttime
+KEYWORDS = set('sequence endsequence assert assume property posedge disable iff or and intersect throughout'.split())
+FOREIGN = set('''within first_match strong weak not if else case always nexttime eventually until s_always s_nexttime
     s_eventually s_until s_until_with until_with implies accept_on reject_on cover restrict default clocking negedge edge local'''.split())
 FUNCTIONS = set('$rose $fell $stable $changed $onehot $onehot0'.split())
 LEVELS = [['||'], ['&&'], ['|'], ['^', '~^', '^~'], ['&'], ['==', '!='], ['<', '<=', '>', '>='], ['<<', '>>'], ['+', '-']]
@@ -95,7 +95,9 @@ def rules(symbol):
     if name == 'seq':
         return [[n('and_seq')], [n('seq'), 'or', n('and_seq')]]
     if name == 'and_seq':
-        return [[n('thr')], [n('and_seq'), 'and', n('thr')]]
+        return [[n('int')], [n('and_seq'), 'and', n('int')]]
+    if name == 'int':
+        return [[n('thr')], [n('int'), 'intersect', n('thr')]]
     if name == 'thr':
         return [[n('cat')]] + ([[n('expr'), 'throughout', n('thr', inner)]] if deep else [])
     if name == 'cat':
@@ -319,10 +321,12 @@ def asserted(text):
 
 SMALLEST = ['a', '1', "'hF", 'a.b', 'a[0]', 'a[1:0]', '{a}', '{a, b}', '(a)', '$past(a)', '$past(a, 1)', '$rose(a)', '$fell(a)', '$stable(a)',
             '$changed(a)', '$onehot(a)', '$onehot0(a)', '!a', '~a', '&a', '~&a', '|a', '~|a', '^a', '~^a', '^~a', 'a ? b : c', 'a ##1 b',
-            '##0 a', '##[0:1] a', 'a[*0]', 'a[*0:1]', '(a ##1 b)', '(a ##1 b)[*2]', 'a throughout b', 'a and b', 'a or b', 'a |-> b', 'a |=> b',
+            '##0 a', '##[0:1] a', 'a[*0]', 'a[*0:1]', '(a ##1 b)', '(a ##1 b)[*2]', 'a throughout b', 'a and b', 'a or b', 'a intersect b', 'a |-> b', 'a |=> b',
             '(a |-> b)', '((a |=> b))', '(s)', '((s))', 's[*2]', 's throughout a', '(a |-> b) |-> c', 'a |-> (b |-> c)', 'a |-> b |-> c',
             '(a |-> b) and c', '(a ##1 b) + c', '(a ##1 b) && c', '(a) && c', '((a)[1])', 'a[1][2]', 'a ##1', 'a[*]', 'a[+]', 'a ##[1:$] b', 'a[*1:$]',
-            'a throughout', 'a[*1][*2]', '(a[*1])[*2]', 'a ##1 ##2 b', '##1 ##2 a', '##1 (##2 a)', 'a or', 'and a', 'a and or b', '$', '$time', '$countones(a)',
+            'a throughout', 'a[*1][*2]', '(a[*1])[*2]', 'a ##1 ##2 b', '##1 ##2 a', '##1 (##2 a)', 'a or', 'and a', 'a and or b', 'a intersect', 'intersect a', 'a intersect and b',
+            'a and b intersect c', 'a intersect b and c', 'a intersect b intersect c', 'a throughout b intersect c', 'a intersect b throughout c',
+            '(a ##1 b) intersect c', '(a |-> b) intersect c', 'a + b intersect c', 'a intersect.b', '$', '$time', '$countones(a)',
             'a * b', 'a / b', 'a % b', 'a ** b', '+a', '-a', 'a !b', 'a = b', 'a # b', '@a', 'a ? b', 'a ? b : c : d', 'a ? b ? c : d : e', '{}', '{a,}', '()',
             'a,', "a ##1'b1 b", 'posedge', 'disable', 'a.posedge', 'clear', 'load', 'add', 'sub', 'counter', 'counter.x', 'x.counter[1]']
 BOUNDS = ['a |-> ##[3:1] b', 'a |-> ##128 b', '##127 a', '##[127:127] a', '##[0:128] a', '##[128:128] a', '##[2:2] a', '##[1_0:9] a', "##4'd3 a", "##'d3 a",

@@ -12,7 +12,8 @@ use Rattle.assertions.specs.declared.sequence.Boolean.TheVariants.{One, Listed}
 use Rattle.assertions.specs.declared.assertion.Assertion.{Assertion}
 use Rattle.assertions.specs.declared.suite.Suite.{Suite}
 use Rattle.assertions.specs.Segments.{always}
-use Rattle.assertions.specs.Written.{Written, boolean, delay, lead, repeat, or, and, throughout, kernel, IsOrdered}
+use Rattle.assertions.specs.Written.{Written, boolean, delay, lead, repeat, or, and, intersect, throughout, kernel}
+use Rattle.assertions.specs.Written.{IsOrdered}
 use Rattle.assertions.specs.Shapes.{written_form, shape, value_in, off_in, is_true_at, expression_at}
 use Rattle.assertions.proofs.EmptinessLaws.{empty-Matches, Matches-empty}
 use Rattle.bytecode.specs.Values.{ProgramData, SectionData}
@@ -54,6 +55,7 @@ occurs-listed n (lead least most s) b h o = elim o [ inl one ↦ one-listed n b 
 occurs-listed n (repeat r least most) b h o = occurs-listed n r b h o
 occurs-listed n (or r s) b h o = elim o [ inl x ↦ occurs-listed n r b h.0 x | inr y ↦ occurs-listed n s b h.1 y ]
 occurs-listed n (and r s) b h o = elim o [ inl x ↦ occurs-listed n r b h.0 x | inr y ↦ occurs-listed n s b h.1 y ]
+occurs-listed n (intersect r s) b h o = elim o [ inl x ↦ occurs-listed n r b h.0 x | inr y ↦ occurs-listed n s b h.1 y ]
 occurs-listed n (throughout c r) b h o = elim o [ inl x ↦ same-listed n b c h.0 x | inr y ↦ occurs-listed n r b h.1 y ]
 
 module _ (suite : Suite) (a : Assertion) (p : ProgramData) (of : IsProgramOf suite a p) (rows : List (List ℕ))

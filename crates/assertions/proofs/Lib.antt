@@ -3,6 +3,7 @@ pub mod Segments
 pub mod Attempts
 pub mod Verdicts
 pub mod RangeLaws
+pub mod LengthLaws
 pub mod EmptinessLaws
 pub mod WeightLaws
 pub mod AgreeLaws

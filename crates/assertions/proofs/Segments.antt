@@ -4,8 +4,8 @@ use Rattle.std.specs.Prelude.{IsTrue, ◌==◌}
 use Rattle.std.proofs.lemmas.Bool.{or_cases, or_left, or_right, and_parts, and_from, le-leb, eqb-true, eq-eqb, cases_lt}
 use Rattle.std.proofs.Math.Nat.{mul-le-mul_right}
 use Rattle.assertions.specs.Quantifiers.{some_in, each_in}
-use Rattle.assertions.specs.Segments.{Seq, one, none, chop, fuse, either, both, during, times, chain, Chain, sat}
-use Rattle.assertions.specs.Segments.{always, is_match, Matches, longest}
+use Rattle.assertions.specs.Segments.{Seq, one, none, chop, fuse, either, both, meet, during, times, chain, Chain}
+use Rattle.assertions.specs.Segments.{sat, always, is_match, Matches, longest}
 use Rattle.assertions.proofs.Quantifiers.{some_in-found, some_in-true, each_in-at, each_in-true}
 
 -- a chain of what doesn't go back doesn't go back
@@ -43,6 +43,7 @@ module _ (B : Type 0) (holds : B → ℕ → Bool) where
   Matches-forward (fuse r s) i j h = omega (arith, h.1, h.2)
   Matches-forward (either r s) i j h = elim h [ inl h ↦ Matches-forward r i j h | inr h ↦ Matches-forward s i j h ]
   Matches-forward (both r s) i j h = omega (arith, Matches-forward r i h.0 h.2, h.4)
+  Matches-forward (meet r s) i j h = Matches-forward r i j h.0
   Matches-forward (during b r) i j h = Matches-forward r i j h.0
   Matches-forward (times r least most) i j h = Chain-forward (Matches holds r) (Matches-forward r) h.0 i j h.3
 
@@ -55,6 +56,7 @@ module _ (B : Type 0) (holds : B → ℕ → Bool) where
   Matches-longest (either r s) i j h =
       elim h [ inl h ↦ omega (arith, Matches-longest r i j h) | inr h ↦ omega (arith, Matches-longest s i j h) ]
   Matches-longest (both r s) i j h = omega (arith, Matches-longest r i h.0 h.2, Matches-longest s i h.1 h.3, h.4)
+  Matches-longest (meet r s) i j h = omega (arith, Matches-longest r i j h.0, Matches-longest s i j h.1)
   Matches-longest (during b r) i j h = Matches-longest r i j h.0
   Matches-longest (times r least most) i j h =
       omega (
@@ -91,6 +93,9 @@ module _ (B : Type 0) (holds : B → ℕ → Bool) where
             let f = some_in-found i (j + 1) (λ k. is_match holds r i k) p.0 in
             (f.0, j, is_match-Matches r i f.0 f.3, is_match-Matches s i j p.1, omega (arith, f.2))
       ]
+  is_match-Matches (meet r s) i j h =
+      let p = and_parts (is_match holds r i j) (is_match holds s i j) h in
+      (is_match-Matches r i j p.0, is_match-Matches s i j p.1)
   is_match-Matches (during b r) i j h =
       let p = and_parts (is_match holds r i j) (each_in i j (λ k. holds b k)) h in
       (is_match-Matches r i j p.0, λ k from below. each_in-at i j (λ k. holds b k) k p.1 from below)
@@ -133,6 +138,7 @@ module _ (B : Type 0) (holds : B → ℕ → Bool) where
             (and_from _ _ (rw e r_true)
             (some_in-true i (j + 1) (λ k. is_match holds s i k) h.1 s_from (omega arith) s_true))
       ]
+  Matches-is_match (meet r s) i j h = and_from _ _ (Matches-is_match r i j h.0) (Matches-is_match s i j h.1)
   Matches-is_match (during b r) i j h =
       and_from _ _ (Matches-is_match r i j h.0) (each_in-true i j (λ k. holds b k) h.1)
   Matches-is_match (times r least most) i j h =
@@ -157,6 +163,7 @@ module _ (B : Type 0) (some more : B → ℕ → Bool) (grows : (b : B) (k : ℕ
   Matches-mono (fuse r s) i j h = (h.0, h.1, h.2, Matches-mono r i (h.0 + 1) h.3, Matches-mono s h.0 j h.4)
   Matches-mono (either r s) i j h = elim h [ inl h ↦ inl (Matches-mono r i j h) | inr h ↦ inr (Matches-mono s i j h) ]
   Matches-mono (both r s) i j h = (h.0, h.1, Matches-mono r i h.0 h.2, Matches-mono s i h.1 h.3, h.4)
+  Matches-mono (meet r s) i j h = (Matches-mono r i j h.0, Matches-mono s i j h.1)
   Matches-mono (during b r) i j h = (Matches-mono r i j h.0, λ k from below. grows b k (h.1 k from below))
   Matches-mono (times r least most) i j h =
       (h.0, h.1, h.2, Chain-mono (Matches some r) (Matches more r) (Matches-mono r) h.0 i j h.3)

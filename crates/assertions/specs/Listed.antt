@@ -2,7 +2,8 @@
 use Rattle.std.specs.Prelude.{◌≡◌, ◌⊎◌, ℕ, ◌<◌, Option, Some, None}
 use Rattle.assertions.specs.declared.sequence.Boolean.{Boolean}
 use Rattle.assertions.specs.declared.sequence.Boolean.TheVariants.{One, Listed}
-use Rattle.assertions.specs.Written.{Written, boolean, delay, lead, repeat, or, and, throughout}
+use Rattle.assertions.specs.Written.{Written, boolean, delay, lead, repeat, or, and, intersect}
+use Rattle.assertions.specs.Written.{throughout}
 
 -- P holds of each boolean of a sequence.
 abbrev pub EachBoolean : {B : Type 0} → (B → Type 0) → Written B → Type 0
@@ -12,6 +13,7 @@ EachBoolean P (lead least most s) = EachBoolean P s
 EachBoolean P (repeat r least most) = EachBoolean P r
 EachBoolean P (or r s) = EachBoolean P r × EachBoolean P s
 EachBoolean P (and r s) = EachBoolean P r × EachBoolean P s
+EachBoolean P (intersect r s) = EachBoolean P r × EachBoolean P s
 EachBoolean P (throughout b r) = P b × EachBoolean P r
 
 -- It is one of the sequence's booleans.
@@ -22,6 +24,7 @@ IsUsed b (lead least most s) = IsUsed b s
 IsUsed b (repeat r least most) = IsUsed b r
 IsUsed b (or r s) = IsUsed b r ⊎ IsUsed b s
 IsUsed b (and r s) = IsUsed b r ⊎ IsUsed b s
+IsUsed b (intersect r s) = IsUsed b r ⊎ IsUsed b s
 IsUsed b (throughout c r) = (b ≡ c) ⊎ IsUsed b r
 
 -- It is the constant 1, or one of so many that are listed.

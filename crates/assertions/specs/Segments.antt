@@ -1,5 +1,6 @@
 -- Sequences, and the segments of ticks that they match (IEEE 1800-2017, 16.9 and annex F.5).
-use Rattle.std.specs.Prelude.{◌≡◌, ◌⊎◌, ℕ, zero, suc, ◌+◌, ◌*◌, ◌<◌, ◌≤◌, ◌==◌, max, Bool, true}
+use Rattle.std.specs.Prelude.{◌≡◌, ◌⊎◌, ℕ, zero, suc, ◌+◌, ◌*◌, ◌<◌, ◌≤◌, ◌==◌, max, min, Bool}
+use Rattle.std.specs.Prelude.{true}
 use Rattle.std.specs.Prelude.{◌&&◌, ◌||◌, nat_le, IsTrue}
 use Rattle.assertions.specs.Quantifiers.{some_in, each_in}
 
@@ -17,6 +18,8 @@ pub data Seq (B : Type 0) : Type 0 where
   either : (r s : Seq B) → Seq B
   -- r and s: both from the same tick, and it ends where the later one ends (16.9.5)
   both : (r s : Seq B) → Seq B
+  -- r intersect s: both from the same tick, and they end with the same one (16.9.6)
+  meet : (r s : Seq B) → Seq B
   -- b throughout r: b is true at each tick of r (16.9.9)
   during : (b : B) (r : Seq B) → Seq B
   -- r [*least:most]: so many matches of r, each directly after the one before (16.9.2)
@@ -43,6 +46,7 @@ Matches holds (fuse r s) i j =
 Matches holds (either r s) i j = Matches holds r i j ⊎ Matches holds s i j
 Matches holds (both r s) i j =
     (k : ℕ) × (l : ℕ) × Matches holds r i k × Matches holds s i l × (j ≡ max k l)
+Matches holds (meet r s) i j = Matches holds r i j × Matches holds s i j
 Matches holds (during b r) i j =
     Matches holds r i j × ((k : ℕ) → i ≤ k → k < j → IsTrue (holds b k))
 Matches holds (times r least most) i j =
@@ -64,6 +68,7 @@ is_match holds (either r s) i j = is_match holds r i j || is_match holds s i j
 is_match holds (both r s) i j =
     (is_match holds r i j && some_in i (j + 1) (λ k. is_match holds s i k))
     || (some_in i (j + 1) (λ k. is_match holds r i k) && is_match holds s i j)
+is_match holds (meet r s) i j = is_match holds r i j && is_match holds s i j
 is_match holds (during b r) i j = is_match holds r i j && each_in i j (λ k. holds b k)
 is_match holds (times r least most) i j =
     some_in least (most + 1) (λ k. chain (is_match holds r) k i j)
@@ -76,6 +81,7 @@ longest (chop r s) = longest r + longest s
 longest (fuse r s) = longest r + longest s
 longest (either r s) = max (longest r) (longest s)
 longest (both r s) = max (longest r) (longest s)
+longest (meet r s) = min (longest r) (longest s)
 longest (during b r) = longest r
 longest (times r least most) = most * longest r
 

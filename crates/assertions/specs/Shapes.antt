@@ -5,8 +5,8 @@ use Rattle.assertions.specs.declared.sequence.Boolean.TheVariants.{One, Listed}
 use Rattle.assertions.specs.declared.sequence.Sequence.{Sequence}
 use Rattle.assertions.specs.declared.sequence.Sequence.TheVariants as form
 use Rattle.assertions.specs.Segments.{Seq}
-use Rattle.assertions.specs.Written.{Written, boolean, delay, lead, repeat, or, and, throughout}
-use Rattle.assertions.specs.Written.{kernel, weight, IsOrdered}
+use Rattle.assertions.specs.Written.{Written, boolean, delay, lead, repeat, or, and, intersect}
+use Rattle.assertions.specs.Written.{throughout, kernel, weight, IsOrdered}
 use Rattle.expressions.specs.declared.expr.Expr.{Expr}
 use Rattle.expressions.specs.Terms.{Samples, is_true}
 use Rattle.expressions.specs.Expressions.{term_of}
@@ -19,6 +19,7 @@ written_form (form.Lead' least most p s) = lead least most (written_form s)
 written_form (form.Repeat' p r least most) = repeat (written_form r) least most
 written_form (form.Or' p r q s) = or (written_form r) (written_form s)
 written_form (form.And' p r q s) = and (written_form r) (written_form s)
+written_form (form.Intersect' p r q s) = intersect (written_form r) (written_form s)
 written_form (form.Throughout' b p r) = throughout b (written_form r)
 
 -- the kernel that it stands for

@@ -1,7 +1,7 @@
 -- Sequences as they are written, with names written out; what they stand for, and what they weigh
 -- (IEEE 1800-2017, 16.7 and 16.9).
 use Rattle.std.specs.Prelude.{ℕ, zero, suc, ◌+◌, ◌-◌, ◌*◌, ◌≤◌}
-use Rattle.assertions.specs.Segments.{Seq, one, chop, fuse, either, both, during, times}
+use Rattle.assertions.specs.Segments.{Seq, one, chop, fuse, either, both, meet, during, times}
 
 pub data Written (B : Type 0) : Type 0 where
   boolean : (b : B) → Written B
@@ -13,6 +13,7 @@ pub data Written (B : Type 0) : Type 0 where
   repeat : (r : Written B) (least most : ℕ) → Written B
   or : (r s : Written B) → Written B
   and : (r s : Written B) → Written B
+  intersect : (r s : Written B) → Written B
   throughout : (b : B) (r : Written B) → Written B
 
 -- the form at one of the numbers from the first one on, so many more than one
@@ -45,6 +46,7 @@ kernel true_one (lead least most s) =
 kernel true_one (repeat r least most) = times (kernel true_one r) least most
 kernel true_one (or r s) = either (kernel true_one r) (kernel true_one s)
 kernel true_one (and r s) = both (kernel true_one r) (kernel true_one s)
+kernel true_one (intersect r s) = meet (kernel true_one r) (kernel true_one s)
 kernel true_one (throughout b r) = during b (kernel true_one r)
 
 -- What it weighs: no match takes more ticks, and a checker of it needs no more room.
@@ -55,6 +57,7 @@ weight (lead least most s) = weight s + most
 weight (repeat r least most) = most * weight r
 weight (or r s) = weight r + weight s
 weight (and r s) = (weight r + 1) * (weight s + 1)
+weight (intersect r s) = weight r * weight s
 weight (throughout b r) = weight r
 
 -- In each range the least comes first.
@@ -65,4 +68,5 @@ IsOrdered (lead least most s) = (least ≤ most) × IsOrdered s
 IsOrdered (repeat r least most) = (least ≤ most) × IsOrdered r
 IsOrdered (or r s) = IsOrdered r × IsOrdered s
 IsOrdered (and r s) = IsOrdered r × IsOrdered s
+IsOrdered (intersect r s) = IsOrdered r × IsOrdered s
 IsOrdered (throughout b r) = IsOrdered r

@@ -24,6 +24,8 @@ pub enum Sequence {
     Or(Box<Sequence>, Box<Sequence>),
     /// Both, from the same tick; it ends where the later one ends.
     And(Box<Sequence>, Box<Sequence>),
+    /// Both, from the same tick to the same tick.
+    Intersect(Box<Sequence>, Box<Sequence>),
     /// The boolean is true at each tick of the sequence.
     Throughout(Boolean, Box<Sequence>),
 }

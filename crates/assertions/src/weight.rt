@@ -22,6 +22,7 @@ fn is_ordered(sequence: &Sequence) -> bool
         Sequence::Repeat(body, least, most) => *least <= *most && is_ordered(body),
         Sequence::Or(first, second) => is_ordered(first) && is_ordered(second),
         Sequence::And(first, second) => is_ordered(first) && is_ordered(second),
+        Sequence::Intersect(first, second) => is_ordered(first) && is_ordered(second),
         Sequence::Throughout(_, body) => is_ordered(body),
     }
 }
@@ -48,6 +49,7 @@ fn capped_weight(sequence: &Sequence) -> usize
         Sequence::And(first, second) => {
             cap((capped_weight(first) + 1) * (capped_weight(second) + 1))
         }
+        Sequence::Intersect(first, second) => cap(capped_weight(first) * capped_weight(second)),
         Sequence::Throughout(_, body) => capped_weight(body),
     }
 }

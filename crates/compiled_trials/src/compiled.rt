@@ -272,6 +272,33 @@ fn code_at_the_border(rt: HostRuntime) -> Result<(), Fail> {
     Ok(())
 }
 
+/// Whether a check tells this line of a consequent: so many `(x or y)`, joined by `##0`, between
+/// two
+/// pieces of text.
+fn is_chain_told(
+    rt: &impl AllocGlobal,
+    count: usize,
+    front: &str,
+    rest: &str,
+    line: &str,
+) -> Result<bool, Fail> {
+    let chain = joined_pieces(rt, 0..count, " ##0 ", "(x or y)")?;
+    let property = format!(in rt.alloc(); "x |-> {front}{chain}{rest}")?;
+    let text = assertion(rt, "r", property.as_str())?;
+    is_told(rt, DUMP, text.as_str(), line)
+}
+
+/// Sections of 3,844 and 8,708 instructions; tables of 36,895 and 81,953, of which 3 are kept.
+#[test]
+fn sections_at_the_border(rt: HostRuntime) -> Result<(), Fail> {
+    assert!(rt; is_chain_told(&rt, 8, "", "", "")?);
+    assert!(rt; is_chain_told(&rt, 9, "", "", "svamon: K2 CodeTooLong")?);
+    let rest = " ##1 x) intersect y or x";
+    assert!(rt; is_chain_told(&rt, 10, "(", rest, "")?);
+    assert!(rt; is_chain_told(&rt, 11, "(", rest, "svamon: K2 CodeTooLong")?);
+    Ok(())
+}
+
 #[test]
 fn first_fault_of_a_program(rt: HostRuntime) -> Result<(), Fail> {
     let text = of_booleans(&rt, 128)?;

@@ -9,7 +9,7 @@ use Rattle.expressions.specs.declared.counter.Counter.{Counter as Counting}
 use Rattle.expressions.specs.Expressions.{term_of}
 use Rattle.assertions.specs.declared.assertion.Assertion.{Assertion}
 use Rattle.assertions.specs.declared.suite.Suite.{Suite}
-use Rattle.assertions.specs.Written.{Written, boolean, delay, lead, repeat, or, and, throughout}
+use Rattle.assertions.specs.Written.{Written, boolean, delay, lead, repeat, or, and, intersect, throughout}
 use Rattle.assertions.specs.declared.sequence.Boolean.{Boolean}
 use Rattle.assertions.specs.declared.sequence.Boolean.TheVariants.{One, Listed}
 use Rattle.assertions.specs.Listed.{EachBoolean, IsListed, IsListedOption}
@@ -77,6 +77,7 @@ listed-more m n (lead least most s) le h = listed-more m n s le h
 listed-more m n (repeat r least most) le h = listed-more m n r le h
 listed-more m n (or r s) le h = (listed-more m n r le h.0, listed-more m n s le h.1)
 listed-more m n (and r s) le h = (listed-more m n r le h.0, listed-more m n s le h.1)
+listed-more m n (intersect r s) le h = (listed-more m n r le h.0, listed-more m n s le h.1)
 listed-more m n (throughout b r) le h = (more-listed m n b le h.0, listed-more m n r le h.1)
 
 pub option-more : (m n : ℕ) (o : Option Boolean) → m ≤ n → IsListedOption m o → IsListedOption n o

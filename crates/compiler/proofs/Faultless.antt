@@ -14,10 +14,12 @@ use Rattle.compiler.specs.Parts.{AreParts}
 module _ (suite : Suite) (a : Assertion) (signals counters : List Bool) (p : ProgramData) where
   short : AreParts suite a signals counters p → HasLongCode suite a signals counters → ⊥
   short parts (inl long) = omega (arith, long, parts.short_sample, ap length parts.sample)
-  short parts (inr (inl long)) =
+  short parts (inr (inl (inl long))) =
       omega (arith, long, parts.short_antecedent, ap (λ (s : SectionData). size_of s.blocks) parts.antecedent)
-  short parts (inr (inr long)) =
+  short parts (inr (inl (inr long))) = omega (arith, long, parts.light_antecedent)
+  short parts (inr (inr (inl long))) =
       omega (arith, long, parts.short_consequent, ap (λ (s : SectionData). size_of s.blocks) parts.consequent)
+  short parts (inr (inr (inr long))) = omega (arith, long, parts.light_consequent)
 
   none : AreCounted suite a signals counters → AreParts suite a signals counters p → (fault : CompileFault)
       → rank fault < rank Memory →

@@ -11,7 +11,8 @@ use Rattle.assertions.specs.declared.sequence.Boolean.{Boolean}
 use Rattle.assertions.specs.declared.sequence.Boolean.TheVariants.{One, Listed}
 use Rattle.assertions.specs.declared.assertion.Assertion.{Assertion}
 use Rattle.assertions.specs.declared.suite.Suite.{Suite}
-use Rattle.assertions.specs.Written.{Written, boolean, delay, lead, repeat, or, and, throughout, weight, IsOrdered}
+use Rattle.assertions.specs.Written.{Written, boolean, delay, lead, repeat, or, and, intersect, throughout}
+use Rattle.assertions.specs.Written.{weight, IsOrdered}
 use Rattle.assertions.specs.Shapes.{written_form}
 use Rattle.assertions.specs.Listed.{EachBoolean, IsListed, IsListedOption}
 use Rattle.bytecode.specs.declared.limits.Limits.{Limits}
@@ -103,6 +104,7 @@ occurs-there n (lead least most s) b h o = elim o [ inl one ↦ there-one n b on
 occurs-there n (repeat r least most) b h o = occurs-there n r b h o
 occurs-there n (or r s) b h o = elim o [ inl x ↦ occurs-there n r b h.0 x | inr y ↦ occurs-there n s b h.1 y ]
 occurs-there n (and r s) b h o = elim o [ inl x ↦ occurs-there n r b h.0 x | inr y ↦ occurs-there n s b h.1 y ]
+occurs-there n (intersect r s) b h o = elim o [ inl x ↦ occurs-there n r b h.0 x | inr y ↦ occurs-there n s b h.1 y ]
 occurs-there n (throughout c r) b h o = elim o [ inl x ↦ there-same n b c h.0 x | inr y ↦ occurs-there n r b h.1 y ]
 
 -- a disabling boolean that is listed has an atom

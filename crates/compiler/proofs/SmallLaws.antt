@@ -28,8 +28,9 @@ use Rattle.expression_code.specs.Chosen.{term_found, terms_at, held_at}
 use Rattle.expression_code.specs.Laws.{size}
 use Rattle.expression_code.proofs.Lengths.{samples-are-short}
 use Rattle.positions.specs.Sequences.{atom_of}
-use Rattle.positions.specs.Laws.{booleans, section_for}
-use Rattle.positions.proofs.Short.{law-section_is_short}
+use Rattle.positions.specs.Lengths.{HasLongSection}
+use Rattle.positions.specs.Laws.{booleans}
+use Rattle.positions.proofs.Short.{law-section_is_short, law-tables_are_short}
 use Rattle.compiler.specs.Readings.{IsReading, slots_over, boolean_terms, counters_read, code_over}
 use Rattle.compiler.specs.Small.{IsSmallSide, IsSmall, SmallHaveCode}
 
@@ -61,14 +62,17 @@ terms-few all (p ∷ ps) = found (slice_get all p) (terms-few all ps)
     found None few = omega (arith, few)
     found (Some e) few = omega (arith, few)
 
--- the section of a small side
-small-side : (w : Written Boolean) → IsOrdered w → IsSmallSide w → size_of (section_for atom_of One w).blocks ≤ 4096
-small-side w ordered small =
-    let size = law-section_is_short atom_of One w ordered small.plain in
+-- the section of a small side, and the tables on the way to it
+small-side : (w : Written Boolean) → IsOrdered w → IsSmallSide w → HasLongSection w → ⊥
+small-side w ordered small long =
     let n = weight w in
     let square : n * n ≤ n * 61 = mul-le-mul_left n small.light in
     let more : n * (booleans w + 2) ≤ n * 35 = mul-le-mul_left n (omega (arith, small.few)) in
-    omega (arith, size, square, more, small.light)
+    elim long [
+      | inl section ↦
+          omega (arith, section, law-section_is_short atom_of One w ordered small.plain, square, more, small.light)
+      | inr table ↦ omega (arith, table, law-tables_are_short w ordered small.plain, square, more, small.light)
+    ]
 
 module _ (suite : Suite) (a : Assertion) (signals counters : List Bool) (reading : IsReading suite a signals counters)
     (small : IsSmall suite a) where
@@ -107,6 +111,6 @@ pub small-have-code : SmallHaveCode
 small-have-code suite a signals counters reading small (inl code) =
     omega (arith, code, short-code suite a signals counters reading small)
 small-have-code suite a signals counters reading small (inr (inl side)) =
-    omega (arith, side, small-side (written_form a.antecedent) a.antecedent_ordered small.antecedent)
+    small-side (written_form a.antecedent) a.antecedent_ordered small.antecedent side
 small-have-code suite a signals counters reading small (inr (inr side)) =
-    omega (arith, side, small-side (written_form a.consequent) a.consequent_ordered small.consequent)
+    small-side (written_form a.consequent) a.consequent_ordered small.consequent side

@@ -3,15 +3,11 @@ use Rattle.std.specs.Prelude.{◌⊎◌, ℕ, ◌<◌, ◌≤◌, Bool, false, �
 use Rattle.std.specs.Prelude.{Option, Some, None, slice_get, string_bytes}
 use Rattle.std.specs.List.{list_any}
 use Rattle.assertion_reads.specs.Marks.{places_from}
-use Rattle.assertions.specs.declared.sequence.Sequence.{Sequence}
-use Rattle.assertions.specs.declared.sequence.Boolean.TheVariants.{One}
 use Rattle.assertions.specs.declared.signal.Signal.{Signal}
 use Rattle.assertions.specs.declared.assertion.Assertion.{Assertion}
 use Rattle.assertions.specs.declared.suite.Suite.{Suite}
 use Rattle.assertions.specs.Shapes.{written_form}
-use Rattle.inference.specs.Sections.{size_of}
-use Rattle.positions.specs.Laws.{section_for}
-use Rattle.positions.specs.Sequences.{atom_of}
+use Rattle.positions.specs.Lengths.{HasLongSection}
 use Rattle.compiler.specs.declared.fault.CompileFault.{CompileFault}
 use Rattle.compiler.specs.declared.fault.CompileFault.TheVariants.{TooManyAtoms, CodeTooLong}
 use Rattle.compiler.specs.declared.fault.CompileFault.TheVariants.{TooManySlots, TextTooLong}
@@ -39,15 +35,12 @@ has_long_text suite a places =
 abbrev pub HasLongText : Suite → Assertion → List Bool → Type 0
 HasLongText suite a signals = IsTrue (has_long_text suite a (places_from 0 signals))
 
--- how many instructions the section of a side has
-abbrev pub side_size : Sequence → ℕ
-side_size s = size_of (section_for atom_of One (written_form s)).blocks
-
--- a part of the program would have over 4,096 instructions
+-- a part of the program would have over 4,096 instructions, or a table on the way to the section of
+-- a side over 65,535
 abbrev pub HasLongCode : Suite → Assertion → List Bool → List Bool → Type 0
 HasLongCode suite a signals counters =
     (4096 < length (code_over suite a signals counters))
-    ⊎ ((4096 < side_size a.antecedent) ⊎ (4096 < side_size a.consequent))
+    ⊎ (HasLongSection (written_form a.antecedent) ⊎ HasLongSection (written_form a.consequent))
 
 -- The fault stands, of an assertion that reads these signals and counters.
 abbrev pub StandsOver : Suite → Assertion → List Bool → List Bool → CompileFault → Type 0

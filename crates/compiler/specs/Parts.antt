@@ -14,10 +14,11 @@ use Rattle.inference.specs.Sections.{size_of}
 use Rattle.verifier.specs.declared.least.LeastLimits.{LeastLimits}
 use Rattle.assertion_reads.specs.Marks.{places_from}
 use Rattle.positions.specs.Laws.{section_for}
-use Rattle.positions.specs.Sequences.{atom_of}
+use Rattle.positions.specs.Sequences.{atom_of, largest}
+use Rattle.positions.specs.Lengths.{HasLongSection}
 use Rattle.compiler.specs.Programs.{disabling_atom}
 use Rattle.compiler.specs.Readings.{code_over}
-use Rattle.compiler.specs.Faults.{StandsOver, side_size}
+use Rattle.compiler.specs.Faults.{StandsOver}
 use Rattle.compiler.specs.declared.fault.CompileFault.{CompileFault}
 use Rattle.compiler.specs.declared.fault.CompileFault.TheVariants.{CodeTooLong, Memory}
 
@@ -58,6 +59,8 @@ pub record AreParts (suite : Suite) (a : Assertion) (signals counters : List Boo
   pub short_sample : length p.sample ≤ 4096
   pub short_antecedent : size_of p.antecedent.blocks ≤ 4096
   pub short_consequent : size_of p.consequent.blocks ≤ 4096
+  pub light_antecedent : largest (written_form a.antecedent) ≤ 65535
+  pub light_consequent : largest (written_form a.consequent) ≤ 65535
 
 -- Why code was not made: it would be too long, or memory ran out.
 abbrev pub IsCodeFault : Suite → Assertion → List Bool → List Bool → CompileFault → Type 0
@@ -67,7 +70,7 @@ IsCodeFault suite a signals counters Memory = Unit {0}
 IsCodeFault suite a signals counters fault = ⊥
 
 abbrev pub IsSideFault : Sequence → CompileFault → Type 0
-IsSideFault side CodeTooLong = 4096 < side_size side
+IsSideFault side CodeTooLong = HasLongSection (written_form side)
 IsSideFault side Memory = Unit {0}
 IsSideFault side fault = ⊥
 

@@ -6,7 +6,7 @@ ghost use Rattle.assertions.specs.Written.{weight, IsOrdered};
 ghost use Rattle.assertions.specs.Shapes.{written_form};
 ghost use Rattle.assertions.specs.Listed.{EachBoolean, IsListed, IsListedOption};
 ghost use Rattle.assertion_reads.specs.Marks.{places_from, slots_from};
-ghost use Rattle.positions.specs.Sequences.{atom_of};
+ghost use Rattle.positions.specs.Sequences.{atom_of, largest};
 ghost use Rattle.positions.specs.Laws.{section_for};
 ghost use Rattle.compiler.specs.Programs.{disabling_atom};
 ghost use Rattle.bytecode.specs.Programs.{data_of};
@@ -88,6 +88,7 @@ fn side_of(alloc: Global, side: &Sequence) -> Result<Section, CompileFault>
     ensures made { IfOk result (λ s.
         section_data s ≡ section_for atom_of One (written_form side.now)) }
     ensures short { IfOk result (λ s. size_of (section_data s).blocks ≤ 4096) }
+    ensures light { IfOk result (λ s. largest (written_form side.now) ≤ 65535) }
     ensures fault { IfErr result (IsSideFault side.now) }
 {
     match positions_of(alloc, side) {

@@ -11,7 +11,8 @@ use Rattle.grammar.specs.Marks.{precedence_of_terminal, precedence, next_precede
 use Rattle.grammar.specs.Operators.{implication_of_terminal, implication_of}
 use Rattle.grammar.specs.Trees.{Tree, SequenceForm, boolean, repeated, late, delayed, throughout, joined, PropertyForm}
 use Rattle.grammar.specs.Trees.{plain, implication}
-use Rattle.grammar.specs.Sequences.{IsBody, is_boolean, in_brackets, is_once, is_prompt, is_head, is_cat, is_during}
+use Rattle.grammar.specs.Sequences.{IsBody, is_boolean, in_brackets, is_once, is_prompt, is_head, is_cat}
+use Rattle.grammar.specs.Sequences.{is_intersection, is_during}
 use Rattle.grammar.specs.Sequences.{IsSequence, is_conjunction, IsProperty, is_plain, is_implication, bracketed}
 use Rattle.grammar.specs.Expressions as expressions
 use Rattle.grammar.specs.Expressions.{is_operand, is_tighter}
@@ -200,7 +201,7 @@ property-read (bracketed {d = d} {left = left} {right = right} {p = p} {ts = ts}
 
 -- the other way: a property that is a sequence is spelled as one
 single : {d : ℕ} {s : SequenceForm} {ts rest : List Token} → IsBody d s ts rest → IsSequence d s ts rest
-single b = is_conjunction (is_during (is_cat (is_head (is_prompt (is_once b)))))
+single b = is_conjunction (is_intersection (is_during (is_cat (is_head (is_prompt (is_once b))))))
 
 operand-at : {d : ℕ} {e : Tree} {ts rest : List Token} → expressions.Operand d zero e ts rest
     → expressions.Operand d 9 e ts rest

@@ -215,6 +215,10 @@ pub precedence-Delay : (t : Token) → terminal t ≡ word.Delay → precedence 
 unfolding precedence
 precedence-Delay t h = rw h refl
 
+pub precedence-Intersect : (t : Token) → terminal t ≡ word.Intersect → precedence t ≡ 14
+unfolding precedence
+precedence-Intersect t h = rw h refl
+
 pub precedence-And : (t : Token) → terminal t ≡ word.And → precedence t ≡ 15
 unfolding precedence
 precedence-And t h = rw h refl

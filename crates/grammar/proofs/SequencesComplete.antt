@@ -9,7 +9,8 @@ use Rattle.grammar.specs.declared.operator.Junction.TheVariants as junctions
 use Rattle.lexer.specs.declared.token.Kind.{Kind}
 use Rattle.lexer.specs.declared.token.Kind.TheVariants as kinds
 use Rattle.grammar.specs.declared.terminal.Terminal.TheVariants.{Number, OpenRound, CloseRound, OpenSquare, OpenRepeat}
-use Rattle.grammar.specs.declared.terminal.Terminal.TheVariants.{CloseSquare, Colon, Delay, Throughout, And, Or}
+use Rattle.grammar.specs.declared.terminal.Terminal.TheVariants.{CloseSquare, Colon, Delay, Throughout, Intersect, And}
+use Rattle.grammar.specs.declared.terminal.Terminal.TheVariants.{Or}
 use Rattle.grammar.specs.Terminals.{terminal, kind_terminal, is}
 use Rattle.grammar.specs.Bounds.{bound_of_kind, bound_within}
 use Rattle.grammar.specs.Marks.{mark, precedence, next_precedence, has_precedence}
@@ -19,7 +20,8 @@ use Rattle.grammar.specs.Expressions.{Spells}
 use Rattle.grammar.specs.Sequences.{bound, IsTimes, times, times_to, IsDelay, after, between, IsBody, is_boolean}
 use Rattle.grammar.specs.Sequences.{in_brackets, IsRepetition, is_once, is_repeated, IsHead, is_prompt, is_late}
 use Rattle.grammar.specs.Sequences.{AreSteps, no_steps, one_step, IsDelayed, is_head, is_delayed, IsDuring, is_cat}
-use Rattle.grammar.specs.Sequences.{is_throughout, AreConjuncts, no_conjunct, one_conjunct, IsConjunction, is_during}
+use Rattle.grammar.specs.Sequences.{is_throughout, AreMeets, no_meet, one_meet, IsIntersection, is_meet}
+use Rattle.grammar.specs.Sequences.{is_intersection, AreConjuncts, no_conjunct, one_conjunct, IsConjunction, is_during}
 use Rattle.grammar.specs.Sequences.{is_all, AreAlternatives, no_alternative, one_alternative, IsSequence}
 use Rattle.grammar.specs.Sequences.{is_conjunction, is_either}
 use Rattle.grammar.specs.Readers.{◌>>=◌, Reader, lead, expect, pick, optional, many, each}
@@ -28,13 +30,14 @@ use Rattle.grammar.specs.ReadExpressions.{prefixed_with, readers, behind, climb,
 use Rattle.grammar.specs.ReadSequences as reading
 use Rattle.grammar.specs.ReadSequences.{Inner, delay, regroup, body_with, repeat_behind, repetition_with, late_part}
 use Rattle.grammar.specs.ReadSequences.{steps_of, delayed_behind, cat_behind, during_behind, during_with, others_of}
+use Rattle.grammar.specs.ReadSequences.{intersection_behind, intersection_with}
 use Rattle.grammar.specs.ReadSequences.{conjunction_behind, conjunction_with, alternatives_behind, sides_behind}
 use Rattle.grammar.specs.ReadSequences.{whole_with, sequences, sequence_behind, whole}
 use Rattle.grammar.proofs.TerminalLaws.{true-is}
 use Rattle.grammar.proofs.ReaderLaws.{bind-then, bind-assoc, lead-false, lead-nil, expect-some, expect-is, expect-not}
 use Rattle.grammar.proofs.ReaderLaws.{expect-precedence, pick-is, optional-none, optional-is, many-none, many-more}
 use Rattle.grammar.proofs.ReaderLaws.{each-none, precedence-Throughout, precedence-OpenRepeat, precedence-Delay}
-use Rattle.grammar.proofs.ReaderLaws.{precedence-And, precedence-Or, precedence-CloseRound}
+use Rattle.grammar.proofs.ReaderLaws.{precedence-Intersect, precedence-And, precedence-Or, precedence-CloseRound}
 use Rattle.grammar.proofs.Complete.{spells-read, spells-shorter, links-none}
 use Rattle.grammar.proofs.Sound.{is_sound, opening-mark}
 
@@ -46,6 +49,9 @@ repetition d = repetition_with d (sequences d)
 
 abbrev pub during : ℕ → Reader SequenceForm
 during d = during_with d (sequences d)
+
+abbrev pub intersection : ℕ → Reader SequenceForm
+intersection d = intersection_with d (sequences d)
 
 abbrev pub conjunction : ℕ → Reader SequenceForm
 conjunction d = conjunction_with d (sequences d)
@@ -88,11 +94,18 @@ during-none : (d : ℕ) (inner : Inner) (s : SequenceForm) (ts : List Token) →
     → during_behind d inner s ts ≡ Some (s, ts)
 during-none d inner s ts h = during-cat d inner s ts (no_throughout ts (λ e. omega arith)) ∙ cat-none d inner s ts h
 
+intersection-none : (d : ℕ) (inner : Inner) (s : SequenceForm) (ts : List Token) → (next_precedence ts ≡ 14 → ⊥)
+    → intersection_behind d inner s ts ≡ Some (s, ts)
+unfolding intersection_behind expect
+intersection-none d inner s ts h =
+    rw (each-none (is Intersect) (λ t. during_with d inner) ts
+    (expect-precedence Intersect 14 precedence-Intersect ts h)) refl
+
 conjunction-none : (d : ℕ) (inner : Inner) (s : SequenceForm) (ts : List Token) → (next_precedence ts ≡ 15 → ⊥)
     → conjunction_behind d inner s ts ≡ Some (s, ts)
 unfolding conjunction_behind expect
 conjunction-none d inner s ts h =
-    rw (each-none (is And) (λ t. during_with d inner) ts (expect-precedence And 15 precedence-And ts h)) refl
+    rw (each-none (is And) (λ t. intersection_with d inner) ts (expect-precedence And 15 precedence-And ts h)) refl
 
 alternatives-none : (d : ℕ) (inner : Inner) (s : SequenceForm) (ts : List Token) → (next_precedence ts ≡ 16 → ⊥)
     → alternatives_behind d inner s ts ≡ Some (s, ts)
@@ -104,7 +117,8 @@ sides-none : (d : ℕ) (inner : Inner) (s : SequenceForm) (ts : List Token) → 
     → sides_behind d inner s ts ≡ Some (s, ts)
 unfolding sides_behind
 sides-none d inner s ts h =
-    rw (conjunction-none d inner s ts (λ e. omega arith)) (alternatives-none d inner s ts (λ e. omega arith))
+    rw (intersection-none d inner s ts (λ e. omega arith), conjunction-none d inner s ts (λ e. omega arith))
+    (alternatives-none d inner s ts (λ e. omega arith))
 
 pub sequence-none : (d : ℕ) (s : SequenceForm) (ts : List Token) → 16 < next_precedence ts → sequence_behind d s ts
     ≡ Some (s, ts)
@@ -372,8 +386,15 @@ unfolding delayed_behind list_of_steps
 delayed-some d s v n more us rest h =
     rw h (ap (λ (l : Steps). Some (delayed s (step n v l), rest)) (steps_of-list more))
 
+intersection-some : (d : ℕ) (s v : SequenceForm) (more : Others) (us rest : List Token)
+    → each (is Intersect) (λ t. during d) us ≡ Some (list_of_others (other v more), rest)
+    → intersection_behind d (sequences d) s us ≡ Some (joined junctions.Intersect s (other v more), rest)
+unfolding intersection_behind list_of_others
+intersection-some d s v more us rest h =
+    rw h (ap (λ (l : Others). Some (joined junctions.Intersect s (other v l), rest)) (others_of-list more))
+
 conjunction-some : (d : ℕ) (s v : SequenceForm) (more : Others) (us rest : List Token)
-    → each (is And) (λ t. during d) us ≡ Some (list_of_others (other v more), rest)
+    → each (is And) (λ t. intersection d) us ≡ Some (list_of_others (other v more), rest)
     → conjunction_behind d (sequences d) s us ≡ Some (joined junctions.And s (other v more), rest)
 unfolding conjunction_behind list_of_others
 conjunction-some d s v more us rest h =
@@ -419,15 +440,25 @@ mutual
   during-shorter (is_cat c) = delayed-shorter c
   during-shorter (is_throughout k e w) = omega (arith, spells-shorter e, during-shorter w)
 
+  meets-shorter : {d : ℕ} {more : Others} {ts rest : List Token} → AreMeets d more ts rest
+      → length rest ≤ length ts
+  meets-shorter no_meet = omega arith
+  meets-shorter (one_meet k w f) = omega (arith, during-shorter w, meets-shorter f)
+
+  intersection-shorter : {d : ℕ} {s : SequenceForm} {ts rest : List Token} → IsIntersection d s ts rest
+      → length rest < length ts
+  intersection-shorter (is_during w) = during-shorter w
+  intersection-shorter (is_meet w f) = omega (arith, during-shorter w, meets-shorter f)
+
   conjuncts-shorter : {d : ℕ} {more : Others} {ts rest : List Token} → AreConjuncts d more ts rest
       → length rest ≤ length ts
   conjuncts-shorter no_conjunct = omega arith
-  conjuncts-shorter (one_conjunct k w f) = omega (arith, during-shorter w, conjuncts-shorter f)
+  conjuncts-shorter (one_conjunct k w f) = omega (arith, intersection-shorter w, conjuncts-shorter f)
 
   conjunction-shorter : {d : ℕ} {s : SequenceForm} {ts rest : List Token} → IsConjunction d s ts rest
       → length rest < length ts
-  conjunction-shorter (is_during w) = during-shorter w
-  conjunction-shorter (is_all w f) = omega (arith, during-shorter w, conjuncts-shorter f)
+  conjunction-shorter (is_intersection w) = intersection-shorter w
+  conjunction-shorter (is_all w f) = omega (arith, intersection-shorter w, conjuncts-shorter f)
 
   alternatives-shorter : {d : ℕ} {more : Others} {ts rest : List Token} → AreAlternatives d more ts rest
       → length rest ≤ length ts
@@ -443,6 +474,10 @@ steps-loose : {d : ℕ} {n : Range} {s : SequenceForm} {more : Steps} {ts rest :
     → AreSteps d (step n s more) ts rest → next_precedence ts ≡ 13
 steps-loose (one_step l r f) = delay-next l
 
+meets-loose : {d : ℕ} {s : SequenceForm} {more : Others} {ts rest : List Token}
+    → AreMeets d (other s more) ts rest → next_precedence ts ≡ 14
+meets-loose (one_meet {t = t} k w f) = precedence-Intersect t k
+
 conjuncts-loose : {d : ℕ} {s : SequenceForm} {more : Others} {ts rest : List Token}
     → AreConjuncts d (other s more) ts rest → next_precedence ts ≡ 15
 conjuncts-loose (one_conjunct {t = t} k w f) = precedence-And t k
@@ -455,6 +490,11 @@ steps-next : {d : ℕ} {more : Steps} {ts rest : List Token} → AreSteps d more
     → 12 < next_precedence ts
 steps-next no_steps le = omega arith
 steps-next (one_step l r f) le = omega (arith, delay-next l)
+
+meets-next : {d : ℕ} {more : Others} {ts rest : List Token} → AreMeets d more ts rest
+    → 14 < next_precedence rest → 13 < next_precedence ts
+meets-next no_meet le = omega arith
+meets-next (one_meet {t = t} k w f) le = omega (arith, precedence-Intersect t k)
 
 conjuncts-next : {d : ℕ} {more : Others} {ts rest : List Token} → AreConjuncts d more ts rest
     → 15 < next_precedence rest → 14 < next_precedence ts
@@ -499,16 +539,24 @@ unfolding during_behind sequences
 during-throughout d t e s ts us rest o h k =
     during-body (suc d) ts (boolean e) (t ∷ us) h ∙ rw (expect-is Throughout t us o, k) refl
 
-conjunction-on : (d : ℕ) (s v : SequenceForm) (ts us rest : List Token) → during d ts ≡ Some (s, us)
+intersection-on : (d : ℕ) (s v : SequenceForm) (ts us rest : List Token) → during d ts ≡ Some (s, us)
+    → intersection_behind d (sequences d) s us ≡ Some (v, rest) → intersection d ts ≡ Some (v, rest)
+unfolding intersection_with
+intersection-on d s v ts us rest h k = rw h k
+
+conjunction-on : (d : ℕ) (s v : SequenceForm) (ts us rest : List Token) → intersection d ts ≡ Some (s, us)
     → conjunction_behind d (sequences d) s us ≡ Some (v, rest) → conjunction d ts ≡ Some (v, rest)
 unfolding conjunction_with
 conjunction-on d s v ts us rest h k = rw h k
 
 seq-is : (d : ℕ) (ts : List Token) → seq d ts ≡ (conjunction d ts >>= λ p. alternatives_behind d (sequences d) p.0 p.1)
-unfolding whole_with sides_behind conjunction_with
+unfolding whole_with sides_behind conjunction_with intersection_with
 seq-is d ts =
-    sym (bind-assoc (during d ts) (λ (p : SequenceForm × List Token). conjunction_behind d (sequences d) p.0 p.1)
-    (λ (p : SequenceForm × List Token). alternatives_behind d (sequences d) p.0 p.1))
+    sym (bind-assoc (intersection d ts) (λ (p : SequenceForm × List Token). conjunction_behind d (sequences d) p.0 p.1)
+    (λ (p : SequenceForm × List Token). alternatives_behind d (sequences d) p.0 p.1)
+    ∙ bind-assoc (during d ts) (λ (p : SequenceForm × List Token). intersection_behind d (sequences d) p.0 p.1)
+    (λ (p : SequenceForm × List Token). conjunction_behind d (sequences d) p.0 p.1
+    >>= λ q. alternatives_behind d (sequences d) q.0 q.1))
 
 seq-on : (d : ℕ) (s v : SequenceForm) (ts us rest : List Token) → conjunction d ts ≡ Some (s, us)
     → alternatives_behind d (sequences d) s us ≡ Some (v, rest) → seq d ts ≡ Some (v, rest)
@@ -603,26 +651,49 @@ mutual
       during-throughout d t e s ts us rest k
       (body-boolean (suc d) e ts (t ∷ us) x (omega (arith, precedence-Throughout t k))) (during-read w le)
 
+  meets-many : {d : ℕ} {more : Others} {ts rest : List Token} → AreMeets d more ts rest → (i : ℕ)
+      → length ts ≤ i → 14 < next_precedence rest → many (is Intersect) (λ t. during d) i ts
+      ≡ Some (list_of_others more, rest)
+  meets-many (no_meet {d = d} {ts = ts}) i len le =
+      many-none (is Intersect) (λ t. during d) i ts
+      (expect-precedence Intersect 14 precedence-Intersect ts (λ e. omega arith))
+  meets-many (one_meet k w f) zero len le = absurd (omega arith)
+  meets-many (one_meet {d = d} {t = t} {s = s} {more = more} {ts = ts} {us = us} {rest = rest} k w f) (suc i)
+      len le =
+      many-more (is Intersect) (λ t. during d) i t ts s us (list_of_others more) rest (true-is Intersect t k)
+      (during-read w (omega (arith, meets-next f le)))
+      (meets-many f i (omega (arith, during-shorter w)) le)
+
+  intersection-read : {d : ℕ} {s : SequenceForm} {ts rest : List Token} → IsIntersection d s ts rest
+      → 14 < next_precedence rest → intersection d ts ≡ Some (s, rest)
+  intersection-read (is_during {d = d} {s = s} {ts = ts} {rest = rest} w) le =
+      intersection-on d s s ts rest rest (during-read w (omega arith))
+      (intersection-none d (sequences d) s rest (λ e. omega arith))
+  intersection-read (is_meet {d = d} {s = s} {v = v} {more = more} {ts = ts} {us = us} {rest = rest} w f) le =
+      intersection-on d s (joined junctions.Intersect s (other v more)) ts us rest
+      (during-read w (omega (arith, meets-loose f)))
+      (intersection-some d s v more us rest (meets-many f (length us) (omega arith) le))
+
   conjuncts-many : {d : ℕ} {more : Others} {ts rest : List Token} → AreConjuncts d more ts rest → (i : ℕ)
-      → length ts ≤ i → 15 < next_precedence rest → many (is And) (λ t. during d) i ts
+      → length ts ≤ i → 15 < next_precedence rest → many (is And) (λ t. intersection d) i ts
       ≡ Some (list_of_others more, rest)
   conjuncts-many (no_conjunct {d = d} {ts = ts}) i len le =
-      many-none (is And) (λ t. during d) i ts (expect-precedence And 15 precedence-And ts (λ e. omega arith))
+      many-none (is And) (λ t. intersection d) i ts (expect-precedence And 15 precedence-And ts (λ e. omega arith))
   conjuncts-many (one_conjunct k w f) zero len le = absurd (omega arith)
   conjuncts-many (one_conjunct {d = d} {t = t} {s = s} {more = more} {ts = ts} {us = us} {rest = rest} k w f) (suc i)
       len le =
-      many-more (is And) (λ t. during d) i t ts s us (list_of_others more) rest (true-is And t k)
-      (during-read w (omega (arith, conjuncts-next f le)))
-      (conjuncts-many f i (omega (arith, during-shorter w)) le)
+      many-more (is And) (λ t. intersection d) i t ts s us (list_of_others more) rest (true-is And t k)
+      (intersection-read w (omega (arith, conjuncts-next f le)))
+      (conjuncts-many f i (omega (arith, intersection-shorter w)) le)
 
   conjunction-read : {d : ℕ} {s : SequenceForm} {ts rest : List Token} → IsConjunction d s ts rest
       → 15 < next_precedence rest → conjunction d ts ≡ Some (s, rest)
-  conjunction-read (is_during {d = d} {s = s} {ts = ts} {rest = rest} w) le =
-      conjunction-on d s s ts rest rest (during-read w (omega arith))
+  conjunction-read (is_intersection {d = d} {s = s} {ts = ts} {rest = rest} w) le =
+      conjunction-on d s s ts rest rest (intersection-read w (omega arith))
       (conjunction-none d (sequences d) s rest (λ e. omega arith))
   conjunction-read (is_all {d = d} {s = s} {v = v} {more = more} {ts = ts} {us = us} {rest = rest} w f) le =
       conjunction-on d s (joined junctions.And s (other v more)) ts us rest
-      (during-read w (omega (arith, conjuncts-loose f)))
+      (intersection-read w (omega (arith, conjuncts-loose f)))
       (conjunction-some d s v more us rest (conjuncts-many f (length us) (omega arith) le))
 
   alternatives-many : {d : ℕ} {more : Others} {ts rest : List Token} → AreAlternatives d more ts rest → (i : ℕ)

@@ -5,7 +5,8 @@ use Rattle.grammar.specs.declared.bound.Bound.{Bound}
 use Rattle.grammar.specs.declared.bound.Range.{Range}
 use Rattle.grammar.specs.declared.operator.Junction.TheVariants as junctions
 use Rattle.grammar.specs.declared.terminal.Terminal.TheVariants.{OpenRound, CloseRound, OpenSquare, OpenRepeat}
-use Rattle.grammar.specs.declared.terminal.Terminal.TheVariants.{CloseSquare, Colon, Delay, Throughout, And, Or}
+use Rattle.grammar.specs.declared.terminal.Terminal.TheVariants.{CloseSquare, Colon, Delay, Throughout, Intersect, And}
+use Rattle.grammar.specs.declared.terminal.Terminal.TheVariants.{Or}
 use Rattle.grammar.specs.Terminals.{terminal, is}
 use Rattle.grammar.specs.Bounds.{bound_within}
 use Rattle.grammar.specs.Trees.{Tree, SequenceForm, boolean, repeated, late, delayed, throughout, joined, no_step}
@@ -14,7 +15,8 @@ use Rattle.grammar.specs.Expressions.{Spells}
 use Rattle.grammar.specs.Sequences.{bound, IsNoExpression, IsTimes, times, times_to, IsDelay, after, between, IsBody}
 use Rattle.grammar.specs.Sequences.{is_boolean, in_brackets, IsRepetition, is_once, is_repeated, IsHead, is_prompt}
 use Rattle.grammar.specs.Sequences.{is_late, AreSteps, no_steps, one_step, IsDelayed, is_head, is_delayed, IsDuring}
-use Rattle.grammar.specs.Sequences.{is_cat, is_throughout, AreConjuncts, no_conjunct, one_conjunct, IsConjunction}
+use Rattle.grammar.specs.Sequences.{is_cat, is_throughout, AreMeets, no_meet, one_meet, IsIntersection, is_meet}
+use Rattle.grammar.specs.Sequences.{is_intersection, AreConjuncts, no_conjunct, one_conjunct, IsConjunction}
 use Rattle.grammar.specs.Sequences.{is_during, is_all, AreAlternatives, no_alternative, one_alternative, IsSequence}
 use Rattle.grammar.specs.Sequences.{is_conjunction, is_either}
 use Rattle.grammar.specs.Readers.{◌>>=◌, expect, pick, optional, each}
@@ -24,6 +26,7 @@ use Rattle.grammar.specs.ReadSequences as reading
 use Rattle.grammar.specs.ReadSequences.{delay_by, delay, regroup, body_by, body_with, with_times, repeat_behind}
 use Rattle.grammar.specs.ReadSequences.{repetition_with, late_part, steps_of, with_steps, delayed_behind, cat_behind}
 use Rattle.grammar.specs.ReadSequences.{throughout_by, during_behind, during_by, during_with, others_of, with_others}
+use Rattle.grammar.specs.ReadSequences.{intersection_behind, intersection_with}
 use Rattle.grammar.specs.ReadSequences.{conjunction_behind, conjunction_with, alternatives_behind, sides_behind}
 use Rattle.grammar.specs.ReadSequences.{whole_with, sequences}
 use Rattle.grammar.proofs.TerminalLaws.{is-true}
@@ -32,7 +35,8 @@ use Rattle.grammar.proofs.ReaderLaws.{absent, present, optional-sound, each-soun
 use Rattle.grammar.proofs.Complete.{spells-read}
 use Rattle.grammar.proofs.Sound.{is_sound, spells-sound}
 use Rattle.std.proofs.Common.{arith}
-use Rattle.grammar.proofs.SequencesComplete.{body, repetition, during, conjunction, seq, expression-opening}
+use Rattle.grammar.proofs.SequencesComplete.{body, repetition, during, intersection, conjunction, seq}
+use Rattle.grammar.proofs.SequencesComplete.{expression-opening}
 
 abbrev pub IsSoundBelow : ℕ → Type 0
 IsSoundBelow zero = Unit {0}
@@ -57,9 +61,13 @@ delayed-is_boolean (is_head h) = head-is_boolean h
 during-is_boolean : {d : ℕ} {e : Tree} {ts rest : List Token} → IsDuring d (boolean e) ts rest → Spells d e ts rest
 during-is_boolean (is_cat c) = delayed-is_boolean c
 
+intersection-is_boolean : {d : ℕ} {e : Tree} {ts rest : List Token} → IsIntersection d (boolean e) ts rest
+    → Spells d e ts rest
+intersection-is_boolean (is_during w) = during-is_boolean w
+
 conjunction-is_boolean : {d : ℕ} {e : Tree} {ts rest : List Token} → IsConjunction d (boolean e) ts rest
     → Spells d e ts rest
-conjunction-is_boolean (is_during w) = during-is_boolean w
+conjunction-is_boolean (is_intersection w) = intersection-is_boolean w
 
 pub sequence-is_boolean : {d : ℕ} {e : Tree} {ts rest : List Token} → IsSequence d (boolean e) ts rest
     → Spells d e ts rest
@@ -353,30 +361,67 @@ unfolding during_with
 during-sound d inner ts p h = during_by-sound d inner ts p (expect Delay ts) refl h
 
 -- sides
+meets-sound : (d : ℕ) → IsSoundBelow d
+    → Reads (each (is Intersect) (λ t. during d)) (λ xs ts rest. AreMeets d (others_of xs) ts rest)
+meets-sound d inner ts p h =
+    each-sound (is Intersect) (λ t. during d) (λ xs us vs. AreMeets d (others_of xs) us vs) (λ us. no_meet)
+    (λ t a xs us vs rest is_it read more. one_meet (is-true Intersect t is_it) (during-sound d inner us (a, vs) read)
+    more) ts p h
+
+meets-end : {d : ℕ} {ts rest : List Token} → AreMeets d no_other ts rest → ts ≡ rest
+meets-end no_meet = refl
+
+with_meets-sound : (d : ℕ) (s : SequenceForm) (xs : List SequenceForm) (ts us rest : List Token)
+    → IsDuring d s ts us → AreMeets d (others_of xs) us rest
+    → IsIntersection d (with_others junctions.Intersect s xs) ts rest
+with_meets-sound d s [] ts us rest w f =
+    subst (λ (vs : List Token). IsIntersection d s ts vs) (meets-end f) (is_during w)
+with_meets-sound d s (x ∷ xs) ts us rest w f = is_meet w f
+
+intersection_behind-sound : (d : ℕ) → IsSoundBelow d
+    → (s : SequenceForm) (ts us : List Token) (p : SequenceForm × List Token) → IsDuring d s ts us
+    → intersection_behind d (sequences d) s us ≡ Some p → IsIntersection d p.0 ts p.1
+unfolding intersection_behind
+intersection_behind-sound d inner s ts us p w h =
+    let a =
+    bind-some (each (is Intersect) (λ t. during d) us)
+    (λ (q : List SequenceForm × List Token). Some (with_others junctions.Intersect s q.0, q.1)) p h in
+    let same : (with_others junctions.Intersect s a.0.0, a.0.1) ≡ p = cc (a.2) in
+    subst (λ (r : SequenceForm × List Token). IsIntersection d r.0 ts r.1) same
+    (with_meets-sound d s a.0.0 ts us a.0.1 w (meets-sound d inner us a.0 a.1))
+
+intersection-sound : (d : ℕ) → IsSoundBelow d → Reads (intersection d) (λ s ts rest. IsIntersection d s ts rest)
+unfolding intersection_with
+intersection-sound d inner ts p h =
+    let a =
+    bind-some (during d ts) (λ (p : SequenceForm × List Token). intersection_behind d (sequences d) p.0 p.1) p h in
+    intersection_behind-sound d inner a.0.0 ts a.0.1 p (during-sound d inner ts a.0 a.1) a.2
+
 conjuncts-sound : (d : ℕ) → IsSoundBelow d
-    → Reads (each (is And) (λ t. during d)) (λ xs ts rest. AreConjuncts d (others_of xs) ts rest)
+    → Reads (each (is And) (λ t. intersection d)) (λ xs ts rest. AreConjuncts d (others_of xs) ts rest)
 conjuncts-sound d inner ts p h =
-    each-sound (is And) (λ t. during d) (λ xs us vs. AreConjuncts d (others_of xs) us vs) (λ us. no_conjunct)
-    (λ t a xs us vs rest is_and read more. one_conjunct (is-true And t is_and) (during-sound d inner us (a, vs) read)
+    each-sound (is And) (λ t. intersection d) (λ xs us vs. AreConjuncts d (others_of xs) us vs) (λ us. no_conjunct)
+    (λ t a xs us vs rest is_and read more. one_conjunct (is-true And t is_and)
+    (intersection-sound d inner us (a, vs) read)
     more) ts p h
 
 conjuncts-end : {d : ℕ} {ts rest : List Token} → AreConjuncts d no_other ts rest → ts ≡ rest
 conjuncts-end no_conjunct = refl
 
 with_conjuncts-sound : (d : ℕ) (s : SequenceForm) (xs : List SequenceForm) (ts us rest : List Token)
-    → IsDuring d s ts us → AreConjuncts d (others_of xs) us rest
+    → IsIntersection d s ts us → AreConjuncts d (others_of xs) us rest
     → IsConjunction d (with_others junctions.And s xs) ts rest
 with_conjuncts-sound d s [] ts us rest w f =
-    subst (λ (vs : List Token). IsConjunction d s ts vs) (conjuncts-end f) (is_during w)
+    subst (λ (vs : List Token). IsConjunction d s ts vs) (conjuncts-end f) (is_intersection w)
 with_conjuncts-sound d s (x ∷ xs) ts us rest w f = is_all w f
 
 conjunction_behind-sound : (d : ℕ) → IsSoundBelow d
-    → (s : SequenceForm) (ts us : List Token) (p : SequenceForm × List Token) → IsDuring d s ts us
+    → (s : SequenceForm) (ts us : List Token) (p : SequenceForm × List Token) → IsIntersection d s ts us
     → conjunction_behind d (sequences d) s us ≡ Some p → IsConjunction d p.0 ts p.1
 unfolding conjunction_behind
 conjunction_behind-sound d inner s ts us p w h =
     let a =
-    bind-some (each (is And) (λ t. during d) us)
+    bind-some (each (is And) (λ t. intersection d) us)
     (λ (q : List SequenceForm × List Token). Some (with_others junctions.And s q.0, q.1)) p h in
     let same : (with_others junctions.And s a.0.0, a.0.1) ≡ p = cc (a.2) in
     subst (λ (r : SequenceForm × List Token). IsConjunction d r.0 ts r.1) same
@@ -386,8 +431,8 @@ conjunction-sound : (d : ℕ) → IsSoundBelow d → Reads (conjunction d) (λ s
 unfolding conjunction_with
 conjunction-sound d inner ts p h =
     let a =
-    bind-some (during d ts) (λ (p : SequenceForm × List Token). conjunction_behind d (sequences d) p.0 p.1) p h in
-    conjunction_behind-sound d inner a.0.0 ts a.0.1 p (during-sound d inner ts a.0 a.1) a.2
+    bind-some (intersection d ts) (λ (p : SequenceForm × List Token). conjunction_behind d (sequences d) p.0 p.1) p h in
+    conjunction_behind-sound d inner a.0.0 ts a.0.1 p (intersection-sound d inner ts a.0 a.1) a.2
 
 alternatives-sound : (d : ℕ) → IsSoundBelow d
     → Reads (each (is Or) (λ t. conjunction d)) (λ xs ts rest. AreAlternatives d (others_of xs) ts rest)
@@ -422,10 +467,16 @@ pub sides-sound : (d : ℕ) → IsSoundBelow d → (s : SequenceForm) (ts us : L
     → IsDuring d s ts us → sides_behind d (sequences d) s us ≡ Some p → IsSequence d p.0 ts p.1
 unfolding sides_behind
 sides-sound d inner s ts us p w h =
+    let b =
+    bind-some (intersection_behind d (sequences d) s us)
+    (λ (p : SequenceForm × List Token). conjunction_behind d (sequences d) p.0 p.1
+    >>= λ q. alternatives_behind d (sequences d) q.0 q.1) p h in
     let a =
-    bind-some (conjunction_behind d (sequences d) s us)
-    (λ (p : SequenceForm × List Token). alternatives_behind d (sequences d) p.0 p.1) p h in
-    alternatives_behind-sound d inner a.0.0 ts a.0.1 p (conjunction_behind-sound d inner s ts us a.0 w a.1) a.2
+    bind-some (conjunction_behind d (sequences d) b.0.0 b.0.1)
+    (λ (p : SequenceForm × List Token). alternatives_behind d (sequences d) p.0 p.1) p b.2 in
+    alternatives_behind-sound d inner a.0.0 ts a.0.1 p
+    (conjunction_behind-sound d inner b.0.0 ts b.0.1 a.0 (intersection_behind-sound d inner s ts us b.0 w b.1) a.1)
+    a.2
 
 seq-sound : (d : ℕ) → IsSoundBelow d → Reads (seq d) (λ s ts rest. IsSequence d s ts rest)
 unfolding whole_with

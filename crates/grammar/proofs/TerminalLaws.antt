@@ -5,7 +5,8 @@ use Rattle.lexer.specs.declared.token.Token.{Token}
 use Rattle.grammar.specs.declared.terminal.Terminal.{Terminal}
 use Rattle.grammar.specs.declared.terminal.Terminal.TheVariants.{Counter, Clear, Load, Add, Sub, Sequence, EndSequence}
 use Rattle.grammar.specs.declared.terminal.Terminal.TheVariants.{Assert, Assume, Property, Posedge, Disable, Iff, Or}
-use Rattle.grammar.specs.declared.terminal.Terminal.TheVariants.{And, Throughout, ForeignWord, Name, Past, Rose, Fell}
+use Rattle.grammar.specs.declared.terminal.Terminal.TheVariants.{And, Throughout, Intersect, ForeignWord, Name, Past}
+use Rattle.grammar.specs.declared.terminal.Terminal.TheVariants.{Rose, Fell}
 use Rattle.grammar.specs.declared.terminal.Terminal.TheVariants.{Stable, Changed, OneHot, OneHot0, ForeignSystem}
 use Rattle.grammar.specs.declared.terminal.Terminal.TheVariants.{Number, OpenRound, CloseRound, OpenBrace, CloseBrace}
 use Rattle.grammar.specs.declared.terminal.Terminal.TheVariants.{OpenSquare, OpenRepeat, CloseSquare, Comma, Semicolon}
@@ -58,7 +59,8 @@ terminal_at n =
     (cond (eqb n 39) Delay
     (cond (eqb n 40) Overlapped
     (cond (eqb n 41) Following
-    (cond (eqb n 42) ForeignSymbol (cond (eqb n 43) Operator (End))))))))))))))))))))))))))))))))))))))))))))
+    (cond (eqb n 42) ForeignSymbol
+    (cond (eqb n 43) Operator (cond (eqb n 44) End (Intersect)))))))))))))))))))))))))))))))))))))))))))))
 
 back : (w : Terminal) → terminal_at (terminal_number w) ≡ w
 back Counter = refl
@@ -106,6 +108,7 @@ back Following = refl
 back ForeignSymbol = refl
 back Operator = refl
 back End = refl
+back Intersect = refl
 
 same_number : (v w : Terminal) → terminal_number v ≡ terminal_number w → v ≡ w
 same_number v w e = sym (back v) ∙ ap terminal_at e ∙ back w

@@ -57,8 +57,9 @@ unfoldable pub mark : Token → Mark
 mark t = mark_of_terminal (terminal t) t.kind
 
 -- How loosely a token joins what stands before it to what follows: 1 to 9 are the levels of the
--- left operators, from the tightest, 10 is ?, 11 throughout, 12 [*, 13 ##, 15 and, 16 or, 17 the
--- implications. 0 goes on with a path, 100 with nothing. (14 is left for intersect.)
+-- left operators, from the tightest, 10 is ?, 11 throughout, 12 [*, 13 ##, 14 intersect, 15 and, 16
+-- or,
+-- 17 the implications. 0 goes on with a path, 100 with nothing.
 abbrev pub precedence_of_other : Kind → ℕ
 precedence_of_other (kind.Symbol symbol.Question) = 10
 precedence_of_other _ = 100
@@ -77,6 +78,7 @@ precedence_of_terminal terminals.Operator k = precedence_of_operator k
 precedence_of_terminal terminals.Throughout k = 11
 precedence_of_terminal terminals.OpenRepeat k = 12
 precedence_of_terminal terminals.Delay k = 13
+precedence_of_terminal terminals.Intersect k = 14
 precedence_of_terminal terminals.And k = 15
 precedence_of_terminal terminals.Or k = 16
 precedence_of_terminal terminals.Overlapped k = 17

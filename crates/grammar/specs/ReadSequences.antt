@@ -7,7 +7,8 @@ use Rattle.grammar.specs.declared.operator.Junction.{Junction}
 use Rattle.grammar.specs.declared.operator.Junction.TheVariants as junctions
 use Rattle.grammar.specs.declared.terminal.Terminal.TheVariants.{OpenRound, CloseRound, OpenSquare}
 use Rattle.grammar.specs.declared.terminal.Terminal.TheVariants.{OpenRepeat, CloseSquare, Colon}
-use Rattle.grammar.specs.declared.terminal.Terminal.TheVariants.{Delay, Throughout, And, Or}
+use Rattle.grammar.specs.declared.terminal.Terminal.TheVariants.{Delay, Throughout, Intersect, And}
+use Rattle.grammar.specs.declared.terminal.Terminal.TheVariants.{Or}
 use Rattle.grammar.specs.Terminals.{is}
 use Rattle.grammar.specs.Bounds.{bound_within}
 use Rattle.grammar.specs.Operators.{implication_of}
@@ -126,14 +127,24 @@ abbrev pub with_others : Junction → SequenceForm → List SequenceForm → Seq
 with_others j s [] = s
 with_others j s (x ∷ xs) = joined j s (others_of (x ∷ xs))
 
--- behind a thr: ("and" thr)*
+-- behind a thr: ("intersect" thr)*
+unfoldable pub intersection_behind : ℕ → Inner → SequenceForm → Reader SequenceForm
+intersection_behind d inner s ts =
+    each (is Intersect) (λ t. during_with d inner) ts
+    >>= λ q. Some (with_others junctions.Intersect s q.0, q.1)
+
+unfoldable pub intersection_with : ℕ → Inner → Reader SequenceForm
+intersection_with d inner ts = during_with d inner ts >>= λ p. intersection_behind d inner p.0 p.1
+
+-- behind an int: ("and" int)*
 unfoldable pub conjunction_behind : ℕ → Inner → SequenceForm → Reader SequenceForm
 conjunction_behind d inner s ts =
-    each (is And) (λ t. during_with d inner) ts
+    each (is And) (λ t. intersection_with d inner) ts
     >>= λ q. Some (with_others junctions.And s q.0, q.1)
 
 unfoldable pub conjunction_with : ℕ → Inner → Reader SequenceForm
-conjunction_with d inner ts = during_with d inner ts >>= λ p. conjunction_behind d inner p.0 p.1
+conjunction_with d inner ts =
+    intersection_with d inner ts >>= λ p. conjunction_behind d inner p.0 p.1
 
 -- behind an and_seq: ("or" and_seq)*
 unfoldable pub alternatives_behind : ℕ → Inner → SequenceForm → Reader SequenceForm
@@ -144,7 +155,8 @@ alternatives_behind d inner s ts =
 -- behind a thr: all that goes on with a seq
 unfoldable pub sides_behind : ℕ → Inner → SequenceForm → Reader SequenceForm
 sides_behind d inner s ts =
-    conjunction_behind d inner s ts >>= λ p. alternatives_behind d inner p.0 p.1
+    intersection_behind d inner s ts
+    >>= λ p. (conjunction_behind d inner p.0 p.1 >>= λ q. alternatives_behind d inner q.0 q.1)
 
 -- seq
 unfoldable pub whole_with : ℕ → Inner → Reader SequenceForm

@@ -8,7 +8,8 @@ use Rattle.grammar.specs.declared.operator.Implication.{Implication}
 use Rattle.grammar.specs.declared.operator.Junction.TheVariants as junctions
 use Rattle.grammar.specs.declared.terminal.Terminal.TheVariants.{OpenRound, CloseRound, OpenSquare}
 use Rattle.grammar.specs.declared.terminal.Terminal.TheVariants.{OpenRepeat, CloseSquare, Colon}
-use Rattle.grammar.specs.declared.terminal.Terminal.TheVariants.{Delay, Throughout, And, Or}
+use Rattle.grammar.specs.declared.terminal.Terminal.TheVariants.{Delay, Throughout, Intersect, And}
+use Rattle.grammar.specs.declared.terminal.Terminal.TheVariants.{Or}
 use Rattle.grammar.specs.Terminals.{terminal}
 use Rattle.grammar.specs.Bounds.{bound_within}
 use Rattle.grammar.specs.Operators.{implication_of}
@@ -98,19 +99,34 @@ mutual
         → terminal t ≡ Throughout → Spells (suc d) e ts (t ∷ us) → IsDuring d s us rest
         → IsDuring (suc d) (throughout e s) ts rest
 
-  -- ("and" thr)*
+  -- ("intersect" thr)*
+  pub data AreMeets : ℕ → Others → List Token → List Token → Type 0 where
+    no_meet : {d : ℕ} {ts : List Token} → AreMeets d no_other ts ts
+    one_meet : {d : ℕ} {t : Token} {s : SequenceForm} {more : Others} {ts us rest : List Token}
+        → terminal t ≡ Intersect → IsDuring d s ts us → AreMeets d more us rest
+        → AreMeets d (other s more) (t ∷ ts) rest
+
+  -- int = thr ("intersect" thr)*
+  pub data IsIntersection : ℕ → SequenceForm → List Token → List Token → Type 0 where
+    is_during : {d : ℕ} {s : SequenceForm} {ts rest : List Token}
+        → IsDuring d s ts rest → IsIntersection d s ts rest
+    is_meet : {d : ℕ} {s v : SequenceForm} {more : Others} {ts us rest : List Token}
+        → IsDuring d s ts us → AreMeets d (other v more) us rest
+        → IsIntersection d (joined junctions.Intersect s (other v more)) ts rest
+
+  -- ("and" int)*
   pub data AreConjuncts : ℕ → Others → List Token → List Token → Type 0 where
     no_conjunct : {d : ℕ} {ts : List Token} → AreConjuncts d no_other ts ts
     one_conjunct : {d : ℕ} {t : Token} {s : SequenceForm} {more : Others} {ts us rest : List Token}
-        → terminal t ≡ And → IsDuring d s ts us → AreConjuncts d more us rest
+        → terminal t ≡ And → IsIntersection d s ts us → AreConjuncts d more us rest
         → AreConjuncts d (other s more) (t ∷ ts) rest
 
-  -- and_seq = thr ("and" thr)*
+  -- and_seq = int ("and" int)*
   pub data IsConjunction : ℕ → SequenceForm → List Token → List Token → Type 0 where
-    is_during : {d : ℕ} {s : SequenceForm} {ts rest : List Token}
-        → IsDuring d s ts rest → IsConjunction d s ts rest
+    is_intersection : {d : ℕ} {s : SequenceForm} {ts rest : List Token}
+        → IsIntersection d s ts rest → IsConjunction d s ts rest
     is_all : {d : ℕ} {s v : SequenceForm} {more : Others} {ts us rest : List Token}
-        → IsDuring d s ts us → AreConjuncts d (other v more) us rest
+        → IsIntersection d s ts us → AreConjuncts d (other v more) us rest
         → IsConjunction d (joined junctions.And s (other v more)) ts rest
 
   -- ("or" and_seq)*

@@ -13,6 +13,7 @@ use Rattle.grammar.specs.declared.terminal.Terminal.TheVariants.{Counter, Clear,
 use Rattle.grammar.specs.declared.terminal.Terminal.TheVariants.{Sequence, EndSequence, Assert}
 use Rattle.grammar.specs.declared.terminal.Terminal.TheVariants.{Assume, Property, Posedge, Disable}
 use Rattle.grammar.specs.declared.terminal.Terminal.TheVariants.{Iff, Or, And, Throughout}
+use Rattle.grammar.specs.declared.terminal.Terminal.TheVariants.{Intersect}
 use Rattle.grammar.specs.declared.terminal.Terminal.TheVariants.{ForeignWord, Name, Past, Rose}
 use Rattle.grammar.specs.declared.terminal.Terminal.TheVariants.{Fell, Stable, Changed, OneHot}
 use Rattle.grammar.specs.declared.terminal.Terminal.TheVariants.{OneHot0, ForeignSystem, Number}
@@ -27,7 +28,7 @@ use Rattle.grammar.specs.declared.terminal.Terminal.TheVariants.{ForeignSymbol, 
 -- other than behind `disable`, are left out too.)
 unfoldable pub foreign_words : List (List ℕ)
 foreign_words =
-    codes "intersect" ∷ codes "within" ∷ codes "first_match" ∷ codes "strong" ∷ codes "weak"
+    codes "within" ∷ codes "first_match" ∷ codes "strong" ∷ codes "weak"
     ∷ codes "not" ∷ codes "if" ∷ codes "else" ∷ codes "case" ∷ codes "always" ∷ codes "nexttime"
     ∷ codes "eventually" ∷ codes "until" ∷ codes "s_always" ∷ codes "s_nexttime"
     ∷ codes "s_eventually" ∷ codes "s_until" ∷ codes "s_until_with" ∷ codes "until_with"
@@ -51,7 +52,8 @@ inner_word text =
     else (if bytes_eq text (codes "or") then Or
     else (if bytes_eq text (codes "and") then And
     else (if bytes_eq text (codes "throughout") then Throughout
-    else foreign_word text)))))))
+    else (if bytes_eq text (codes "intersect") then Intersect
+    else foreign_word text))))))))
 
 unfoldable pub word_terminal : List ℕ → Terminal
 word_terminal text =
@@ -176,6 +178,7 @@ terminal_number Following = 41
 terminal_number ForeignSymbol = 42
 terminal_number Operator = 43
 terminal_number End = 44
+terminal_number Intersect = 45
 
 -- whether the token is the terminal
 unfoldable pub is : Terminal → Token → Bool

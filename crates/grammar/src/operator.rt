@@ -50,6 +50,7 @@ pub enum Infix {
 /// What joins the sides of a sequence.
 #[derive(Clone, Copy, PartialEq, Eq)]
 pub enum Junction {
+    Intersect,
     And,
     Or,
 }

@@ -35,6 +35,7 @@ fn precedence_of_terminal(terminal: Terminal, kind: Kind) -> usize
         Terminal::Throughout => 11,
         Terminal::OpenRepeat => 12,
         Terminal::Delay => 13,
+        Terminal::Intersect => 14,
         Terminal::And => 15,
         Terminal::Or => 16,
         Terminal::Overlapped | Terminal::Following => 17,
@@ -43,8 +44,8 @@ fn precedence_of_terminal(terminal: Terminal, kind: Kind) -> usize
 }
 
 /// 1 to 9 are the levels of the left operators, from the tightest; 10 is `?`, 11 `throughout`, 12
-/// `[*`, 13 `##`, 15 `and`, 16 `or`, 17 the implications. 0 goes on with a path, 100 with nothing.
-/// (14 is left for `intersect`.)
+/// `[*`, 13 `##`, 14 `intersect`, 15 `and`, 16 `or`, 17 the implications. 0 goes on with a path,
+/// 100 with nothing.
 #[tactic(auto, unfolding(crate::specs::Marks::precedence))]
 pub fn precedence_of(token: Token) -> usize
     ensures { result ≡ precedence token.entry }

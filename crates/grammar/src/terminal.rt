@@ -30,6 +30,7 @@ pub enum Terminal {
     Or,
     And,
     Throughout,
+    Intersect,
     /// A word that stands for something of the language which the profile leaves out.
     ForeignWord,
     /// Any other word.
@@ -67,8 +68,7 @@ pub enum Terminal {
 }
 
 /// Words of constructs that the profile leaves out.
-const FOREIGN_WORDS: [&str; 29] = [
-    "intersect",
+const FOREIGN_WORDS: [&str; 28] = [
     "within",
     "first_match",
     "strong",
@@ -100,7 +100,7 @@ const FOREIGN_WORDS: [&str; 29] = [
 ];
 
 /// The words that the rules quote.
-const WORDS: [(&str, Terminal); 16] = [
+const WORDS: [(&str, Terminal); 17] = [
     ("counter", Terminal::Counter),
     ("clear", Terminal::Clear),
     ("load", Terminal::Load),
@@ -117,6 +117,7 @@ const WORDS: [(&str, Terminal); 16] = [
     ("or", Terminal::Or),
     ("and", Terminal::And),
     ("throughout", Terminal::Throughout),
+    ("intersect", Terminal::Intersect),
 ];
 
 /// The system names that the rules quote.

@@ -3,3 +3,4 @@ pub mod RowLaws
 pub mod FormLaws
 pub mod ShiftLaws
 pub mod DecisionLaws
+pub mod ExtentLaws

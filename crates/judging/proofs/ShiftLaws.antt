@@ -5,7 +5,8 @@ use Rattle.std.specs.Prelude.{IsTrue}
 use Rattle.std.proofs.lemmas.Bool.{or_cases, or_left, or_right, cases_lt, le-leb, leb-true}
 use Rattle.assertions.specs.declared.decision.Decision.{Decision}
 use Rattle.assertions.specs.declared.decision.Decision.TheVariants.{Held, Vacuously, Failed}
-use Rattle.assertions.specs.Segments.{Seq, one, none, chop, fuse, either, both, during, times, Chain, sat, Matches}
+use Rattle.assertions.specs.Segments.{Seq, one, none, chop, fuse, either, both, meet, during, times, Chain, sat}
+use Rattle.assertions.specs.Segments.{Matches}
 use Rattle.assertions.specs.Attempts.{IsEnd, IsDecided, decision}
 use Rattle.assertions.proofs.Segments.{Matches-forward, Chain-forward}
 use Rattle.assertions.proofs.Attempts.{decision-IsDecided, IsDecided-decision}
@@ -54,6 +55,8 @@ module _ (B : Type 0) (there here : B → ℕ → Bool) (c : ℕ) where
         down same s i h.1 k (h.1 - c) first (omega arith) h.3,
         omega (arith, h.4),
       )
+  down same (meet r s) i j k l first last h =
+      (down same r i j k l first last h.0, down same s i j k l first last h.1)
   down same (during b r) i j k l first last h =
       (down same r i j k l first last h.0, λ m from below. same b m (h.1 (c + m) (omega arith) (omega arith)))
   down same (times r least most) i j k l first last h = (
@@ -87,6 +90,8 @@ module _ (B : Type 0) (there here : B → ℕ → Bool) (c : ℕ) where
     up same s i (c + h.1) k h.1 first refl h.3,
     omega (arith, h.4),
   )
+  up same (meet r s) i j k l first last h =
+      (up same r i j k l first last h.0, up same s i j k l first last h.1)
   up same (during b r) i j k l first last h = (
     up same r i j k l first last h.0,
     λ m from below.

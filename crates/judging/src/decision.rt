@@ -15,7 +15,7 @@ use assertions::{Assertion, Decision, HEAVIEST, Sequence, weight_of};
 use std::alloc::{AllocError, Global};
 
 /// A number of ticks that no match of the sequence is over.
-fn most_ticks(sequence: &Sequence) -> usize
+pub(crate) fn most_ticks(sequence: &Sequence) -> usize
     requires ordered { IsOrdered (written_form sequence.now) }
     requires light { weight (written_form sequence.now) ≤ 127 }
     ensures covers { longest (shape sequence.now) ≤ result }

@@ -9,8 +9,8 @@ ghost use Rattle.assertions.specs.Shapes.{shape};
 ghost use Rattle.judging.specs.Tables.{behind, held_at, IsRelation};
 
 use crate::relation::{
-    both, composition_behind, last_ticks, moved_places, next, places_throughout, repetition_of,
-    same, starts_behind, union_of,
+    both, composition_behind, intersection_of, last_ticks, moved_places, next, places_throughout,
+    repetition_of, same, starts_behind, union_of,
 };
 use crate::row::{every_place, some_mark};
 use crate::seen::Seen;
@@ -54,6 +54,11 @@ pub(crate) fn ends_from(
             let ones = ends_from(alloc, one, seen, starts)?;
             let others = ends_from(alloc, other, seen, starts)?;
             both(alloc, &ones, &others, starts)
+        }
+        Sequence::Intersect(one, other) => {
+            let ones = ends_from(alloc, one, seen, starts)?;
+            let others = ends_from(alloc, other, seen, starts)?;
+            intersection_of(alloc, &ones, &others, starts)
         }
         Sequence::Throughout(boolean, body) => {
             let bodies = ends_from(alloc, body, seen, starts)?;

@@ -27,6 +27,7 @@
 mod course;
 mod decision;
 mod ends;
+mod extent;
 mod outlook;
 mod relation;
 mod row;
@@ -35,4 +36,5 @@ mod table;
 mod verdict;
 
 pub use expressions::Rows;
+pub use extent::takes_ticks;
 pub use verdict::judge;

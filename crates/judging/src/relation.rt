@@ -7,7 +7,7 @@ ghost use Rattle.assertions.specs.Segments.{chain};
 ghost use Rattle.judging.specs.Tables.{marks, links, held_at, reached_from, IsRelation};
 
 use crate::row::{
-    both_row, joined_row, kept_row, merge_from, merged_row, moved_row, only, shared_row,
+    both_row, common_row, joined_row, kept_row, merge_from, merged_row, moved_row, only, shared_row,
 };
 use crate::seen::Seen;
 use crate::table::Table;
@@ -139,6 +139,28 @@ pub(crate) fn union_of(
             continue;
         }
         let row = merged_row(alloc, one.row(place), other.row(place), starts.len())?;
+        all.push(row)?;
+    }
+    Ok(all)
+}
+
+/// What each start reaches in both tables.
+pub(crate) fn intersection_of(
+    alloc: Global,
+    one: &Table,
+    other: &Table,
+    starts: &[bool],
+) -> Result<Table, AllocError>
+    ensures { IfOk result
+        (IsRelation (λ i j. links one.now i j && links other.now i j) starts.now) }
+{
+    let mut all = Table::new(alloc);
+    for place in 0..starts.len() {
+        if !starts[place] {
+            all.push(Vec::new(alloc))?;
+            continue;
+        }
+        let row = common_row(alloc, one.row(place), other.row(place), starts.len())?;
         all.push(row)?;
     }
     Ok(all)

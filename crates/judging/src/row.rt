@@ -148,6 +148,23 @@ pub(crate) fn merged_row(
     Ok(row)
 }
 
+/// The places that both rows have.
+pub(crate) fn common_row(
+    alloc: Global,
+    one: &[bool],
+    other: &[bool],
+    count: usize,
+) -> Result<Vec<bool>, AllocError>
+    ensures { IfOk result
+        (λ row. IsRow (λ j. marks one.now j && marks other.now j) count row.items) }
+{
+    let mut row = Vec::with_capacity(alloc, count)?;
+    for place in 0..count {
+        row.push(is_marked(one, place) && is_marked(other, place))?;
+    }
+    Ok(row)
+}
+
 /// Whether the later of two ends is here, where each may have ended before.
 fn is_later_end(one: bool, one_ended: bool, other: bool, other_ended: bool) -> bool
     ensures { result ≡ ((one && other_ended) || (one_ended && other)) }

@@ -2,7 +2,8 @@
 use Rattle.std.proofs.Common.{inl, inr, ℕ, zero, suc, ◌+◌, ◌<◌, ◌≤◌, Bool, arith}
 use Rattle.std.specs.Prelude.{IsTrue, nat_le}
 use Rattle.std.proofs.lemmas.Bool.{or_cases, or_left, or_right, leb-true, le-leb}
-use Rattle.assertions.specs.Segments.{Seq, one, none, chop, fuse, either, both, during, times, Chain, sat, Matches}
+use Rattle.assertions.specs.Segments.{Seq, one, none, chop, fuse, either, both, meet, during, times, Chain, sat}
+use Rattle.assertions.specs.Segments.{Matches}
 use Rattle.assertions.proofs.Segments.{Matches-forward, Chain-forward}
 
 Chain-each : (P Q : ℕ → ℕ → Type 0) → ((i j : ℕ) → P i j → i ≤ j) → (n i j : ℕ)
@@ -43,6 +44,7 @@ module _ (B : Type 0) (h g : B → ℕ → Bool) where
     Matches-local s i m.1 (λ b k from below. agrees b k from (omega (arith, m.4))) m.3,
     m.4,
   )
+  Matches-local (meet r s) i j agrees m = (Matches-local r i j agrees m.0, Matches-local s i j agrees m.1)
   Matches-local (during b r) i j agrees m =
       (Matches-local r i j agrees m.0, λ k from below. agrees b k from below (m.1 k from below))
   Matches-local (times r least most) i j agrees m = (

@@ -1,11 +1,12 @@
 //! Prints what `check` and `judge` tell of two tables, against answers from outside.
 //!
-//! `data/reports.txt` has 145 small dumps and texts, with reports and faults that were worked out
+//! `data/reports.txt` has 158 small dumps and texts, with reports and faults that were worked out
 //! by hand from the standard. `data/ports.txt` has port files of AXI4 ports, of which sums of the
 //! reports are printed; they must be those of a judge who shares no text with svamon
 //! (`scripts/axi4_judge.py`).
 //!
-//! Each text goes through `check_one` by windows of 1, 2, 1,000 and 65,536 clocks and through
+//! Each text goes through `check_one` by windows of 1, 2, 3, 1,000, 1,024 and 65,536 clocks and
+//! through
 //! `judge_one`; where one of them tells another thing than the others, the program ends with an
 //! error. The ports go through `judge_one` and `check_one` by windows of 3 clocks.
 //!

@@ -50,6 +50,9 @@ fn root<'a>(sequence: &SequenceTree<'a>) -> (&'a str, usize) {
         SequenceTree::Late(token, _, _) => (token.text, 1),
         SequenceTree::Delayed(_, more) => ("##", more.len().saturating_add(1)),
         SequenceTree::Throughout(_, _) => ("throughout", 2),
+        SequenceTree::Joined(Junction::Intersect, _, more) => {
+            ("intersect", more.len().saturating_add(1))
+        }
         SequenceTree::Joined(Junction::And, _, more) => ("and", more.len().saturating_add(1)),
         SequenceTree::Joined(Junction::Or, _, more) => ("or", more.len().saturating_add(1)),
     }

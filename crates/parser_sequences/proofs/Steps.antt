@@ -5,7 +5,8 @@ use Rattle.grammar.specs.declared.bound.Bound.{Bound}
 use Rattle.grammar.specs.declared.bound.Range.{Range}
 use Rattle.grammar.specs.declared.operator.Junction.TheVariants as junctions
 use Rattle.grammar.specs.declared.terminal.Terminal.TheVariants.{OpenRound, CloseRound, OpenSquare, OpenRepeat}
-use Rattle.grammar.specs.declared.terminal.Terminal.TheVariants.{CloseSquare, Colon, Delay, Throughout, And, Or}
+use Rattle.grammar.specs.declared.terminal.Terminal.TheVariants.{CloseSquare, Colon, Delay, Throughout, Intersect, And}
+use Rattle.grammar.specs.declared.terminal.Terminal.TheVariants.{Or}
 use Rattle.grammar.specs.Terminals.{is}
 use Rattle.grammar.specs.Bounds.{bound_within}
 use Rattle.grammar.specs.Trees.{Tree, SequenceForm, boolean, repeated, late, delayed, throughout, joined}
@@ -14,6 +15,7 @@ use Rattle.grammar.specs.ReadExpressions.{expression, finish}
 use Rattle.grammar.specs.ReadSequences.{times, range_between, delay, regroup, body_with, with_times, repeat_behind}
 use Rattle.grammar.specs.ReadSequences.{repetition_with, late_part, with_steps, delayed_behind, cat_behind}
 use Rattle.grammar.specs.ReadSequences.{during_behind, during_with, with_others, conjunction_behind, conjunction_with}
+use Rattle.grammar.specs.ReadSequences.{intersection_behind, intersection_with}
 use Rattle.grammar.specs.ReadSequences.{alternatives_behind, sides_behind, whole_with, sequences, throughout_reader}
 use Rattle.grammar.specs.ReadSequences.{whole, sequence_behind}
 use Rattle.parser_expressions.specs.declared.stop.Stop.{Stop}
@@ -247,14 +249,28 @@ pub delayed-ok : (d : ℕ) (s : SequenceForm) (ts : List Token) (xs : List (Rang
 unfolding delayed_behind
 delayed-ok d s ts xs us h = rw (h) refl
 
+pub meet-fails : (d : ℕ) (s : SequenceForm) (ts : List Token) (x : Stop)
+    → Fails x (each (is Intersect) (λ t. during_with d (sequences d)) ts)
+    → Fails x (intersection_behind d (sequences d) s ts)
+unfolding intersection_behind
+meet-fails d s ts x f = failing x _ _ (λ none. rw (none) refl) f
+
+pub meet-ok : (d : ℕ) (s : SequenceForm) (ts : List Token) (xs : List SequenceForm) (us : List Token)
+    → each (is Intersect) (λ t. during_with d (sequences d)) ts ≡ Some (xs, us) → intersection_behind d
+    (sequences d) s ts
+    ≡ Some (with_others junctions.Intersect s xs, us)
+unfolding intersection_behind
+meet-ok d s ts xs us h = rw (h) refl
+
 pub conjunction-fails : (d : ℕ) (s : SequenceForm) (ts : List Token) (x : Stop)
-    → Fails x (each (is And) (λ t. during_with d (sequences d)) ts)
+    → Fails x (each (is And) (λ t. intersection_with d (sequences d)) ts)
     → Fails x (conjunction_behind d (sequences d) s ts)
 unfolding conjunction_behind
 conjunction-fails d s ts x f = failing x _ _ (λ none. rw (none) refl) f
 
 pub conjunction-ok : (d : ℕ) (s : SequenceForm) (ts : List Token) (xs : List SequenceForm) (us : List Token)
-    → each (is And) (λ t. during_with d (sequences d)) ts ≡ Some (xs, us) → conjunction_behind d (sequences d) s ts
+    → each (is And) (λ t. intersection_with d (sequences d)) ts ≡ Some (xs, us) → conjunction_behind d
+    (sequences d) s ts
     ≡ Some (with_others junctions.And s xs, us)
 unfolding conjunction_behind
 conjunction-ok d s ts xs us h = rw (h) refl
@@ -341,14 +357,26 @@ pub during-late-tail : (d : ℕ) (ts : List Token) (t : Token) (us : List Token)
 unfolding throughout_reader during_with
 during-late-tail d ts t us n s vs h k = rw (h, k) refl
 
-pub side-fail1 : (d : ℕ) (ts : List Token) (x : Stop) → Fails x (throughout_reader d ts)
+pub conjunct-fail1 : (d : ℕ) (ts : List Token) (x : Stop) → Fails x (throughout_reader d ts)
+    → Fails x (intersection_with d (sequences d) ts)
+unfolding intersection_with throughout_reader
+conjunct-fail1 d ts x f = failing x _ _ (λ none. rw (none) refl) f
+
+pub conjunct-tail : (d : ℕ) (ts : List Token) (s : SequenceForm) (us : List Token) → throughout_reader d ts ≡ Some
+    (s, us)
+    → intersection_with d (sequences d) ts ≡ intersection_behind d (sequences d) s us
+unfolding intersection_with throughout_reader
+conjunct-tail d ts s us h = rw (h) refl
+
+pub side-fail1 : (d : ℕ) (ts : List Token) (x : Stop) → Fails x (intersection_with d (sequences d) ts)
     → Fails x (conjunction_with d (sequences d) ts)
-unfolding conjunction_with throughout_reader
+unfolding conjunction_with
 side-fail1 d ts x f = failing x _ _ (λ none. rw (none) refl) f
 
-pub side-tail : (d : ℕ) (ts : List Token) (s : SequenceForm) (us : List Token) → throughout_reader d ts ≡ Some (s, us)
+pub side-tail : (d : ℕ) (ts : List Token) (s : SequenceForm) (us : List Token) → intersection_with d
+    (sequences d) ts ≡ Some (s, us)
     → conjunction_with d (sequences d) ts ≡ conjunction_behind d (sequences d) s us
-unfolding conjunction_with throughout_reader
+unfolding conjunction_with
 side-tail d ts s us h = rw (h) refl
 
 pub alternatives-fails : (d : ℕ) (s : SequenceForm) (ts : List Token) (x : Stop)
@@ -364,15 +392,22 @@ unfolding alternatives_behind
 alternatives-ok d s ts xs us h = rw (h) refl
 
 -- the sides of a sequence, grouped as in its definition or with the first side and its conjuncts together
-grouped : (d : ℕ) (o : Option (SequenceForm × List Token)) → (o >>= λ p. sides_behind d (sequences d) p.0 p.1)
+regrouped : (d : ℕ) (o : Option (SequenceForm × List Token))
+    → (o >>= λ p. (conjunction_behind d (sequences d) p.0 p.1 >>= λ q. alternatives_behind d (sequences d) q.0 q.1))
     ≡ ((o >>= λ p. conjunction_behind d (sequences d) p.0 p.1) >>= λ q. alternatives_behind d (sequences d) q.0 q.1)
+regrouped d None = refl
+regrouped d (Some p) = refl
+
+grouped : (d : ℕ) (o : Option (SequenceForm × List Token)) → (o >>= λ p. sides_behind d (sequences d) p.0 p.1)
+    ≡ (((o >>= λ p. intersection_behind d (sequences d) p.0 p.1) >>= λ p. conjunction_behind d (sequences d) p.0 p.1)
+    >>= λ q. alternatives_behind d (sequences d) q.0 q.1)
 unfolding sides_behind
 grouped d None = refl
-grouped d (Some p) = refl
+grouped d (Some p) = regrouped d (intersection_behind d (sequences d) p.0 p.1)
 
 whole-by : (d : ℕ) (ts : List Token)
     → whole d ts ≡ (conjunction_with d (sequences d) ts >>= λ q. alternatives_behind d (sequences d) q.0 q.1)
-unfolding whole whole_with conjunction_with
+unfolding whole whole_with conjunction_with intersection_with
 whole-by d ts = grouped d (during_with d (sequences d) ts)
 
 pub whole-fails : (d : ℕ) (ts : List Token) (x : Stop) → Fails x (conjunction_with d (sequences d) ts)
@@ -389,16 +424,24 @@ unfolding sequence_behind
 finish-fail1 d s ts x f = failing x _ _ (λ none. rw (none) refl) f
 
 pub finish-fail2 : (d : ℕ) (s : SequenceForm) (ts : List Token) (p : SequenceForm) (us : List Token) (x : Stop)
-    → during_behind d (sequences d) s ts ≡ Some (p, us) → Fails x (conjunction_behind d (sequences d) p us)
+    → during_behind d (sequences d) s ts ≡ Some (p, us) → Fails x (intersection_behind d (sequences d) p us)
     → Fails x (sequence_behind d s ts)
 unfolding sequence_behind sides_behind
 finish-fail2 d s ts p us x h f = failing x _ _ (λ none. rw (h, none) refl) f
 
-pub finish-tail : (d : ℕ) (s : SequenceForm) (ts : List Token) (p : SequenceForm) (us : List Token) (q : SequenceForm)
-    (vs : List Token) → during_behind d (sequences d) s ts ≡ Some (p, us) → conjunction_behind d (sequences d) p us
-    ≡ Some (q, vs) → sequence_behind d s ts ≡ alternatives_behind d (sequences d) q vs
+pub finish-fail3 : (d : ℕ) (s : SequenceForm) (ts : List Token) (p : SequenceForm) (us : List Token) (q : SequenceForm)
+    (vs : List Token) (x : Stop) → during_behind d (sequences d) s ts ≡ Some (p, us)
+    → intersection_behind d (sequences d) p us ≡ Some (q, vs) → Fails x (conjunction_behind d (sequences d) q vs)
+    → Fails x (sequence_behind d s ts)
 unfolding sequence_behind sides_behind
-finish-tail d s ts p us q vs h k = rw (h, k) refl
+finish-fail3 d s ts p us q vs x h k f = failing x _ _ (λ none. rw (h, k, none) refl) f
+
+pub finish-tail : (d : ℕ) (s : SequenceForm) (ts : List Token) (p : SequenceForm) (us : List Token) (q : SequenceForm)
+    (vs : List Token) (r : SequenceForm) (ws : List Token) → during_behind d (sequences d) s ts ≡ Some (p, us)
+    → intersection_behind d (sequences d) p us ≡ Some (q, vs) → conjunction_behind d (sequences d) q vs ≡ Some (r, ws)
+    → sequence_behind d s ts ≡ alternatives_behind d (sequences d) r ws
+unfolding sequence_behind sides_behind
+finish-tail d s ts p us q vs r ws h k l = rw (h, k, l) refl
 
 pub ruleset for_optional = (optional-absent, optional-present, optional-fails)
 

@@ -4,6 +4,7 @@ ghost use Rattle.std.specs.Prelude.{◌≡◌, ◌<◌, ◌≤◌, ◌+◌, ◌=
 ghost use Rattle.grammar.specs.ReadSequences.{sequences, regroup, body_with, repeat_behind};
 ghost use Rattle.grammar.specs.ReadSequences.{late_part, delayed_behind, during_behind};
 ghost use Rattle.grammar.specs.ReadSequences.{throughout_reader, conjunction_behind};
+ghost use Rattle.grammar.specs.ReadSequences.{intersection_behind, intersection_with};
 ghost use Rattle.grammar.specs.ReadSequences.{conjunction_with, alternatives_behind};
 ghost use Rattle.grammar.specs.ReadSequences.{sequence_behind, whole};
 ghost use Rattle.parser_expressions.specs.Views.{Gives};
@@ -165,6 +166,45 @@ fn read_during<'t, 'a>(
     read_delayed(alloc, rest, late, depth)
 }
 
+/// What the `intersect`s that follow make of a first side.
+#[cycle(sequences)]
+fn read_intersection<'t, 'a>(
+    alloc: Global,
+    tokens: &'t [Token<'a>],
+    side: Box<SequenceTree<'a>>,
+    depth: usize,
+) -> Read<'t, 'a, Box<SequenceTree<'a>>>
+    ensures read { Gives (λ r. (sequence_of r.0.value, r.1.now)) result
+        (intersection_behind depth (sequences depth) (sequence_of side.entry.value) tokens.now) }
+    ensures shorter { IfOk result (λ r. length r.1.now ≤ length tokens.now) }
+{
+    let mut found = Vec::new(alloc);
+    let mut left = tokens;
+    'meets: loop {
+        let Some((_, rest)) = accept(left, Terminal::Intersect) else {
+            return with_others(alloc, Junction::Intersect, side, found, left);
+        };
+        let (meet, rest) = read!(read_during(alloc, rest, depth));
+        read!(push_sequence(&mut found, meet));
+        left = same(rest);
+    }
+}
+
+/// A side of `and`.
+#[cycle(sequences)]
+fn read_conjunct<'t, 'a>(
+    alloc: Global,
+    tokens: &'t [Token<'a>],
+    depth: usize,
+) -> Read<'t, 'a, Box<SequenceTree<'a>>>
+    ensures read { Gives (λ r. (sequence_of r.0.value, r.1.now)) result
+        (intersection_with depth (sequences depth) tokens.now) }
+    ensures shorter { IfOk result (λ r. length r.1.now ≤ length tokens.now) }
+{
+    let (side, rest) = read!(read_during(alloc, tokens, depth));
+    read_intersection(alloc, rest, side, depth)
+}
+
 /// What the `and`s that follow make of a first side.
 #[cycle(sequences)]
 fn read_conjunction<'t, 'a>(
@@ -183,7 +223,7 @@ fn read_conjunction<'t, 'a>(
         let Some((_, rest)) = accept(left, Terminal::And) else {
             return with_others(alloc, Junction::And, side, found, left);
         };
-        let (conjunct, rest) = read!(read_during(alloc, rest, depth));
+        let (conjunct, rest) = read!(read_conjunct(alloc, rest, depth));
         read!(push_sequence(&mut found, conjunct));
         left = same(rest);
     }
@@ -200,7 +240,7 @@ fn read_side<'t, 'a>(
         (conjunction_with depth (sequences depth) tokens.now) }
     ensures shorter { IfOk result (λ r. length r.1.now ≤ length tokens.now) }
 {
-    let (side, rest) = read!(read_during(alloc, tokens, depth));
+    let (side, rest) = read!(read_conjunct(alloc, tokens, depth));
     read_conjunction(alloc, rest, side, depth)
 }
 
@@ -254,6 +294,7 @@ pub fn finish_sequence<'t, 'a>(
     ensures shorter { IfOk result (λ r. length r.1.now ≤ length tokens.now) }
 {
     let (side, rest) = read!(read_behind(alloc, tokens, body, depth));
+    let (side, rest) = read!(read_intersection(alloc, rest, side, depth));
     let (side, rest) = read!(read_conjunction(alloc, rest, side, depth));
     read_alternatives(alloc, rest, side, depth)
 }

@@ -1,9 +1,9 @@
 -- The section of a table follows its sequence.
 use Rattle.std.proofs.Common.{◌≡◌, ◌∙◌, inl, inr, ℕ, zero, suc, ◌+◌, Bool, true, false, List, [], ◌∷◌, Option, Some}
 use Rattle.std.proofs.Common.{None, refl, sym, ap, subst, arith}
-use Rattle.std.specs.Prelude.{IsTrue, slice_index_or}
+use Rattle.std.specs.Prelude.{IsTrue, slice_index_or, nat_le}
 use Rattle.std.specs.Int.{bit_at}
-use Rattle.std.proofs.lemmas.Bool.{cases_lt, and_parts, and_from}
+use Rattle.std.proofs.lemmas.Bool.{cases_lt, and_parts, and_from, or_left, le-leb}
 use Rattle.std.proofs.lemmas.Nat.Bits.{bit_at-zero, bit_at-lt, same_from_bits}
 use Rattle.checked_machine.specs.Blocks.{Visit}
 use Rattle.assertions.specs.Segments.{sat, Matches}
@@ -20,6 +20,10 @@ use Rattle.positions.proofs.Effects.{bits-Has, Has-bits, all_now, made_by, block
 use Rattle.positions.proofs.Effects.{bit-by, by-accepts, accepts-by}
 use Rattle.positions.proofs.Lists.{SomeOf-each, SomeOf-map, map-SomeOf}
 use Rattle.positions.proofs.Standing.{Stands, Stands-below, Stands-local, Stands-At, At-Stands}
+use Rattle.positions.specs.Living.{lives, is_kept, rank, sifted}
+use Rattle.positions.proofs.Sifting.{sifted-rising, from, from-lives, sifted-Stands, Stands-sifted, sifted-Accepts}
+use Rattle.positions.proofs.Sifting.{Stands-kept}
+use Rattle.positions.proofs.Sifting.{Accepts-sifted, lives-accepts, Left-lives, lives-Left}
 
 -- a set with no position is 0
 set-none : (set : ℕ) → ((q : ℕ) → bit_at set q ≡ 1 → ⊥) → set ≡ 0
@@ -124,46 +128,65 @@ module _ (B : Type 0) (t : Table B) (rising : IsRising t) (atom : B → Option �
       ∙ accepts-by (rows (c + k)) (places a c k) prow 0 t.size nothing
       (inr (p, omega arith, omega (arith, below), Stands-places c k p h, prow-Accept (c + k) p on))
 
-  module _ (r : Plan B) (spells : Spells r t) where
-    ends-forth : (c k : ℕ) → IsTrue (accepts a c k) → Matches value (shape r) c (c + k + 1)
-    ends-forth c k h =
-        let x = accepts-Stands c k h in
-        let y = Stands-At B t rising r spells value c k x.0 x.1 in
-        ends-Match B value r c k y.0 y.2
-        ((spells.accepts value y.0 (c + k)).0 (subst (λ p. Accepts value t p (c + k)) (sym y.1) x.2))
+-- the section of the positions that may still come to an end
+module _ (B : Type 0) (t : Table B) (up : IsRising t) (atom : B → Option ℕ) (rows : ℕ → List Bool) (r : Plan B)
+    (spells : Spells r t) where
+  abbrev s : Automaton
+  s = a B (sifted t) (sifted-rising B t up) atom rows
 
-    ends-back : (c k : ℕ) → Matches value (shape r) c (c + k + 1) → IsTrue (accepts a c k)
-    ends-back c k h =
-        let x = Match-ends B value r c k h in
-        Stands-accepts c k (spells.number x.0) (At-Stands B t rising r spells value c k x.0 x.1)
-        ((spells.accepts value x.0 (c + k)).1 x.2)
+  abbrev seen : B → ℕ → Bool
+  seen = value B (sifted t) (sifted-rising B t up) atom rows
 
-    over-forth : (c k : ℕ) → places a c k ≡ 0 → IsOver value (shape r) (c + k) c
-    over-forth c k none j past h =
-        let holds : B → ℕ → Bool = sat value (c + k) in
-        let x = Match-At B holds r c k j past h in
-        let stands = At-Stands B t rising r spells holds c k x.0 x.1 in
-        let bit =
-        Stands-places c k (spells.number x.0)
-        (Stands-local B t rising holds value c k (spells.number x.0)
-        (λ b i from low. sat-seen B value (c + k) b i low) stands) in
-        let zeros = ap (λ n. bit_at n (spells.number x.0)) none in
-        omega (arith, bit, zeros, bit_at-zero (spells.number x.0))
+  ends-forth : (c k : ℕ) → IsTrue (accepts s c k) → Matches seen (shape r) c (c + k + 1)
+  ends-forth c k h =
+      let x = accepts-Stands B (sifted t) (sifted-rising B t up) atom rows c k h in
+      let y = Stands-At B t up r spells seen c k (from B t up x.0) (sifted-Stands B t up seen c k x.0 x.1) in
+      ends-Match B seen r c k y.0 y.2
+      ((spells.accepts seen y.0 (c + k)).0
+      (subst (λ p. Accepts seen t p (c + k)) (sym y.1) (sifted-Accepts B t up seen x.0 (c + k) x.2)))
 
-    -- where a match is left from each state
-    module _ (alive : (n : ℕ) (x : State r) → (j : ℕ) × Left (sat value n) r x n j) where
-      over-back : (c k : ℕ) → IsOver value (shape r) (c + k) c → places a c k ≡ 0
-      over-back c k over = set-none (places a c k) (λ q bit.
-          let holds : B → ℕ → Bool = sat value (c + k) in
-          let stands =
-          Stands-local B t rising value holds c k q (λ b i from low. seen-sat B value (c + k) b i)
-          (places-Stands c k q bit) in
-          let y = Stands-At B t rising r spells holds c k q stands in
-          let rest = alive (c + k) y.0 in
-          over rest.0 (Left-after B holds r y.0 (c + k) rest.0 rest.1) (At-Match B holds r c k rest.0 y.0 y.2 rest.1))
+  ends-back : (c k : ℕ) → Matches seen (shape r) c (c + k + 1) → IsTrue (accepts s c k)
+  ends-back c k h =
+      let x = Match-ends B seen r c k h in
+      let on = (spells.accepts seen x.0 (c + k)).1 x.2 in
+      let living = lives-accepts B t up seen (spells.number x.0) (c + k) (spells.below x.0) on in
+      let stands = At-Stands B t up r spells seen c k x.0 x.1 in
+      Stands-accepts B (sifted t) (sifted-rising B t up) atom rows c k (rank (is_kept t) (spells.number x.0))
+      (Stands-sifted B t up seen c k (spells.number x.0) stands living)
+      (Accepts-sifted B t up seen (spells.number x.0) (c + k)
+      (Stands-kept B t up seen c k (spells.number x.0) stands living) on)
 
-      pub section-follows : Follows value (shape r) a
-      section-follows = record {
-        ends = λ c k. (ends-forth c k, ends-back c k);
-        over = λ c k. (over-forth c k, over-back c k);
-      }
+  over-forth : (c k : ℕ) → places s c k ≡ 0 → IsOver seen (shape r) (c + k) c
+  over-forth c k none j past h =
+      let holds : B → ℕ → Bool = sat seen (c + k) in
+      let x = Match-At B holds r c k j past h in
+      let n : ℕ = rank (is_kept t) (spells.number x.0) in
+      let stands =
+      Stands-sifted B t up holds c k (spells.number x.0) (At-Stands B t up r spells holds c k x.0 x.1)
+      (Left-lives B t up r spells holds x.0 (c + k) j x.2) in
+      let bit =
+      Stands-places B (sifted t) (sifted-rising B t up) atom rows c k n
+      (Stands-local B (sifted t) (sifted-rising B t up) holds seen c k n
+      (λ b i from low. sat-seen B seen (c + k) b i low) stands) in
+      let zeros = ap (λ m. bit_at m n) none in
+      omega (arith, bit, zeros, bit_at-zero n)
+
+  over-back : (c k : ℕ) → IsOver seen (shape r) (c + k) c → places s c k ≡ 0
+  over-back c k over = set-none (places s c k) (λ q bit.
+      let holds : B → ℕ → Bool = sat seen (c + k) in
+      let stands =
+      Stands-local B (sifted t) (sifted-rising B t up) seen holds c k q (λ b i from low. seen-sat B seen (c + k) b i)
+      (places-Stands B (sifted t) (sifted-rising B t up) atom rows c k q bit) in
+      let f = from-lives B t up q (Stands-below B (sifted t) (sifted-rising B t up) holds c k q stands) in
+      let y = Stands-At B t up r spells holds c k (from B t up q) (sifted-Stands B t up holds c k q stands) in
+      let rest =
+      lives-Left B t up r spells holds y.0 (c + k)
+      (λ b i late. or_left (nat_le (c + k) i) (seen b i) (le-leb (c + k) i late))
+      (subst (λ p. IsTrue (lives t p)) (sym y.1) f) in
+      over rest.0 (Left-after B holds r y.0 (c + k) rest.0 rest.1) (At-Match B holds r c k rest.0 y.0 y.2 rest.1))
+
+  pub section-follows : Follows seen (shape r) s
+  section-follows = record {
+    ends = λ c k. (ends-forth c k, ends-back c k);
+    over = λ c k. (over-forth c k, over-back c k);
+  }

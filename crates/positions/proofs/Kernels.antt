@@ -2,81 +2,29 @@
 use Rattle.std.proofs.Common.{◌≡◌, inl, inr, ℕ, zero, suc, ◌+◌, ◌-◌, ◌<◌, ◌≤◌, Bool, true, false, ◌&&◌}
 use Rattle.std.proofs.Common.{refl, sym, subst, ap, arith}
 use Rattle.std.specs.Prelude.{◌↔◌, IsTrue}
-use Rattle.std.proofs.lemmas.Bool.{cases_eq, cases_lt, cases_Bool, and_from, both_ways}
-use Rattle.assertions.specs.Segments.{Seq, one, none, chop, fuse, either, both, during, times}
-use Rattle.assertions.specs.Segments.{Chain, Matches, always}
-use Rattle.assertions.specs.Written.{Written, boolean, delay, lead, repeat, or, and, throughout}
-use Rattle.assertions.specs.Written.{one_of, after, later, kernel, IsOrdered}
-use Rattle.assertions.specs.Emptiness.{admits_empty, takes_ticks}
-use Rattle.assertions.proofs.Segments.{Matches-forward, Chain-forward}
-use Rattle.assertions.proofs.EmptinessLaws.{empty-Matches, Matches-empty, none-degenerate}
-use Rattle.positions.specs.Plans.{Plan, tick, skip, any, all, under, loop, link, shape, apart, moving, plan}
+use Rattle.std.proofs.lemmas.Bool.{cases_eq, cases_lt, and_from, both_ways, lt-ltb}
+use Rattle.assertions.specs.Segments.{Seq, one, Chain, Matches}
+use Rattle.assertions.specs.Written.{Written, boolean, delay, lead, repeat, or, and, intersect, throughout}
+use Rattle.assertions.specs.Written.{one_of, after, later, kernel, weight, IsOrdered}
+use Rattle.assertions.specs.Emptiness.{admits_empty}
+use Rattle.assertions.proofs.Segments.{Matches-forward, Matches-longest}
+use Rattle.assertions.proofs.EmptinessLaws.{empty-Matches, Matches-empty}
+use Rattle.assertions.proofs.WeightLaws.{weight_covers}
+use Rattle.positions.specs.Plans.{Plan, tick, skip, any, all, pair, under, loop, link, shape, apart, moving}
+use Rattle.positions.specs.Plans.{weighs, plan}
 use Rattle.positions.proofs.Ticks.{link-Linked, Linked-link}
-use Rattle.positions.proofs.Local.{Matches-local}
-
--- Where every boolean is true, a match may begin so many ticks earlier.
-Chain-back : (P Q : ℕ → ℕ → Type 0) (c : ℕ) → ((i j : ℕ) → P i j → i ≤ j)
-    → ((i j : ℕ) → c ≤ i → P i j → Q (i - c) (j - c)) → (n i j : ℕ) → c ≤ i → Chain P n i j
-    → Chain Q n (i - c) (j - c)
-Chain-back P Q c forward each zero i j le h = ap (λ n. n - c) h
-Chain-back P Q c forward each (suc n) i j le h = (
-  h.0 - c,
-  Chain-back P Q c forward each n i h.0 le h.1,
-  each h.0 j (omega (arith, Chain-forward P forward n i h.0 h.1)) h.2,
-)
-
-module _ (B : Type 0) where
-  Matches-back : (r : Seq B) (c i j : ℕ) → c ≤ i → Matches always r i j → Matches always r (i - c) (j - c)
-  Matches-back (one b) c i j le h = (omega (arith, h.0), refl)
-  Matches-back none c i j le h = ap (λ n. n - c) h
-  Matches-back (chop r s) c i j le h = (
-    h.0 - c,
-    Matches-back r c i h.0 le h.1,
-    Matches-back s c h.0 j (omega (arith, Matches-forward B always r i h.0 h.1)) h.2,
-  )
-  Matches-back (fuse r s) c i j le h =
-      let e : h.0 + 1 - c ≡ h.0 - c + 1 = omega (arith, h.1) in (
-        h.0 - c,
-        omega (arith, h.1),
-        omega (arith, h.1, h.2),
-        subst (λ m. Matches always r (i - c) m) e (Matches-back r c i (h.0 + 1) le h.3),
-        Matches-back s c h.0 j (omega (arith, h.1)) h.4,
-      )
-  Matches-back (either r s) c i j le h =
-      elim h [ inl a ↦ inl (Matches-back r c i j le a) | inr a ↦ inr (Matches-back s c i j le a) ]
-  Matches-back (both r s) c i j le h = (
-    h.0 - c,
-    h.1 - c,
-    Matches-back r c i h.0 le h.2,
-    Matches-back s c i h.1 le h.3,
-    omega (arith, h.4),
-  )
-  Matches-back (during b r) c i j le h = (Matches-back r c i j le h.0, λ k from below. refl)
-  Matches-back (times r least most) c i j le h = (
-    h.0,
-    h.1,
-    h.2,
-    Chain-back (Matches always r) (Matches always r) c (Matches-forward B always r) (Matches-back r c) h.0 i j le h.3,
-  )
 
 Chain-map : (P Q : ℕ → ℕ → Type 0) → ((i j : ℕ) → P i j → Q i j) → (n i j : ℕ) → Chain P n i j → Chain Q n i j
 Chain-map P Q each zero i j h = h
 Chain-map P Q each (suc n) i j h = (h.0, Chain-map P Q each n i h.0 h.1, each h.0 j h.2)
 
 module _ (B : Type 0) (holds : B → ℕ → Bool) (true_one : B) where
-  -- what matches a tick or more is told by its form
-  pub moves-takes : (w : Written B) → IsOrdered w → (i j : ℕ) → i < j → Matches holds (kernel true_one w) i j
-      → IsTrue (takes_ticks w)
-  moves-takes w ordered i j lt h = elim (cases_Bool (takes_ticks w)) [
-    | inl takes ↦ takes
-    | inr still ↦
-        let seen = Matches-local B holds always (kernel true_one w) i j (λ b k from below x. refl) h in
-        let e : i - i ≡ 0 = omega arith in
-        let begun =
-        subst (λ m. Matches always (kernel true_one w) m (j - i)) e
-        (Matches-back B (kernel true_one w) i i j (omega arith) seen) in
-        absurd (none-degenerate B true_one w ordered still (j - i) (omega arith) begun)
-  ]
+  -- what matches a tick or more weighs something
+  moves-weighs : (w : Written B) → IsOrdered w → (i j : ℕ) → i < j → Matches holds (kernel true_one w) i j
+      → IsTrue (weighs w)
+  moves-weighs w ordered i j lt h =
+      lt-ltb 0 (weight w)
+      (omega (arith, Matches-longest B holds (kernel true_one w) i j h, weight_covers B true_one w ordered))
 
   -- a range is one of its numbers
   one_of-some : (form : ℕ → Seq B) (first more i j : ℕ) → Matches holds (one_of first more form) i j → (d : ℕ)
@@ -140,38 +88,34 @@ module _ (B : Type 0) (holds : B → ℕ → Bool) (true_one : B) where
       → Spaced (shape p) (shape q) n i j → Spaced r s n i j
   Spaced-back r s p q er es n i j h = (h.0, h.1, (er i h.0).1 h.2, h.3, (es h.1 j).1 h.4)
 
-  -- r and s share a tick in a match only where they may
-  abbrev pub Shares : Bool → Seq B → Seq B → Type 0
-  Shares shares r s = (i e j : ℕ) → i ≤ e → e < j → Matches holds r i (e + 1) → Matches holds s e j → IsTrue shares
-
-  apart-forth : (shares : Bool) (r s : Seq B) (p q : Plan B) → Shares shares r s → Same r (shape p) → Same s (shape q)
+  apart-forth : (r s : Seq B) (p q : Plan B) → Same r (shape p) → Same s (shape q)
       → (least most : ℕ) → least ≤ most → (i j d : ℕ) → least ≤ d → d ≤ most
-      → Matches holds (after true_one r s d) i j → Matches holds (shape (apart shares true_one p q least most)) i j
-  apart-forth shares r s p q may er es zero zero le i j zero low high h =
-      Linked-link B holds shares false p skip q i j
-      (inl (may i h.0 j h.1 h.2 h.3 h.4, h.0, h.1, h.2, (er i (h.0 + 1)).0 h.3, (es h.0 j).0 h.4))
-  apart-forth shares r s p q may er es zero zero le i j (suc d) low high h = absurd (omega arith)
-  apart-forth shares r s p q may er es zero (suc most) le i j zero low high h =
-      Linked-link B holds shares true p (loop (tick true_one) 0 most) q i j
-      (inl (may i h.0 j h.1 h.2 h.3 h.4, h.0, h.1, h.2, (er i (h.0 + 1)).0 h.3, (es h.0 j).0 h.4))
-  apart-forth shares r s p q may er es zero (suc most) le i j (suc d) low high h =
+      → Matches holds (after true_one r s d) i j → Matches holds (shape (apart true_one p q least most)) i j
+  apart-forth r s p q er es zero zero le i j zero low high h =
+      Linked-link B holds true false p skip q i j
+      (inl (refl, h.0, h.1, h.2, (er i (h.0 + 1)).0 h.3, (es h.0 j).0 h.4))
+  apart-forth r s p q er es zero zero le i j (suc d) low high h = absurd (omega arith)
+  apart-forth r s p q er es zero (suc most) le i j zero low high h =
+      Linked-link B holds true true p (loop (tick true_one) 0 most) q i j
+      (inl (refl, h.0, h.1, h.2, (er i (h.0 + 1)).0 h.3, (es h.0 j).0 h.4))
+  apart-forth r s p q er es zero (suc most) le i j (suc d) low high h =
       let x = Spaced-forth r s p q er es d i j (after-Spaced r s d i j h) in
-      Linked-link B holds shares true p (loop (tick true_one) 0 most) q i j
+      Linked-link B holds true true p (loop (tick true_one) 0 most) q i j
       (inr (refl, x.0, x.1, x.2, (d, omega arith, omega arith, x.3), x.4))
-  apart-forth shares r s p q may er es (suc least) most le i j zero low high h = absurd (omega arith)
-  apart-forth shares r s p q may er es (suc least) most le i j (suc d) low high h =
+  apart-forth r s p q er es (suc least) most le i j zero low high h = absurd (omega arith)
+  apart-forth r s p q er es (suc least) most le i j (suc d) low high h =
       let x = Spaced-forth r s p q er es d i j (after-Spaced r s d i j h) in
       (x.1, (x.0, x.2, (d, omega arith, omega arith, x.3)), x.4)
 
-  apart-back : (shares : Bool) (r s : Seq B) (p q : Plan B) → Same r (shape p) → Same s (shape q) → (least most : ℕ)
-      → least ≤ most → (i j : ℕ) → Matches holds (shape (apart shares true_one p q least most)) i j → (d : ℕ)
+  apart-back : (r s : Seq B) (p q : Plan B) → Same r (shape p) → Same s (shape q) → (least most : ℕ)
+      → least ≤ most → (i j : ℕ) → Matches holds (shape (apart true_one p q least most)) i j → (d : ℕ)
       × (least ≤ d) × (d ≤ most) × Matches holds (after true_one r s d) i j
-  apart-back shares r s p q er es zero zero le i j h = elim (link-Linked B holds shares false p skip q i j h) [
+  apart-back r s p q er es zero zero le i j h = elim (link-Linked B holds true false p skip q i j h) [
     | inl x ↦ (0, omega arith, omega arith, (x.1, x.2, x.3, (er i (x.1 + 1)).1 x.4, (es x.1 j).1 x.5))
     | inr x ↦ (let no : false ≡ true = x.0 in cc)
   ]
-  apart-back shares r s p q er es zero (suc most) le i j h =
-      elim (link-Linked B holds shares true p (loop (tick true_one) 0 most) q i j h) [
+  apart-back r s p q er es zero (suc most) le i j h =
+      elim (link-Linked B holds true true p (loop (tick true_one) 0 most) q i j h) [
         | inl x ↦ (0, omega arith, omega arith, (x.1, x.2, x.3, (er i (x.1 + 1)).1 x.4, (es x.1 j).1 x.5))
         | inr x ↦
             let c : ℕ = x.4.0 in (
@@ -181,7 +125,7 @@ module _ (B : Type 0) (holds : B → ℕ → Bool) (true_one : B) where
               Spaced-after r s c i j (Spaced-back r s p q er es c i j (x.1, x.2, x.3, x.4.3, x.5)),
             )
       ]
-  apart-back shares r s p q er es (suc least) most le i j h =
+  apart-back r s p q er es (suc least) most le i j h =
       let c : ℕ = h.1.2.0 in (
         suc c,
         omega (arith, h.1.2.1),
@@ -212,36 +156,30 @@ module _ (B : Type 0) (holds : B → ℕ → Bool) (true_one : B) where
   )
 
   moving-kernel : (w : Written B) (p : Plan B) → IsOrdered w → Same (kernel true_one w) (shape p)
-      → Same (kernel true_one w) (shape (moving (takes_ticks w) (admits_empty w) p))
+      → Same (kernel true_one w) (shape (moving (weighs w) (admits_empty w) p))
   moving-kernel w p ordered =
-      moving-Same (kernel true_one w) p (takes_ticks w) (admits_empty w)
-      (moves-takes w ordered)
+      moving-Same (kernel true_one w) p (weighs w) (admits_empty w)
+      (moves-weighs w ordered)
       (λ i h. Matches-empty B holds true_one w i ordered h)
       (λ i h. empty-Matches B holds true_one w i ordered h)
-
-  shares-told : (r s : Written B) → IsOrdered r → IsOrdered s
-      → Shares (takes_ticks r && takes_ticks s) (kernel true_one r) (kernel true_one s)
-  shares-told r s r_in s_in i e j from past front rest =
-      and_from (takes_ticks r) (takes_ticks s) (moves-takes r r_in i (e + 1) (omega arith) front)
-      (moves-takes s s_in e j past rest)
 
   -- a plan matches what its kernel does
   pub plan-kernel : (w : Written B) → IsOrdered w → Same (kernel true_one w) (shape (plan true_one w))
   plan-kernel (boolean b) ordered = λ i j. (λ h. h, λ h. h)
   plan-kernel (delay r least most s) ordered =
       moving-kernel (delay r least most s)
-      (apart (takes_ticks r && takes_ticks s) true_one (plan true_one r) (plan true_one s) least most) ordered (λ i j.
+      (apart true_one (plan true_one r) (plan true_one s) least most) ordered (λ i j.
       let er = plan-kernel r ordered.1 in
       let es = plan-kernel s ordered.2 in
       let sum : least + (most - least) ≡ most = omega (arith, ordered.0) in (
         λ h.
             let x = one_of-some (after true_one (kernel true_one r) (kernel true_one s)) least (most - least) i j h in
-            apart-forth (takes_ticks r && takes_ticks s) (kernel true_one r) (kernel true_one s) (plan true_one r)
-            (plan true_one s) (shares-told r s ordered.1 ordered.2) er es least most ordered.0 i j x.0 x.1
+            apart-forth (kernel true_one r) (kernel true_one s) (plan true_one r)
+            (plan true_one s) er es least most ordered.0 i j x.0 x.1
             (omega (arith, x.2, sum)) x.3,
         λ h.
             let x =
-            apart-back (takes_ticks r && takes_ticks s) (kernel true_one r) (kernel true_one s) (plan true_one r)
+            apart-back (kernel true_one r) (kernel true_one s) (plan true_one r)
             (plan true_one s) er es least most ordered.0 i j h in
             some-one_of (after true_one (kernel true_one r) (kernel true_one s)) least (most - least) i j x.0 x.1
             (omega (arith, x.2, sum)) x.3,
@@ -291,6 +229,11 @@ module _ (B : Type 0) (holds : B → ℕ → Bool) (true_one : B) where
         λ h. (h.0, h.1, (er i h.0).0 h.2, (es i h.1).0 h.3, h.4),
         λ h. (h.0, h.1, (er i h.0).1 h.2, (es i h.1).1 h.3, h.4),
       ))
+  plan-kernel (intersect r s) ordered =
+      moving-kernel (intersect r s) (pair (plan true_one r) (plan true_one s)) ordered (λ i j.
+      let er = plan-kernel r ordered.0 in
+      let es = plan-kernel s ordered.1 in
+      (λ h. ((er i j).0 h.0, (es i j).0 h.1), λ h. ((er i j).1 h.0, (es i j).1 h.1)))
   plan-kernel (throughout b r) ordered = moving-kernel (throughout b r) (under b (plan true_one r)) ordered (λ i j.
       let er = plan-kernel r ordered in
       (λ h. ((er i j).0 h.0, h.1), λ h. ((er i j).1 h.0, h.1)))

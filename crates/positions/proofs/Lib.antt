@@ -5,12 +5,13 @@ pub mod Rising
 pub mod Links
 pub mod Loops
 pub mod Pairs
+pub mod Couples
 pub mod Spelling
 pub mod Local
 pub mod Effects
 pub mod Kernels
-pub mod Alive
 pub mod Standing
+pub mod Sifting
 pub mod Follows
 pub mod Shapes
 pub mod Wanted
@@ -22,6 +23,8 @@ pub mod CopyLaws
 pub mod LinkLaws
 pub mod PartLaws
 pub mod ListedLaws
+pub mod KeptLaws
+pub mod SiftLaws
 pub mod SizeLaws
 pub mod SequenceLaws
 pub mod ResultLaws

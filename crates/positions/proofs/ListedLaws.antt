@@ -10,14 +10,14 @@ use Rattle.std.proofs.Math.Nat.{mul-le-mul_right}
 use Rattle.positions.specs.Tables.{Edge, Table, Has, IsRising, shift, shifted, picked, numbers, tick_table}
 use Rattle.positions.specs.Tables.{any_table, wanting, under_table, onward, leading, joined, fusing, crossing}
 use Rattle.positions.specs.Tables.{link_table}
-use Rattle.positions.specs.Tables.{copies, looping, loop_table, paired, all_table}
+use Rattle.positions.specs.Tables.{copies, looping, loop_table, products, paired, all_table, coupled, pair_table}
 use Rattle.positions.specs.Sections.{with_atom, atoms_of, numbered, coded, rows_of}
 use Rattle.positions.specs.Rows.{TableData, ChangeData, listed, changed, change_all, moved, tick_data, either_data}
 use Rattle.positions.specs.Rows.{wanting_also, during_data, onward_data, leading_data, crossing_data, row_at}
 use Rattle.positions.specs.Rows.{joined_data}
 use Rattle.positions.specs.Rows.{fused_data, lead_data, link_data, copies_data, turn_data, repeat_data, pairs_data}
 use Rattle.positions.specs.Rows.{paired_data}
-use Rattle.positions.specs.Rows.{pair_row, both_data}
+use Rattle.positions.specs.Rows.{pair_row, both_data, couple_row, pair_data}
 
 -- rows in order
 
@@ -25,7 +25,8 @@ pub rows_of-length : {A : Type 0} (row : ℕ → A) (p n : ℕ) → length (rows
 rows_of-length row p zero = refl
 rows_of-length row p (suc n) = ap suc (rows_of-length row (p + 1) n)
 
-rows_of-append : {A : Type 0} (row : ℕ → A) (p m n : ℕ) → rows_of row p (m + n) ≡ rows_of row p m ++ rows_of row (p + m)
+pub rows_of-append : {A : Type 0} (row : ℕ → A) (p m n : ℕ) → rows_of row p (m + n) ≡ rows_of row p m ++ rows_of row
+    (p + m)
     n
 rows_of-append row p zero n =
     let a : 0 + n ≡ n = omega arith in
@@ -38,7 +39,7 @@ rows_of-append row p (suc m) n =
     ∙ ap (λ xs. row p ∷ xs) (rows_of-append row (p + 1) m n)
     ∙ ap (λ k. row p ∷ rows_of row (p + 1) m ++ rows_of row k n) b
 
-rows_of-same : {A : Type 0} (row other : ℕ → A) (p q n : ℕ) → ((k : ℕ) → k < n → row (p + k) ≡ other (q + k))
+pub rows_of-same : {A : Type 0} (row other : ℕ → A) (p q n : ℕ) → ((k : ℕ) → k < n → row (p + k) ≡ other (q + k))
     → rows_of row p n ≡ rows_of other q n
 rows_of-same row other p q zero same = refl
 rows_of-same row other p q (suc n) same =
@@ -97,7 +98,7 @@ flat_map-each f g (x ∷ xs) each =
 
 -- two ways round
 
-map-square : {A C D E : Type 0} (f : A → C) (view : C → E) (g : D → E) (start : A → D) (xs : List A)
+pub map-square : {A C D E : Type 0} (f : A → C) (view : C → E) (g : D → E) (start : A → D) (xs : List A)
     → ((x : A) → view (f x) ≡ g (start x)) → map view (map f xs) ≡ map g (map start xs)
 map-square f view g start [] each = refl
 map-square f view g start (x ∷ xs) each =
@@ -149,10 +150,10 @@ atoms_of-append atom (b ∷ bs) cs = ap (with_atom (atom b)) (atoms_of-append at
     out None = refl
     out (Some n) = refl
 
-abbrev table : List (List (Edge ℕ)) → List ℕ → Bool → TableData
+abbrev pub table : List (List (Edge ℕ)) → List ℕ → Bool → TableData
 table rows starts empty = record { rows = rows; starts = starts; empty = empty }
 
-same_table : (r s : List (List (Edge ℕ))) (x y : List ℕ) (a b : Bool) → r ≡ s → x ≡ y → a ≡ b
+pub same_table : (r s : List (List (Edge ℕ))) (x y : List ℕ) (a b : Bool) → r ≡ s → x ≡ y → a ≡ b
     → table r x a ≡ table s y b
 same_table r s x y a b p q e = ap (λ z. table z x a) p ∙ ap (λ z. table s z a) q ∙ ap (table s y) e
 
@@ -182,6 +183,9 @@ module _ (B : Type 0) (atom : B → Option ℕ) where
 
   num-paired : (t u : Table B) (e f : Edge B) → num (paired t u e f) ≡ paired_data t.size u.size (num e) (num f)
   num-paired t u e f = same_edge _ _ _ _ _ _ (atoms_of-append atom e.wanted f.wanted) refl refl
+
+  num-coupled : (size : ℕ) (e f : Edge B) → num (coupled size e f) ≡ coupled size (num e) (num f)
+  num-coupled size e f = same_edge _ _ _ _ _ _ (atoms_of-append atom e.wanted f.wanted) refl refl
 
   -- a row of moved edges
   row-moved : (n : ℕ) (es : List (Edge B)) → map num (map (shifted n) es) ≡ map (changed (moved n)) (map num es)
@@ -510,3 +514,33 @@ module _ (B : Type 0) (atom : B → Option ℕ) where
         refl
         ∙ ap (λ k. both_of k m0) (sym (count t))
         ∙ ap (both_of (length (listed atom t).rows)) (sym (count u))
+
+    -- the pairs alone
+    row-couple : (c k : ℕ) → map num (flat_map (λ e. map (coupled m0 e) (u.row k)) (t.row c))
+        ≡ couple_row m0 (coded atom t c) (coded atom u k)
+    row-couple c k =
+        flat-square (λ e. map (coupled m0 e) (u.row k)) num (λ e. map (coupled m0 e) (coded atom u k)) num (t.row c)
+        (λ e. map-square (coupled m0 e) num (coupled m0 (num e)) num (u.row k) (num-coupled m0 e))
+
+    couples : rows_of (coded atom (pair_table t u)) 0 (n0 * m0)
+        ≡ flat_map (λ es. map (couple_row m0 es) (listed atom u).rows) (listed atom t).rows
+    couples =
+        let zeros : 0 ≡ 0 * m0 = omega arith in
+        ap (λ k. rows_of (coded atom (pair_table t u)) k (n0 * m0)) zeros
+        ∙ rows_of-blocks (coded atom (pair_table t u)) (λ c k. couple_row m0 (coded atom t c) (coded atom u k)) m0 0 n0
+        (λ c k low below.
+        ap (λ j. map num (flat_map (λ e. map (coupled m0 e) (u.row j)) (t.row ((c * m0 + k) / m0))))
+        (mod-mul-add c m0 k below)
+        ∙ ap (λ j. map num (flat_map (λ e. map (coupled m0 e) (u.row k)) (t.row j))) (div-mul-add c m0 k below)
+        ∙ row-couple c k)
+        ∙ flat_map-each (λ c. rows_of (λ k. couple_row m0 (coded atom t c) (coded atom u k)) 0 m0)
+        (λ c. map (couple_row m0 (coded atom t c)) (listed atom u).rows) (numbers 0 n0)
+        (λ c. rows_of-map (couple_row m0 (coded atom t c)) (coded atom u) 0 m0)
+        ∙ sym (flat_map-view (λ es. map (couple_row m0 es) (listed atom u).rows) (coded atom t) (numbers 0 n0))
+        ∙ ap (flat_map (λ es. map (couple_row m0 es) (listed atom u).rows)) (sym (rows_of-numbers (coded atom t) 0 n0))
+
+    pub listed-pair : listed atom (pair_table t u) ≡ pair_data (listed atom t) (listed atom u)
+    listed-pair =
+        same_table _ _ _ _ _ _ couples refl refl
+        ∙ ap (λ k. table (flat_map (λ es. map (couple_row k es) (listed atom u).rows) (listed atom t).rows)
+        (products k t.starts u.starts) (t.empty && u.empty)) (sym (count u))

@@ -1,25 +1,35 @@
 -- The section of a plain sequence is short.
-use Rattle.std.proofs.Common.{◌≡◌, ◌∙◌, inl, inr, ℕ, zero, suc, ◌+◌, ◌-◌, ◌*◌, ◌/◌, ◌%◌, ◌<◌, ◌≤◌, min, Bool, true}
-use Rattle.std.proofs.Common.{false, ◌&&◌, if◌then◌else◌, List, [], ◌∷◌, ◌++◌, length, Option, Some, None, refl, ap}
+use Rattle.std.proofs.Common.{◌≡◌, ◌∙◌, inl, inr, ℕ, zero, suc, ◌+◌, ◌-◌, ◌*◌, ◌/◌, ◌%◌, ◌<◌, ◌≤◌, min, max, Bool, true}
+use Rattle.std.proofs.Common.{false, ◌&&◌, if◌then◌else◌, List, [], ◌∷◌, ◌++◌, length, Option, Some, None, refl, sym}
+use Rattle.std.proofs.Common.{ap}
 use Rattle.std.proofs.Common.{subst, arith, length-append}
-use Rattle.std.specs.Prelude.{map}
-use Rattle.std.proofs.Math.Nat.{mul-le-mul_right}
+use Rattle.std.specs.Prelude.{map, IsTrue}
+use Rattle.std.proofs.Math.Nat.{mul-le-mul_right, mul-le-mul_left}
 use Rattle.std.proofs.lemmas.Nat.{div-add-mod'}
-use Rattle.std.proofs.lemmas.Bool.{lt-ltb, le-ltb, cases_lt, cases_eq}
+use Rattle.std.proofs.lemmas.Bool.{lt-ltb, le-ltb, ltb-true, cases_lt, cases_eq, cases_Bool}
 use Rattle.inference.specs.Sections.{size_of}
 use Rattle.assertions.specs.declared.sequence.Boolean.{Boolean}
-use Rattle.assertions.specs.Written.{Written, boolean, delay, lead, repeat, or, and, throughout, weight}
-use Rattle.positions.specs.Plans.{Plan, tick, skip, any, under, loop, link, moving, plan}
-use Rattle.assertions.specs.Emptiness.{admits_empty, takes_ticks}
+use Rattle.assertions.specs.Written.{Written, boolean, delay, lead, repeat, or, and, intersect, throughout}
+use Rattle.assertions.specs.Written.{weight, IsOrdered}
+use Rattle.positions.specs.Plans.{Plan, tick, skip, any, under, loop, link, moving, weighs, plan}
+use Rattle.assertions.specs.Emptiness.{admits_empty}
 use Rattle.std.specs.List.{flat_map}
 use Rattle.positions.specs.Tables.{Edge, Table, shift, shifted, picked, numbers, tick_table, skip_table, any_table}
 use Rattle.positions.specs.Tables.{wanting, under_table, onward, leading, joined, fusing, crossing, link_table, copies}
-use Rattle.positions.specs.Tables.{looping, loop_table, table_of}
+use Rattle.positions.specs.Tables.{looping, loop_table, table_of, IsRising}
 use Rattle.positions.specs.Sections.{edge_size, block_of, edge_code, blocks_of, rows_of, with_atom, atoms_of, numbered}
 use Rattle.positions.specs.Sections.{coded}
 use Rattle.positions.specs.Laws.{IsPlain, booleans, section_for, SectionIsShort}
 use Rattle.positions.proofs.Shapes.{edge-length}
 use Rattle.positions.proofs.Theorem.{size-weight}
+use Rattle.positions.specs.Living.{is_kept, rank, sift, sifted_edge, sifted}
+use Rattle.positions.proofs.Rising.{rising}
+use Rattle.positions.proofs.Spelling.{spelling}
+use Rattle.positions.proofs.Sifting.{if-true, if-false, rank-up, rank-next, rank-few, from, from-kept}
+use Rattle.assertions.specs.declared.sequence.Boolean.TheVariants.{One}
+use Rattle.positions.specs.Rows.{rows_size}
+use Rattle.positions.specs.Sequences.{atom_of, listed_for, at_least_own, largest}
+use Rattle.positions.proofs.BlockLaws as blocks
 
 -- In rising order from low on, all below high.
 abbrev pub Climbs : ℕ → ℕ → List ℕ → Type 0
@@ -298,6 +308,44 @@ module _ (B : Type 0) where
           });
     }
 
+  -- what is kept of it
+  module _ (most : ℕ) (t : Table B) (a : AreSingle most t) (up : IsRising t) where
+    Climbs-sift : (low high : ℕ) (qs : List ℕ) → Climbs low high qs
+        → Climbs (rank (is_kept t) low) (rank (is_kept t) high) (sift (is_kept t) qs)
+    Climbs-sift low high [] h = rank-up (is_kept t) low high h
+    Climbs-sift low high (q ∷ qs) h = elim (cases_Bool (is_kept t q)) [
+      | inl on ↦
+          let next : rank (is_kept t) (q + 1) ≡ rank (is_kept t) q + 1 = rank-next (is_kept t) q on in
+          subst (λ b. Climbs (rank (is_kept t) low) (rank (is_kept t) high)
+          (picked b (rank (is_kept t) q ∷ []) ++ sift (is_kept t) qs)) (sym on) (
+            rank-up (is_kept t) low q h.0,
+            subst (λ k. Climbs k (rank (is_kept t) high) (sift (is_kept t) qs)) next (Climbs-sift (q + 1) high qs h.1),
+          )
+      | inr off ↦
+          subst (λ b. Climbs (rank (is_kept t) low) (rank (is_kept t) high)
+          (picked b (rank (is_kept t) q ∷ []) ++ sift (is_kept t) qs)) (sym off)
+          (Climbs-low (rank (is_kept t) low) (rank (is_kept t) (q + 1)) (rank (is_kept t) high) (sift (is_kept t) qs)
+          (rank-up (is_kept t) low (q + 1) (omega (arith, h.0))) (Climbs-sift (q + 1) high qs h.1))
+    ]
+
+    sifted-single : AreSingle most (sifted t)
+    sifted-single = record {
+      starts = Climbs-sift 0 t.size t.starts a.starts;
+      row = λ q below.
+          let f = from-kept B t up q below in
+          let p : ℕ = from B t up q in
+          let s = a.row p f.0 in
+          let next : rank (is_kept t) (p + 1) ≡ q + 1 = omega (arith, rank-next (is_kept t) p f.1, f.2) in
+          record {
+            edge = sifted_edge (is_kept t) s.edge;
+            alone = ap (map (sifted_edge (is_kept t))) s.alone;
+            wanted = s.wanted;
+            enters =
+                subst (λ k. Climbs k (rank (is_kept t) t.size) (sift (is_kept t) s.edge.enters)) next
+                (Climbs-sift (p + 1) t.size s.edge.enters s.enters);
+          };
+    }
+
 booleans-positive : (w : Written Boolean) → 1 ≤ booleans w
 booleans-positive (boolean b) = omega arith
 booleans-positive (delay r least most s) = omega (arith, booleans-positive r)
@@ -305,6 +353,7 @@ booleans-positive (lead least most s) = booleans-positive s
 booleans-positive (repeat r least most) = booleans-positive r
 booleans-positive (or r s) = omega (arith, booleans-positive r)
 booleans-positive (and r s) = omega (arith, booleans-positive r)
+booleans-positive (intersect r s) = omega (arith, booleans-positive r)
 booleans-positive (throughout b r) = omega arith
 
 ticks-single : (true_one : Boolean) (most least turns : ℕ) → 1 ≤ most
@@ -325,7 +374,7 @@ plain-single true_one (boolean b) plain = tick-single Boolean b 1 (omega arith)
 plain-single true_one (delay r zero most s) plain = absurd (omega (arith, plain.0))
 plain-single true_one (delay r (suc least) most s) plain =
     let m : ℕ = booleans r + booleans s in
-    moving-single m (takes_ticks (delay r (suc least) most s)) (admits_empty (delay r (suc least) most s))
+    moving-single m (weighs (delay r (suc least) most s)) (admits_empty (delay r (suc least) most s))
     (link false true (plan true_one r) (loop (tick true_one) least (most - 1)) (plan true_one s))
     (link-single Boolean m (table_of (plan true_one r)) (table_of (loop (tick true_one) least (most - 1)))
     (table_of (plan true_one s))
@@ -333,25 +382,26 @@ plain-single true_one (delay r (suc least) most s) plain =
     (ticks-single true_one m least (most - 1) (omega (arith, booleans-positive r)))
     (more-single Boolean (booleans s) m (table_of (plan true_one s)) (omega arith) (plain-single true_one s plain.2)))
 plain-single true_one (lead least most s) plain =
-    moving-single (booleans s) (takes_ticks (lead least most s)) (admits_empty (lead least most s))
+    moving-single (booleans s) (weighs (lead least most s)) (admits_empty (lead least most s))
     (link false true (loop (tick true_one) least most) skip (plan true_one s))
     (link-single Boolean (booleans s) (table_of (loop (tick true_one) least most)) skip_table
     (table_of (plan true_one s))
     (ticks-single true_one (booleans s) least most (booleans-positive s)) (skip-single Boolean (booleans s))
     (plain-single true_one s plain))
 plain-single true_one (repeat r least most) plain =
-    moving-single (booleans r) (takes_ticks (repeat r least most)) (admits_empty (repeat r least most))
+    moving-single (booleans r) (weighs (repeat r least most)) (admits_empty (repeat r least most))
     (loop (plan true_one r) least most)
     (loop-single Boolean (booleans r) (table_of (plan true_one r)) (plain-single true_one r plain) least most)
 plain-single true_one (or r s) plain =
     let m : ℕ = booleans r + booleans s in
-    moving-single m (takes_ticks (or r s)) (admits_empty (or r s)) (any (plan true_one r) (plan true_one s))
+    moving-single m (weighs (or r s)) (admits_empty (or r s)) (any (plan true_one r) (plan true_one s))
     (any-single Boolean m (table_of (plan true_one r)) (table_of (plan true_one s))
     (more-single Boolean (booleans r) m (table_of (plan true_one r)) (omega arith) (plain-single true_one r plain.0))
     (more-single Boolean (booleans s) m (table_of (plan true_one s)) (omega arith) (plain-single true_one s plain.1)))
 plain-single true_one (and r s) plain = absurd plain
+plain-single true_one (intersect r s) plain = absurd plain
 plain-single true_one (throughout b r) plain =
-    moving-single (booleans r + 1) (takes_ticks (throughout b r)) (admits_empty (throughout b r))
+    moving-single (booleans r + 1) (weighs (throughout b r)) (admits_empty (throughout b r))
     (under b (plan true_one r))
     (under-single Boolean (booleans r) b (table_of (plan true_one r)) (plain-single true_one r plain))
 
@@ -403,11 +453,106 @@ heavier n d m s h =
 
 pub law-section_is_short : SectionIsShort
 law-section_is_short atom true_one w ordered plain =
-    let t : Table Boolean = table_of (plan true_one w) in
-    let small = size-weight true_one w ordered in
+    let whole : Table Boolean = table_of (plan true_one w) in
+    let up = rising Boolean (plan true_one w) whole (spelling Boolean (plan true_one w)) in
+    let t : Table Boolean = sifted whole in
+    let small : t.size ≤ weight w = omega
+    (arith, rank-few (is_kept whole) whole.size, size-weight true_one w ordered) in
     let same : t.size + (weight w - t.size) ≡ weight w = omega (arith, small) in
     let s : ℕ = size_of (section_for atom true_one w).blocks in
     let zero_plus : 0 + t.size ≡ t.size = omega arith in
     subst (λ n. 2 * s + n ≤ n * n + 2 * (n * (booleans w + 2))) same
     (heavier t.size (weight w - t.size) (booleans w) s
-    (blocks-size atom (booleans w) t (plain-single true_one w plain) 0 0 t.size zero_plus))
+    (blocks-size atom (booleans w) t
+    (sifted-single Boolean (booleans w) whole (plain-single true_one w plain) up) 0 0 t.size zero_plus))
+
+-- the tables on the way are short, too
+
+repeat-some : (r : Written Boolean) (least most : ℕ) → IsTrue (weighs (repeat r least most)) → 1 ≤ most
+repeat-some r least zero on =
+    let none : 0 * weight r ≡ 0 = omega arith in absurd (omega (arith, none, ltb-true 0 (0 * weight r) on))
+repeat-some r least (suc most) on = omega arith
+
+more-booleans : (n m k s : ℕ) → m ≤ k → 2 * s + n ≤ n * n + 2 * (n * (m + 2)) → 2 * s + n ≤ n * n + 2 * (n * (k + 2))
+more-booleans n m k s le h =
+    let more : n * (m + 2) ≤ n * (k + 2) = mul-le-mul_left n (omega (arith, le)) in omega (arith, h, more)
+
+-- few enough for a sequence that weighs n and has m booleans
+abbrev IsFew : ℕ → ℕ → ℕ → Type 0
+IsFew n m s = 2 * s + n ≤ n * n + 2 * (n * (m + 2))
+
+few-more : (n m k l s : ℕ) → n ≤ k → m ≤ l → IsFew n m s → IsFew k l s
+few-more n m k l s le more h =
+    let same : n + (k - n) ≡ k = omega (arith, le) in
+    subst (λ j. IsFew j l s) same (heavier n (k - n) l s (more-booleans n m l s more h))
+
+few-max : (n m a b : ℕ) → IsFew n m a → IsFew n m b → IsFew n m (max a b)
+few-max n m a b p q = elim (cases_lt a b) [
+  | inl lt ↦ let e : max a b ≡ b = omega arith in subst (IsFew n m) (sym e) q
+  | inr ge ↦ let e : max a b ≡ a = omega arith in subst (IsFew n m) (sym e) p
+]
+
+few-none : (n m : ℕ) → IsFew n m 0
+few-none n m = elim (cases_eq n 0) [
+  | inl e ↦ omega (arith, e)
+  | inr ne ↦ (let one : n * 1 ≤ n * n = mul-le-mul_left n (omega arith) in omega (arith, one))
+]
+
+own-few : (w : Written Boolean) → IsOrdered w → IsPlain w
+    → IsFew (weight w) (booleans w) (rows_size (listed_for w).rows)
+own-few w ordered plain =
+    let t : Table Boolean = table_of (plan One w) in
+    let small = size-weight One w ordered in
+    let zero_plus : 0 + t.size ≡ t.size = omega arith in
+    let code = blocks.blocks-size 0 (listed_for w).rows in
+    few-more t.size (booleans w) (weight w) (booleans w) (rows_size (listed_for w).rows) small (omega arith)
+    (subst (IsFew t.size (booleans w)) code
+    (blocks-size atom_of (booleans w) t (plain-single One w plain) 0 0 t.size zero_plus))
+
+one-few : (w : Written Boolean) (parts : ℕ) → IsOrdered w → IsPlain w
+    → (IsTrue (weighs w) → IsFew (weight w) (booleans w) parts) → IsFew (weight w) (booleans w) (at_least_own w parts)
+one-few w parts ordered plain each = elim (cases_Bool (weighs w)) [
+  | inl on ↦
+      subst (IsFew (weight w) (booleans w))
+      (sym (if-true {A = ℕ} (weighs w) (max parts (rows_size (listed_for w).rows)) 0 on))
+      (few-max (weight w) (booleans w) parts (rows_size (listed_for w).rows) (each on) (own-few w ordered plain))
+  | inr off ↦
+      subst (IsFew (weight w) (booleans w))
+      (sym (if-false {A = ℕ} (weighs w) (max parts (rows_size (listed_for w).rows)) 0 off))
+      (few-none (weight w) (booleans w))
+]
+
+pub law-tables_are_short : (w : Written Boolean) → IsOrdered w → IsPlain w
+    → IsFew (weight w) (booleans w) (largest w)
+law-tables_are_short (boolean b) ordered plain =
+    one-few (boolean b) 0 ordered plain (λ on. few-none 1 1)
+law-tables_are_short (delay r least most s) ordered plain =
+    one-few (delay r least most s) (max (largest r) (largest s)) ordered plain (λ on.
+    few-max (weight (delay r least most s)) (booleans (delay r least most s)) (largest r) (largest s)
+    (few-more (weight r) (booleans r) (weight (delay r least most s)) (booleans (delay r least most s)) (largest r)
+    (omega arith) (omega arith) (law-tables_are_short r ordered.1 plain.1))
+    (few-more (weight s) (booleans s) (weight (delay r least most s)) (booleans (delay r least most s)) (largest s)
+    (omega arith) (omega arith) (law-tables_are_short s ordered.2 plain.2)))
+law-tables_are_short (lead least most s) ordered plain =
+    one-few (lead least most s) (largest s) ordered plain (λ on.
+    few-more (weight s) (booleans s) (weight (lead least most s)) (booleans s) (largest s) (omega arith) (omega arith)
+    (law-tables_are_short s ordered.1 plain))
+law-tables_are_short (repeat r least most) ordered plain =
+    one-few (repeat r least most) (largest r) ordered plain (λ on.
+    let some : 1 ≤ most = repeat-some r least most on in
+    let one : 1 * weight r ≤ most * weight r = mul-le-mul_right (weight r) some in
+    few-more (weight r) (booleans r) (weight (repeat r least most)) (booleans r) (largest r) (omega (arith, one))
+    (omega arith) (law-tables_are_short r ordered.1 plain))
+law-tables_are_short (or r s) ordered plain =
+    one-few (or r s) (max (largest r) (largest s)) ordered plain (λ on.
+    few-max (weight (or r s)) (booleans (or r s)) (largest r) (largest s)
+    (few-more (weight r) (booleans r) (weight (or r s)) (booleans (or r s)) (largest r) (omega arith) (omega arith)
+    (law-tables_are_short r ordered.0 plain.0))
+    (few-more (weight s) (booleans s) (weight (or r s)) (booleans (or r s)) (largest s) (omega arith) (omega arith)
+    (law-tables_are_short s ordered.1 plain.1)))
+law-tables_are_short (and r s) ordered plain = absurd plain
+law-tables_are_short (intersect r s) ordered plain = absurd plain
+law-tables_are_short (throughout b r) ordered plain =
+    one-few (throughout b r) (largest r) ordered plain (λ on.
+    few-more (weight r) (booleans r) (weight r) (booleans (throughout b r)) (largest r) (omega arith) (omega arith)
+    (law-tables_are_short r ordered plain))

@@ -5,12 +5,13 @@ use Rattle.std.specs.Prelude.{IsTrue, ◌↔◌, nat_le}
 use Rattle.std.proofs.Math.Nat.{mul-le-mul_right, mul-le-mul_left}
 use Rattle.assertions.specs.declared.sequence.Boolean.{Boolean}
 use Rattle.assertions.specs.Segments.{Seq, one, Chain, Matches, sat}
-use Rattle.assertions.specs.Written.{Written, boolean, delay, lead, repeat, or, and, throughout, one_of, ticks, after}
-use Rattle.assertions.specs.Written.{later, kernel, weight, IsOrdered}
-use Rattle.positions.specs.Plans.{Plan, tick, skip, any, all, under, loop, link, shape, apart, moving, plan}
-use Rattle.positions.proofs.Alive.{plan-alive}
-use Rattle.assertions.specs.Emptiness.{admits_empty, takes_ticks}
-use Rattle.std.proofs.lemmas.Bool.{or_left, le-leb}
+use Rattle.assertions.specs.Written.{Written, boolean, delay, lead, repeat, or, and, intersect, throughout, one_of}
+use Rattle.assertions.specs.Written.{ticks, after, later, kernel, weight, IsOrdered}
+use Rattle.positions.specs.Plans.{Plan, tick, skip, any, all, pair, under, loop, link, shape, apart, moving}
+use Rattle.positions.specs.Plans.{weighs, plan}
+use Rattle.positions.specs.Living.{is_kept, sifted}
+use Rattle.positions.proofs.Sifting.{sifted-rising, rank-few}
+use Rattle.assertions.specs.Emptiness.{admits_empty}
 use Rattle.positions.specs.Tables.{Table, table_of}
 use Rattle.positions.proofs.Rising.{rising}
 use Rattle.positions.proofs.Spelling.{spelling}
@@ -20,7 +21,7 @@ use Rattle.positions.specs.Sections.{coded, told}
 use Rattle.positions.specs.Laws.{IsThere, Occurs, section_for, SectionFollows, SectionIsWellFormed, SectionIsSmall}
 use Rattle.positions.proofs.Follows.{section-follows}
 use Rattle.positions.proofs.Kernels.{plan-kernel}
-use Rattle.positions.proofs.Wanted.{plan-wants, sequence-of}
+use Rattle.positions.proofs.Wanted.{plan-wants, sifted-wants, sequence-of}
 use Rattle.positions.proofs.Shapes.{is-section, blocks-length}
 
 -- what follows a sequence follows one that matches the same
@@ -106,6 +107,8 @@ module _ (B : Type 0) (true_one : B) (h g : B → ℕ → Bool) where
     kernel-on s (λ b o. agrees b (inr o)) i m.1 m.3,
     m.4,
   )
+  kernel-on (intersect r s) agrees i j m =
+      (kernel-on r (λ b o. agrees b (inl o)) i j m.0, kernel-on s (λ b o. agrees b (inr o)) i j m.1)
   kernel-on (throughout b r) agrees i j m =
       (kernel-on r (λ c o. agrees c (inr o)) i j m.0, λ k from below. agrees b (inl refl) k (m.1 k from below))
 
@@ -146,16 +149,16 @@ law-section_follows atom true_one rows value w ordered tells =
     Follows-told Boolean true_one w v value (automaton_of (section_for atom true_one w) rows) tells
     (Follows-same Boolean v (kernel true_one w) (shape r) (automaton_of (section_for atom true_one w) rows)
     (λ holds. plan-kernel Boolean holds true_one w ordered)
-    (section-follows Boolean t up atom rows r spells
-    (λ n x. plan-alive Boolean true_one (sat v n) n (λ b i late. or_left (nat_le n i) (v b i) (le-leb n i late)) w
-    ordered x n (omega arith))))
+    (section-follows Boolean t up atom rows r spells))
 
 pub law-section_is_well_formed : SectionIsWellFormed
 law-section_is_well_formed number atoms atom true_one w there =
     let r : Plan Boolean = plan true_one w in
-    is-section Boolean (table_of r) (rising Boolean r (table_of r) (spelling Boolean r)) number atoms atom
+    let t : Table Boolean = table_of r in
+    is-section Boolean (sifted t) (sifted-rising Boolean t (rising Boolean r t (spelling Boolean r))) number atoms atom
+    (sifted-wants Boolean (λ b. IsThere atoms (atom b)) t
     (plan-wants Boolean (λ b. IsThere atoms (atom b)) r
-    (sequence-of Boolean (λ b. IsThere atoms (atom b)) true_one w there))
+    (sequence-of Boolean (λ b. IsThere atoms (atom b)) true_one w there)))
 
 -- no more positions than the weight
 moving-size : (t e : Bool) (p : Plan Boolean) (n : ℕ) → (table_of p).size ≤ n → (table_of (moving t e p)).size ≤ n
@@ -163,37 +166,37 @@ moving-size true e p n le = le
 moving-size false true p n le = omega arith
 moving-size false false p n le = omega arith
 
-apart-size : (shares : Bool) (true_one : Boolean) (r s : Plan Boolean) (least most : ℕ) → least ≤ most
-    → (table_of (apart shares true_one r s least most)).size ≤ (table_of r).size + (table_of s).size + most
-apart-size shares true_one r s zero zero le = omega arith
-apart-size shares true_one r s zero (suc most) le = let one : most * 1 ≡ most = omega arith in omega (arith, one)
-apart-size shares true_one r s (suc least) most le =
+apart-size : (true_one : Boolean) (r s : Plan Boolean) (least most : ℕ) → least ≤ most
+    → (table_of (apart true_one r s least most)).size ≤ (table_of r).size + (table_of s).size + most
+apart-size true_one r s zero zero le = omega arith
+apart-size true_one r s zero (suc most) le = let one : most * 1 ≡ most = omega arith in omega (arith, one)
+apart-size true_one r s (suc least) most le =
     let one : (most - 1) * 1 ≡ most - 1 = omega arith in omega (arith, one)
 
 pub size-weight : (true_one : Boolean) (w : Written Boolean) → IsOrdered w
     → (table_of (plan true_one w)).size ≤ weight w
 size-weight true_one (boolean b) ordered = omega arith
 size-weight true_one (delay r least most s) ordered =
-    moving-size (takes_ticks (delay r least most s)) (admits_empty (delay r least most s))
-    (apart (takes_ticks r && takes_ticks s) true_one (plan true_one r) (plan true_one s) least most)
+    moving-size (weighs (delay r least most s)) (admits_empty (delay r least most s))
+    (apart true_one (plan true_one r) (plan true_one s) least most)
     (weight (delay r least most s))
     (omega (
       arith,
-      apart-size (takes_ticks r && takes_ticks s) true_one (plan true_one r) (plan true_one s) least most ordered.0,
+      apart-size true_one (plan true_one r) (plan true_one s) least most ordered.0,
       size-weight true_one r ordered.1,
       size-weight true_one s ordered.2,
     ))
 size-weight true_one (lead least most s) ordered =
     let one : most * 1 ≡ most = omega arith in
-    moving-size (takes_ticks (lead least most s)) (admits_empty (lead least most s))
+    moving-size (weighs (lead least most s)) (admits_empty (lead least most s))
     (link false true (loop (tick true_one) least most) skip (plan true_one s)) (weight (lead least most s))
     (omega (arith, one, size-weight true_one s ordered.1))
 size-weight true_one (repeat r least most) ordered =
-    moving-size (takes_ticks (repeat r least most)) (admits_empty (repeat r least most))
+    moving-size (weighs (repeat r least most)) (admits_empty (repeat r least most))
     (loop (plan true_one r) least most) (weight (repeat r least most))
     (mul-le-mul_left most (size-weight true_one r ordered.1))
 size-weight true_one (or r s) ordered =
-    moving-size (takes_ticks (or r s)) (admits_empty (or r s)) (any (plan true_one r) (plan true_one s))
+    moving-size (weighs (or r s)) (admits_empty (or r s)) (any (plan true_one r) (plan true_one s))
     (weight (or r s))
     (omega (arith, size-weight true_one r ordered.0, size-weight true_one s ordered.1))
 size-weight true_one (and r s) ordered =
@@ -203,15 +206,29 @@ size-weight true_one (and r s) ordered =
     * (table_of (plan true_one s)).size = mul-le-mul_right (table_of (plan true_one s)).size a in
     let y : weight r * (table_of (plan true_one s)).size ≤ weight r * weight s = mul-le-mul_left (weight r) b in
     let product : (weight r + 1) * (weight s + 1) ≡ weight r * weight s + weight r + weight s + 1 = omega arith in
-    moving-size (takes_ticks (and r s)) (admits_empty (and r s)) (all (plan true_one r) (plan true_one s))
+    moving-size (weighs (and r s)) (admits_empty (and r s)) (all (plan true_one r) (plan true_one s))
     (weight (and r s))
     (omega (arith, a, b, x, y, product))
+size-weight true_one (intersect r s) ordered =
+    let a = size-weight true_one r ordered.0 in
+    let b = size-weight true_one s ordered.1 in
+    let x : (table_of (plan true_one r)).size * (table_of (plan true_one s)).size ≤ weight r
+    * (table_of (plan true_one s)).size = mul-le-mul_right (table_of (plan true_one s)).size a in
+    let y : weight r * (table_of (plan true_one s)).size ≤ weight r * weight s = mul-le-mul_left (weight r) b in
+    moving-size (weighs (intersect r s)) (admits_empty (intersect r s)) (pair (plan true_one r) (plan true_one s))
+    (weight (intersect r s))
+    (omega (arith, x, y))
 size-weight true_one (throughout b r) ordered =
-    moving-size (takes_ticks (throughout b r)) (admits_empty (throughout b r)) (under b (plan true_one r))
+    moving-size (weighs (throughout b r)) (admits_empty (throughout b r)) (under b (plan true_one r))
     (weight (throughout b r))
     (size-weight true_one r ordered)
 
 pub law-section_is_small : SectionIsSmall
 law-section_is_small atom true_one w ordered =
     let t : Table Boolean = table_of (plan true_one w) in
-    omega (arith, blocks-length (coded atom t) 0 0 t.size, size-weight true_one w ordered)
+    omega (
+      arith,
+      blocks-length (coded atom (sifted t)) 0 0 (sifted t).size,
+      rank-few (is_kept t) t.size,
+      size-weight true_one w ordered,
+    )

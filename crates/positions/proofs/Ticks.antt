@@ -5,7 +5,7 @@ use Rattle.std.specs.Prelude.{IsTrue}
 use Rattle.std.proofs.lemmas.Bool.{cases_eq}
 use Rattle.assertions.specs.Segments.{Matches, Chain}
 use Rattle.assertions.proofs.Segments.{Matches-forward, Chain-forward}
-use Rattle.positions.specs.Plans.{Plan, tick, skip, any, all, under, loop, link, shape}
+use Rattle.positions.specs.Plans.{Plan, tick, skip, any, all, pair, under, loop, link, shape}
 use Rattle.positions.specs.States.{State, Nullable, First, Ends, Steps, Left, At}
 
 module _ (B : Type 0) (holds : B → ℕ → Bool) where
@@ -44,6 +44,7 @@ module _ (B : Type 0) (holds : B → ℕ → Bool) where
   Left-after (all r s) (inl t) i j h = omega (arith, Left-after r t.0 i h.0 h.2, h.4)
   Left-after (all r s) (inr (inl p)) i j h = Left-after r p i j h
   Left-after (all r s) (inr (inr q)) i j h = Left-after s q i j h
+  Left-after (pair r s) t i j h = Left-after r t.0 i j h.0
   Left-after (under b r) p i j h = Left-after r p i j h.0
   Left-after (loop r least most) t i j h =
       omega (
@@ -75,6 +76,7 @@ module _ (B : Type 0) (holds : B → ℕ → Bool) where
   Nullable-Match skip h i = refl
   Nullable-Match (any r s) h i = elim h [ inl a ↦ inl (Nullable-Match r a i) | inr b ↦ inr (Nullable-Match s b i) ]
   Nullable-Match (all r s) h i = (i, i, Nullable-Match r h.0 i, Nullable-Match s h.1 i, omega arith)
+  Nullable-Match (pair r s) h i = (Nullable-Match r h.0 i, Nullable-Match s h.1 i)
   Nullable-Match (under b r) h i = (Nullable-Match r h i, λ k from below. absurd (omega arith))
   Nullable-Match (loop r least most) h i = elim h.1 [
     | inl z ↦ (0, omega (arith, z), omega arith, refl)
@@ -150,6 +152,19 @@ module _ (B : Type 0) (holds : B → ℕ → Bool) where
               | inr b ↦ inr (inl (a.0, b.0), (a.1, b.1), (h.0, h.1, a.2, b.2, h.4))
             ]
       ]
+  Match-begins (pair r s) i j h =
+      elim (Match-begins r i j h.0) [
+        | inl a ↦
+            elim (Match-begins s i j h.1) [
+              | inl b ↦ inl (a.0, (a.1, b.1))
+              | inr b ↦ absurd (omega (arith, a.0, Left-after s b.0 i j b.2))
+            ]
+        | inr a ↦
+            elim (Match-begins s i j h.1) [
+              | inl b ↦ absurd (omega (arith, b.0, Left-after r a.0 i j a.2))
+              | inr b ↦ inr ((a.0, b.0), (a.1, b.1), (a.2, b.2))
+            ]
+      ]
   Match-begins (under b r) i j h =
       elim (Match-begins r i j h.0) [ inl a ↦ inl (a.0, a.1) | inr a ↦ inr (a.0, a.1, (a.2, h.1)) ]
   Match-begins (loop r least most) i j h =
@@ -196,6 +211,7 @@ module _ (B : Type 0) (holds : B → ℕ → Bool) where
       (j, i, First-Match r p i j f.0 h, Nullable-Match s f.1 i, omega (arith, Left-after r p i j h))
   First-Match (all r s) (inr (inr q)) i j f h =
       (i, j, Nullable-Match r f.0 i, First-Match s q i j f.1 h, omega (arith, Left-after s q i j h))
+  First-Match (pair r s) t i j f h = (First-Match r t.0 i j f.0 h.0, First-Match s t.1 i j f.1 h.1)
   First-Match (under b r) p i j f h = (First-Match r p i j f h.0, h.1)
   First-Match (loop r least most) t i j f h =
       let front = Chain-front (Matches holds (shape r)) h.2.0 i h.0 j (First-Match r t.1 i h.0 f.2 h.1) h.2.3 in
@@ -254,6 +270,19 @@ module _ (B : Type 0) (holds : B → ℕ → Bool) where
       elim (Left-goes r p i j h) [ inl a ↦ inl a | inr a ↦ inr (inr (inl a.0), a.1, a.2) ]
   Left-goes (all r s) (inr (inr q)) i j h =
       elim (Left-goes s q i j h) [ inl a ↦ inl a | inr a ↦ inr (inr (inr a.0), a.1, a.2) ]
+  Left-goes (pair r s) t i j h =
+      elim (Left-goes r t.0 i j h.0) [
+        | inl a ↦
+            elim (Left-goes s t.1 i j h.1) [
+              | inl b ↦ inl (a.0, (a.1, b.1))
+              | inr b ↦ absurd (omega (arith, a.0, Left-after s b.0 (i + 1) j b.2))
+            ]
+        | inr a ↦
+            elim (Left-goes s t.1 i j h.1) [
+              | inl b ↦ absurd (omega (arith, b.0, Left-after r a.0 (i + 1) j a.2))
+              | inr b ↦ inr ((a.0, b.0), (a.1, b.1), (a.2, b.2))
+            ]
+      ]
   Left-goes (under b r) p i j h =
       let here : IsTrue (holds b i) = h.1 i (omega arith) (Left-after r p i j h.0) in
       elim (Left-goes r p i j h.0) [
@@ -375,6 +404,10 @@ module _ (B : Type 0) (holds : B → ℕ → Bool) where
   goes-Left (all r s) (inr (inr q)) i j (inr (inl u, st, le)) = absurd st
   goes-Left (all r s) (inr (inr q)) i j (inr (inr (inl u), st, le)) = absurd st
   goes-Left (all r s) (inr (inr q)) i j (inr (inr (inr u), st, le)) = goes-Left s q i j (inr (u, st, le))
+  goes-Left (pair r s) t i j (inl a) =
+      (goes-Left r t.0 i j (inl (a.0, a.1.0)), goes-Left s t.1 i j (inl (a.0, a.1.1)))
+  goes-Left (pair r s) t i j (inr a) =
+      (goes-Left r t.0 i j (inr (a.0.0, a.1.0, a.2.0)), goes-Left s t.1 i j (inr (a.0.1, a.1.1, a.2.1)))
   goes-Left (under b r) p i j (inl a) = (
     goes-Left r p i j (inl (a.0, a.1.0)),
     λ k from below. let e : i ≡ k =

@@ -4,12 +4,15 @@ use Rattle.std.proofs.Common.{◌∷◌}
 use Rattle.std.proofs.Common.{◌++◌, refl}
 use Rattle.std.specs.Prelude.{map, nat_lt, if◌then◌else◌}
 use Rattle.std.specs.List.{flat_map}
-use Rattle.assertions.specs.Written.{Written, boolean, delay, lead, repeat, or, and, throughout}
-use Rattle.assertions.specs.Emptiness.{admits_empty, takes_ticks}
-use Rattle.positions.specs.Plans.{Plan, tick, skip, any, all, under, loop, link, moving, apart, plan}
+use Rattle.assertions.specs.Written.{Written, boolean, delay, lead, repeat, or, and, intersect, throughout}
+use Rattle.assertions.specs.Emptiness.{admits_empty}
+use Rattle.positions.specs.Plans.{Plan, tick, skip, any, all, pair, under, loop, link, moving, apart, weighs}
+use Rattle.positions.specs.Plans.{plan}
 use Rattle.positions.specs.Tables.{Edge, Table, EachOf, shift, shifted, picked, numbers, tick_table, skip_table}
 use Rattle.positions.specs.Tables.{any_table, wanting, under_table, onward, leading, joined, fusing, crossing}
-use Rattle.positions.specs.Tables.{link_table, copies, looping, loop_table, paired, all_table, table_of}
+use Rattle.positions.specs.Tables.{link_table, copies, looping, loop_table, paired, all_table, coupled, pair_table}
+use Rattle.positions.specs.Tables.{table_of}
+use Rattle.positions.specs.Living.{is_kept, place, sifted_edge, sifted}
 use Rattle.positions.specs.Laws.{Occurs}
 
 module _ (B : Type 0) (Q : B → Type 0) where
@@ -102,12 +105,25 @@ module _ (B : Type 0) (Q : B → Type 0) where
       (shifted-wants (t.size * u.size + t.size) (u.row (p - (t.size * u.size + t.size)))
       (h (p - (t.size * u.size + t.size)))))
 
+  pair-wants : (t u : Table B) → Rows t → Rows u → Rows (pair_table t u)
+  pair-wants t u g h p =
+      each-flat (λ e. map (coupled u.size e) (u.row (p % u.size)))
+      (λ e w. each-map (coupled u.size e) (λ f k. each-append Q e.wanted f.wanted w k) (u.row (p % u.size))
+      (h (p % u.size)))
+      (t.row (p / u.size)) (g (p / u.size))
+
+  pub sifted-wants : (t : Table B) → Rows t → Rows (sifted t)
+  sifted-wants t g q =
+      each-map (sifted_edge (is_kept t)) (λ e k. k) (t.row (place (is_kept t) t.size q))
+      (g (place (is_kept t) t.size q))
+
   -- each boolean of a plan
   abbrev Of : Plan B → Type 0
   Of (tick b) = Q b
   Of skip = Unit {0}
   Of (any r s) = Of r × Of s
   Of (all r s) = Of r × Of s
+  Of (pair r s) = Of r × Of s
   Of (under b r) = Q b × Of r
   Of (loop r least most) = Of r
   Of (link fuses follows r g s) = Of r × Of g × Of s
@@ -117,6 +133,7 @@ module _ (B : Type 0) (Q : B → Type 0) where
   plan-wants skip h = λ p. tt
   plan-wants (any r s) h = any-wants (table_of r) (table_of s) (plan-wants r h.0) (plan-wants s h.1)
   plan-wants (all r s) h = all-wants (table_of r) (table_of s) (plan-wants r h.0) (plan-wants s h.1)
+  plan-wants (pair r s) h = pair-wants (table_of r) (table_of s) (plan-wants r h.0) (plan-wants s h.1)
   plan-wants (under b r) h = under-wants b (table_of r) h.0 (plan-wants r h.1)
   plan-wants (loop r least most) h = loop-wants (table_of r) least most (plan-wants r h)
   plan-wants (link fuses follows r g s) h =
@@ -128,35 +145,38 @@ module _ (B : Type 0) (Q : B → Type 0) where
   moving-of false true r h = tt
   moving-of false false r h = (tt, tt, tt)
 
-  apart-of : (shares : Bool) (true_one : B) (r s : Plan B) (least most : ℕ) → Q true_one → Of r → Of s
-      → Of (apart shares true_one r s least most)
-  apart-of shares true_one r s zero zero q g h = (g, tt, h)
-  apart-of shares true_one r s zero (suc most) q g h = (g, q, h)
-  apart-of shares true_one r s (suc least) most q g h = (g, q, h)
+  apart-of : (true_one : B) (r s : Plan B) (least most : ℕ) → Q true_one → Of r → Of s
+      → Of (apart true_one r s least most)
+  apart-of true_one r s zero zero q g h = (g, tt, h)
+  apart-of true_one r s zero (suc most) q g h = (g, q, h)
+  apart-of true_one r s (suc least) most q g h = (g, q, h)
 
   -- A boolean that a delay needs may not occur: then nothing is made from the delay.
   pub sequence-of : (true_one : B) (w : Written B) → ((b : B) → Occurs true_one b w → Q b) → Of (plan true_one w)
   sequence-of true_one (boolean b) h = h b refl
   sequence-of true_one (delay r least most s) h =
-      moving-of (takes_ticks (delay r least most s)) (admits_empty (delay r least most s))
-      (apart (takes_ticks r && takes_ticks s) true_one (plan true_one r) (plan true_one s) least most)
-      (apart-of (takes_ticks r && takes_ticks s) true_one (plan true_one r) (plan true_one s) least most
+      moving-of (weighs (delay r least most s)) (admits_empty (delay r least most s))
+      (apart true_one (plan true_one r) (plan true_one s) least most)
+      (apart-of true_one (plan true_one r) (plan true_one s) least most
       (h true_one (inl refl))
       (sequence-of true_one r (λ b o. h b (inr (inl o)))) (sequence-of true_one s (λ b o. h b (inr (inr o)))))
   sequence-of true_one (lead least most s) h =
-      moving-of (takes_ticks (lead least most s)) (admits_empty (lead least most s))
+      moving-of (weighs (lead least most s)) (admits_empty (lead least most s))
       (link false true (loop (tick true_one) least most) skip (plan true_one s))
       (h true_one (inl refl), tt, sequence-of true_one s (λ b o. h b (inr o)))
   sequence-of true_one (repeat r least most) h =
-      moving-of (takes_ticks (repeat r least most)) (admits_empty (repeat r least most))
+      moving-of (weighs (repeat r least most)) (admits_empty (repeat r least most))
       (loop (plan true_one r) least most)
       (sequence-of true_one r h)
   sequence-of true_one (or r s) h =
-      moving-of (takes_ticks (or r s)) (admits_empty (or r s)) (any (plan true_one r) (plan true_one s))
+      moving-of (weighs (or r s)) (admits_empty (or r s)) (any (plan true_one r) (plan true_one s))
       (sequence-of true_one r (λ b o. h b (inl o)), sequence-of true_one s (λ b o. h b (inr o)))
   sequence-of true_one (and r s) h =
-      moving-of (takes_ticks (and r s)) (admits_empty (and r s)) (all (plan true_one r) (plan true_one s))
+      moving-of (weighs (and r s)) (admits_empty (and r s)) (all (plan true_one r) (plan true_one s))
+      (sequence-of true_one r (λ b o. h b (inl o)), sequence-of true_one s (λ b o. h b (inr o)))
+  sequence-of true_one (intersect r s) h =
+      moving-of (weighs (intersect r s)) (admits_empty (intersect r s)) (pair (plan true_one r) (plan true_one s))
       (sequence-of true_one r (λ b o. h b (inl o)), sequence-of true_one s (λ b o. h b (inr o)))
   sequence-of true_one (throughout b r) h =
-      moving-of (takes_ticks (throughout b r)) (admits_empty (throughout b r)) (under b (plan true_one r))
+      moving-of (weighs (throughout b r)) (admits_empty (throughout b r)) (under b (plan true_one r))
       (h b (inl refl), sequence-of true_one r (λ c o. h c (inr o)))

@@ -4,12 +4,13 @@ use Rattle.std.specs.Prelude.{length}
 use Rattle.bytecode.specs.Values.{SectionData}
 use Rattle.inference.specs.Sections.{IsSection, size_of}
 use Rattle.assertions.specs.declared.sequence.Boolean.{Boolean}
-use Rattle.assertions.specs.Written.{Written, boolean, delay, lead, repeat, or, and, throughout}
-use Rattle.assertions.specs.Written.{kernel, weight, IsOrdered}
+use Rattle.assertions.specs.Written.{Written, boolean, delay, lead, repeat, or, and, intersect}
+use Rattle.assertions.specs.Written.{throughout, kernel, weight, IsOrdered}
 use Rattle.monitors.specs.Automata.{Follows}
 use Rattle.monitors.specs.Effects.{automaton_of}
 use Rattle.positions.specs.Plans.{plan}
 use Rattle.positions.specs.Tables.{table_of}
+use Rattle.positions.specs.Living.{sifted}
 use Rattle.positions.specs.Sections.{section_of, told}
 
 -- A boolean occurs in a sequence; the constant 1 does where a delay needs it.
@@ -21,6 +22,7 @@ Occurs true_one b (lead least most s) = (true_one ≡ b) ⊎ Occurs true_one b s
 Occurs true_one b (repeat r least most) = Occurs true_one b r
 Occurs true_one b (or r s) = Occurs true_one b r ⊎ Occurs true_one b s
 Occurs true_one b (and r s) = Occurs true_one b r ⊎ Occurs true_one b s
+Occurs true_one b (intersect r s) = Occurs true_one b r ⊎ Occurs true_one b s
 Occurs true_one b (throughout c r) = (c ≡ b) ⊎ Occurs true_one b r
 
 -- The atoms of each tick tell the booleans that occur.
@@ -36,7 +38,7 @@ IsThere atoms (Some n) = n < atoms
 
 -- the section of a sequence, where atom tells the number of each boolean but of the constant 1
 abbrev pub section_for : {B : Type 0} → (B → Option ℕ) → B → Written B → SectionData
-section_for atom true_one w = section_of atom (table_of (plan true_one w))
+section_for atom true_one w = section_of atom (sifted (table_of (plan true_one w)))
 
 -- It follows the sequence.
 abbrev pub SectionFollows : Type 0
@@ -59,7 +61,7 @@ SectionIsSmall =
     (atom : Boolean → Option ℕ) (true_one : Boolean) (w : Written Boolean) →
     IsOrdered w → length (section_for atom true_one w).blocks ≤ weight w
 
--- No `and`, and no delay between two parts that may be 0.
+-- No `and` or `intersect`, and no delay between two parts that may be 0.
 abbrev pub IsPlain : {B : Type 0} → Written B → Type 0
 IsPlain (boolean b) = Unit {0}
 IsPlain (delay r least most s) = (1 ≤ least) × IsPlain r × IsPlain s
@@ -67,6 +69,7 @@ IsPlain (lead least most s) = IsPlain s
 IsPlain (repeat r least most) = IsPlain r
 IsPlain (or r s) = IsPlain r × IsPlain s
 IsPlain (and r s) = ⊥
+IsPlain (intersect r s) = ⊥
 IsPlain (throughout b r) = IsPlain r
 
 -- how many booleans are written
@@ -77,6 +80,7 @@ booleans (lead least most s) = booleans s
 booleans (repeat r least most) = booleans r
 booleans (or r s) = booleans r + booleans s
 booleans (and r s) = booleans r + booleans s
+booleans (intersect r s) = booleans r + booleans s
 booleans (throughout b r) = booleans r + 1
 
 -- Its section then has at most n (n - 1) / 2 + n (m + 2) instructions, where it weighs n and has m

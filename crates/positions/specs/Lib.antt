@@ -1,9 +1,11 @@
 pub mod Plans
 pub mod States
 pub mod Tables
+pub mod Living
 pub mod Sections
 pub mod Rows
 pub mod Views
 pub mod Faults
 pub mod Sequences
 pub mod Laws
+pub mod Lengths

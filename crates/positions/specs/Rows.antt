@@ -1,10 +1,11 @@
 -- Tables as lists: for each position a list of edges, each made from another.
-use Rattle.std.specs.Prelude.{ℕ, ◌+◌, ◌*◌, ◌-◌, ◌<◌, ◌≤◌, ◌==◌, nat_le}
+use Rattle.std.specs.Prelude.{ℕ, zero, suc, ◌+◌, ◌*◌, ◌-◌, ◌<◌, ◌≤◌, ◌==◌, nat_le}
 use Rattle.std.specs.Prelude.{Bool, true, false, ◌&&◌, ◌||◌, List}
 use Rattle.std.specs.Prelude.{[], ◌∷◌, ◌++◌, length, map, Option, None, sum_by}
-use Rattle.std.specs.Prelude.{slice_get, unwrap_or, min, if◌then◌else◌}
+use Rattle.std.specs.Prelude.{slice_get, slice_index_or, unwrap_or, min, if◌then◌else◌}
 use Rattle.std.specs.List.{flat_map}
-use Rattle.positions.specs.Tables.{Edge, Table, EachOf, shift, picked, numbers}
+use Rattle.positions.specs.Tables.{Edge, Table, EachOf, shift, picked, numbers, products, coupled}
+use Rattle.positions.specs.Living.{lives_for, is_among, led_to, sift, sifted_edge}
 use Rattle.positions.specs.Sections.{edge_size, with_atom, coded, rows_of}
 
 -- Positions in order, each by its edges; those that begin; whether an empty match is there.
@@ -173,14 +174,16 @@ repeat_data t least most = record {
 abbrev pub pairs_data : ℕ → List ℕ → List ℕ → List ℕ
 pairs_data size xs ys = flat_map (λ x. shift (x * size) ys) xs
 
--- two edges at once, where the tables have so many positions
+-- where each of two edges leads to alone, where the tables have so many positions
+abbrev pub lone_data : ℕ → ℕ → Edge ℕ → Edge ℕ → List ℕ
+lone_data n m e f =
+    picked f.accepts (shift (n * m) e.enters) ++ picked e.accepts (shift (n * m + n) f.enters)
+
+-- two edges at once
 abbrev pub paired_data : ℕ → ℕ → Edge ℕ → Edge ℕ → Edge ℕ
 paired_data n m e f = record {
   wanted = e.wanted ++ f.wanted;
-  enters =
-      pairs_data m e.enters f.enters
-      ++ (picked f.accepts (shift (n * m) e.enters)
-      ++ picked e.accepts (shift (n * m + n) f.enters));
+  enters = pairs_data m e.enters f.enters ++ lone_data n m e f;
   accepts = e.accepts && f.accepts;
 }
 
@@ -203,6 +206,51 @@ both_data t u =
       empty = t.empty && u.empty;
     }
 
+-- the pairs alone, where the second table has so many positions
+abbrev pub couple_row : ℕ → List (Edge ℕ) → List (Edge ℕ) → List (Edge ℕ)
+couple_row size es fs = flat_map (λ e. map (coupled size e) fs) es
+
+-- two edges at once, where each also goes on alone or not
+abbrev pub joint_data : Bool → ℕ → ℕ → Edge ℕ → Edge ℕ → Edge ℕ
+joint_data true n m = paired_data n m
+joint_data false n m = coupled m
+
+abbrev pub joint_row : Bool → ℕ → ℕ → List (Edge ℕ) → List (Edge ℕ) → List (Edge ℕ)
+joint_row alone n m es fs = flat_map (λ e. map (joint_data alone n m e) fs) es
+
+abbrev pub pair_data : TableData → TableData → TableData
+pair_data t u = record {
+  rows = flat_map (λ es. map (couple_row (length u.rows) es) u.rows) t.rows;
+  starts = products (length u.rows) t.starts u.starts;
+  empty = t.empty && u.empty;
+}
+
+-- whether a list has a mark at a place; one that isn't there is none
+abbrev pub marked : List Bool → ℕ → Bool
+marked marks p = slice_index_or marks p false
+
+-- the positions of these rows that may still come to an end
+abbrev pub lives_in : List (List (Edge ℕ)) → ℕ → Bool
+lives_in rows p = lives_for (length rows) (row_at rows) (length rows) p
+
+-- the positions of a table that something leads to, and that may still come to an end
+abbrev pub kept_in : TableData → ℕ → Bool
+kept_in t p =
+    lives_in t.rows p && is_among (led_to t.starts (row_at t.rows) (length t.rows)) p
+
+-- what is kept of the first so many rows
+abbrev pub kept_rows : (ℕ → Bool) → List (List (Edge ℕ)) → ℕ → List (List (Edge ℕ))
+kept_rows keeps rows zero = []
+kept_rows keeps rows (suc n) =
+    kept_rows keeps rows n ++ picked (keeps n) (map (sifted_edge keeps) (row_at rows n) ∷ [])
+
+abbrev pub sift_data : TableData → TableData
+sift_data t = record {
+  rows = kept_rows (kept_in t) t.rows (length t.rows);
+  starts = sift (kept_in t) t.starts;
+  empty = t.empty;
+}
+
 -- Few positions, and what is entered is there.
 pub record IsPlaced (d : TableData) : Type 0 where
   pub few : length d.rows ≤ 127
@@ -216,9 +264,9 @@ abbrev pub gap_data : ℕ → ℕ → TableData
 gap_data least most =
     if most == 0 then still_data true else repeat_data (tick_data None) (least - 1) (most - 1)
 
-abbrev pub apart_data : Bool → TableData → TableData → ℕ → ℕ → TableData
-apart_data shares t u least most =
-    link_data (shares && least == 0) (nat_le 1 most) t (gap_data least most) u
+abbrev pub apart_data : TableData → TableData → ℕ → ℕ → TableData
+apart_data t u least most =
+    link_data (least == 0) (nat_le 1 most) t (gap_data least most) u
 
 abbrev pub lead_in_data : ℕ → ℕ → TableData → TableData
 lead_in_data least most u =

@@ -2,7 +2,7 @@
 use Rattle.std.proofs.Common.{inl, inr}
 use Rattle.std.specs.Prelude.{◌≡◌, ◌⊎◌, ℕ, zero, suc, ◌+◌, ◌<◌, ◌≤◌, max, Bool, IsTrue}
 use Rattle.assertions.specs.Segments.{Matches, Chain}
-use Rattle.positions.specs.Plans.{Plan, tick, skip, any, all, under, loop, link, shape}
+use Rattle.positions.specs.Plans.{Plan, tick, skip, any, all, pair, under, loop, link, shape}
 
 -- A state: which booleans are wanted at this tick.
 abbrev pub State : {B : Type 0} → Plan B → Type 0
@@ -10,6 +10,7 @@ State (tick b) = Unit {0}
 State skip = ⊥
 State (any r s) = State r ⊎ State s
 State (all r s) = (State r × State s) ⊎ (State r ⊎ State s)
+State (pair r s) = State r × State s
 State (under b r) = State r
 State (loop r least most) = (c : ℕ) × State r × (c < most)
 State (link fuses follows r g s) = State r ⊎ (State g ⊎ State s)
@@ -20,6 +21,7 @@ Nullable (tick b) = ⊥
 Nullable skip = Unit {0}
 Nullable (any r s) = Nullable r ⊎ Nullable s
 Nullable (all r s) = Nullable r × Nullable s
+Nullable (pair r s) = Nullable r × Nullable s
 Nullable (under b r) = Nullable r
 Nullable (loop r least most) = (least ≤ most) × ((least ≡ 0) ⊎ Nullable r)
 Nullable (link fuses follows r g s) = IsTrue follows × Nullable r × Nullable g × Nullable s
@@ -33,6 +35,7 @@ First (any r s) (inr q) = First s q
 First (all r s) (inl t) = First r t.0 × First s t.1
 First (all r s) (inr (inl p)) = First r p × Nullable s
 First (all r s) (inr (inr q)) = Nullable r × First s q
+First (pair r s) t = First r t.0 × First s t.1
 First (under b r) p = First r p
 First (loop r least most) t = (t.0 < most) × ((t.0 ≡ 0) ⊎ Nullable r) × First r t.1
 First (link fuses follows r g s) (inl p) = First r p
@@ -49,6 +52,7 @@ Ends holds (any r s) (inr q) i = Ends holds s q i
 Ends holds (all r s) (inl t) i = Ends holds r t.0 i × Ends holds s t.1 i
 Ends holds (all r s) (inr (inl p)) i = Ends holds r p i
 Ends holds (all r s) (inr (inr q)) i = Ends holds s q i
+Ends holds (pair r s) t i = Ends holds r t.0 i × Ends holds s t.1 i
 Ends holds (under b r) p i = Ends holds r p i × IsTrue (holds b i)
 Ends holds (loop r least most) t i =
     Ends holds r t.1 i × (t.0 < most) × (least ≤ most) × ((least ≤ t.0 + 1) ⊎ Nullable r)
@@ -76,6 +80,7 @@ Steps holds (all r s) (inr (inl p)) i (inr (inr q')) = ⊥
 Steps holds (all r s) (inr (inr q)) i (inl u) = ⊥
 Steps holds (all r s) (inr (inr q)) i (inr (inl p')) = ⊥
 Steps holds (all r s) (inr (inr q)) i (inr (inr q')) = Steps holds s q i q'
+Steps holds (pair r s) t i u = Steps holds r t.0 i u.0 × Steps holds s t.1 i u.1
 Steps holds (under b r) p i p' = Steps holds r p i p' × IsTrue (holds b i)
 Steps holds (loop r least most) t i u =
     ((t.0 ≡ u.0) × Steps holds r t.1 i u.1)
@@ -106,6 +111,7 @@ Left holds (all r s) (inl t) i j =
     (k : ℕ) × (l : ℕ) × Left holds r t.0 i k × Left holds s t.1 i l × (j ≡ max k l)
 Left holds (all r s) (inr (inl p)) i j = Left holds r p i j
 Left holds (all r s) (inr (inr q)) i j = Left holds s q i j
+Left holds (pair r s) t i j = Left holds r t.0 i j × Left holds s t.1 i j
 Left holds (under b r) p i j = Left holds r p i j × ((k : ℕ) → i ≤ k → k < j → IsTrue (holds b k))
 Left holds (loop r least most) t i j =
     (m : ℕ) × Left holds r t.1 i m

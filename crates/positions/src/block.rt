@@ -58,13 +58,19 @@ fn block_at(alloc: Global, base: usize, row: &[Edge]) -> Result<Vec<BlockInstr>,
     Ok(block)
 }
 
+/// Blocks, and how many instructions they have.
+#[derive(Drop)]
+pub(crate) struct Blocks {
+    pub list: Vec<Vec<BlockInstr>>,
+    pub size: usize,
+}
+
 /// The blocks of positions, one behind the other.
-pub(crate) fn blocks_for(
-    alloc: Global,
-    rows: &[Vec<Edge>],
-) -> Result<Vec<Vec<BlockInstr>>, AllocError>
+pub(crate) fn blocks_for(alloc: Global, rows: &[Vec<Edge>]) -> Result<Blocks, AllocError>
     requires { rows_size (rows_data rows.now) ≤ 65535 }
-    ensures { IfOk result (λ v. map (λ b. b.items) v.items ≡ blocks_of 0 (rows_data rows.now)) }
+    ensures made { IfOk result
+        (λ v. map (λ b. b.items) v.list.items ≡ blocks_of 0 (rows_data rows.now)) }
+    ensures size { IfOk result (λ v. v.size ≡ rows_size (rows_data rows.now)) }
 {
     let mut blocks = Vec::new(alloc);
     let mut base = 0;
@@ -73,5 +79,8 @@ pub(crate) fn blocks_for(
         base += block.len();
         blocks.push(block)?;
     }
-    Ok(blocks)
+    Ok(Blocks {
+        list: blocks,
+        size: base,
+    })
 }

@@ -1,6 +1,6 @@
 //! Tables of both of two.
 
-ghost use Rattle.std.specs.Prelude.{◌≡◌, ◌+◌, ◌*◌, ◌≤◌, length, IfOk, IfErr};
+ghost use Rattle.std.specs.Prelude.{◌≡◌, ◌+◌, ◌*◌, ◌≤◌, true, length, IfOk, IfErr};
 ghost use Rattle.positions.specs.Rows.{both_data, rows_size, IsPlaced};
 ghost use Rattle.positions.specs.Faults.{IsLong};
 
@@ -21,6 +21,7 @@ fn starts(
 ) -> Result<Vec<u8>, AllocError>
     requires first_placed { IsPlaced first.now }
     requires second_placed { IsPlaced second.now }
+    requires alone { pairing.now.alone ≡ true }
     requires first_len { pairing.now.first ≡ length first.now.rows }
     requires second_len { pairing.now.second ≡ length second.now.rows }
     ensures { IfOk result (λ v. v.items ≡ (both_data first.now second.now).starts) }
@@ -50,11 +51,13 @@ pub(crate) fn both(alloc: Global, first: &Table, second: &Table) -> Result<Table
     requires few { length first.now.rows * length second.now.rows
         + length first.now.rows + length second.now.rows ≤ 127 }
     ensures ok { IfOk result (λ t. t ≡ both_data first.now second.now) }
+    ensures short { IfOk result (λ t. rows_size t.rows ≤ 65535) }
     ensures err { IfErr result (IsLong (rows_size (both_data first.now second.now).rows)) }
 {
     let pairing = Pairing {
         first: first.len(),
         second: second.len(),
+        alone: true,
     };
     let firsts = first.rows();
     let seconds = second.rows();

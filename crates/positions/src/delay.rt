@@ -1,6 +1,6 @@
 //! Tables of delays.
 
-ghost use Rattle.std.specs.Prelude.{◌≡◌, ◌==◌, ◌+◌, ◌≤◌, ◌&&◌, None, nat_le, length, IfOk, IfErr};
+ghost use Rattle.std.specs.Prelude.{◌≡◌, ◌==◌, ◌+◌, ◌≤◌, None, nat_le, length, IfOk, IfErr};
 ghost use Rattle.positions.specs.Rows.{gap_data, apart_data, lead_in_data, tick_data, repeat_data};
 ghost use Rattle.positions.specs.Rows.{rows_size, IsPlaced};
 ghost use Rattle.positions.specs.Faults.{IsLong};
@@ -33,11 +33,11 @@ fn gap(alloc: Global, least: usize, most: usize) -> Result<Table, SectionFault>
     ticks(alloc, least.saturating_sub(1), most - 1)
 }
 
-/// Whether the two parts may share a tick here.
-fn is_fused(shares: bool, least: usize) -> bool
-    ensures { result ≡ (shares && least == 0) }
+/// Whether the two parts may share a tick.
+fn is_fused(least: usize) -> bool
+    ensures { result ≡ (least == 0) }
 {
-    shares && least == 0
+    least == 0
 }
 
 /// Whether the second part may begin later.
@@ -47,10 +47,9 @@ fn is_later(most: usize) -> bool
     most >= 1
 }
 
-/// `first ##[least:most] second`, where the two may share a tick or not.
+/// `first ##[least:most] second`
 pub(crate) fn apart(
     alloc: Global,
-    shares: bool,
     first: &Table,
     second: &Table,
     least: usize,
@@ -59,12 +58,13 @@ pub(crate) fn apart(
     requires first_placed { IsPlaced first.now }
     requires second_placed { IsPlaced second.now }
     requires few { length first.now.rows + length second.now.rows + most ≤ 127 }
-    ensures ok { IfOk result (λ t. t ≡ apart_data shares first.now second.now least most) }
+    ensures ok { IfOk result (λ t. t ≡ apart_data first.now second.now least most) }
+    ensures short { IfOk result (λ t. rows_size t.rows ≤ 65535) }
     ensures err { IfErr result
-        (IsLong (rows_size (apart_data shares first.now second.now least most).rows)) }
+        (IsLong (rows_size (apart_data first.now second.now least most).rows)) }
 {
     let between = gap(alloc, least, most)?;
-    let fuses = is_fused(shares, least);
+    let fuses = is_fused(least);
     let follows = is_later(most);
     link(alloc, fuses, follows, first, &between, second)
 }
@@ -79,6 +79,7 @@ pub(crate) fn lead_in(
     requires placed { IsPlaced body.now }
     requires few { length body.now.rows + most ≤ 127 }
     ensures ok { IfOk result (λ t. t ≡ lead_in_data least most body.now) }
+    ensures short { IfOk result (λ t. rows_size t.rows ≤ 65535) }
     ensures err { IfErr result (IsLong (rows_size (lead_in_data least most body.now).rows)) }
 {
     let delay = ticks(alloc, least, most)?;

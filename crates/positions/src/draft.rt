@@ -1,6 +1,6 @@
 //! Rows in the making.
 
-ghost use Rattle.std.specs.Prelude.{◌≡◌, ◌+◌, ◌<◌, [], ◌∷◌, map, All, OnOk, IfErr};
+ghost use Rattle.std.specs.Prelude.{◌≡◌, ◌+◌, ◌<◌, ◌≤◌, [], ◌∷◌, map, All, OnOk, IfErr};
 ghost use Rattle.positions.specs.Faults.{IsLong};
 ghost use Rattle.positions.specs.Rows.{DraftData, draft_size, rows_size, edges_size};
 ghost use Rattle.positions.specs.Rows.{with_edges, closed, with_rows, changed, change_all};
@@ -16,8 +16,8 @@ use std::alloc::Global;
 use std::marker::Model;
 use std::mem;
 
-/// The most instructions that a section may have.
-pub const LONGEST: usize = 4096;
+/// The most instructions that a table may make up: so many have addresses.
+const LONGEST_TABLE: usize = 65535;
 
 /// Rows in the making: those that are done, the edges of the next, and how many instructions more
 /// there may be.
@@ -36,7 +36,7 @@ impl Model for Draft {
 
     ghost invariant = { λ d.
         d.room + (rows_size (rows_data d.rows.items) + edges_size (map edge_data d.begun.items))
-        ≡ 4096 };
+        ≡ 65535 };
 }
 
 impl Draft {
@@ -47,7 +47,7 @@ impl Draft {
         Draft {
             rows: Vec::new(alloc),
             begun: Vec::new(alloc),
-            room: LONGEST,
+            room: LONGEST_TABLE,
         }
     }
 
@@ -131,7 +131,8 @@ impl Draft {
 
     /// The table of the rows that are done.
     pub fn table(self, starts: Vec<u8>, empty: bool) -> Table
-        ensures { result ≡ record { rows = self.rows; starts = starts.items; empty = empty } }
+        ensures made { result ≡ record { rows = self.rows; starts = starts.items; empty = empty } }
+        ensures short { rows_size result.rows ≤ 65535 }
     {
         let _ = &self.room;
         Table::new(self.rows, starts, empty)

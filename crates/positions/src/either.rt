@@ -40,6 +40,7 @@ pub(crate) fn either(alloc: Global, first: &Table, second: &Table) -> Result<Tab
     requires second_placed { IsPlaced second.now }
     requires few { length first.now.rows + length second.now.rows ≤ 127 }
     ensures ok { IfOk result (λ t. t ≡ either_data first.now second.now) }
+    ensures short { IfOk result (λ t. rows_size t.rows ≤ 65535) }
     ensures err { IfErr result (IsLong (rows_size (either_data first.now second.now).rows)) }
 {
     let mut draft = Draft::new(alloc);
@@ -54,6 +55,7 @@ pub(crate) fn either(alloc: Global, first: &Table, second: &Table) -> Result<Tab
 pub(crate) fn during(alloc: Global, wanted: Option<u8>, body: &Table) -> Result<Table, SectionFault>
     requires { IsPlaced body.now }
     ensures ok { IfOk result (λ t. t ≡ during_data wanted body.now) }
+    ensures short { IfOk result (λ t. rows_size t.rows ≤ 65535) }
     ensures err { IfErr result (IsLong (rows_size (during_data wanted body.now).rows)) }
 {
     let change = Change {

@@ -38,10 +38,14 @@ mod laws;
 mod lead;
 mod link;
 mod list;
+mod living;
+mod pair;
 mod pairing;
+mod reach;
 mod repeat;
 mod section;
 mod sequence;
+mod sift;
 mod table;
 
 pub use fault::SectionFault;

@@ -128,6 +128,7 @@ pub(crate) fn link(
     requires second_placed { IsPlaced second.now }
     requires few { length first.now.rows + length between.now.rows + length second.now.rows ≤ 127 }
     ensures ok { IfOk result (λ t. t ≡ link_data fuses follows first.now between.now second.now) }
+    ensures short { IfOk result (λ t. rows_size t.rows ≤ 65535) }
     ensures err { IfErr result (IsLong
         (rows_size (link_data fuses follows first.now between.now second.now).rows)) }
 {

@@ -1,8 +1,9 @@
 //! Edges of two tables at once.
 
-ghost use Rattle.std.specs.Prelude.{◌≡◌, ◌+◌, ◌*◌, ◌<◌, ◌≤◌, [], map, All, OnOk, IfOk, IfErr};
+ghost use Rattle.std.specs.Prelude.{◌≡◌, ◌+◌, ◌*◌, ◌<◌, ◌≤◌, true, if◌then◌else◌, [], ◌++◌, map};
+ghost use Rattle.std.specs.Prelude.{All, OnOk, IfOk, IfErr};
 ghost use Rattle.std.specs.List.{flat_map};
-ghost use Rattle.positions.specs.Rows.{pairs_data, paired_data, pair_row};
+ghost use Rattle.positions.specs.Rows.{pairs_data, lone_data, joint_data, joint_row};
 ghost use Rattle.positions.specs.Rows.{edges_size, rows_size, draft_size, with_edges, with_rows};
 ghost use Rattle.positions.specs.Views.{edge_data, rows_data, IsBelow, AreBelow};
 ghost use Rattle.positions.specs.Faults.{IsLong};
@@ -14,13 +15,15 @@ use crate::list::put_moved;
 use std::alloc::{AllocError, Global};
 
 /// The pairs of the positions of two tables, by how many positions each has: the pairs first, by
-/// the first table's position; then the positions of the first table alone; then those of the
-/// second.
+/// the first table's position. Where each also goes on alone, then the positions of the first table
+/// alone, and then those of the second.
 #[derive(Clone, Copy)]
 pub(crate) struct Pairing {
     pub first: usize,
     pub second: usize,
-    pub ghost few: { first * second + first + second ≤ 127 },
+    /// Whether each goes on alone where the other has ended.
+    pub alone: bool,
+    pub ghost few: { first * second + (if alone then first + second else 0) ≤ 127 },
 }
 
 impl Pairing {
@@ -33,6 +36,7 @@ impl Pairing {
 
     /// Where the positions of the second table alone begin.
     pub fn second_alone(&self) -> usize
+        requires { self.now.alone ≡ true }
         ensures { result ≡ self.now.first * self.now.second + self.now.first }
     {
         self.first * self.second + self.first
@@ -51,22 +55,37 @@ impl Pairing {
         Ok(list)
     }
 
+    /// Puts where each edge of two leads to alone: where the other accepts.
+    fn put_alone(&self, list: &mut Vec<u8>, edge: &Edge, other: &Edge) -> Result<(), AllocError>
+        requires first { IsBelow self.now.first edge.now }
+        requires second { IsBelow self.now.second other.now }
+        requires alone { self.now.alone ≡ true }
+        ensures { OnOk result (list.new.items ≡ list.old.items
+            ++ lone_data self.now.first self.now.second (edge_data edge.now)
+            (edge_data other.now)) }
+    {
+        if other.accepts {
+            put_moved(list, &edge.enters, self.first_alone())?;
+        }
+        if edge.accepts {
+            put_moved(list, &other.enters, self.second_alone())?;
+        }
+        Ok(())
+    }
+
     /// Two edges at once.
     fn paired_edge(&self, alloc: Global, edge: &Edge, other: &Edge) -> Result<Edge, AllocError>
         requires first { IsBelow self.now.first edge.now }
         requires second { IsBelow self.now.second other.now }
         ensures { IfOk result (λ e. edge_data e
-            ≡ paired_data self.now.first self.now.second
+            ≡ joint_data self.now.alone self.now.first self.now.second
             (edge_data edge.now) (edge_data other.now)) }
     {
         let mut wanted = Vec::from_slice(alloc, &edge.wanted)?;
         wanted.extend_from_slice(&other.wanted)?;
         let mut enters = self.pairs(alloc, &edge.enters, &other.enters)?;
-        if other.accepts {
-            put_moved(&mut enters, &edge.enters, self.first_alone())?;
-        }
-        if edge.accepts {
-            put_moved(&mut enters, &other.enters, self.second_alone())?;
+        if self.alone {
+            self.put_alone(&mut enters, edge, other)?;
         }
         Ok(Edge {
             wanted,
@@ -86,10 +105,10 @@ impl Pairing {
         requires first { IsBelow self.now.first edge.now }
         requires second { AreBelow self.now.second row.now }
         ensures ok { OnOk result (draft.new ≡ with_edges draft.old
-            (map (paired_data self.now.first self.now.second (edge_data edge.now))
+            (map (joint_data self.now.alone self.now.first self.now.second (edge_data edge.now))
             (map edge_data row.now))) }
         ensures err { IfErr result (IsLong (draft_size draft.old + edges_size
-            (map (paired_data self.now.first self.now.second (edge_data edge.now))
+            (map (joint_data self.now.alone self.now.first self.now.second (edge_data edge.now))
             (map edge_data row.now)))) }
     {
         for other in row {
@@ -109,10 +128,10 @@ impl Pairing {
         requires first { AreBelow self.now.first edges.now }
         requires second { AreBelow self.now.second row.now }
         ensures ok { OnOk result (draft.new ≡ with_edges draft.old
-            (pair_row self.now.first self.now.second
+            (joint_row self.now.alone self.now.first self.now.second
             (map edge_data edges.now) (map edge_data row.now))) }
         ensures err { IfErr result (IsLong (draft_size draft.old + edges_size
-            (pair_row self.now.first self.now.second
+            (joint_row self.now.alone self.now.first self.now.second
             (map edge_data edges.now) (map edge_data row.now)))) }
     {
         for edge in edges {
@@ -133,10 +152,10 @@ impl Pairing {
         requires second { All (λ row. AreBelow self.now.second row.items) rows.now }
         requires begun { draft.old.begun ≡ [] }
         ensures ok { OnOk result (draft.new ≡ with_rows draft.old
-            (map (pair_row self.now.first self.now.second (map edge_data edges.now))
+            (map (joint_row self.now.alone self.now.first self.now.second (map edge_data edges.now))
             (rows_data rows.now))) }
         ensures err { IfErr result (IsLong (draft_size draft.old + rows_size
-            (map (pair_row self.now.first self.now.second (map edge_data edges.now))
+            (map (joint_row self.now.alone self.now.first self.now.second (map edge_data edges.now))
             (rows_data rows.now)))) }
     {
         for row in rows {
@@ -159,11 +178,13 @@ impl Pairing {
         requires begun { draft.old.begun ≡ [] }
         ensures ok { OnOk result (draft.new ≡ with_rows draft.old
             (flat_map
-            (λ es. map (pair_row self.now.first self.now.second es) (rows_data seconds.now))
+            (λ es. map (joint_row self.now.alone self.now.first self.now.second es)
+            (rows_data seconds.now))
             (rows_data firsts.now))) }
         ensures err { IfErr result (IsLong (draft_size draft.old + rows_size
             (flat_map
-            (λ es. map (pair_row self.now.first self.now.second es) (rows_data seconds.now))
+            (λ es. map (joint_row self.now.alone self.now.first self.now.second es)
+            (rows_data seconds.now))
             (rows_data firsts.now)))) }
     {
         for edges in firsts {

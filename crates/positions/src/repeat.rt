@@ -63,6 +63,7 @@ pub(crate) fn repeat(
     requires placed { IsPlaced body.now }
     requires few { most * length body.now.rows ≤ 127 }
     ensures ok { IfOk result (λ t. t ≡ repeat_data body.now least most) }
+    ensures short { IfOk result (λ t. rows_size t.rows ≤ 65535) }
     ensures err { IfErr result (IsLong (rows_size (repeat_data body.now least most).rows)) }
 {
     let mut draft = Draft::new(alloc);

@@ -9,17 +9,19 @@ ghost use Rattle.assertions.specs.Shapes.{written_form};
 ghost use Rattle.assertions.specs.Listed.{EachBoolean, IsListed};
 ghost use Rattle.positions.specs.Rows.{IsPlaced};
 ghost use Rattle.positions.specs.Sections.{bits};
-ghost use Rattle.positions.specs.Sequences.{atom_of, coded_section};
+ghost use Rattle.positions.specs.Sequences.{atom_of, largest, coded_section};
 ghost use Rattle.positions.specs.Laws.{section_for};
-ghost use Rattle.positions.specs.Faults.{IsLong};
+ghost use Rattle.positions.specs.Lengths.{HasLongSection};
+ghost use Rattle.positions.specs.declared.fault.SectionFault.TheVariants.{TooLong};
 
 use crate::block::blocks_for;
 use crate::fault::SectionFault;
 use crate::sequence::table_of;
+use crate::sift::sift;
 use crate::table::Table;
 use assertions::Sequence;
 use bytecode::Section;
-use std::alloc::{AllocError, Global};
+use std::alloc::Global;
 
 /// The set of these positions.
 fn set_of(positions: &[u8]) -> u128
@@ -33,16 +35,24 @@ fn set_of(positions: &[u8]) -> u128
     set
 }
 
+/// The most instructions that a section may have.
+const LONGEST: usize = 4096;
+
 /// The section of a table.
-fn section_at(alloc: Global, table: &Table) -> Result<Section, AllocError>
+fn section_at(alloc: Global, table: &Table) -> Result<Section, SectionFault>
     requires { IsPlaced table.now }
     ensures made { IfOk result (λ s. section_data s ≡ coded_section table.now) }
     ensures short { IfOk result (λ s. size_of (section_data s).blocks ≤ 4096) }
+    ensures err { IfErr result (λ fault. fault ≡ TooLong
+        → 4096 < size_of (coded_section table.now).blocks) }
 {
     let blocks = blocks_for(alloc, table.rows())?;
+    if blocks.size > LONGEST {
+        return Err(SectionFault::TooLong);
+    }
     Ok(Section {
         start: set_of(table.starts()),
-        blocks,
+        blocks: blocks.list,
     })
 }
 
@@ -54,9 +64,11 @@ pub fn positions_of(alloc: Global, sequence: &Sequence) -> Result<Section, Secti
     ensures ok { IfOk result
         (λ s. section_data s ≡ section_for atom_of One (written_form sequence.now)) }
     ensures short { IfOk result (λ s. size_of (section_data s).blocks ≤ 4096) }
+    ensures light { IfOk result (λ s. largest (written_form sequence.now) ≤ 65535) }
     ensures err { IfErr result
-        (IsLong (size_of (section_for atom_of One (written_form sequence.now)).blocks)) }
+        (λ fault. fault ≡ TooLong → HasLongSection (written_form sequence.now)) }
 {
     let table = table_of(alloc, sequence)?;
-    Ok(section_at(alloc, &table)?)
+    let kept = sift(alloc, &table)?;
+    section_at(alloc, &kept)
 }

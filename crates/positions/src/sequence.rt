@@ -1,19 +1,18 @@
 //! Tables of sequences.
 
-ghost use Rattle.std.specs.Prelude.{◌≡◌, ◌≤◌, ◌&&◌, IfOk, IfErr};
-ghost use Rattle.assertions.specs.Emptiness.{takes_ticks};
+ghost use Rattle.std.specs.Prelude.{◌≡◌, ◌≤◌, IfOk, IfErr};
 ghost use Rattle.assertions.specs.Written.{weight, IsOrdered};
 ghost use Rattle.assertions.specs.Shapes.{written_form};
 ghost use Rattle.assertions.specs.Listed.{EachBoolean, IsListed};
-ghost use Rattle.positions.specs.Rows.{rows_size};
-ghost use Rattle.positions.specs.Sequences.{atom_of, listed_for};
+ghost use Rattle.positions.specs.Sequences.{atom_of, listed_for, largest};
 ghost use Rattle.positions.specs.Faults.{IsLong};
 
 use crate::both::both;
 use crate::delay::{apart, lead_in};
 use crate::either::{during, either, tick};
-use crate::extent::extent_of;
+use crate::extent::{is_nullable, is_weighty};
 use crate::fault::SectionFault;
+use crate::pair::pair;
 use crate::repeat::repeat;
 use crate::table::Table;
 use assertions::{Boolean, Sequence};
@@ -30,41 +29,24 @@ fn atom_number(boolean: Boolean) -> Option<u8>
     }
 }
 
-/// Whether two parts may share a tick: both take ticks.
-fn is_shared(first: &Sequence, second: &Sequence) -> bool
-    ensures { result
-        ≡ (takes_ticks (written_form first.now) && takes_ticks (written_form second.now)) }
-{
-    extent_of(first).ticks && extent_of(second).ticks
-}
-
-/// The table of a sequence. Nothing is made from what takes no tick.
+/// The table of a sequence. Nothing is made from what weighs nothing.
 pub(crate) fn table_of(alloc: Global, sequence: &Sequence) -> Result<Table, SectionFault>
     requires ordered { IsOrdered (written_form sequence.now) }
     requires bound { weight (written_form sequence.now) ≤ 127 }
     requires listed { EachBoolean (IsListed 127) (written_form sequence.now) }
     ensures ok { IfOk result (λ t. t ≡ listed_for (written_form sequence.now)) }
-    ensures err { IfErr result
-        (IsLong (rows_size (listed_for (written_form sequence.now)).rows)) }
+    ensures short { IfOk result (λ t. largest (written_form sequence.now) ≤ 65535) }
+    ensures err { IfErr result (IsLong (largest (written_form sequence.now))) }
 {
-    let extent = extent_of(sequence);
-    if !extent.ticks {
-        return Ok(Table::still(alloc, extent.empty));
+    if !is_weighty(sequence) {
+        return Ok(Table::still(alloc, is_nullable(sequence)));
     }
     match sequence {
         Sequence::Boolean(boolean) => Ok(tick(alloc, atom_number(*boolean))?),
         Sequence::Delay(first, least, most, second) => {
-            let shares = is_shared(first, second);
             let front = table_of(alloc, first)?;
             let rest = table_of(alloc, second)?;
-            apart(
-                alloc,
-                shares,
-                &front,
-                &rest,
-                *least as usize,
-                *most as usize,
-            )
+            apart(alloc, &front, &rest, *least as usize, *most as usize)
         }
         Sequence::Lead(least, most, body) => {
             let table = table_of(alloc, body)?;
@@ -83,6 +65,11 @@ pub(crate) fn table_of(alloc: Global, sequence: &Sequence) -> Result<Table, Sect
             let front = table_of(alloc, first)?;
             let rest = table_of(alloc, second)?;
             both(alloc, &front, &rest)
+        }
+        Sequence::Intersect(first, second) => {
+            let front = table_of(alloc, first)?;
+            let rest = table_of(alloc, second)?;
+            pair(alloc, &front, &rest)
         }
         Sequence::Throughout(boolean, body) => {
             let table = table_of(alloc, body)?;

@@ -8,8 +8,7 @@ use crate::edge::Edge;
 use std::alloc::Global;
 use std::marker::Model;
 
-/// Positions in order, each by its edges. Where every atom is 1, each of them comes to an end. They
-/// make up no more than 4,096 instructions.
+/// Positions in order, each by its edges. They make up no more than 65,535 instructions.
 #[derive(Drop)]
 pub(crate) struct Table {
     rows: Vec<Vec<Edge>>,
@@ -25,13 +24,13 @@ impl Model for Table {
     ghost view = { λ t.
         record { rows = rows_data t.rows.items; starts = t.starts.items; empty = t.empty } };
 
-    ghost invariant = { λ t. rows_size (rows_data t.rows.items) ≤ 4096 };
+    ghost invariant = { λ t. rows_size (rows_data t.rows.items) ≤ 65535 };
 }
 
 impl Table {
     /// These rows.
     pub fn new(rows: Vec<Vec<Edge>>, starts: Vec<u8>, empty: bool) -> Table
-        requires { rows_size (rows_data rows.items) ≤ 4096 }
+        requires { rows_size (rows_data rows.items) ≤ 65535 }
         ensures { result
             ≡ record { rows = rows_data rows.items; starts = starts.items; empty = empty } }
     {
@@ -56,7 +55,7 @@ impl Table {
     /// The edges of each position.
     pub fn rows(&self) -> &[Vec<Edge>]
         ensures rows { rows_data result.now ≡ self.now.rows }
-        ensures short { rows_size self.now.rows ≤ 4096 }
+        ensures short { rows_size self.now.rows ≤ 65535 }
     {
         self.rows.as_slice()
     }

@@ -11,7 +11,7 @@ use Rattle.assertions.specs.declared.sequence.Boolean.{Boolean}
 use Rattle.assertions.specs.declared.sequence.Boolean.TheVariants.{One}
 use Rattle.assertions.specs.declared.assertion.Assertion.{Assertion}
 use Rattle.assertions.specs.Segments.{Matches, sat, always, AdmitsEmpty}
-use Rattle.assertions.specs.Written.{Written, boolean, delay, lead, repeat, or, and, throughout}
+use Rattle.assertions.specs.Written.{Written, boolean, delay, lead, repeat, or, and, intersect, throughout}
 use Rattle.assertions.specs.Written.{kernel, after, later}
 use Rattle.assertions.specs.Shapes.{written_form, shape, value_in}
 use Rattle.assertions.proofs.Segments.{Matches-mono}
@@ -20,7 +20,7 @@ use Rattle.types_sequences.specs.Outlines.{map_written}
 use Rattle.types_sequences.specs.Entries.{Alike}
 use Rattle.types_sequences.specs.Placed.{atom_true, IsPlaced}
 use Rattle.types_sequences.proofs.AlikeLaws.{alike_one, alike_one_of, alike_after, alike_later}
-use Rattle.types_sequences.proofs.AlikeLaws.{alike_times, alike_either, alike_both, alike_during}
+use Rattle.types_sequences.proofs.AlikeLaws.{alike_times, alike_either, alike_both, alike_meet, alike_during}
 use Rattle.types_sequences.proofs.MapLaws.{spells_map}
 use Rattle.text_names.specs.Scopes.{Scope}
 use Rattle.types_suites.specs.Texts.{declarations_of, assertions_of}
@@ -55,6 +55,9 @@ module _ (f : Boolean → Dot) where
       (kernel (f One) (map_written f s)) (dots_alike r) (dots_alike s)
   dots_alike (and r s) =
       alike_both always always (kernel One r) (kernel One s) (kernel (f One) (map_written f r))
+      (kernel (f One) (map_written f s)) (dots_alike r) (dots_alike s)
+  dots_alike (intersect r s) =
+      alike_meet always always (kernel One r) (kernel One s) (kernel (f One) (map_written f r))
       (kernel (f One) (map_written f s)) (dots_alike r) (dots_alike s)
   dots_alike (throughout b r) =
       alike_during always always b (f b) (kernel One r) (kernel (f One) (map_written f r))

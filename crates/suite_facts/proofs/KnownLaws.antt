@@ -4,7 +4,7 @@ use Rattle.std.proofs.Common.{slice_get, sym, subst}
 use Rattle.std.specs.Prelude.{option_map, option_and_then}
 use Rattle.std.specs.List.{AllByRecursion}
 use Rattle.grammar.specs.declared.operator.Junction.{Junction}
-use Rattle.grammar.specs.declared.operator.Junction.TheVariants.{And, Or}
+use Rattle.grammar.specs.declared.operator.Junction.TheVariants.{Intersect, And, Or}
 use Rattle.grammar.specs.Trees.{Tree, SequenceForm, boolean, repeated, late, delayed, throughout}
 use Rattle.grammar.specs.Trees.{joined, Steps, no_step, step, Others, no_other, other}
 use Rattle.grammar.specs.Trees.{PropertyForm, plain, implication, ItemForm, counter, declaration}
@@ -36,6 +36,7 @@ EachDraft P (drafts.lead least extra s) = EachDraft P s
 EachDraft P (drafts.repeat r least extra) = EachDraft P r
 EachDraft P (drafts.or r s) = EachDraft P r × EachDraft P s
 EachDraft P (drafts.and r s) = EachDraft P r × EachDraft P s
+EachDraft P (drafts.intersect r s) = EachDraft P r × EachDraft P s
 EachDraft P (drafts.throughout b r) = P b × EachDraft P r
 
 abbrev pub EachFound : (Boolean → Type 0) → Option (Written Boolean) → Type 0
@@ -78,6 +79,9 @@ module _ (P : Boolean → Type 0) where
   spelling_each named f (drafts.and r s) h =
       both_found written.and (spelling_of named r) (spelling_of named s) (λ v w x y. (x, y))
       (spelling_each named f r h.0) (spelling_each named f s h.1)
+  spelling_each named f (drafts.intersect r s) h =
+      both_found written.intersect (spelling_of named r) (spelling_of named s) (λ v w x y. (x, y))
+      (spelling_each named f r h.0) (spelling_each named f s h.1)
   spelling_each named f (drafts.throughout b r) h =
       one_found (written.throughout b) (spelling_of named r) (λ v x. (h.0, x))
       (spelling_each named f r h.1)
@@ -119,6 +123,7 @@ module _ (P : Boolean → Type 0) where
 
     joined_each : (j : Junction) (a b : Draft Boolean) → EachDraft P a → EachDraft P b →
         EachDraft P (joined_by j a b)
+    joined_each Intersect a b g h = (g, h)
     joined_each And a b g h = (g, h)
     joined_each Or a b g h = (g, h)
 

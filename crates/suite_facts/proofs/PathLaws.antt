@@ -20,6 +20,7 @@ use Rattle.grammar.specs.Sequences.{IsTimes, times, times_to, IsDelay, after, be
 use Rattle.grammar.specs.Sequences.{IsBody, is_boolean, IsRepetition, is_once, is_repeated}
 use Rattle.grammar.specs.Sequences.{IsHead, is_prompt, is_late, AreSteps, no_steps, one_step}
 use Rattle.grammar.specs.Sequences.{IsDelayed, is_head, is_delayed, IsDuring, is_cat, is_throughout}
+use Rattle.grammar.specs.Sequences.{AreMeets, no_meet, one_meet, IsIntersection, is_meet, is_intersection}
 use Rattle.grammar.specs.Sequences.{AreConjuncts, no_conjunct, one_conjunct, IsConjunction}
 use Rattle.grammar.specs.Sequences.{is_during, is_all, AreAlternatives, no_alternative}
 use Rattle.grammar.specs.Sequences.{one_alternative, IsSequence, is_conjunction, is_either}
@@ -221,19 +222,35 @@ module _ (s : Scope) where
         let b = during_paths y a.1.1 in
         (both (signals s e) (sequence_signals s q) a.0 b.0, b.1)
 
+    meets_paths : {d : ℕ} {more : Others} {ts rest : Tokens} → AreMeets d more ts rest →
+        AreWorded ts → ArePaths (other_signals s more) × AreWorded rest
+    meets_paths no_meet h = (tt, h)
+    meets_paths (one_meet {s = q} {more = more} t x m) h =
+        let a = during_paths x h.1 in
+        let b = meets_paths m a.1 in
+        (both (sequence_signals s q) (other_signals s more) a.0 b.0, b.1)
+
+    intersection_paths : {d : ℕ} {q : SequenceForm} {ts rest : Tokens} → IsIntersection d q ts rest →
+        AreWorded ts → ArePaths (sequence_signals s q) × AreWorded rest
+    intersection_paths (is_during x) h = during_paths x h
+    intersection_paths (is_meet {s = q} {v = v} {more = more} x m) h =
+        let a = during_paths x h in
+        let b = meets_paths m a.1 in
+        (both (sequence_signals s q) (sequence_signals s v ++ other_signals s more) a.0 b.0, b.1)
+
     conjuncts_paths : {d : ℕ} {more : Others} {ts rest : Tokens} → AreConjuncts d more ts rest →
         AreWorded ts → ArePaths (other_signals s more) × AreWorded rest
     conjuncts_paths no_conjunct h = (tt, h)
     conjuncts_paths (one_conjunct {s = q} {more = more} t x m) h =
-        let a = during_paths x h.1 in
+        let a = intersection_paths x h.1 in
         let b = conjuncts_paths m a.1 in
         (both (sequence_signals s q) (other_signals s more) a.0 b.0, b.1)
 
     conjunction_paths : {d : ℕ} {q : SequenceForm} {ts rest : Tokens} → IsConjunction d q ts rest →
         AreWorded ts → ArePaths (sequence_signals s q) × AreWorded rest
-    conjunction_paths (is_during x) h = during_paths x h
+    conjunction_paths (is_intersection x) h = intersection_paths x h
     conjunction_paths (is_all {s = q} {v = v} {more = more} x m) h =
-        let a = during_paths x h in
+        let a = intersection_paths x h in
         let b = conjuncts_paths m a.1 in
         (both (sequence_signals s q) (sequence_signals s v ++ other_signals s more) a.0 b.0, b.1)
 

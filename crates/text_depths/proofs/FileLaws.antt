@@ -8,6 +8,7 @@ use Rattle.grammar.specs.Sequences.{IsBody, is_boolean, in_brackets, IsRepetitio
 use Rattle.grammar.specs.Sequences.{is_prompt, is_late}
 use Rattle.grammar.specs.Sequences.{AreSteps, no_steps, one_step, IsDelayed, is_head, is_delayed, IsDuring, is_cat}
 use Rattle.grammar.specs.Sequences.{is_throughout}
+use Rattle.grammar.specs.Sequences.{AreMeets, no_meet, one_meet, IsIntersection, is_meet, is_intersection}
 use Rattle.grammar.specs.Sequences.{AreConjuncts, no_conjunct, one_conjunct, IsConjunction, is_during, is_all}
 use Rattle.grammar.specs.Sequences.{AreAlternatives, no_alternative, one_alternative, IsSequence, is_conjunction}
 use Rattle.grammar.specs.Sequences.{is_either}
@@ -52,15 +53,25 @@ module _ (P : Tree → Type 0) (each : (d : ℕ) (t : Tree) (ts rest : List Toke
     of-during (is_cat inner) low = of-delayed inner low
     of-during (is_throughout h spelled inner) low = (each _ _ _ _ spelled low, of-during inner (omega arith))
 
+    of-meets : {d : ℕ} {others : Others} {ts rest : List Token} → AreMeets d others ts rest → d ≤ most_open
+        → OfOthers P others
+    of-meets no_meet low = tt
+    of-meets (one_meet h inner more) low = (of-during inner low, of-meets more low)
+
+    of-intersection : {d : ℕ} {s : SequenceForm} {ts rest : List Token} → IsIntersection d s ts rest → d ≤ most_open
+        → OfSequence P s
+    of-intersection (is_during inner) low = of-during inner low
+    of-intersection (is_meet inner more) low = (of-during inner low, of-meets more low)
+
     of-conjuncts : {d : ℕ} {others : Others} {ts rest : List Token} → AreConjuncts d others ts rest → d ≤ most_open
         → OfOthers P others
     of-conjuncts no_conjunct low = tt
-    of-conjuncts (one_conjunct h inner more) low = (of-during inner low, of-conjuncts more low)
+    of-conjuncts (one_conjunct h inner more) low = (of-intersection inner low, of-conjuncts more low)
 
     of-conjunction : {d : ℕ} {s : SequenceForm} {ts rest : List Token} → IsConjunction d s ts rest → d ≤ most_open
         → OfSequence P s
-    of-conjunction (is_during inner) low = of-during inner low
-    of-conjunction (is_all inner more) low = (of-during inner low, of-conjuncts more low)
+    of-conjunction (is_intersection inner) low = of-intersection inner low
+    of-conjunction (is_all inner more) low = (of-intersection inner low, of-conjuncts more low)
 
     of-alternatives : {d : ℕ} {others : Others} {ts rest : List Token} → AreAlternatives d others ts rest
         → d ≤ most_open → OfOthers P others

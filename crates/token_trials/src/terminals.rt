@@ -69,6 +69,7 @@ fn precedence(rt: HostRuntime) -> Result<(), Fail> {
         ("throughout", 11),
         ("[*", 12),
         ("##", 13),
+        ("intersect", 14),
         ("and", 15),
         ("or", 16),
         ("|->", 17),
@@ -179,6 +180,7 @@ fn terminals(rt: HostRuntime) -> Result<(), Fail> {
         ("or", Terminal::Or),
         ("and", Terminal::And),
         ("throughout", Terminal::Throughout),
+        ("intersect", Terminal::Intersect),
         ("Or", Terminal::Name),
         ("ready", Terminal::Name),
         ("$past", Terminal::Past),
@@ -225,9 +227,10 @@ fn has_words(alloc: Global, text: &str, names: bool, count: usize) -> Result<boo
 #[test]
 fn words(rt: HostRuntime) -> Result<(), Fail> {
     let names = "counter clear load add sub ready Or";
-    let kept = "sequence endsequence assert assume property posedge disable iff or and throughout";
+    let kept = "sequence endsequence assert assume property posedge disable iff or and throughout \
+        intersect";
     assert!(rt; has_words(rt.alloc(), names, true, 8)?);
-    assert!(rt; has_words(rt.alloc(), kept, false, 12)?);
+    assert!(rt; has_words(rt.alloc(), kept, false, 13)?);
     for text in ["$past", "7", ".", ""] {
         let token = first_token(rt.alloc(), text)?;
         assert!(rt; !is_name(token) && !is_word(token), "{text}");
@@ -255,11 +258,11 @@ fn has_foreign(alloc: Global, text: &str, count: usize) -> Result<bool, Fail> {
 /// The words of constructs that the language leaves out: no names, but words.
 #[test]
 fn foreign_words(rt: HostRuntime) -> Result<(), Fail> {
-    let text = "intersect within first_match strong weak not if else case always nexttime \
+    let text = "within first_match strong weak not if else case always nexttime \
         eventually until s_always s_nexttime s_eventually s_until s_until_with until_with implies \
         accept_on reject_on cover restrict default clocking negedge edge local";
-    assert!(rt; has_words(rt.alloc(), text, false, 30)?);
-    assert!(rt; has_foreign(rt.alloc(), text, 30)?);
+    assert!(rt; has_words(rt.alloc(), text, false, 29)?);
+    assert!(rt; has_foreign(rt.alloc(), text, 29)?);
     grammar_law();
     Ok(())
 }

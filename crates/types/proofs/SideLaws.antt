@@ -5,7 +5,7 @@ use Rattle.std.proofs.lemmas.Bool.{cases_Bool, false≢true, ltb-true, ltb-false
 use Rattle.assertions.specs.Segments.{IsDegenerate, AdmitsEmpty, always}
 use Rattle.assertions.specs.Written.{Written, kernel, weight}
 use Rattle.assertions.proofs.EmptinessLaws.{degenerate-none, none-degenerate, empty-Matches, Matches-empty}
-use Rattle.types_sequences.specs.declared.facts.Facts.{Facts}
+use Rattle.std.specs.List.{AllByRecursion}
 use Rattle.types_sequences.specs.Drafts.{Draft, IsIn, Spells}
 use Rattle.types_sequences.proofs.MapLaws.{spells_one}
 use Rattle.types.specs.declared.side.Side.{Side}
@@ -14,49 +14,61 @@ use Rattle.types_suites.specs.Faults as faults
 use Rattle.types_suites.specs.Faults.{SideAt}
 use Rattle.types.specs.Sides.{IsWeighed, AreWeighed, AreLight, places_where, is_wide, is_degenerate, is_empty}
 
--- the test tells what is so of what a side says
-abbrev pub Tells : (Written Dot → Type 0) → (Facts → Bool) → Type 0
-Tells IsSo test =
-    (bodies : List (Draft Dot)) (x : faults.Side) (y : Side) (h : IsWeighed bodies x y)
-    → (test y.facts ≡ true → IsSo h.meant) × (IsSo h.meant → test y.facts ≡ true)
+-- the test tells what is so of what a side says, where something is known of what it tells
+abbrev pub Tells : (Side → Type 0) → (Written Dot → Type 0) → (Side → Bool) → Type 0
+Tells Known IsSo test =
+    (bodies : List (Draft Dot)) (x : faults.Side) (y : Side) (h : IsWeighed bodies x y) → Known y
+    → (test y ≡ true → IsSo h.meant) × (IsSo h.meant → test y ≡ true)
 
-place_kept : (test : Facts → Bool) (y : Side) (ys : List Side) (at : ℕ) → IsIn at (places_where test ys)
+-- nothing needs be known
+abbrev pub Any : Side → Type 0
+Any y = Unit {0}
+
+pub all_any : (ys : List Side) → AllByRecursion Any ys
+all_any [] = tt
+all_any (y ∷ ys) = (tt, all_any ys)
+
+-- it weighs at most 127
+abbrev pub Light : Side → Type 0
+Light y = y.facts.weight ≤ 127
+
+place_kept : (test : Side → Bool) (y : Side) (ys : List Side) (at : ℕ) → IsIn at (places_where test ys)
     → IsIn at (places_where test (y ∷ ys))
 place_kept test y ys at i =
-    elim (cases_Bool (test y.facts)) [
+    elim (cases_Bool (test y)) [
       | inl e ↦ rw e (inr i)
       | inr e ↦ rw e i
     ]
 
-place_here : (test : Facts → Bool) (y : Side) (ys : List Side) → test y.facts ≡ true
+place_here : (test : Side → Bool) (y : Side) (ys : List Side) → test y ≡ true
     → IsIn y.at (places_where test (y ∷ ys))
 place_here test y ys e = rw e (inl refl)
 
-place_of : (test : Facts → Bool) (y : Side) (ys : List Side) (at : ℕ) → IsIn at (places_where test (y ∷ ys))
-    → ((test y.facts ≡ true) × (at ≡ y.at)) ⊎ IsIn at (places_where test ys)
+place_of : (test : Side → Bool) (y : Side) (ys : List Side) (at : ℕ) → IsIn at (places_where test (y ∷ ys))
+    → ((test y ≡ true) × (at ≡ y.at)) ⊎ IsIn at (places_where test ys)
 place_of test y ys at i =
-    elim (cases_Bool (test y.facts)) [
+    elim (cases_Bool (test y)) [
       | inl e ↦ here e (rw e at i)
       | inr e ↦ inr (rw e at i)
     ]
   where
-    here : test y.facts ≡ true → (at ≡ y.at) ⊎ IsIn at (places_where test ys) → ((test y.facts ≡ true) × (at ≡ y.at))
+    here : test y ≡ true → (at ≡ y.at) ⊎ IsIn at (places_where test ys) → ((test y ≡ true) × (at ≡ y.at))
         ⊎ IsIn at (places_where test ys)
     here e (inl a) = inl (e, a)
     here e (inr r) = inr r
 
 -- a side that is so stands among the places
-pub side_there : (IsSo : Written Dot → Type 0) (test : Facts → Bool) → Tells IsSo test
-    → (bodies : List (Draft Dot)) (xs : List faults.Side) (ys : List Side) → AreWeighed bodies xs ys →
-    (at : ℕ) → SideAt bodies xs IsSo at → IsIn at (places_where test ys)
-side_there IsSo test tells bodies [] [] all at s = elim s.one [ ]
-side_there IsSo test tells bodies [] (y ∷ ys) all at s = elim all [ ]
-side_there IsSo test tells bodies (x ∷ xs) [] all at s = elim all [ ]
-side_there IsSo test tells bodies (x ∷ xs) (y ∷ ys) all at s =
+pub side_there : (Known : Side → Type 0) (IsSo : Written Dot → Type 0) (test : Side → Bool) → Tells Known IsSo test
+    → (bodies : List (Draft Dot)) (xs : List faults.Side) (ys : List Side) → AreWeighed bodies xs ys
+    → AllByRecursion Known ys → (at : ℕ) → SideAt bodies xs IsSo at → IsIn at (places_where test ys)
+side_there Known IsSo test tells bodies [] [] all known at s = elim s.one [ ]
+side_there Known IsSo test tells bodies [] (y ∷ ys) all known at s = elim all [ ]
+side_there Known IsSo test tells bodies (x ∷ xs) [] all known at s = elim all [ ]
+side_there Known IsSo test tells bodies (x ∷ xs) (y ∷ ys) all known at s =
     elim s.one [
       | inl e ↦ first e
       | inr r ↦ place_kept test y ys at
-          (side_there IsSo test tells bodies xs ys all.1 at
+          (side_there Known IsSo test tells bodies xs ys all.1 known.1 at
           (record { side = s.side; one = r; meant = s.meant; spells = s.spells; so = s.so; byte = s.byte }))
     ]
   where
@@ -68,16 +80,16 @@ side_there IsSo test tells bodies (x ∷ xs) (y ∷ ys) all at s =
         let so : IsSo all.0.meant = subst IsSo same s.so in
         let byte : at ≡ y.at = s.byte ∙ ap (λ (z : faults.Side). z.byte) e ∙ sym all.0.byte in
         subst (λ (b : ℕ). IsIn b (places_where test (y ∷ ys))) (sym byte)
-        (place_here test y ys ((tells bodies x y all.0).1 so))
+        (place_here test y ys ((tells bodies x y all.0 known.0).1 so))
 
 -- and each place is that of a side that is so
-pub side_back : (IsSo : Written Dot → Type 0) (test : Facts → Bool) → Tells IsSo test
-    → (bodies : List (Draft Dot)) (xs : List faults.Side) (ys : List Side) → AreWeighed bodies xs ys →
-    (at : ℕ) → IsIn at (places_where test ys) → SideAt bodies xs IsSo at
-side_back IsSo test tells bodies [] [] all at i = elim i [ ]
-side_back IsSo test tells bodies [] (y ∷ ys) all at i = elim all [ ]
-side_back IsSo test tells bodies (x ∷ xs) [] all at i = elim all [ ]
-side_back IsSo test tells bodies (x ∷ xs) (y ∷ ys) all at i =
+pub side_back : (Known : Side → Type 0) (IsSo : Written Dot → Type 0) (test : Side → Bool) → Tells Known IsSo test
+    → (bodies : List (Draft Dot)) (xs : List faults.Side) (ys : List Side) → AreWeighed bodies xs ys
+    → AllByRecursion Known ys → (at : ℕ) → IsIn at (places_where test ys) → SideAt bodies xs IsSo at
+side_back Known IsSo test tells bodies [] [] all known at i = elim i [ ]
+side_back Known IsSo test tells bodies [] (y ∷ ys) all known at i = elim all [ ]
+side_back Known IsSo test tells bodies (x ∷ xs) [] all known at i = elim all [ ]
+side_back Known IsSo test tells bodies (x ∷ xs) (y ∷ ys) all known at i =
     elim (place_of test y ys at i) [
       | inl h ↦
           (record {
@@ -85,31 +97,31 @@ side_back IsSo test tells bodies (x ∷ xs) (y ∷ ys) all at i =
             one = inl refl;
             meant = all.0.meant;
             spells = all.0.spells;
-            so = (tells bodies x y all.0).0 h.0;
+            so = (tells bodies x y all.0 known.0).0 h.0;
             byte = h.1 ∙ all.0.byte;
           })
       | inr r ↦
-          (let s = side_back IsSo test tells bodies xs ys all.1 at r in
+          (let s = side_back Known IsSo test tells bodies xs ys all.1 known.1 at r in
           record { side = s.side; one = inr s.one; meant = s.meant; spells = s.spells; so = s.so; byte = s.byte })
     ]
 
-pub tells_wide : Tells (λ w. 127 < weight w) is_wide
-tells_wide bodies x y h = (
+pub tells_wide : Tells Any (λ w. 127 < weight w) is_wide
+tells_wide bodies x y h known = (
   λ t. omega (arith, ltb-true 127 y.facts.weight t, h.weighs),
   λ so. lt-ltb 127 y.facts.weight (omega (arith, so, h.weighs)),
 )
 
-pub tells_degenerate : Tells (λ w. IsDegenerate (kernel dot w)) is_degenerate
-tells_degenerate bodies x y h = (
-  λ t. none-degenerate Dot dot h.meant h.ordered (sym h.ticks ∙ ticks_false t),
-  λ so. ap not (h.ticks ∙ degenerate-none Dot dot h.meant h.ordered so),
+pub tells_degenerate : Tells Light (λ w. IsDegenerate (kernel dot w)) is_degenerate
+tells_degenerate bodies x y h light = (
+  λ t. none-degenerate Dot dot h.meant h.ordered (sym (h.ticks light) ∙ ticks_false t),
+  λ so. ap not (h.ticks light ∙ degenerate-none Dot dot h.meant so),
 )
   where
-    ticks_false : not y.facts.ticks ≡ true → y.facts.ticks ≡ false
-    ticks_false t = elim (cases_Bool y.facts.ticks) [ inl e ↦ absurd (false≢true (sym (ap not e) ∙ t)) | inr e ↦ e ]
+    ticks_false : not y.ticks ≡ true → y.ticks ≡ false
+    ticks_false t = elim (cases_Bool y.ticks) [ inl e ↦ absurd (false≢true (sym (ap not e) ∙ t)) | inr e ↦ e ]
 
-pub tells_empty : Tells (λ w. AdmitsEmpty (kernel dot w)) is_empty
-tells_empty bodies x y h = (
+pub tells_empty : Tells Any (λ w. AdmitsEmpty (kernel dot w)) is_empty
+tells_empty bodies x y h known = (
   λ t. empty-Matches Dot always dot h.meant 0 h.ordered (sym h.empty ∙ t),
   λ so. h.empty ∙ Matches-empty Dot always dot h.meant 0 h.ordered so,
 )
@@ -121,7 +133,7 @@ all_light (y ∷ ys) none = (light, all_light ys (λ at i. none at (place_kept i
   where
     light : y.facts.weight ≤ 127
     light =
-        elim (cases_Bool (is_wide y.facts)) [
+        elim (cases_Bool (is_wide y)) [
           | inl e ↦ absurd (none y.at (place_here is_wide y ys e))
           | inr e ↦ omega (arith, ltb-false 127 y.facts.weight e)
         ]

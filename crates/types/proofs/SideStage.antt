@@ -14,62 +14,65 @@ use Rattle.types_suites.specs.Readings.{dot}
 use Rattle.types_suites.specs.Texts.{assertions_of}
 use Rattle.types_suites.specs.Readings.{outlines_of}
 use Rattle.types_suites.specs.Faults.{sides_of, consequents_of, ClearTo, IsFaultless, IsFirst, rank, byte_of}
-use Rattle.types.specs.Sides.{AreWeighed, places_where, is_wide, is_degenerate, is_empty}
+use Rattle.types.specs.Sides.{AreWeighed, AreLight, places_where, is_wide, is_degenerate, is_empty}
 use Rattle.types.proofs.StageLaws.{nowhere, least_stands, clear_next, first_at, of_rank}
-use Rattle.types.proofs.SideLaws.{side_there, side_back, tells_wide, tells_degenerate, tells_empty}
+use Rattle.types.proofs.SideLaws.{side_there, side_back, tells_wide, tells_degenerate, tells_empty, Any, all_any, Light}
 
 module _ (s : Scope) (items : List ItemForm) (ys : List Side)
     (all : AreWeighed (outlines_of s items) (sides_of s (assertions_of items)) ys) where
   pub clear_7 : ClearTo s items 6 → least (places_where is_wide ys) ≡ None → ClearTo s items 7
   clear_7 clear e =
       clear_next s items 6 clear (λ fault r h. nowhere (places_where is_wide ys) e (byte_of fault)
-      (side_there (λ w. 127 < weight w) is_wide tells_wide (outlines_of s items) (sides_of s (assertions_of items)) ys
-      all (byte_of fault) (of_rank s items 7 fault r h)))
+      (side_there Any (λ w. 127 < weight w) is_wide tells_wide (outlines_of s items)
+      (sides_of s (assertions_of items)) ys
+      all (all_any ys) (byte_of fault) (of_rank s items 7 fault r h)))
 
   pub first_7 : (at : ℕ) → ClearTo s items 6 → least (places_where is_wide ys) ≡ Some at → IsFirst s items (TooWide at)
   first_7 at clear e =
       let l = least_stands (places_where is_wide ys) at e in
       first_at s items 6 (TooWide at) clear (omega arith)
-      (side_back (λ w. 127 < weight w) is_wide tells_wide (outlines_of s items) (sides_of s (assertions_of items)) ys
-      all at l.stands)
+      (side_back Any (λ w. 127 < weight w) is_wide tells_wide (outlines_of s items)
+      (sides_of s (assertions_of items)) ys
+      all (all_any ys) at l.stands)
       (λ other r h. l.lowest (byte_of other)
-      (side_there (λ w. 127 < weight w) is_wide tells_wide (outlines_of s items) (sides_of s (assertions_of items)) ys
-      all (byte_of other) (of_rank s items 7 other r h)))
+      (side_there Any (λ w. 127 < weight w) is_wide tells_wide (outlines_of s items)
+      (sides_of s (assertions_of items)) ys
+      all (all_any ys) (byte_of other) (of_rank s items 7 other r h)))
 
-  pub clear_8 : ClearTo s items 7 → least (places_where is_degenerate ys) ≡ None → ClearTo s items 8
-  clear_8 clear e =
+  pub clear_8 : AreLight ys → ClearTo s items 7 → least (places_where is_degenerate ys) ≡ None → ClearTo s items 8
+  clear_8 light clear e =
       clear_next s items 7 clear (λ fault r h. nowhere (places_where is_degenerate ys) e (byte_of fault)
-      (side_there (λ w. IsDegenerate (kernel dot w)) is_degenerate tells_degenerate (outlines_of s items)
-      (sides_of s (assertions_of items)) ys all (byte_of fault) (of_rank s items 8 fault r h)))
+      (side_there Light (λ w. IsDegenerate (kernel dot w)) is_degenerate tells_degenerate (outlines_of s items)
+      (sides_of s (assertions_of items)) ys all light (byte_of fault) (of_rank s items 8 fault r h)))
 
-  pub first_8 : (at : ℕ) → ClearTo s items 7 → least (places_where is_degenerate ys) ≡ Some at
+  pub first_8 : (at : ℕ) → AreLight ys → ClearTo s items 7 → least (places_where is_degenerate ys) ≡ Some at
       → IsFirst s items (Degenerate at)
-  first_8 at clear e =
+  first_8 at light clear e =
       let l = least_stands (places_where is_degenerate ys) at e in
       first_at s items 7 (Degenerate at) clear (omega arith)
-      (side_back (λ w. IsDegenerate (kernel dot w)) is_degenerate tells_degenerate (outlines_of s items)
-      (sides_of s (assertions_of items)) ys all at l.stands)
+      (side_back Light (λ w. IsDegenerate (kernel dot w)) is_degenerate tells_degenerate (outlines_of s items)
+      (sides_of s (assertions_of items)) ys all light at l.stands)
       (λ other r h. l.lowest (byte_of other)
-      (side_there (λ w. IsDegenerate (kernel dot w)) is_degenerate tells_degenerate (outlines_of s items)
-      (sides_of s (assertions_of items)) ys all (byte_of other) (of_rank s items 8 other r h)))
+      (side_there Light (λ w. IsDegenerate (kernel dot w)) is_degenerate tells_degenerate (outlines_of s items)
+      (sides_of s (assertions_of items)) ys all light (byte_of other) (of_rank s items 8 other r h)))
 
 module _ (s : Scope) (items : List ItemForm) (ys : List Side)
     (all : AreWeighed (outlines_of s items) (consequents_of s (assertions_of items)) ys) where
   pub clear_9 : ClearTo s items 8 → least (places_where is_empty ys) ≡ None → ClearTo s items 9
   clear_9 clear e =
       clear_next s items 8 clear (λ fault r h. nowhere (places_where is_empty ys) e (byte_of fault)
-      (side_there (λ w. AdmitsEmpty (kernel dot w)) is_empty tells_empty (outlines_of s items)
-      (consequents_of s (assertions_of items)) ys all (byte_of fault) (of_rank s items 9 fault r h)))
+      (side_there Any (λ w. AdmitsEmpty (kernel dot w)) is_empty tells_empty (outlines_of s items)
+      (consequents_of s (assertions_of items)) ys all (all_any ys) (byte_of fault) (of_rank s items 9 fault r h)))
 
   pub first_9 : (at : ℕ) → ClearTo s items 8 → least (places_where is_empty ys) ≡ Some at → IsFirst s items (Empty at)
   first_9 at clear e =
       let l = least_stands (places_where is_empty ys) at e in
       first_at s items 8 (Empty at) clear (omega arith)
-      (side_back (λ w. AdmitsEmpty (kernel dot w)) is_empty tells_empty (outlines_of s items)
-      (consequents_of s (assertions_of items)) ys all at l.stands)
+      (side_back Any (λ w. AdmitsEmpty (kernel dot w)) is_empty tells_empty (outlines_of s items)
+      (consequents_of s (assertions_of items)) ys all (all_any ys) at l.stands)
       (λ other r h. l.lowest (byte_of other)
-      (side_there (λ w. AdmitsEmpty (kernel dot w)) is_empty tells_empty (outlines_of s items)
-      (consequents_of s (assertions_of items)) ys all (byte_of other) (of_rank s items 9 other r h)))
+      (side_there Any (λ w. AdmitsEmpty (kernel dot w)) is_empty tells_empty (outlines_of s items)
+      (consequents_of s (assertions_of items)) ys all (all_any ys) (byte_of other) (of_rank s items 9 other r h)))
 
 rank_most : (fault : TypeFault) → rank fault ≤ 9
 rank_most (UnknownName at) = omega arith

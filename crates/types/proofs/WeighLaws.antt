@@ -10,7 +10,6 @@ use Rattle.assertions.specs.declared.sequence.Boolean.{Boolean}
 use Rattle.assertions.specs.declared.sequence.Boolean.TheVariants.{One}
 use Rattle.assertions.specs.Written.{weight}
 use Rattle.assertions.specs.Written as written
-use Rattle.types_sequences.specs.declared.facts.Facts.{Facts}
 use Rattle.types_sequences.specs.declared.entry.Entry.{Entry}
 use Rattle.types_sequences.specs.Drafts.{Draft, Spells}
 use Rattle.types_sequences.specs.Outlines.{map_written}
@@ -26,7 +25,19 @@ use Rattle.types_suites.specs.Faults as faults
 use Rattle.types_suites.specs.Faults.{outline_before, antecedents_in, consequent_in, sides_of, consequents_of}
 use Rattle.types.specs.Sides.{IsWeighed, AreWeighed, AreLight}
 use Rattle.types_suites.specs.Drawn.{antecedent_byte, consequent_byte}
-use Rattle.types.specs.Sides.{side_at, consequent_side, sides_in, consequents_in}
+use Rattle.types.specs.Sides.{side_of, side_at, consequent_side, sides_in, consequents_in, entry_ticks, sequence_ticks}
+use Rattle.types.specs.Sides.{AreKnown}
+use Rattle.std.specs.Prelude.{Box, nat_lt, Bool, true, false, if◌then◌else◌}
+use Rattle.std.specs.declared.alloc.Global.{Global}
+use Rattle.std.proofs.lemmas.Bool.{cases_Bool, ltb-true, false≢true}
+use Rattle.std.proofs.Common.{◌⊎◌, inl, inr}
+use Rattle.assertions.specs.declared.sequence.Sequence.{Sequence}
+use Rattle.assertions.specs.Segments.{IsDegenerate, always}
+use Rattle.assertions.specs.Written.{Written, kernel, IsOrdered}
+use Rattle.assertions.specs.Shapes.{written_form}
+use Rattle.assertions.specs.Emptiness.{takes_ticks}
+use Rattle.assertions.proofs.EmptinessLaws.{degenerate-none, none-degenerate}
+use Rattle.types_sequences.specs.Entries.{IsEntry, HasSame, SaysSame}
 use Rattle.types_suites.specs.Resolved.{AreResolved}
 use Rattle.types_suites.specs.Made.{AreFitting}
 use Rattle.types_suites.proofs.OutlineLaws.{dotted, reads_outline}
@@ -38,11 +49,58 @@ weighed_both o [] (y ∷ ys) us vs h g = elim h [ ]
 weighed_both o (x ∷ xs) [] us vs h g = elim h [ ]
 weighed_both o (x ∷ xs) (y ∷ ys) us vs h g = (h.0, weighed_both o xs ys us vs h.1 g)
 
+-- Two that say the same take ticks alike.
+same_ticks : (w u : Written Boolean) → IsOrdered w → SaysSame w u → takes_ticks u ≡ takes_ticks w
+same_ticks w u o h = by_both (cases_Bool (takes_ticks u)) (cases_Bool (takes_ticks w))
+  where
+    over : takes_ticks u ≡ false → takes_ticks w ≡ false
+    over e =
+        let none = none-degenerate Boolean One u h.ordered e in
+        degenerate-none Boolean One w (λ j lt m. none j lt ((h.alike always 0 j).0 m))
+
+    back : takes_ticks w ≡ false → takes_ticks u ≡ false
+    back e =
+        let none = none-degenerate Boolean One w o e in
+        degenerate-none Boolean One u (λ j lt m. none j lt ((h.alike always 0 j).1 m))
+
+    by_both : (takes_ticks u ≡ true) ⊎ (takes_ticks u ≡ false) → (takes_ticks w ≡ true) ⊎ (takes_ticks w ≡ false)
+        → takes_ticks u ≡ takes_ticks w
+    by_both (inl e) (inl f) = e ∙ sym f
+    by_both (inl e) (inr f) = absurd (false≢true (sym (back f) ∙ e))
+    by_both (inr e) f = e ∙ sym (over e)
+
+-- What is told of an entry's sequence is so of what is meant.
+entry_says : (e : Entry) (w : Written Boolean) → IsEntry w e → e.facts.weight ≤ 127 → entry_ticks e ≡ takes_ticks w
+entry_says e w h low = elim (cases_Bool (nat_lt 127 e.facts.weight)) [
+  | inl over ↦ absurd (let l = ltb-true 127 e.facts.weight over in omega (arith, l, low))
+  | inr under ↦ rw under (told e.sequence (h.same (omega (arith, h.facts.weighs, low))))
+]
+  where
+    told : (o : Option (Box Sequence Global)) → HasSame w o → sequence_ticks o ≡ takes_ticks w
+    told None s = elim s [ ]
+    told (Some x) s = same_ticks w (written_form x.value) h.ordered s
+
+-- All entries of the assertions are those of what their sides say.
+pub sides_known : (s : Scope) (cs : List (List ℕ)) (e : List Expr) (bodies : List (Draft Boolean))
+    (us : List trees.AssertionForm) (ms : List Resolved) (before : ℕ)
+    → AreResolved s cs e bodies before us ms → AreKnown ms
+sides_known s cs e bodies [] [] before h = tt
+sides_known s cs e bodies [] (m ∷ ms) before h = elim h [ ]
+sides_known s cs e bodies (a ∷ us) [] before h = elim h [ ]
+sides_known s cs e bodies (a ∷ us) (m ∷ ms) before h =
+    let one = h.0 in (
+      record {
+        antecedent = record { meant = one.antecedent_entry.meant; entry = one.antecedent_entry.entry };
+        consequent = record { meant = one.consequent_entry.meant; entry = one.consequent_entry.entry };
+      },
+      sides_known s cs e bodies us ms (before + 1) h.1,
+    )
+
 -- what is known of a side, by its entry
 pub weighed : (bodies : List (Draft Boolean)) (o : List (Draft Dot)) (d : Draft Boolean) (e : Entry) (x : faults.Side)
-    (y : Side) → map dotted bodies ≡ o → HasEntry bodies d e →
-    dotted d ≡ x.outline → y.facts ≡ e.facts → y.at ≡ x.byte → IsWeighed o x y
-weighed bodies o d e x y same h out facts at =
+    (at : ℕ) → map dotted bodies ≡ o → HasEntry bodies d e →
+    dotted d ≡ x.outline → at ≡ x.byte → IsWeighed o x (side_of e at)
+weighed bodies o d e x at same h out is =
     let f = λ (b : Boolean). dot in
     let k = h.entry.facts in
     record {
@@ -52,10 +110,10 @@ weighed bodies o d e x y same h out facts at =
           (subst (λ (z : Draft Dot). Spells (map dotted bodies) z (map_written f h.meant)) out
           (spells_map f bodies d h.meant h.spells));
       ordered = ordered_map f h.meant h.entry.ordered;
-      weighs = ap (λ (z : Facts). z.weight) facts ∙ k.weighs ∙ ap (λ (w : ℕ). min w 128) (sym (weight_map f h.meant));
-      empty = ap (λ (z : Facts). z.empty) facts ∙ k.empty ∙ sym (empty_map f h.meant);
-      ticks = ap (λ (z : Facts). z.ticks) facts ∙ k.ticks ∙ sym (ticks_map f h.meant);
-      byte = at;
+      weighs = k.weighs ∙ ap (λ (w : ℕ). min w 128) (sym (weight_map f h.meant));
+      empty = k.empty ∙ sym (empty_map f h.meant);
+      ticks = λ light. entry_says e h.meant h.entry light ∙ sym (ticks_map f h.meant);
+      byte = is;
     }
 
 before_outline : (k : Implication) (d : Draft Boolean) → dotted (before_by k d) ≡ outline_before k (dotted d)
@@ -66,22 +124,22 @@ module _ (s : Scope) (cs : List (List ℕ)) (e : List Expr) (bodies : List (Draf
     (same : map dotted bodies ≡ o) where
   antecedent_weighed : (p : PropertyForm) (d : Draft Boolean) (n : Entry) (at : Option ℕ) → ReadsAntecedent s cs e p d
       → HasEntry bodies d n → at ≡ antecedent_byte p →
-      AreWeighed o (antecedents_in s p) (side_at n.facts at)
-  antecedent_weighed (plain q) d n at h i is = subst (λ (z : Option ℕ). AreWeighed o [] (side_at n.facts z)) (sym is) tt
+      AreWeighed o (antecedents_in s p) (side_at n at)
+  antecedent_weighed (plain q) d n at h i is = subst (λ (z : Option ℕ). AreWeighed o [] (side_at n z)) (sym is) tt
   antecedent_weighed (implication a kind c) d n at h i is =
       let x : faults.Side = record { outline = outline_before kind (outline s a); byte = sequence_byte a } in
       let out = ap dotted h.2 ∙ before_outline kind h.0 ∙ ap (outline_before kind) (reads_outline s cs e a h.0 h.1) in
-      subst (λ (z : Option ℕ). AreWeighed o (x ∷ []) (side_at n.facts z)) (sym is)
-      (weighed bodies o d n x (record { facts = n.facts; at = sequence_byte a }) same i out refl refl, tt)
+      subst (λ (z : Option ℕ). AreWeighed o (x ∷ []) (side_at n z)) (sym is)
+      (weighed bodies o d n x (sequence_byte a) same i out refl, tt)
 
-  consequent_weighed : (p : PropertyForm) (d : Draft Boolean) (n : Entry) (y : Side) → ReadsConsequent s cs e p d
-      → HasEntry bodies d n → y.facts ≡ n.facts → y.at ≡ consequent_byte p → IsWeighed o (consequent_in s p) y
-  consequent_weighed (plain q) d n y h i facts at =
-      weighed bodies o d n (record { outline = outline s q; byte = sequence_byte q }) y same i
-      (reads_outline s cs e q d h) facts at
-  consequent_weighed (implication a t c) d n y h i facts at =
-      weighed bodies o d n (record { outline = outline s c; byte = sequence_byte c }) y same i
-      (reads_outline s cs e c d h) facts at
+  consequent_weighed : (p : PropertyForm) (d : Draft Boolean) (n : Entry) (at : ℕ) → ReadsConsequent s cs e p d
+      → HasEntry bodies d n → at ≡ consequent_byte p → IsWeighed o (consequent_in s p) (side_of n at)
+  consequent_weighed (plain q) d n at h i is =
+      weighed bodies o d n (record { outline = outline s q; byte = sequence_byte q }) at same i
+      (reads_outline s cs e q d h) is
+  consequent_weighed (implication a t c) d n at h i is =
+      weighed bodies o d n (record { outline = outline s c; byte = sequence_byte c }) at same i
+      (reads_outline s cs e c d h) is
 
   pub sides_weighed : (us : List trees.AssertionForm) (ms : List Resolved) (before : ℕ)
       → AreResolved s cs e bodies before us ms → AreWeighed o (sides_of s us) (sides_in ms)
@@ -91,13 +149,13 @@ module _ (s : Scope) (cs : List (List ℕ)) (e : List Expr) (bodies : List (Draf
   sides_weighed (a ∷ us) (m ∷ ms) before h =
       let one = h.0 in
       weighed_both o (antecedents_in s a.property ++ consequent_in s a.property ∷ [])
-      (side_at m.antecedent.facts m.antecedent_at ++ consequent_side m ∷ []) (sides_of s us) (sides_in ms)
-      (weighed_both o (antecedents_in s a.property) (side_at m.antecedent.facts m.antecedent_at)
+      (side_at m.antecedent m.antecedent_at ++ consequent_side m ∷ []) (sides_of s us) (sides_in ms)
+      (weighed_both o (antecedents_in s a.property) (side_at m.antecedent m.antecedent_at)
       (consequent_in s a.property ∷ []) (consequent_side m ∷ [])
       (antecedent_weighed a.property one.antecedent m.antecedent m.antecedent_at one.reads_antecedent
       one.antecedent_entry one.antecedent_at) (
-        consequent_weighed a.property one.consequent m.consequent (consequent_side
-            m) one.reads_consequent one.consequent_entry refl one.consequent_at,
+        consequent_weighed a.property one.consequent m.consequent m.consequent_at one.reads_consequent
+            one.consequent_entry one.consequent_at,
         tt,
       ))
       (sides_weighed us ms (before + 1) h.1)
@@ -109,8 +167,8 @@ module _ (s : Scope) (cs : List (List ℕ)) (e : List Expr) (bodies : List (Draf
   consequents_weighed (a ∷ us) [] before h = elim h [ ]
   consequents_weighed (a ∷ us) (m ∷ ms) before h =
       let one = h.0 in (
-        consequent_weighed a.property one.consequent m.consequent (consequent_side
-            m) one.reads_consequent one.consequent_entry refl one.consequent_at,
+        consequent_weighed a.property one.consequent m.consequent m.consequent_at one.reads_consequent
+            one.consequent_entry one.consequent_at,
         consequents_weighed us ms (before + 1)
             h.1,
       )
@@ -118,17 +176,17 @@ module _ (s : Scope) (cs : List (List ℕ)) (e : List Expr) (bodies : List (Draf
   -- The antecedent of a sequence that is asserted alone is 1, and weighs 1.
   antecedent_light : (p : PropertyForm) (d : Draft Boolean) (n : Entry) (at : Option ℕ) (rest : List Side)
       → ReadsAntecedent s cs e p d → HasEntry bodies d n → at ≡ antecedent_byte p →
-      AreLight (side_at n.facts at ++ rest) → n.facts.weight ≤ 127
+      AreLight (side_at n at ++ rest) → n.facts.weight ≤ 127
   antecedent_light (plain q) d n at rest h i is l =
       let one : Spells bodies d (written.boolean One) =
       subst (λ (z : Draft Boolean). Spells bodies z (written.boolean One)) (sym h) (0, refl) in
       let w = ap weight (spells_one bodies d i.meant (written.boolean One) i.spells one) in
       omega (arith, i.entry.facts.weighs, w)
   antecedent_light (implication a t c) d n at rest h i is l =
-      let l2 = subst (λ (z : Option ℕ). AreLight (side_at n.facts z ++ rest)) is l in
+      let l2 = subst (λ (z : Option ℕ). AreLight (side_at n z ++ rest)) is l in
       l2.0
 
-  tail_light : (f : Facts) (at : Option ℕ) (rest : List Side) → AreLight (side_at f at ++ rest) → AreLight rest
+  tail_light : (f : Entry) (at : Option ℕ) (rest : List Side) → AreLight (side_at f at ++ rest) → AreLight rest
   tail_light f None rest h = h
   tail_light f (Some at) rest h = h.1
 
@@ -139,7 +197,7 @@ module _ (s : Scope) (cs : List (List ℕ)) (e : List Expr) (bodies : List (Draf
   sides_fit (a ∷ us) [] before h l = elim h [ ]
   sides_fit (a ∷ us) (m ∷ ms) before h l =
       let one = h.0 in
-      let f = m.antecedent.facts in
+      let f = m.antecedent in
       let whole =
       subst AreLight (let g : (side_at f m.antecedent_at ++ consequent_side m ∷ []) ++ sides_in ms
       ≡ side_at f m.antecedent_at ++ (consequent_side m ∷ sides_in ms) = split f m.antecedent_at in g) l in
@@ -158,7 +216,7 @@ module _ (s : Scope) (cs : List (List ℕ)) (e : List Expr) (bodies : List (Draf
         sides_fit us ms (before + 1) h.1 rest.1,
       )
     where
-      split : (f : Facts) (at : Option ℕ) → (side_at f at ++ consequent_side m ∷ []) ++ sides_in ms
+      split : (f : Entry) (at : Option ℕ) → (side_at f at ++ consequent_side m ∷ []) ++ sides_in ms
           ≡ side_at f at ++ (consequent_side m ∷ sides_in ms)
       split f None = refl
       split f (Some at) = refl

@@ -1,10 +1,15 @@
 -- What is known of the sides of assertions.
 use Rattle.std.specs.Prelude.{◌≡◌, ℕ, ◌≤◌, min, List, [], ◌∷◌, ◌++◌, Option, Some, None, Bool}
-use Rattle.std.specs.Prelude.{nat_lt, not, if◌then◌else◌}
+use Rattle.std.specs.Prelude.{nat_lt, not, if◌then◌else◌, true, Box}
+use Rattle.std.specs.declared.alloc.Global.{Global}
 use Rattle.std.specs.List.{AllZip, AllByRecursion}
+use Rattle.assertions.specs.declared.sequence.Boolean.{Boolean}
+use Rattle.assertions.specs.declared.sequence.Sequence.{Sequence}
 use Rattle.assertions.specs.Written.{Written, weight, IsOrdered}
+use Rattle.assertions.specs.Shapes.{written_form}
 use Rattle.assertions.specs.Emptiness.{admits_empty, takes_ticks}
-use Rattle.types_sequences.specs.declared.facts.Facts.{Facts}
+use Rattle.types_sequences.specs.declared.entry.Entry.{Entry}
+use Rattle.types_sequences.specs.Entries.{IsEntry}
 use Rattle.types_sequences.specs.Drafts.{Draft, Spells}
 use Rattle.types.specs.declared.side.Side.{Side}
 use Rattle.types_suites.specs.declared.resolved.Resolved.{Resolved}
@@ -19,7 +24,7 @@ pub record IsWeighed (bodies : List (Draft Dot)) (side : faults.Side) (seen : Si
   pub ordered : IsOrdered meant
   pub weighs : seen.facts.weight ≡ min (weight meant) 128
   pub empty : seen.facts.empty ≡ admits_empty meant
-  pub ticks : seen.facts.ticks ≡ takes_ticks meant
+  pub ticks : seen.facts.weight ≤ 127 → seen.ticks ≡ takes_ticks meant
   pub byte : seen.at ≡ side.byte
 
 -- the same of several, in their order
@@ -31,33 +36,57 @@ abbrev pub AreLight : List Side → Type 0
 AreLight = AllByRecursion (λ y. y.facts.weight ≤ 127)
 
 -- the bytes of those that pass a test
-abbrev pub places_where : (Facts → Bool) → List Side → List ℕ
+abbrev pub places_where : (Side → Bool) → List Side → List ℕ
 places_where test [] = []
 places_where test (y ∷ ys) =
-    if test y.facts then y.at ∷ places_where test ys else places_where test ys
+    if test y then y.at ∷ places_where test ys else places_where test ys
 
 -- it weighs over 127, it takes no tick, it matches an empty segment
-abbrev pub is_wide : Facts → Bool
-is_wide f = nat_lt 127 f.weight
+abbrev pub is_wide : Side → Bool
+is_wide y = nat_lt 127 y.facts.weight
 
-abbrev pub is_degenerate : Facts → Bool
-is_degenerate f = not f.ticks
+abbrev pub is_degenerate : Side → Bool
+is_degenerate y = not y.ticks
 
-abbrev pub is_empty : Facts → Bool
-is_empty f = f.empty
+abbrev pub is_empty : Side → Bool
+is_empty y = y.facts.empty
+
+-- It is the entry of something; those of both sides are.
+pub record IsKnown (e : Entry) : Type 0 where
+  pub meant : Written Boolean
+  pub entry : IsEntry meant e
+
+pub record SidesKnown (m : Resolved) : Type 0 where
+  pub antecedent : IsKnown m.antecedent
+  pub consequent : IsKnown m.consequent
+
+abbrev pub AreKnown : List Resolved → Type 0
+AreKnown = AllByRecursion SidesKnown
+
+-- whether its sequence matches a tick or more, which is told of what weighs at most 127
+abbrev pub sequence_ticks : Option (Box Sequence Global) → Bool
+sequence_ticks None = true
+sequence_ticks (Some x) = takes_ticks (written_form x.value)
+
+abbrev pub entry_ticks : Entry → Bool
+entry_ticks e = if nat_lt 127 e.facts.weight then true else sequence_ticks e.sequence
+
+-- what is known of a side by its entry
+abbrev pub side_of : Entry → ℕ → Side
+side_of e at = record { facts = e.facts; ticks = entry_ticks e; at = at }
 
 -- what is known of its sides, the antecedent only where one is written
-abbrev pub side_at : Facts → Option ℕ → List Side
-side_at f None = []
-side_at f (Some at) = record { facts = f; at = at } ∷ []
+abbrev pub side_at : Entry → Option ℕ → List Side
+side_at e None = []
+side_at e (Some at) = side_of e at ∷ []
 
 abbrev pub consequent_side : Resolved → Side
-consequent_side m = record { facts = m.consequent.facts; at = m.consequent_at }
+consequent_side m = side_of m.consequent m.consequent_at
 
 abbrev pub sides_in : List Resolved → List Side
 sides_in [] = []
 sides_in (m ∷ ms) =
-    (side_at m.antecedent.facts m.antecedent_at ++ consequent_side m ∷ []) ++ sides_in ms
+    (side_at m.antecedent m.antecedent_at ++ consequent_side m ∷ []) ++ sides_in ms
 
 abbrev pub consequents_in : List Resolved → List Side
 consequents_in [] = []

@@ -12,6 +12,8 @@ use types_sequences::Facts;
 #[derive(Clone, Copy)]
 pub(crate) struct Side {
     pub facts: Facts,
+    /// Whether it matches a tick or more, were every boolean true, if it weighs at most 127.
+    pub ticks: bool,
     pub at: usize,
 }
 
@@ -34,7 +36,7 @@ pub(crate) fn first_degenerate(sides: &[Side]) -> Option<usize>
 {
     let mut fault = None;
     for side in sides {
-        if !side.facts.ticks {
+        if !side.ticks {
             fault = earlier(fault, Some(side.at));
         }
     }

@@ -1,55 +1,84 @@
 //! The sides of all assertions.
 
 ghost use Rattle.std.specs.Prelude.{◌≡◌, ◌++◌, IfOk, OnOk};
-ghost use Rattle.types.specs.Sides.{side_at, sides_in, consequents_in};
+ghost use Rattle.types.specs.Sides.{side_of, side_at, sides_in, consequents_in, entry_ticks};
+ghost use Rattle.types.specs.Sides.{IsKnown, AreKnown};
 
 use crate::side::Side;
+use assertions::HEAVIEST;
+use judging::takes_ticks;
 use std::alloc::{AllocError, Global};
-use types_sequences::Facts;
+use types_sequences::Entry;
 use types_suites::Resolved;
 
+/// Whether what an entry is of matches a tick or more, if it weighs at most 127.
+fn entry_ticks(alloc: Global, entry: &Entry) -> Result<bool, AllocError>
+    requires { IsKnown entry.now }
+    ensures { IfOk result (λ ticks. ticks ≡ entry_ticks entry.now) }
+{
+    if usize::from(entry.facts.weight) > HEAVIEST {
+        return Ok(true);
+    }
+    match &entry.sequence {
+        Some(sequence) => takes_ticks(alloc, sequence),
+        None => Ok(true),
+    }
+}
+
+/// What is known of a side by its entry.
+fn side_of(alloc: Global, entry: &Entry, at: usize) -> Result<Side, AllocError>
+    requires { IsKnown entry.now }
+    ensures { IfOk result (λ side. side ≡ side_of entry.now at) }
+{
+    let ticks = entry_ticks(alloc, entry)?;
+    Ok(Side {
+        facts: entry.facts,
+        ticks,
+        at,
+    })
+}
+
 /// Adds what is known of an antecedent, if one is written.
-fn push_antecedent(sides: &mut Vec<Side>, facts: Facts, at: Option<usize>) -> Result<(), AllocError>
-    ensures { OnOk result (sides.new.items ≡ sides.old.items ++ side_at facts at) }
+fn push_antecedent(
+    alloc: Global,
+    sides: &mut Vec<Side>,
+    entry: &Entry,
+    at: Option<usize>,
+) -> Result<(), AllocError>
+    requires { IsKnown entry.now }
+    ensures { OnOk result (sides.new.items ≡ sides.old.items ++ side_at entry.now at) }
 {
     match at {
-        Some(at) => Ok(sides.push(Side { facts, at })?),
+        Some(at) => Ok(sides.push(side_of(alloc, entry, at)?)?),
         None => Ok(()),
     }
 }
 
-/// The antecedents that are written, and the consequents, in the order of the text.
-pub(crate) fn all_sides(alloc: Global, assertions: &[Resolved]) -> Result<Vec<Side>, AllocError>
-    ensures { IfOk result (λ v. v.items ≡ sides_in assertions.now) }
-{
-    let mut sides = Vec::new(alloc);
-    for assertion in assertions {
-        push_antecedent(
-            &mut sides,
-            assertion.antecedent.facts,
-            assertion.antecedent_at,
-        )?;
-        sides.push(Side {
-            facts: assertion.consequent.facts,
-            at: assertion.consequent_at,
-        })?;
-    }
-    Ok(sides)
+/// All sides that are written, and the consequents among them, in the order of the text.
+#[derive(Drop)]
+pub(crate) struct Sides {
+    pub all: Vec<Side>,
+    pub consequents: Vec<Side>,
 }
 
-/// The consequents, in the order of the text.
-pub(crate) fn all_consequents(
-    alloc: Global,
-    assertions: &[Resolved],
-) -> Result<Vec<Side>, AllocError>
-    ensures { IfOk result (λ v. v.items ≡ consequents_in assertions.now) }
+/// The sides of assertions.
+pub(crate) fn written_sides(alloc: Global, assertions: &[Resolved]) -> Result<Sides, AllocError>
+    requires { AreKnown assertions.now }
+    ensures all { IfOk result (λ v. v.all.items ≡ sides_in assertions.now) }
+    ensures consequents { IfOk result (λ v. v.consequents.items ≡ consequents_in assertions.now) }
 {
-    let mut sides = Vec::with_capacity(alloc, assertions.len())?;
+    let mut all = Vec::new(alloc);
+    let mut consequents = Vec::with_capacity(alloc, assertions.len())?;
     for assertion in assertions {
-        sides.push(Side {
-            facts: assertion.consequent.facts,
-            at: assertion.consequent_at,
-        })?;
+        push_antecedent(
+            alloc,
+            &mut all,
+            &assertion.antecedent,
+            assertion.antecedent_at,
+        )?;
+        let consequent = side_of(alloc, &assertion.consequent, assertion.consequent_at)?;
+        all.push(consequent)?;
+        consequents.push(consequent)?;
     }
-    Ok(sides)
+    Ok(Sides { all, consequents })
 }

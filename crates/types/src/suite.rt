@@ -16,14 +16,14 @@ ghost use Rattle.types_suites.specs.Texts.{declarations_of, assertions_of, clock
 ghost use Rattle.types_suites.specs.Readings.{Where, outlines_of};
 ghost use Rattle.types_suites.specs.Faults.{Text, sides_of, consequents_of, ClearTo, IsFaultless};
 ghost use Rattle.types_suites.specs.Faults.{IsTypeFault};
-ghost use Rattle.types.specs.Sides.{AreWeighed, AreLight};
+ghost use Rattle.types.specs.Sides.{AreWeighed, AreLight, AreKnown};
 ghost use Rattle.types_suites.specs.Suites.{IsSuite};
 ghost use Rattle.types.specs.Sides.{sides_in, consequents_in};
 ghost use Rattle.types_suites.specs.Resolved.{HasBodies};
 ghost use Rattle.types.specs.Resolved.{HasResolved};
 
 use crate::clocks::first_clock;
-use crate::sides::{all_consequents, all_sides};
+use crate::sides::written_sides;
 use crate::stages::{check_cycles, check_expressions, check_sides};
 use assertions::Suite;
 use std::alloc::Global;
@@ -71,6 +71,7 @@ fn entries_of(
 
 /// Looks for faults of the sides of these assertions, Y9, Y5 and Y6, in this order.
 fn check_resolved(alloc: Global, resolved: &[Resolved]) -> Result<(), TypeFault>
+    requires { AreKnown resolved.now }
     ensures light { IfOk result (λ _. AreLight (sides_in resolved.now)) }
     ensures ok { (s : Where) (items : Text) → ClearTo s items 6
         → AreWeighed (outlines_of s items) (sides_of s (assertions_of items))
@@ -85,9 +86,8 @@ fn check_resolved(alloc: Global, resolved: &[Resolved]) -> Result<(), TypeFault>
         (consequents_in resolved.now)
         → IfErr result (IsTypeFault s items) }
 {
-    let sides = all_sides(alloc, resolved)?;
-    let consequents = all_consequents(alloc, resolved)?;
-    check_sides(sides.as_slice(), consequents.as_slice())
+    let sides = written_sides(alloc, resolved)?;
+    check_sides(sides.all.as_slice(), sides.consequents.as_slice())
 }
 
 /// The assertions of items whose expressions have no fault, with the entries of their sides, or the

@@ -20,6 +20,7 @@ use Rattle.grammar.specs.Sequences as sequences
 use Rattle.grammar.specs.Sequences.{IsNoExpression, IsTimes, times, times_to, IsDelay, after, between, IsBody}
 use Rattle.grammar.specs.Sequences.{is_boolean, IsRepetition, is_once, is_repeated, IsHead, is_prompt, is_late}
 use Rattle.grammar.specs.Sequences.{AreSteps, no_steps, one_step, IsDelayed, is_head, is_delayed, IsDuring, is_cat}
+use Rattle.grammar.specs.Sequences.{AreMeets, no_meet, one_meet, IsIntersection, is_meet, is_intersection}
 use Rattle.grammar.specs.Sequences.{is_throughout, AreConjuncts, no_conjunct, one_conjunct, IsConjunction, is_during}
 use Rattle.grammar.specs.Sequences.{is_all, AreAlternatives, no_alternative, one_alternative, IsSequence}
 use Rattle.grammar.specs.Sequences.{is_conjunction, is_either, IsProperty, is_plain, is_implication, bracketed}
@@ -145,15 +146,25 @@ module _ (lies : ℕ → ℕ × ℕ) where
     during-moved (is_cat h) = is_cat (delayed-moved h)
     during-moved (is_throughout t s h) = is_throughout t (spells-moved s) (during-moved h)
 
+    meets-moved : {d : ℕ} {more : Others} {ts rest : Tokens} → AreMeets d more ts rest
+        → AreMeets d (moved_others lies more) (moved_all ts) (moved_all rest)
+    meets-moved no_meet = no_meet
+    meets-moved (one_meet t h s) = one_meet t (during-moved h) (meets-moved s)
+
+    intersection-moved : {d : ℕ} {q : SequenceForm} {ts rest : Tokens} → IsIntersection d q ts rest
+        → IsIntersection d (moved_sequence lies q) (moved_all ts) (moved_all rest)
+    intersection-moved (is_during h) = is_during (during-moved h)
+    intersection-moved (is_meet h s) = is_meet (during-moved h) (meets-moved s)
+
     conjuncts-moved : {d : ℕ} {more : Others} {ts rest : Tokens} → AreConjuncts d more ts rest
         → AreConjuncts d (moved_others lies more) (moved_all ts) (moved_all rest)
     conjuncts-moved no_conjunct = no_conjunct
-    conjuncts-moved (one_conjunct t h s) = one_conjunct t (during-moved h) (conjuncts-moved s)
+    conjuncts-moved (one_conjunct t h s) = one_conjunct t (intersection-moved h) (conjuncts-moved s)
 
     conjunction-moved : {d : ℕ} {q : SequenceForm} {ts rest : Tokens} → IsConjunction d q ts rest
         → IsConjunction d (moved_sequence lies q) (moved_all ts) (moved_all rest)
-    conjunction-moved (is_during h) = is_during (during-moved h)
-    conjunction-moved (is_all h s) = is_all (during-moved h) (conjuncts-moved s)
+    conjunction-moved (is_intersection h) = is_intersection (intersection-moved h)
+    conjunction-moved (is_all h s) = is_all (intersection-moved h) (conjuncts-moved s)
 
     alternatives-moved : {d : ℕ} {more : Others} {ts rest : Tokens} → AreAlternatives d more ts rest
         → AreAlternatives d (moved_others lies more) (moved_all ts) (moved_all rest)

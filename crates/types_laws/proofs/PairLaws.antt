@@ -2,7 +2,7 @@
 use Rattle.std.proofs.Common.{◌≡◌, ℕ, List, [], ◌∷◌, map, Option, Some, None, refl, sym, ap, ◌∙◌}
 use Rattle.std.specs.Prelude.{◌==◌, not}
 use Rattle.grammar.specs.declared.operator.Junction.{Junction}
-use Rattle.grammar.specs.declared.operator.Junction.TheVariants.{And, Or}
+use Rattle.grammar.specs.declared.operator.Junction.TheVariants.{Intersect, And, Or}
 use Rattle.grammar.specs.Trees.{Tree, SequenceForm, boolean, repeated, late, delayed, throughout, joined, Steps}
 use Rattle.grammar.specs.Trees.{no_step, step, Others, no_other, other}
 use Rattle.expressions.specs.declared.expr.Expr.{Expr}
@@ -88,6 +88,18 @@ module _ (ones others : List Expr) where
         ∙ ap (λ (x : Draft Boolean). drafts.and (seconds h.both) x) k.second;
   }
 
+  paired_intersect : (a b c d : Draft Boolean) → IsPaired a b → IsPaired c d
+      → IsPaired (drafts.intersect a c) (drafts.intersect b d)
+  paired_intersect a b c d h k = record {
+    both = drafts.intersect h.both k.both;
+    first =
+        ap (λ (x : Draft Boolean). drafts.intersect x c) h.first
+        ∙ ap (λ (x : Draft Boolean). drafts.intersect (firsts h.both) x) k.first;
+    second =
+        ap (λ (x : Draft Boolean). drafts.intersect x d) h.second
+        ∙ ap (λ (x : Draft Boolean). drafts.intersect (seconds h.both) x) k.second;
+  }
+
   paired_or : (a b c d : Draft Boolean) → IsPaired a b → IsPaired c d → IsPaired (drafts.or a c) (drafts.or b d)
   paired_or a b c d h k = record {
     both = drafts.or h.both k.both;
@@ -101,6 +113,7 @@ module _ (ones others : List Expr) where
 
   paired_joined : (j : Junction) (a b c d : Draft Boolean) → IsPaired a b → IsPaired c d
       → IsPaired (joined_by j a c) (joined_by j b d)
+  paired_joined Intersect a b c d h k = paired_intersect a b c d h k
   paired_joined And a b c d h k = paired_and a b c d h k
   paired_joined Or a b c d h k = paired_or a b c d h k
 

@@ -6,13 +6,14 @@ use Rattle.expressions.specs.Terms.{Samples}
 use Rattle.assertions.specs.declared.sequence.Boolean.{Boolean}
 use Rattle.assertions.specs.declared.sequence.Boolean.TheVariants.{One}
 use Rattle.assertions.specs.Segments.{sat}
-use Rattle.assertions.specs.Written.{Written, boolean, delay, lead, repeat, or, and, throughout, kernel, after, later}
+use Rattle.assertions.specs.Written.{Written, boolean, delay, lead, repeat, or, and, intersect, throughout, kernel}
+use Rattle.assertions.specs.Written.{after, later}
 use Rattle.types_sequences.specs.Drafts.{Draft, spelling_of, named_within, Spells}
 use Rattle.types_sequences.specs.Outlines.{map_draft, map_written}
 use Rattle.types_sequences.specs.Entries.{Alike}
 use Rattle.types_sequences.specs.Placed.{atom_true}
 use Rattle.types_sequences.proofs.AlikeLaws.{alike_one, alike_one_of, alike_after, alike_later, alike_times}
-use Rattle.types_sequences.proofs.AlikeLaws.{alike_either, alike_both, alike_during}
+use Rattle.types_sequences.proofs.AlikeLaws.{alike_either, alike_both, alike_meet, alike_during}
 use Rattle.types_sequences.proofs.MapLaws.{spelled_map, named_map, spells_map, spells_one}
 use Rattle.types_laws.proofs.PairLaws.{Pair, firsts, seconds, IsPaired, ArePaired}
 
@@ -77,6 +78,10 @@ module _ (ones others : List Expr) where
         (kernel One (map_written second_of v)) (kernel One (map_written second_of w)) (pairs_alike v) (pairs_alike w)
     pairs_alike (and v w) =
         alike_both (sat (atom_true ones x) n) (sat (atom_true others x) n) (kernel One (map_written first_of v))
+        (kernel One (map_written first_of w))
+        (kernel One (map_written second_of v)) (kernel One (map_written second_of w)) (pairs_alike v) (pairs_alike w)
+    pairs_alike (intersect v w) =
+        alike_meet (sat (atom_true ones x) n) (sat (atom_true others x) n) (kernel One (map_written first_of v))
         (kernel One (map_written first_of w))
         (kernel One (map_written second_of v)) (kernel One (map_written second_of w)) (pairs_alike v) (pairs_alike w)
     pairs_alike (throughout p v) =

@@ -4,8 +4,9 @@ use Rattle.std.proofs.Common.{arith}
 use Rattle.std.specs.Prelude.{option_map, option_and_then}
 use Rattle.assertions.specs.Written.{Written}
 use Rattle.assertions.specs.Written as written
-use Rattle.types_sequences.specs.Drafts.{Draft, boolean, name, delay, lead, repeat, or, and, throughout, IsIn, uses}
-use Rattle.types_sequences.specs.Drafts.{uses_of, both_there, spelling_of, named_within, reaches_by, IsCyclic}
+use Rattle.types_sequences.specs.Drafts.{Draft, boolean, name, delay, lead, repeat, or, and, intersect, throughout}
+use Rattle.types_sequences.specs.Drafts.{IsIn}
+use Rattle.types_sequences.specs.Drafts.{uses, uses_of, both_there, spelling_of, named_within, reaches_by, IsCyclic}
 use Rattle.types_sequences.proofs.InLaws.{in_either}
 
 -- there is something
@@ -39,6 +40,9 @@ named_there f (or r s) q h i =
     elim (in_either q (uses r) (uses s) i) [ inl x ↦ named_there f r q parts.0 x | inr y ↦ named_there f s q parts.1 y ]
 named_there f (and r s) q h i =
     let parts = both_parts written.and (spelling_of f r) (spelling_of f s) h in
+    elim (in_either q (uses r) (uses s) i) [ inl x ↦ named_there f r q parts.0 x | inr y ↦ named_there f s q parts.1 y ]
+named_there f (intersect r s) q h i =
+    let parts = both_parts written.intersect (spelling_of f r) (spelling_of f s) h in
     elim (in_either q (uses r) (uses s) i) [ inl x ↦ named_there f r q parts.0 x | inr y ↦ named_there f s q parts.1 y ]
 named_there f (throughout b r) q h i = named_there f r q (map_part (written.throughout b) (spelling_of f r) h) i
 

@@ -1,6 +1,7 @@
 -- Sequences of parts that match the same match the same.
 use Rattle.std.proofs.Common.{◌≡◌, inl, inr, ℕ, zero, suc, ◌+◌, Bool, sym, ◌∙◌}
-use Rattle.assertions.specs.Segments.{Seq, one, chop, fuse, either, both, during, times, Matches, Chain}
+use Rattle.assertions.specs.Segments.{Seq, one, chop, fuse, either, both, meet, during, times, Matches}
+use Rattle.assertions.specs.Segments.{Chain}
 use Rattle.assertions.specs.Written.{one_of, ticks, after, later}
 use Rattle.types_sequences.specs.Entries.{Alike}
 
@@ -33,6 +34,9 @@ module _ {B C : Type 0} (h : B → ℕ → Bool) (g : C → ℕ → Bool) where
   pub alike_both : (r s : Seq B) (r2 s2 : Seq C) → Alike h g r r2 → Alike h g s s2 → Alike h g (both r s) (both r2 s2)
   alike_both r s r2 s2 a b i j =
       (λ m. (m.0, m.1, (a i m.0).0 m.2, (b i m.1).0 m.3, m.4), λ m. (m.0, m.1, (a i m.0).1 m.2, (b i m.1).1 m.3, m.4))
+
+  pub alike_meet : (r s : Seq B) (r2 s2 : Seq C) → Alike h g r r2 → Alike h g s s2 → Alike h g (meet r s) (meet r2 s2)
+  alike_meet r s r2 s2 a b i j = (λ m. ((a i j).0 m.0, (b i j).0 m.1), λ m. ((a i j).1 m.0, (b i j).1 m.1))
 
   pub alike_during : (b : B) (c : C) (r : Seq B) (r2 : Seq C) → ((k : ℕ) → h b k ≡ g c k) → Alike h g r r2
       → Alike h g (during b r) (during c r2)

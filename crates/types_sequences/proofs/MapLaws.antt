@@ -4,10 +4,14 @@ use Rattle.std.proofs.Common.{subst, arith}
 use Rattle.std.specs.Prelude.{option_map, option_and_then}
 use Rattle.std.proofs.lemmas.Option.{slice_get-map}
 use Rattle.assertions.specs.Written as written
-use Rattle.assertions.specs.Written.{Written, weight, IsOrdered}
-use Rattle.assertions.specs.Emptiness.{admits_empty, takes_ticks}
-use Rattle.types_sequences.specs.Drafts.{Draft, boolean, name, delay, lead, repeat, or, and, throughout, IsIn, uses}
-use Rattle.types_sequences.specs.Drafts.{uses_of, uses_at, both_there, spelling_of, named_within, Spells, reaches_by}
+use Rattle.assertions.specs.Written.{Written, kernel, weight, IsOrdered}
+use Rattle.assertions.specs.Emptiness.{admits_empty, bare, lasts, takes_ticks}
+use Rattle.assertions.specs.Quantifiers.{some_in}
+use Rattle.assertions.specs.Segments.{always, is_match}
+use Rattle.types_sequences.specs.Drafts.{Draft, boolean, name, delay, lead, repeat, or, and, intersect, throughout}
+use Rattle.types_sequences.specs.Drafts.{IsIn}
+use Rattle.types_sequences.specs.Drafts.{uses, uses_of, uses_at, both_there, spelling_of, named_within, Spells}
+use Rattle.types_sequences.specs.Drafts.{reaches_by}
 use Rattle.types_sequences.specs.Drafts.{IsCyclic}
 use Rattle.types_sequences.specs.Outlines.{map_draft, map_written}
 use Rattle.types_sequences.proofs.SpellLaws.{spelled_deeper}
@@ -21,6 +25,7 @@ module _ {B C : Type 0} (f : B → C) where
   uses_map (repeat r least extra) = uses_map r
   uses_map (or r s) = rw (uses_map r, uses_map s) refl
   uses_map (and r s) = rw (uses_map r, uses_map s) refl
+  uses_map (intersect r s) = rw (uses_map r, uses_map s) refl
   uses_map (throughout b r) = uses_map r
 
   uses_of_map : (o : Option (Draft B)) → uses_of (option_map (map_draft f) o) ≡ uses_of o
@@ -55,6 +60,7 @@ module _ {B C : Type 0} (f : B → C) where
   weight_map (written.repeat r least most) = rw (weight_map r) refl
   weight_map (written.or r s) = rw (weight_map r, weight_map s) refl
   weight_map (written.and r s) = rw (weight_map r, weight_map s) refl
+  weight_map (written.intersect r s) = rw (weight_map r, weight_map s) refl
   weight_map (written.throughout b r) = weight_map r
 
   pub empty_map : (w : Written B) → admits_empty (map_written f w) ≡ admits_empty w
@@ -64,16 +70,24 @@ module _ {B C : Type 0} (f : B → C) where
   empty_map (written.repeat r least most) = rw (empty_map r) refl
   empty_map (written.or r s) = rw (empty_map r, empty_map s) refl
   empty_map (written.and r s) = rw (empty_map r, empty_map s) refl
+  empty_map (written.intersect r s) = rw (empty_map r, empty_map s) refl
   empty_map (written.throughout b r) = empty_map r
 
+  bare_map : (w : Written B) → bare (map_written f w) ≡ bare w
+  bare_map (written.boolean b) = refl
+  bare_map (written.delay r least most s) = rw (bare_map r, bare_map s) refl
+  bare_map (written.lead least most s) = rw (bare_map s) refl
+  bare_map (written.repeat r least most) = rw (bare_map r) refl
+  bare_map (written.or r s) = rw (bare_map r, bare_map s) refl
+  bare_map (written.and r s) = rw (bare_map r, bare_map s) refl
+  bare_map (written.intersect r s) = rw (bare_map r, bare_map s) refl
+  bare_map (written.throughout b r) = rw (bare_map r) refl
+
   pub ticks_map : (w : Written B) → takes_ticks (map_written f w) ≡ takes_ticks w
-  ticks_map (written.boolean b) = refl
-  ticks_map (written.delay r least most s) = rw (empty_map r, empty_map s, ticks_map r, ticks_map s) refl
-  ticks_map (written.lead least most s) = rw (empty_map s, ticks_map s) refl
-  ticks_map (written.repeat r least most) = rw (ticks_map r) refl
-  ticks_map (written.or r s) = rw (ticks_map r, ticks_map s) refl
-  ticks_map (written.and r s) = rw (empty_map r, empty_map s, ticks_map r, ticks_map s) refl
-  ticks_map (written.throughout b r) = ticks_map r
+  unfolding takes_ticks lasts
+  ticks_map w =
+      ap (λ n. some_in 1 (n + 1) (λ k. is_match always (kernel tt (bare (map_written f w))) 0 k)) (weight_map w)
+      ∙ ap (λ v. some_in 1 (weight w + 1) (λ k. is_match always (kernel tt v) 0 k)) (bare_map w)
 
   pub ordered_map : (w : Written B) → IsOrdered w → IsOrdered (map_written f w)
   ordered_map (written.boolean b) o = o
@@ -82,6 +96,7 @@ module _ {B C : Type 0} (f : B → C) where
   ordered_map (written.repeat r least most) o = (o.0, ordered_map r o.1)
   ordered_map (written.or r s) o = (ordered_map r o.0, ordered_map s o.1)
   ordered_map (written.and r s) o = (ordered_map r o.0, ordered_map s o.1)
+  ordered_map (written.intersect r s) o = (ordered_map r o.0, ordered_map s o.1)
   ordered_map (written.throughout b r) o = ordered_map r o
 
   both_map : (g : Written B → Written B → Written B) (h : Written C → Written C → Written C)
@@ -122,6 +137,9 @@ module _ {B C : Type 0} (f : B → C) where
   spelled_map m n same (and r s) =
       rw (spelled_map m n same r, spelled_map m n same s)
       (sym (both_map written.and written.and (λ v w. refl) (spelling_of m r) (spelling_of m s)))
+  spelled_map m n same (intersect r s) =
+      rw (spelled_map m n same r, spelled_map m n same s)
+      (sym (both_map written.intersect written.intersect (λ v w. refl) (spelling_of m r) (spelling_of m s)))
   spelled_map m n same (throughout b r) =
       rw (spelled_map m n same r)
       (sym (one_map (written.throughout b) (written.throughout (f b)) (λ v. refl) (spelling_of m r)))

@@ -10,7 +10,9 @@ use Rattle.assertions.specs.declared.sequence.Boolean.TheVariants.{One, Listed}
 use Rattle.assertions.specs.Segments.{sat}
 use Rattle.assertions.specs.declared.sequence.Sequence.{Sequence}
 use Rattle.assertions.specs.Shapes.{value_in, written_form}
-use Rattle.assertions.specs.Written.{Written, boolean, delay, lead, repeat, or, and, throughout, kernel, after, later}
+use Rattle.assertions.specs.Written.{Written, boolean, delay, lead, repeat, or, and, intersect, throughout, kernel}
+use Rattle.assertions.specs.Written.{after}
+use Rattle.assertions.specs.Written.{later}
 use Rattle.assertions.specs.Listed.{EachBoolean, IsUsed, IsListed}
 use Rattle.types_sequences.specs.Drafts.{IsIn}
 use Rattle.types_sequences.specs.Placed.{atom_true, IsPlaced, IsPlacedBoolean, Extends, Adds, AllListed}
@@ -18,7 +20,7 @@ use Rattle.types_sequences.specs.Placed.{ArePlaced}
 use Rattle.types_sequences.proofs.InLaws.{in_last}
 use Rattle.types_sequences.proofs.UsedLaws.{each_listed}
 use Rattle.types_sequences.proofs.AlikeLaws.{alike_one, alike_one_of, alike_after, alike_later, alike_times}
-use Rattle.types_sequences.proofs.AlikeLaws.{alike_either, alike_both, alike_during}
+use Rattle.types_sequences.proofs.AlikeLaws.{alike_either, alike_both, alike_meet, alike_during}
 
 pub placed_more : (e : List Expr) (before after more : List ℕ) (x : Extends before after) (w u : Written Boolean)
     → IsPlaced e (before ++ (x.added ++ more)) w u → IsPlaced e (after ++ more) w u
@@ -68,6 +70,12 @@ module _ (e : List Expr) (ps : List ℕ) where
       → IsPlaced e ps (and w v) (and u x)
   placed_and w v u x f s t n =
       alike_both (sat (atom_true e t) n) (sat (value_in e ps t) n) (kernel One w) (kernel One v) (kernel One u)
+      (kernel One x) (f t n) (s t n)
+
+  pub placed_intersect : (w v u x : Written Boolean) → IsPlaced e ps w u → IsPlaced e ps v x
+      → IsPlaced e ps (intersect w v) (intersect u x)
+  placed_intersect w v u x f s t n =
+      alike_meet (sat (atom_true e t) n) (sat (value_in e ps t) n) (kernel One w) (kernel One v) (kernel One u)
       (kernel One x) (f t n) (s t n)
 
   pub placed_throughout : (a b : Boolean) (v x : Written Boolean) → IsPlacedBoolean e ps a b → IsPlaced e ps v x
@@ -172,6 +180,17 @@ module _ (before between after : List ℕ) (v w a b : Written Boolean) (x : AreP
       record {
         grows = extends_two before between after x.grows y.grows;
         placed = λ e more. placed_and e (after ++ more) v w a b (first_placed e more) (y.placed e more);
+        weighs = cc (x.weighs, y.weighs);
+        ordered = λ o. (x.ordered o.0, y.ordered o.1);
+        listed = both_listed;
+        own = of_two before between after v w x.own y.own;
+      }
+
+  pub are_intersect : ArePlaced before after (intersect v w) (intersect a b)
+  are_intersect =
+      record {
+        grows = extends_two before between after x.grows y.grows;
+        placed = λ e more. placed_intersect e (after ++ more) v w a b (first_placed e more) (y.placed e more);
         weighs = cc (x.weighs, y.weighs);
         ordered = λ o. (x.ordered o.0, y.ordered o.1);
         listed = both_listed;

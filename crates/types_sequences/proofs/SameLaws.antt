@@ -3,13 +3,14 @@ use Rattle.std.proofs.Common.{◌≡◌, inl, inr, ℕ, ◌+◌, ◌-◌, ◌*�
 use Rattle.std.proofs.Math.Nat.{mul-le-mul_left, mul-le-mul}
 use Rattle.assertions.specs.declared.sequence.Boolean.{Boolean}
 use Rattle.assertions.specs.declared.sequence.Boolean.TheVariants.{One}
-use Rattle.assertions.specs.Written.{Written, boolean, delay, lead, repeat, or, and, throughout, kernel, weight, after}
-use Rattle.assertions.specs.Written.{later, IsOrdered}
+use Rattle.assertions.specs.Written.{Written, boolean, delay, lead, repeat, or, and, intersect, throughout, kernel}
+use Rattle.assertions.specs.Written.{weight}
+use Rattle.assertions.specs.Written.{after, later, IsOrdered}
 use Rattle.assertions.specs.Emptiness.{admits_empty}
 use Rattle.types_sequences.specs.Entries.{SaysSame}
 use Rattle.types_sequences.proofs.UsedLaws.{used_on}
 use Rattle.types_sequences.proofs.AlikeLaws.{alike_same, alike_one_of, alike_after, alike_later, alike_times}
-use Rattle.types_sequences.proofs.AlikeLaws.{alike_either, alike_both, alike_during}
+use Rattle.types_sequences.proofs.AlikeLaws.{alike_either, alike_both, alike_meet, alike_during}
 use Rattle.types_sequences.proofs.ConstantLaws.{alike_empty, alike_never}
 
 pub says_boolean : (b : Boolean) → SaysSame (boolean b) (boolean b)
@@ -82,6 +83,18 @@ says_and v w a b x y =
       known = (used_on v (and v w) a (λ c u. inl u) x.known, used_on w (and v w) b (λ c u. inr u) y.known);
       alike =
           λ holds. alike_both holds holds (kernel One v) (kernel One w) (kernel One a) (kernel One b) (x.alike holds)
+          (y.alike holds);
+    }
+
+pub says_intersect : (v w a b : Written Boolean) → SaysSame v a → SaysSame w b → SaysSame (intersect v w)
+    (intersect a b)
+says_intersect v w a b x y =
+    record {
+      ordered = (x.ordered, y.ordered);
+      light = mul-le-mul x.light y.light;
+      known = (used_on v (intersect v w) a (λ c u. inl u) x.known, used_on w (intersect v w) b (λ c u. inr u) y.known);
+      alike =
+          λ holds. alike_meet holds holds (kernel One v) (kernel One w) (kernel One a) (kernel One b) (x.alike holds)
           (y.alike holds);
     }
 

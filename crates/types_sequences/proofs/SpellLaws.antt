@@ -5,7 +5,8 @@ use Rattle.std.specs.Prelude.{option_map, option_and_then}
 use Rattle.assertions.specs.Written.{Written}
 use Rattle.assertions.specs.Written as written
 use Rattle.assertions.specs.declared.sequence.Boolean.{Boolean}
-use Rattle.types_sequences.specs.Drafts.{Draft, boolean, name, delay, lead, repeat, or, and, throughout, both_there}
+use Rattle.types_sequences.specs.Drafts.{Draft, boolean, name, delay, lead, repeat, or, and, intersect, throughout}
+use Rattle.types_sequences.specs.Drafts.{both_there}
 use Rattle.types_sequences.specs.Drafts.{spelling_of, named_within, Spells}
 use Rattle.types_sequences.specs.declared.entry.Entry.{Entry}
 use Rattle.types_sequences.specs.Entries.{IsEntry, HasEntry, IsEntryOf}
@@ -47,6 +48,9 @@ spelled_grows f g (or r s) h =
     (spelled_grows f g r h) (spelled_grows f g s h)
 spelled_grows f g (and r s) h =
     both_grow written.and (spelling_of f r) (spelling_of g r) (spelling_of f s) (spelling_of g s)
+    (spelled_grows f g r h) (spelled_grows f g s h)
+spelled_grows f g (intersect r s) h =
+    both_grow written.intersect (spelling_of f r) (spelling_of g r) (spelling_of f s) (spelling_of g s)
     (spelled_grows f g r h) (spelled_grows f g s h)
 spelled_grows f g (throughout b r) h =
     map_grows (written.throughout b) (spelling_of f r) (spelling_of g r) (spelled_grows f g r h)
@@ -124,6 +128,18 @@ has_and bodies r s a b e x y f =
     let both = spell_both bodies r s x.meant y.meant x.spells y.spells in
     record {
       meant = written.and x.meant y.meant;
+      spells = (both.depth, rw (both.first, both.second) refl);
+      entry = f x.meant y.meant x.entry y.entry;
+    }
+
+pub has_intersect : (bodies : List (Draft Boolean)) (r s : Draft Boolean) (a b e : Entry) → HasEntry bodies r a
+    → HasEntry bodies s b →
+    ((v w : Written Boolean) → IsEntry v a → IsEntry w b → IsEntry (written.intersect v w) e) → HasEntry bodies
+    (intersect r s) e
+has_intersect bodies r s a b e x y f =
+    let both = spell_both bodies r s x.meant y.meant x.spells y.spells in
+    record {
+      meant = written.intersect x.meant y.meant;
       spells = (both.depth, rw (both.first, both.second) refl);
       entry = f x.meant y.meant x.entry y.entry;
     }

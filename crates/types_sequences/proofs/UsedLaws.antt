@@ -2,7 +2,7 @@
 use Rattle.std.proofs.Common.{inl, inr, ℕ, ◌≤◌, subst, sym, arith}
 use Rattle.assertions.specs.declared.sequence.Boolean.{Boolean}
 use Rattle.assertions.specs.declared.sequence.Boolean.TheVariants.{One, Listed}
-use Rattle.assertions.specs.Written.{Written, boolean, delay, lead, repeat, or, and, throughout}
+use Rattle.assertions.specs.Written.{Written, boolean, delay, lead, repeat, or, and, intersect, throughout}
 use Rattle.assertions.specs.Listed.{EachBoolean, IsUsed, IsListed}
 use Rattle.types_sequences.specs.Entries.{IsUsedOrOne}
 
@@ -14,6 +14,7 @@ module _ {B : Type 0} (P Q : B → Type 0) (f : (b : B) → P b → Q b) where
   each_map (repeat r least most) h = each_map r h
   each_map (or r s) h = (each_map r h.0, each_map s h.1)
   each_map (and r s) h = (each_map r h.0, each_map s h.1)
+  each_map (intersect r s) h = (each_map r h.0, each_map s h.1)
   each_map (throughout b r) h = (f b h.0, each_map r h.1)
 
 -- What holds of each holds of one of them.
@@ -26,6 +27,7 @@ module _ {B : Type 0} (P : B → Type 0) (b : B) where
   each_used (repeat r least most) h u = each_used r h u
   each_used (or r s) h u = elim u [ inl x ↦ each_used r h.0 x | inr y ↦ each_used s h.1 y ]
   each_used (and r s) h u = elim u [ inl x ↦ each_used r h.0 x | inr y ↦ each_used s h.1 y ]
+  each_used (intersect r s) h u = elim u [ inl x ↦ each_used r h.0 x | inr y ↦ each_used s h.1 y ]
   each_used (throughout c r) h u =
       elim u [ inl x ↦ subst P (sym x) h.0 | inr y ↦ each_used r h.1 y ]
 

@@ -17,6 +17,7 @@ pub data Draft (B : Type 0) : Type 0 where
   repeat : (r : Draft B) (least extra : ℕ) → Draft B
   or : (r s : Draft B) → Draft B
   and : (r s : Draft B) → Draft B
+  intersect : (r s : Draft B) → Draft B
   throughout : (b : B) (r : Draft B) → Draft B
 
 -- one of the numbers
@@ -33,6 +34,7 @@ uses (lead least extra s) = uses s
 uses (repeat r least extra) = uses r
 uses (or r s) = uses r ++ uses s
 uses (and r s) = uses r ++ uses s
+uses (intersect r s) = uses r ++ uses s
 uses (throughout b r) = uses r
 
 -- both, if both are there
@@ -53,6 +55,8 @@ spelling_of named (repeat r least extra) =
     option_map (λ v. written.repeat v least (least + extra)) (spelling_of named r)
 spelling_of named (or r s) = both_there written.or (spelling_of named r) (spelling_of named s)
 spelling_of named (and r s) = both_there written.and (spelling_of named r) (spelling_of named s)
+spelling_of named (intersect r s) =
+    both_there written.intersect (spelling_of named r) (spelling_of named s)
 spelling_of named (throughout b r) = option_map (written.throughout b) (spelling_of named r)
 
 -- what a name stands for, where names are nested in its declaration less than so deep

@@ -7,7 +7,7 @@ use Rattle.assertions.specs.declared.sequence.Boolean.TheVariants.{One}
 use Rattle.assertions.specs.declared.sequence.Sequence.{Sequence}
 use Rattle.assertions.specs.Segments.{Seq, Matches}
 use Rattle.assertions.specs.Written.{Written, kernel, weight, IsOrdered}
-use Rattle.assertions.specs.Emptiness.{admits_empty, takes_ticks}
+use Rattle.assertions.specs.Emptiness.{admits_empty}
 use Rattle.assertions.specs.Shapes.{written_form}
 use Rattle.assertions.specs.Listed.{EachBoolean, IsUsed}
 use Rattle.types_sequences.specs.declared.facts.Facts.{Facts}
@@ -22,11 +22,10 @@ Bodies = List (Draft Boolean)
 abbrev pub Alike : {B C : Type 0} → (B → ℕ → Bool) → (C → ℕ → Bool) → Seq B → Seq C → Type 0
 Alike h g r s = (i j : ℕ) → Matches h r i j ↔ Matches g s i j
 
--- the weight, up to 128, and what its form tells of empty matches and of longer ones
+-- the weight, up to 128, and what its form tells of empty matches
 pub record IsFacts (w : Written Boolean) (f : Facts) : Type 0 where
   pub weighs : f.weight ≡ min (weight w) 128
   pub empty : f.empty ≡ admits_empty w
-  pub ticks : f.ticks ≡ takes_ticks w
 
 -- It is one of the sequence's booleans, or the constant 1.
 abbrev pub IsUsedOrOne : Written Boolean → Boolean → Type 0

@@ -25,6 +25,9 @@ fn leads_on(draft: &Draft, marks: &[bool], goal: usize) -> bool
         Draft::Repeat(body, _, _) => leads_on(body, marks, goal),
         Draft::Or(first, second) => leads_on(first, marks, goal) || leads_on(second, marks, goal),
         Draft::And(first, second) => leads_on(first, marks, goal) || leads_on(second, marks, goal),
+        Draft::Intersect(first, second) => {
+            leads_on(first, marks, goal) || leads_on(second, marks, goal)
+        }
         Draft::Throughout(_, body) => leads_on(body, marks, goal),
     }
 }

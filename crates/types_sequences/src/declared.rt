@@ -21,6 +21,7 @@ fn is_below(draft: &Draft, count: usize) -> bool
         Draft::Repeat(body, _, _) => is_below(body, count),
         Draft::Or(first, second) => is_below(first, count) && is_below(second, count),
         Draft::And(first, second) => is_below(first, count) && is_below(second, count),
+        Draft::Intersect(first, second) => is_below(first, count) && is_below(second, count),
         Draft::Throughout(_, body) => is_below(body, count),
     }
 }

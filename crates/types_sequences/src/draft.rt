@@ -17,5 +17,6 @@ pub enum Draft {
     Repeat(Box<Draft>, u8, u8),
     Or(Box<Draft>, Box<Draft>),
     And(Box<Draft>, Box<Draft>),
+    Intersect(Box<Draft>, Box<Draft>),
     Throughout(usize, Box<Draft>),
 }

@@ -4,12 +4,13 @@ ghost use Rattle.std.specs.Prelude.{◌≡◌, ◌+◌, ◌≤◌, IfOk};
 ghost use Rattle.assertions.specs.declared.sequence.Boolean.{Boolean};
 ghost use Rattle.assertions.specs.declared.sequence.Boolean.TheVariants.{Listed};
 ghost use Rattle.assertions.specs.Written.{Written, boolean, delay, lead, repeat, or, and};
+ghost use Rattle.assertions.specs.Written.{intersect};
 ghost use Rattle.assertions.specs.Written.{throughout, weight, IsOrdered};
 ghost use Rattle.types_sequences.specs.Entries.{IsFacts, HasSame, IsEntry};
 
 use crate::facts::Facts;
 use crate::make::{
-    both, copy_of, delay_of, either, lead_of, repetition_of, throughout, weightless,
+    both, copy_of, delay_of, either, lead_of, meet, repetition_of, throughout, weightless,
 };
 use assertions::{Boolean, Sequence};
 use std::alloc::{AllocError, Global};
@@ -128,6 +129,16 @@ impl Entry {
     {
         let facts = self.facts.and(second.facts);
         let sequence = both(alloc, self.sequence, second.sequence)?;
+        entry_with(alloc, facts, sequence)
+    }
+
+    /// Of `self intersect second`.
+    pub(crate) fn intersect(self, alloc: Global, second: Entry) -> Result<Entry, AllocError>
+        ensures { IfOk result (λ e. (v w : Written Boolean) → IsEntry v self → IsEntry w second
+            → IsEntry (intersect v w) e) }
+    {
+        let facts = self.facts.intersect(second.facts);
+        let sequence = meet(alloc, self.sequence, second.sequence)?;
         entry_with(alloc, facts, sequence)
     }
 

@@ -1,8 +1,9 @@
 //! What the form of a sequence tells.
 
-ghost use Rattle.std.specs.Prelude.{◌≡◌, ◌+◌, ◌||◌, ◌&&◌, nat_le, min};
+ghost use Rattle.std.specs.Prelude.{◌≡◌, ◌+◌, ◌&&◌, nat_le, min};
 ghost use Rattle.assertions.specs.declared.sequence.Boolean.{Boolean};
 ghost use Rattle.assertions.specs.Written.{Written, boolean, delay, lead, repeat, or, and};
+ghost use Rattle.assertions.specs.Written.{intersect};
 ghost use Rattle.assertions.specs.Written.{throughout};
 ghost use Rattle.types_sequences.specs.Entries.{IsFacts};
 
@@ -13,8 +14,6 @@ pub struct Facts {
     pub weight: u8,
     /// Whether it matches an empty segment.
     pub empty: bool,
-    /// Whether it matches a tick or more, were every boolean true.
-    pub ticks: bool,
 }
 
 /// The number, or 128 where it is over that.
@@ -39,37 +38,7 @@ impl Facts {
         Facts {
             weight: 1,
             empty: false,
-            ticks: true,
         }
-    }
-
-    /// Whether it matches anything, were every boolean true.
-    fn matches(self) -> bool
-        ensures { result ≡ (self.empty || self.ticks) }
-    {
-        self.empty || self.ticks
-    }
-
-    /// Whether both match, and one takes a tick, were every boolean true.
-    fn takes_with(self, second: Facts) -> bool
-        ensures { result ≡ ((self.ticks && (second.empty || second.ticks))
-            || ((self.empty || self.ticks) && second.ticks)) }
-    {
-        (self.ticks && second.matches()) || (self.matches() && second.ticks)
-    }
-
-    /// Whether the delay of two takes a tick, were every boolean true.
-    fn delay_takes(self, least: u8, most: usize, second: Facts) -> bool
-        ensures { result ≡ ((nat_le least 0 && (self.ticks && second.ticks))
-            || ((nat_le least 1 && nat_le 1 most)
-            && ((self.ticks && (second.empty || second.ticks))
-            || ((self.empty || self.ticks) && second.ticks)))
-            || (nat_le 2 most && ((self.empty || self.ticks) && (second.empty || second.ticks)))) }
-    {
-        let shared = least == 0 && self.ticks && second.ticks;
-        let next = spans_one(least, most) && self.takes_with(second);
-        let later = most >= 2 && self.matches() && second.matches();
-        shared || next || later
     }
 
     /// Of `self ##[least:least + extra] second`.
@@ -81,7 +50,6 @@ impl Facts {
         Facts {
             weight: cap(usize::from(self.weight) + usize::from(second.weight) + most),
             empty: spans_one(least, most) && (self.empty && second.empty),
-            ticks: self.delay_takes(least, most, second),
         }
     }
 
@@ -94,7 +62,6 @@ impl Facts {
         Facts {
             weight: cap(usize::from(self.weight) + most),
             empty: least == 0 && self.empty,
-            ticks: (least == 0 && self.ticks) || (1 <= most && self.matches()),
         }
     }
 
@@ -107,7 +74,6 @@ impl Facts {
         Facts {
             weight: cap(most * usize::from(self.weight)),
             empty: least == 0 || self.empty,
-            ticks: 1 <= most && self.ticks,
         }
     }
 
@@ -119,7 +85,6 @@ impl Facts {
         Facts {
             weight: cap(usize::from(self.weight) + usize::from(second.weight)),
             empty: self.empty || second.empty,
-            ticks: self.ticks || second.ticks,
         }
     }
 
@@ -131,7 +96,17 @@ impl Facts {
         Facts {
             weight: cap((usize::from(self.weight) + 1) * (usize::from(second.weight) + 1)),
             empty: self.empty && second.empty,
-            ticks: self.takes_with(second),
+        }
+    }
+
+    /// Of `self intersect second`.
+    pub(crate) fn intersect(self, second: Facts) -> Facts
+        ensures { (v w : Written Boolean) → IsFacts v self → IsFacts w second
+            → IsFacts (intersect v w) result }
+    {
+        Facts {
+            weight: cap(usize::from(self.weight) * usize::from(second.weight)),
+            empty: self.empty && second.empty,
         }
     }
 }

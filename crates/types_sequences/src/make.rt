@@ -5,6 +5,7 @@ ghost use Rattle.assertions.specs.declared.sequence.Boolean.{Boolean};
 ghost use Rattle.assertions.specs.declared.sequence.Boolean.TheVariants.{One};
 ghost use Rattle.assertions.specs.Shapes.{written_form};
 ghost use Rattle.assertions.specs.Written.{Written, boolean, delay, lead, repeat, or, and};
+ghost use Rattle.assertions.specs.Written.{intersect};
 ghost use Rattle.assertions.specs.Written.{throughout, weight, IsOrdered};
 ghost use Rattle.assertions.specs.Emptiness.{admits_empty};
 ghost use Rattle.types_sequences.specs.Entries.{SaysSame, HasSame};
@@ -69,6 +70,11 @@ pub(crate) fn copy_of(alloc: Global, sequence: &Sequence) -> Result<Box<Sequence
             let first = copy_of(alloc, first)?;
             let second = copy_of(alloc, second)?;
             boxed(alloc, Sequence::And(first, second))
+        }
+        Sequence::Intersect(first, second) => {
+            let first = copy_of(alloc, first)?;
+            let second = copy_of(alloc, second)?;
+            boxed(alloc, Sequence::Intersect(first, second))
         }
         Sequence::Throughout(boolean, body) => {
             let body = copy_of(alloc, body)?;
@@ -176,6 +182,24 @@ pub(crate) fn both(
         return Ok(None);
     };
     Ok(Some(Box::new(alloc, Sequence::And(first, second))?))
+}
+
+/// Both of the two that end together, where both are there.
+pub(crate) fn meet(
+    alloc: Global,
+    first: Option<Box<Sequence>>,
+    second: Option<Box<Sequence>>,
+) -> Result<Option<Box<Sequence>>, AllocError>
+    ensures { IfOk result (λ o. (v w : Written Boolean) → HasSame v first → HasSame w second
+        → HasSame (intersect v w) o) }
+{
+    let Some(first) = first else {
+        return Ok(None);
+    };
+    let Some(second) = second else {
+        return Ok(None);
+    };
+    Ok(Some(Box::new(alloc, Sequence::Intersect(first, second))?))
 }
 
 /// The body with a boolean throughout, where the body is there.

@@ -69,6 +69,11 @@ fn placed(
             let second = placed(alloc, second, places)?;
             boxed(alloc, Sequence::And(first, second))
         }
+        Sequence::Intersect(first, second) => {
+            let first = placed(alloc, first, places)?;
+            let second = placed(alloc, second, places)?;
+            boxed(alloc, Sequence::Intersect(first, second))
+        }
         Sequence::Throughout(boolean, body) => {
             let boolean = place_boolean(*boolean, places)?;
             let body = placed(alloc, body, places)?;

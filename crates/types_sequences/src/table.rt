@@ -90,6 +90,15 @@ pub fn entry_of(
             };
             Ok(Some(body.throughout(alloc, *place)?))
         }
+        Draft::Intersect(first, second) => {
+            let Some(first) = entry_of(alloc, first, table)? else {
+                return Ok(None);
+            };
+            let Some(second) = entry_of(alloc, second, table)? else {
+                return Ok(None);
+            };
+            Ok(Some(first.intersect(alloc, second)?))
+        }
     }
 }
 

@@ -28,10 +28,12 @@ abbrev pub dotted : Draft Boolean → Draft Dot
 dotted d = map_draft (λ (b : Boolean). dot) d
 
 joined_dotted : (j : Junction) (a b : Draft Boolean) → dotted (joined_by j a b) ≡ joined_by j (dotted a) (dotted b)
+joined_dotted junctions.Intersect a b = refl
 joined_dotted junctions.And a b = refl
 joined_dotted junctions.Or a b = refl
 
 joined_uses : (j : Junction) (a b : Draft Boolean) → uses (joined_by j a b) ≡ uses a ++ uses b
+joined_uses junctions.Intersect a b = refl
 joined_uses junctions.And a b = refl
 joined_uses junctions.Or a b = refl
 

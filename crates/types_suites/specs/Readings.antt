@@ -5,7 +5,7 @@ use Rattle.std.specs.List.{AllZip}
 use Rattle.grammar.specs.declared.bound.Bound.{Bound}
 use Rattle.grammar.specs.declared.bound.Range.{Range}
 use Rattle.grammar.specs.declared.operator.Junction.{Junction}
-use Rattle.grammar.specs.declared.operator.Junction.TheVariants.{And, Or}
+use Rattle.grammar.specs.declared.operator.Junction.TheVariants.{Intersect, And, Or}
 use Rattle.grammar.specs.Trees.{Tree, SequenceForm, boolean, repeated, late, delayed, throughout}
 use Rattle.grammar.specs.Trees.{joined, Steps, no_step, step, Others, no_other, other}
 use Rattle.grammar.specs.Trees.{ItemForm}
@@ -50,11 +50,12 @@ ReadsBoolean s columns booleans None tree d =
 
 -- two sides, joined
 abbrev pub joined_by : {B : Type 0} → Junction → Draft B → Draft B → Draft B
+joined_by Intersect a b = drafts.intersect a b
 joined_by And a b = drafts.and a b
 joined_by Or a b = drafts.or a b
 
 -- What a sequence of the text says, each expression by its place in a list of typed ones. Delays,
--- and the sides of "and" and "or", group to the left.
+-- and the sides of "intersect", "and" and "or", group to the left.
 unfoldable mutual
   pub Reads : Scope → List (List ℕ) → List Expr → SequenceForm → Draft Boolean → Type 0
   Reads s columns booleans (boolean tree) d =

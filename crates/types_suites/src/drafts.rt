@@ -87,6 +87,7 @@ fn joined_draft(
         ≡ joined_by junction (draft_of first.value) (draft_of second.value)) }
 {
     match junction {
+        Junction::Intersect => Ok(Box::new(alloc, Draft::Intersect(first, second))?),
         Junction::And => Ok(Box::new(alloc, Draft::And(first, second))?),
         Junction::Or => Ok(Box::new(alloc, Draft::Or(first, second))?),
     }

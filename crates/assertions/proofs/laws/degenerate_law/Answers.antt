@@ -4,4 +4,4 @@ use Rattle.assertions.proofs.laws.degenerate_law.Goals as goal
 
 pub returns : goal.returns
 returns c =
-    λ true_one r ordered. (degenerate-none Boolean true_one r ordered, none-degenerate Boolean true_one r ordered)
+    λ true_one r ordered. (degenerate-none Boolean true_one r, none-degenerate Boolean true_one r ordered)

@@ -60,5 +60,7 @@ invariant_of-result c =
             short_sample = c.in_ok-sample.ensures.short;
             short_antecedent = c.in_ok-antecedent.ensures.short;
             short_consequent = c.in_ok-consequent.ensures.short;
+            light_antecedent = c.in_ok-antecedent.ensures.light;
+            light_consequent = c.in_ok-consequent.ensures.light;
           });
     }

@@ -2,10 +2,11 @@ use Rattle.std.proofs.Common.{◌∙◌, List, map, length, sym, ap, subst, arit
 use Rattle.std.proofs.lemmas.Option.{same_Some}
 use Rattle.lexer.specs.declared.token.Token.{Token}
 use Rattle.grammar.specs.Terminals.{is}
-use Rattle.grammar.specs.declared.terminal.Terminal.TheVariants.{Delay, And, Or}
+use Rattle.grammar.specs.declared.terminal.Terminal.TheVariants.{Delay, Intersect, And, Or}
 use Rattle.grammar.specs.declared.bound.Range.{Range}
 use Rattle.grammar.specs.Trees.{SequenceForm}
 use Rattle.grammar.specs.ReadSequences.{sequences, late_part, delayed_behind, during_with, conjunction_with}
+use Rattle.grammar.specs.ReadSequences.{intersection_with}
 use Rattle.text_trees.specs.declared.sequence.SequenceTree.{SequenceTree}
 use Rattle.text_trees.specs.Views.{sequence_of, delay_step_of}
 use Rattle.parser_expressions.proofs.Steps.{failing, gives-as}
@@ -16,6 +17,7 @@ use Rattle.parser_sequences.proofs.Steps.{conjunction-ok, delayed-fails, delayed
 use Rattle.parser_sequences.proofs.Steps.{during-late-tail, during-plain-fails, during-tail, late-part-fail1}
 use Rattle.parser_sequences.proofs.Steps.{late-part-fail2, late-part-fail3, late-part-ok, side-fail1, side-tail}
 use Rattle.parser_sequences.proofs.Steps.{whole-fails, whole-tail, with-during, with-fails}
+use Rattle.parser_sequences.proofs.Steps.{meet-fails, meet-ok, conjunct-fail1, conjunct-tail}
 use Rattle.parser_expressions.proofs.LoopLaws.{Turns, turns-init, turns-stop, turns-fail, turns-next, expect-lead}
 use Rattle.parser_expressions.proofs.LoopLaws.{map-push}
 use Rattle.parser_sequences.proofs.sequence.+sequences.Goals as goal
@@ -59,28 +61,71 @@ read_alternatives-alternatives-preserved t c = (
       c.in-Ok.ensures.read (ap (map sequence_of) c.in-Ok-push_sequence.ensures.ok ∙ map-push sequence_of _ _)),
 )
 
+pub read_intersection-meets-init : goal.read_intersection-meets-init
+read_intersection-meets-init t c = (
+  omega arith,
+  subst (λ (xs : List (SequenceTree)). Turns (is Intersect) (λ t. during_with c.args.depth (sequences c.args.depth))
+      c.args.tokens.now (map sequence_of xs) c.args.tokens.now) (sym c.new-found.ensures.items)
+      (turns-init (is Intersect) (λ t. during_with c.args.depth (sequences c.args.depth)) c.args.tokens.now),
+)
+
+pub read_intersection-returns-in_default-clause-read : goal.read_intersection-returns-in_default-clause-read
+read_intersection-returns-in_default-clause-read t c =
+    gives-as _ _ _ _
+    (meet-ok _ _ _ _ _
+    (turns-stop (is Intersect) (λ t. during_with c.args.depth (sequences c.args.depth)) _ _ _ c.meets.invariant.1
+    (expect-lead Intersect _ _ c.in_default.ensures.token)))
+    c.with_others.ensures.read
+
+pub read_intersection-returns-in-Err-clause-read : goal.read_intersection-returns-in-Err-clause-read
+read_intersection-returns-in-Err-clause-read t c =
+    meet-fails _ _ _ _
+    (turns-fail (is Intersect) (λ t. during_with c.args.depth (sequences c.args.depth)) _ _ _ c.meets.invariant.1 _ _
+    (expect-lead Intersect _ _ c.in-Some.ensures.token) c.in-Some.ensures.shorter _
+    (with-fails _ _ _ c.in-Err.ensures.read))
+
+pub read_intersection-meets-preserved : goal.read_intersection-meets-preserved
+read_intersection-meets-preserved t c = (
+  omega (
+    arith,
+    ap length c.same-left.ensures,
+    c.in-Ok.ensures.shorter,
+    c.in-Some.ensures.shorter,
+    c.meets.invariant.0,
+  ),
+  subst (λ (ts : List Token). Turns (is Intersect)
+      (λ t. during_with c.args.depth (sequences c.args.depth)) c.args.tokens.now
+      (map sequence_of c.push_sequence.new.found.items) ts) (sym c.same-left.ensures)
+      (turns-next (is Intersect) (λ t. during_with c.args.depth (sequences c.args.depth)) _ _ _ c.meets.invariant.1 _ _
+      (expect-lead Intersect _ _ c.in-Some.ensures.token) c.in-Some.ensures.shorter _ _ _
+      (omega (arith, c.in-Ok.ensures.shorter))
+      (with-during _ _ _ c.in-Ok.ensures.read) (ap (map sequence_of) c.in-Ok-push_sequence.ensures.ok
+      ∙ map-push sequence_of _ _)),
+)
+
 pub read_conjunction-conjuncts-init : goal.read_conjunction-conjuncts-init
 read_conjunction-conjuncts-init t c = (
   omega arith,
-  subst (λ (xs : List (SequenceTree)). Turns (is And) (λ t. during_with c.args.depth (sequences c.args.depth))
+  subst (λ (xs : List (SequenceTree)). Turns (is And) (λ t. intersection_with c.args.depth (sequences c.args.depth))
       c.args.tokens.now (map sequence_of xs) c.args.tokens.now) (sym c.new-found.ensures.items)
-      (turns-init (is And) (λ t. during_with c.args.depth (sequences c.args.depth)) c.args.tokens.now),
+      (turns-init (is And) (λ t. intersection_with c.args.depth (sequences c.args.depth)) c.args.tokens.now),
 )
 
 pub read_conjunction-returns-in_default-clause-read : goal.read_conjunction-returns-in_default-clause-read
 read_conjunction-returns-in_default-clause-read t c =
     gives-as _ _ _ _
     (conjunction-ok _ _ _ _ _
-    (turns-stop (is And) (λ t. during_with c.args.depth (sequences c.args.depth)) _ _ _ c.conjuncts.invariant.1
+    (turns-stop (is And) (λ t. intersection_with c.args.depth (sequences c.args.depth)) _ _ _ c.conjuncts.invariant.1
     (expect-lead And _ _ c.in_default.ensures.token)))
     c.with_others.ensures.read
 
 pub read_conjunction-returns-in-Err-clause-read : goal.read_conjunction-returns-in-Err-clause-read
 read_conjunction-returns-in-Err-clause-read t c =
     conjunction-fails _ _ _ _
-    (turns-fail (is And) (λ t. during_with c.args.depth (sequences c.args.depth)) _ _ _ c.conjuncts.invariant.1 _ _
+    (turns-fail (is And)
+    (λ t. intersection_with c.args.depth (sequences c.args.depth)) _ _ _ c.conjuncts.invariant.1 _ _
     (expect-lead And _ _ c.in-Some.ensures.token) c.in-Some.ensures.shorter _
-    (with-fails _ _ _ c.in-Err.ensures.read))
+    c.in-Err.ensures.read)
 
 pub read_conjunction-conjuncts-preserved : goal.read_conjunction-conjuncts-preserved
 read_conjunction-conjuncts-preserved t c = (
@@ -91,12 +136,14 @@ read_conjunction-conjuncts-preserved t c = (
     c.in-Some.ensures.shorter,
     c.conjuncts.invariant.0,
   ),
-  subst (λ (ts : List Token). Turns (is And) (λ t. during_with c.args.depth (sequences c.args.depth)) c.args.tokens.now
+  subst (λ (ts : List Token). Turns (is And)
+      (λ t. intersection_with c.args.depth (sequences c.args.depth)) c.args.tokens.now
       (map sequence_of c.push_sequence.new.found.items) ts) (sym c.same-left.ensures)
-      (turns-next (is And) (λ t. during_with c.args.depth (sequences c.args.depth)) _ _ _ c.conjuncts.invariant.1 _ _
+      (turns-next (is And)
+      (λ t. intersection_with c.args.depth (sequences c.args.depth)) _ _ _ c.conjuncts.invariant.1 _ _
       (expect-lead And _ _ c.in-Some.ensures.token) c.in-Some.ensures.shorter _ _ _
       (omega (arith, c.in-Ok.ensures.shorter))
-      (with-during _ _ _ c.in-Ok.ensures.read) (ap (map sequence_of) c.in-Ok-push_sequence.ensures.ok
+      c.in-Ok.ensures.read (ap (map sequence_of) c.in-Ok-push_sequence.ensures.ok
       ∙ map-push sequence_of _ _)),
 )
 
@@ -217,6 +264,15 @@ read_during-returns-in_default-clause-read t c =
 pub read_during-returns-in-Err-read_late-clause-read : goal.read_during-returns-in-Err-read_late-clause-read
 read_during-returns-in-Err-read_late-clause-read t c =
     during-late-fails _ _ _ _ _ c.in-Some.ensures.token c.in-Err-read_late.ensures.read
+
+pub read_conjunct-returns-in-Err-clause-read : goal.read_conjunct-returns-in-Err-clause-read
+read_conjunct-returns-in-Err-clause-read t c =
+    conjunct-fail1 _ _ _ c.in-Err.ensures.read
+
+pub read_conjunct-returns-clause-read : goal.read_conjunct-returns-clause-read
+read_conjunct-returns-clause-read t c =
+    gives-as _ _ _ _ (conjunct-tail _ _ _ _ c.in-Ok.ensures.read)
+    c.read_intersection.ensures.read
 
 pub read_side-returns-in-Err-clause-read : goal.read_side-returns-in-Err-clause-read
 read_side-returns-in-Err-clause-read t c =

@@ -1,7 +1,9 @@
-use Rattle.std.proofs.Common.{ℕ, ◌≡◌, ◌+◌, ◌*◌, ◌∙◌, List, map, ap, sym, length, arith}
+use Rattle.std.proofs.Common.{ℕ, ◌≡◌, ◌+◌, ◌*◌, ◌≤◌, ◌++◌, ◌∙◌, List, map, ap, sym, length, arith}
 use Rattle.std.specs.List.{flat_map}
 use Rattle.positions.specs.Tables.{Edge}
-use Rattle.positions.specs.Rows.{ChangeData, TableData, change_all, moved, pair_row, both_data}
+use Rattle.std.proofs.lemmas.List.Sums.{sum_by-append}
+use Rattle.positions.specs.Rows.{ChangeData, TableData, change_all, moved, pair_row, both_data, draft_size, row_size}
+use Rattle.positions.specs.Rows.{rows_size}
 use Rattle.positions.specs.Views.{change_data, rows_data}
 use Rattle.positions.proofs.RowLaws.{long_on}
 use Rattle.positions.proofs.NearLaws.{near_rows, below_rows}
@@ -31,6 +33,25 @@ pub put_all-requires-clause-second : goal.put_all-requires-clause-second
 put_all-requires-clause-second c =
     below_rows c.len-2.result c.rows-seconds.result.now c.args.second.now c.rows-seconds.ensures.rows
     c.requires.second_placed (sym c.len-2.ensures)
+
+pub returns-in_err-put_all-clause-err : goal.returns-in_err-put_all-clause-err
+returns-in_err-put_all-clause-err c =
+    let t : TableData = c.args.first.now in
+    let u : TableData = c.args.second.now in
+    let alone : List (List (Edge ℕ)) = change_all (moved (length t.rows * length u.rows)) t.rows in
+    let last : List (List (Edge ℕ)) = change_all (moved (length t.rows * length u.rows + length t.rows)) u.rows in
+    let same =
+    pairs-made c.len.result c.len-2.result t u (rows_data c.rows-firsts.result.now)
+    (rows_data c.rows-seconds.result.now) c.len.ensures c.len-2.ensures c.rows-firsts.ensures.rows
+    c.rows-seconds.ensures.rows in
+    long_on _ _ _ _ c.from_residual.ensures.1 c.in_err-put_all.ensures.err
+    (omega (
+      arith,
+      ap draft_size c.new-draft.ensures,
+      ap rows_size same,
+      sum_by-append row_size (pairs_of t u ++ alone) last,
+      sum_by-append row_size (pairs_of t u) alone,
+    ))
 
 product-of : (n m : ℕ) (t u : TableData) → n ≡ length t.rows → m ≡ length u.rows → n * m ≡ length t.rows * length u.rows
 product-of n m t u first second = ap (λ k. k * m) first ∙ ap (λ k. length t.rows * k) second
@@ -132,7 +153,7 @@ returns-clause-ok c =
     c.in_ok-put_rows-2.ensures.ok
     (changed-made _ _ _ _ (c.by_places-second_alone.ensures ∙ ap moved sum) c.rows-seconds.ensures.rows) in
     let all : TableData = both_data t u in
-    c.table.ensures
+    c.table.ensures.made
     ∙ ap (λ xs. record { rows = xs; starts = c.in_ok-starts.starts.items; empty = c.admits_empty-empty.result }) rows
     ∙ ap (λ xs. record { rows = all.rows; starts = xs; empty = c.admits_empty-empty.result }) c.in_ok-starts.ensures
     ∙ ap (λ b. record { rows = all.rows; starts = all.starts; empty = b }) c.admits_empty-empty.ensures

@@ -91,7 +91,7 @@ returns-clause-ok c =
     c.in_ok-put_rows-3.ensures.ok
     (changed-made _ _ _ _ (c.by_places.ensures ∙ ap moved past) c.rows-3.ensures.rows) in
     let all : TableData = link_data c.args.fuses c.args.follows t g u in
-    c.table.ensures
+    c.table.ensures.made
     ∙ ap (λ xs. record { rows = xs; starts = c.in_ok-starts.starts.items; empty = c.admits_empty-empty.result }) rows
     ∙ ap (λ xs. record { rows = all.rows; starts = xs; empty = c.admits_empty-empty.result }) c.in_ok-starts.ensures
     ∙ ap (λ b. record { rows = all.rows; starts = all.starts; empty = b }) c.admits_empty-empty.ensures

@@ -1,22 +1,48 @@
-use Rattle.std.proofs.Common.{ℕ, ◌≡◌, ◌∙◌, ◌+◌, ◌*◌, ◌≤◌, ◌&&◌, false, length, rules, sym, ap, subst, arith}
+use Rattle.std.proofs.Common.{ℕ, ◌≡◌, ◌∙◌, ◌+◌, ◌*◌, ◌≤◌, true, false, max, length, rules, sym, ap, subst, arith}
+use Rattle.std.proofs.Common.{Result, Ok, Err, IfOk}
 use Rattle.std.specs.Prelude.{IsTrue}
 use Rattle.std.proofs.Math.Nat.{mul-le-mul_right, mul-le-mul_left}
 use Rattle.assertions.specs.declared.sequence.Boolean.{Boolean}
 use Rattle.assertions.specs.declared.sequence.Sequence.TheViews.{the_lemmas}
 use Rattle.assertions.specs.Shapes.{written_form}
 use Rattle.assertions.specs.Listed.{EachBoolean, IsListed}
-use Rattle.assertions.specs.Written.{Written, delay, lead, repeat, or, and, throughout, weight, IsOrdered}
-use Rattle.assertions.specs.Emptiness.{takes_ticks}
+use Rattle.assertions.specs.Written.{Written, boolean, delay, lead, repeat, or, and, intersect, throughout}
+use Rattle.assertions.specs.Written.{weight, IsOrdered}
+use Rattle.positions.specs.Plans.{weighs}
 use Rattle.positions.specs.Rows.{TableData, IsPlaced, rows_size, still_data, either_data, both_data, repeat_data}
-use Rattle.positions.specs.Rows.{during_data, apart_data, lead_in_data}
-use Rattle.positions.specs.Sequences.{listed_for, atom_of}
+use Rattle.positions.specs.Rows.{during_data, apart_data, lead_in_data, pair_data}
+use Rattle.positions.specs.declared.fault.SectionFault.{SectionFault}
+use Rattle.positions.specs.Sequences.{listed_for, atom_of, largest}
 use Rattle.positions.proofs.RowLaws.{long_on}
-use Rattle.positions.proofs.ResultLaws.{ok_same, err_same}
+use Rattle.positions.proofs.ResultLaws.{ok_same, err_more}
 use Rattle.positions.proofs.SequenceLaws.{still-for, placed-for, length-for, made-delay, made-lead, made-repeat}
-use Rattle.positions.proofs.SequenceLaws.{made-or, made-and, made-throughout}
-use Rattle.positions.proofs.SequenceLaws.{first-delay, second-delay, body-lead, body-for-repeat, repeat-told, first-or}
-use Rattle.positions.proofs.SequenceLaws.{second-or, first-and, second-and, body-throughout}
+use Rattle.positions.proofs.SequenceLaws.{made-or, made-and, made-intersect, made-throughout, repeat-told, sides-told}
+use Rattle.positions.proofs.SequenceLaws.{part-within, own-within, all-within, none-within}
 use Rattle.positions.proofs.sequence.+table_of.Goals as goal
+
+-- no side of an intersection is heavy
+sides-light : (r s : Written Boolean) → IsTrue (weighs (intersect r s)) → weight (intersect r s) ≤ 127
+    → (weight r ≤ 127) × (weight s ≤ 127)
+sides-light r s takes bound =
+    let some = sides-told r s takes in
+    let x : weight r * 1 ≤ weight r * weight s = mul-le-mul_left (weight r) some.1 in
+    let y : 1 * weight s ≤ weight r * weight s = mul-le-mul_right (weight s) some.0 in
+    (omega (arith, bound, x), omega (arith, bound, y))
+
+short_on : (r : Result TableData SectionFault) (d : TableData) (w v : Written Boolean) → w ≡ v → IfOk r (λ t. t ≡ d)
+    → IfOk r (λ t. rows_size t.rows ≤ 65535) → d ≡ listed_for w
+    → (rows_size (listed_for v).rows ≤ 65535 → largest v ≤ 65535) → IfOk r (λ t. largest w ≤ 65535)
+short_on (Ok t) d w v e is short same all =
+    let own : rows_size (listed_for v).rows ≤ 65535 =
+    omega (
+      arith,
+      ap (λ (x : TableData). rows_size x.rows) is,
+      ap (λ (x : TableData). rows_size x.rows) same,
+      ap (λ x. rows_size (listed_for x).rows) e,
+      short,
+    ) in
+    omega (arith, ap largest e, all own)
+short_on (Err f) d w v e is short same all = is
 
 -- the whole, by its form
 told : (w v : Written Boolean) → w ≡ v → listed_for w ≡ listed_for v
@@ -28,62 +54,74 @@ placed_as t w is ordered bound = subst IsPlaced (sym is) (placed-for w ordered b
 length_as : (t : TableData) (w : Written Boolean) → t ≡ listed_for w → IsOrdered w → length t.rows ≤ weight w
 length_as t w is ordered = omega (arith, ap (λ (x : TableData). length x.rows) is, length-for w ordered)
 
-size_as : (w v : Written Boolean) (n : ℕ) → w ≡ v → n ≤ rows_size (listed_for v).rows
-    → n ≤ rows_size (listed_for w).rows
-size_as w v n e le = omega (arith, ap (λ x. rows_size (listed_for x).rows) e, le)
+most_as : (w v : Written Boolean) (n : ℕ) → w ≡ v → n ≤ largest v → n ≤ largest w
+most_as w v n e le = omega (arith, ap largest e, le)
 
-pub returns-then-not-extent-clause-ok : goal.returns-then-not-extent-clause-ok
-returns-then-not-extent-clause-ok t c =
-    let quiet : takes_ticks (written_form c.args.sequence.now) ≡ false =
-    sym c.extent_of-extent.ensures.ticks ∙ c.if-not-extent.true in
-    c.still.ensures ∙ ap still_data c.extent_of-extent.ensures.empty
+own_as : (w v : Written Boolean) (d : TableData) → w ≡ v → d ≡ listed_for w
+    → rows_size (listed_for v).rows ≤ largest v → rows_size d.rows ≤ largest w
+own_as w v d e is le =
+    omega (
+      arith,
+      ap largest e,
+      ap (λ x. rows_size (listed_for x).rows) e,
+      ap (λ (x : TableData). rows_size x.rows) is,
+      le,
+    )
+
+pub returns-then-not-is_weighty-clause-ok : goal.returns-then-not-is_weighty-clause-ok
+returns-then-not-is_weighty-clause-ok t c =
+    let quiet : weighs (written_form c.args.sequence.now) ≡ false =
+    sym c.is_weighty.ensures ∙ c.if-not-is_weighty.true in
+    c.still.ensures ∙ ap still_data c.is_nullable.ensures
     ∙ sym (still-for (written_form c.args.sequence.now) quiet)
 
 pub returns-in_err-front-in-Delay-clause-err : goal.returns-in_err-front-in-Delay-clause-err
 returns-in_err-front-in-Delay-clause-err t c =
-    let r : Written Boolean = written_form c.deref-in-Delay-2.result.now in
+    let r : Written Boolean = written_form c.deref.result.now in
     let s : Written Boolean = written_form c.in-Delay.second.value in
     let e : written_form c.args.sequence.now ≡ delay r c.in-Delay.least c.in-Delay.most s =
     ap written_form c.in-Delay.is ∙ ap (λ q. delay (written_form q) c.in-Delay.least c.in-Delay.most s)
-    (sym c.deref-in-Delay-2.ensures) in
-    let takes : IsTrue (takes_ticks (delay r c.in-Delay.least c.in-Delay.most s)) =
-    ap takes_ticks (sym e) ∙ sym c.extent_of-extent.ensures.ticks ∙ c.if-not-extent.false in
+    (sym c.deref.ensures) in
+    let takes : IsTrue (weighs (delay r c.in-Delay.least c.in-Delay.most s)) =
+    ap weighs (sym e) ∙ sym c.is_weighty.ensures ∙ c.if-not-is_weighty.false in
     let ordered : IsOrdered (delay r c.in-Delay.least c.in-Delay.most s) = subst IsOrdered e c.requires.ordered in
     let bound : weight (delay r c.in-Delay.least c.in-Delay.most s) ≤ 127 =
     subst (λ w. weight w ≤ 127) e c.requires.bound in
     long_on _ _ _ _ c.from_residual-in_err-front-in-Delay.ensures.1 c.in_err-front-in-Delay.ensures.err
-    (size_as (written_form c.args.sequence.now) (delay r c.in-Delay.least c.in-Delay.most s) _ e
-    (first-delay r s c.in-Delay.least c.in-Delay.most ordered takes))
+    (most_as (written_form c.args.sequence.now) (delay r c.in-Delay.least c.in-Delay.most s) _ e
+    (part-within (delay r c.in-Delay.least c.in-Delay.most s) (max (largest r) (largest s)) (largest r) takes
+    (omega arith)))
 
 pub returns-in_err-rest-in-Delay-clause-err : goal.returns-in_err-rest-in-Delay-clause-err
 returns-in_err-rest-in-Delay-clause-err t c =
-    let r : Written Boolean = written_form c.deref-in-Delay-2.result.now in
-    let s : Written Boolean = written_form c.deref-in-Delay-3.result.now in
+    let r : Written Boolean = written_form c.deref.result.now in
+    let s : Written Boolean = written_form c.deref-in-Delay.result.now in
     let e : written_form c.args.sequence.now ≡ delay r c.in-Delay.least c.in-Delay.most s =
     ap written_form c.in-Delay.is
     ∙ ap (λ q. delay (written_form q) c.in-Delay.least c.in-Delay.most (written_form c.in-Delay.second.value))
-    (sym c.deref-in-Delay-2.ensures) ∙ ap (λ q. delay r c.in-Delay.least c.in-Delay.most (written_form q))
-    (sym c.deref-in-Delay-3.ensures) in
-    let takes : IsTrue (takes_ticks (delay r c.in-Delay.least c.in-Delay.most s)) =
-    ap takes_ticks (sym e) ∙ sym c.extent_of-extent.ensures.ticks ∙ c.if-not-extent.false in
+    (sym c.deref.ensures) ∙ ap (λ q. delay r c.in-Delay.least c.in-Delay.most (written_form q))
+    (sym c.deref-in-Delay.ensures) in
+    let takes : IsTrue (weighs (delay r c.in-Delay.least c.in-Delay.most s)) =
+    ap weighs (sym e) ∙ sym c.is_weighty.ensures ∙ c.if-not-is_weighty.false in
     let ordered : IsOrdered (delay r c.in-Delay.least c.in-Delay.most s) = subst IsOrdered e c.requires.ordered in
     let bound : weight (delay r c.in-Delay.least c.in-Delay.most s) ≤ 127 =
     subst (λ w. weight w ≤ 127) e c.requires.bound in
     long_on _ _ _ _ c.from_residual-in_err-rest-in-Delay.ensures.1 c.in_err-rest-in-Delay.ensures.err
-    (size_as (written_form c.args.sequence.now) (delay r c.in-Delay.least c.in-Delay.most s) _ e
-    (second-delay r s c.in-Delay.least c.in-Delay.most ordered takes))
+    (most_as (written_form c.args.sequence.now) (delay r c.in-Delay.least c.in-Delay.most s) _ e
+    (part-within (delay r c.in-Delay.least c.in-Delay.most s) (max (largest r) (largest s)) (largest s) takes
+    (omega arith)))
 
 pub apart-requires-clause-first_placed : goal.apart-requires-clause-first_placed
 apart-requires-clause-first_placed t c =
-    let r : Written Boolean = written_form c.deref-in-Delay-2.result.now in
-    let s : Written Boolean = written_form c.deref-in-Delay-3.result.now in
+    let r : Written Boolean = written_form c.deref.result.now in
+    let s : Written Boolean = written_form c.deref-in-Delay.result.now in
     let e : written_form c.args.sequence.now ≡ delay r c.in-Delay.least c.in-Delay.most s =
     ap written_form c.in-Delay.is
     ∙ ap (λ q. delay (written_form q) c.in-Delay.least c.in-Delay.most (written_form c.in-Delay.second.value))
-    (sym c.deref-in-Delay-2.ensures) ∙ ap (λ q. delay r c.in-Delay.least c.in-Delay.most (written_form q))
-    (sym c.deref-in-Delay-3.ensures) in
-    let takes : IsTrue (takes_ticks (delay r c.in-Delay.least c.in-Delay.most s)) =
-    ap takes_ticks (sym e) ∙ sym c.extent_of-extent.ensures.ticks ∙ c.if-not-extent.false in
+    (sym c.deref.ensures) ∙ ap (λ q. delay r c.in-Delay.least c.in-Delay.most (written_form q))
+    (sym c.deref-in-Delay.ensures) in
+    let takes : IsTrue (weighs (delay r c.in-Delay.least c.in-Delay.most s)) =
+    ap weighs (sym e) ∙ sym c.is_weighty.ensures ∙ c.if-not-is_weighty.false in
     let ordered : IsOrdered (delay r c.in-Delay.least c.in-Delay.most s) = subst IsOrdered e c.requires.ordered in
     let bound : weight (delay r c.in-Delay.least c.in-Delay.most s) ≤ 127 =
     subst (λ w. weight w ≤ 127) e c.requires.bound in
@@ -93,15 +131,15 @@ apart-requires-clause-first_placed t c =
 
 pub apart-requires-clause-second_placed : goal.apart-requires-clause-second_placed
 apart-requires-clause-second_placed t c =
-    let r : Written Boolean = written_form c.deref-in-Delay-2.result.now in
-    let s : Written Boolean = written_form c.deref-in-Delay-3.result.now in
+    let r : Written Boolean = written_form c.deref.result.now in
+    let s : Written Boolean = written_form c.deref-in-Delay.result.now in
     let e : written_form c.args.sequence.now ≡ delay r c.in-Delay.least c.in-Delay.most s =
     ap written_form c.in-Delay.is
     ∙ ap (λ q. delay (written_form q) c.in-Delay.least c.in-Delay.most (written_form c.in-Delay.second.value))
-    (sym c.deref-in-Delay-2.ensures) ∙ ap (λ q. delay r c.in-Delay.least c.in-Delay.most (written_form q))
-    (sym c.deref-in-Delay-3.ensures) in
-    let takes : IsTrue (takes_ticks (delay r c.in-Delay.least c.in-Delay.most s)) =
-    ap takes_ticks (sym e) ∙ sym c.extent_of-extent.ensures.ticks ∙ c.if-not-extent.false in
+    (sym c.deref.ensures) ∙ ap (λ q. delay r c.in-Delay.least c.in-Delay.most (written_form q))
+    (sym c.deref-in-Delay.ensures) in
+    let takes : IsTrue (weighs (delay r c.in-Delay.least c.in-Delay.most s)) =
+    ap weighs (sym e) ∙ sym c.is_weighty.ensures ∙ c.if-not-is_weighty.false in
     let ordered : IsOrdered (delay r c.in-Delay.least c.in-Delay.most s) = subst IsOrdered e c.requires.ordered in
     let bound : weight (delay r c.in-Delay.least c.in-Delay.most s) ≤ 127 =
     subst (λ w. weight w ≤ 127) e c.requires.bound in
@@ -111,15 +149,15 @@ apart-requires-clause-second_placed t c =
 
 pub apart-requires-clause-few : goal.apart-requires-clause-few
 apart-requires-clause-few t c =
-    let r : Written Boolean = written_form c.deref-in-Delay-2.result.now in
-    let s : Written Boolean = written_form c.deref-in-Delay-3.result.now in
+    let r : Written Boolean = written_form c.deref.result.now in
+    let s : Written Boolean = written_form c.deref-in-Delay.result.now in
     let e : written_form c.args.sequence.now ≡ delay r c.in-Delay.least c.in-Delay.most s =
     ap written_form c.in-Delay.is
     ∙ ap (λ q. delay (written_form q) c.in-Delay.least c.in-Delay.most (written_form c.in-Delay.second.value))
-    (sym c.deref-in-Delay-2.ensures) ∙ ap (λ q. delay r c.in-Delay.least c.in-Delay.most (written_form q))
-    (sym c.deref-in-Delay-3.ensures) in
-    let takes : IsTrue (takes_ticks (delay r c.in-Delay.least c.in-Delay.most s)) =
-    ap takes_ticks (sym e) ∙ sym c.extent_of-extent.ensures.ticks ∙ c.if-not-extent.false in
+    (sym c.deref.ensures) ∙ ap (λ q. delay r c.in-Delay.least c.in-Delay.most (written_form q))
+    (sym c.deref-in-Delay.ensures) in
+    let takes : IsTrue (weighs (delay r c.in-Delay.least c.in-Delay.most s)) =
+    ap weighs (sym e) ∙ sym c.is_weighty.ensures ∙ c.if-not-is_weighty.false in
     let ordered : IsOrdered (delay r c.in-Delay.least c.in-Delay.most s) = subst IsOrdered e c.requires.ordered in
     let bound : weight (delay r c.in-Delay.least c.in-Delay.most s) ≤ 127 =
     subst (λ w. weight w ≤ 127) e c.requires.bound in
@@ -129,31 +167,23 @@ apart-requires-clause-few t c =
 
 pub returns-in_ok-rest-in-Delay-clause-ok : goal.returns-in_ok-rest-in-Delay-clause-ok
 returns-in_ok-rest-in-Delay-clause-ok t c =
-    let r : Written Boolean = written_form c.deref-in-Delay-2.result.now in
-    let s : Written Boolean = written_form c.deref-in-Delay-3.result.now in
+    let r : Written Boolean = written_form c.deref.result.now in
+    let s : Written Boolean = written_form c.deref-in-Delay.result.now in
     let e : written_form c.args.sequence.now ≡ delay r c.in-Delay.least c.in-Delay.most s =
     ap written_form c.in-Delay.is
     ∙ ap (λ q. delay (written_form q) c.in-Delay.least c.in-Delay.most (written_form c.in-Delay.second.value))
-    (sym c.deref-in-Delay-2.ensures) ∙ ap (λ q. delay r c.in-Delay.least c.in-Delay.most (written_form q))
-    (sym c.deref-in-Delay-3.ensures) in
-    let takes : IsTrue (takes_ticks (delay r c.in-Delay.least c.in-Delay.most s)) =
-    ap takes_ticks (sym e) ∙ sym c.extent_of-extent.ensures.ticks ∙ c.if-not-extent.false in
+    (sym c.deref.ensures) ∙ ap (λ q. delay r c.in-Delay.least c.in-Delay.most (written_form q))
+    (sym c.deref-in-Delay.ensures) in
+    let takes : IsTrue (weighs (delay r c.in-Delay.least c.in-Delay.most s)) =
+    ap weighs (sym e) ∙ sym c.is_weighty.ensures ∙ c.if-not-is_weighty.false in
     let ordered : IsOrdered (delay r c.in-Delay.least c.in-Delay.most s) = subst IsOrdered e c.requires.ordered in
     let bound : weight (delay r c.in-Delay.least c.in-Delay.most s) ≤ 127 =
     subst (λ w. weight w ≤ 127) e c.requires.bound in
-    let shared : c.is_shared-shares.result ≡ (takes_ticks r && takes_ticks s) =
-    c.is_shared-shares.ensures
-    ∙ ap (λ q. takes_ticks (written_form q) && takes_ticks (written_form c.deref-in-Delay.result.now))
-    (c.deref.ensures ∙ sym c.deref-in-Delay-2.ensures)
-    ∙ ap (λ q. takes_ticks r && takes_ticks (written_form q))
-    (c.deref-in-Delay.ensures ∙ sym c.deref-in-Delay-3.ensures) in
-    let same : apart_data c.is_shared-shares.result c.in_ok-front-in-Delay.front c.in_ok-rest-in-Delay.rest
+    let same : apart_data c.in_ok-front-in-Delay.front c.in_ok-rest-in-Delay.rest
     c.in-Delay.least c.in-Delay.most ≡ listed_for (written_form c.args.sequence.now) =
-    ap (λ b. apart_data b c.in_ok-front-in-Delay.front c.in_ok-rest-in-Delay.rest c.in-Delay.least c.in-Delay.most)
-    shared
-    ∙ ap (λ x. apart_data (takes_ticks r && takes_ticks s) x c.in_ok-rest-in-Delay.rest c.in-Delay.least
+    ap (λ x. apart_data x c.in_ok-rest-in-Delay.rest c.in-Delay.least
     c.in-Delay.most) c.in_ok-front-in-Delay.ensures.ok
-    ∙ ap (λ x. apart_data (takes_ticks r && takes_ticks s) (listed_for r) x c.in-Delay.least c.in-Delay.most)
+    ∙ ap (λ x. apart_data (listed_for r) x c.in-Delay.least c.in-Delay.most)
     c.in_ok-rest-in-Delay.ensures.ok
     ∙ sym (made-delay r s c.in-Delay.least c.in-Delay.most ordered takes)
     ∙ sym (told (written_form c.args.sequence.now) (delay r c.in-Delay.least c.in-Delay.most s) e) in
@@ -161,35 +191,29 @@ returns-in_ok-rest-in-Delay-clause-ok t c =
 
 pub returns-in_ok-rest-in-Delay-clause-err : goal.returns-in_ok-rest-in-Delay-clause-err
 returns-in_ok-rest-in-Delay-clause-err t c =
-    let r : Written Boolean = written_form c.deref-in-Delay-2.result.now in
-    let s : Written Boolean = written_form c.deref-in-Delay-3.result.now in
+    let r : Written Boolean = written_form c.deref.result.now in
+    let s : Written Boolean = written_form c.deref-in-Delay.result.now in
     let e : written_form c.args.sequence.now ≡ delay r c.in-Delay.least c.in-Delay.most s =
     ap written_form c.in-Delay.is
     ∙ ap (λ q. delay (written_form q) c.in-Delay.least c.in-Delay.most (written_form c.in-Delay.second.value))
-    (sym c.deref-in-Delay-2.ensures) ∙ ap (λ q. delay r c.in-Delay.least c.in-Delay.most (written_form q))
-    (sym c.deref-in-Delay-3.ensures) in
-    let takes : IsTrue (takes_ticks (delay r c.in-Delay.least c.in-Delay.most s)) =
-    ap takes_ticks (sym e) ∙ sym c.extent_of-extent.ensures.ticks ∙ c.if-not-extent.false in
+    (sym c.deref.ensures) ∙ ap (λ q. delay r c.in-Delay.least c.in-Delay.most (written_form q))
+    (sym c.deref-in-Delay.ensures) in
+    let takes : IsTrue (weighs (delay r c.in-Delay.least c.in-Delay.most s)) =
+    ap weighs (sym e) ∙ sym c.is_weighty.ensures ∙ c.if-not-is_weighty.false in
     let ordered : IsOrdered (delay r c.in-Delay.least c.in-Delay.most s) = subst IsOrdered e c.requires.ordered in
     let bound : weight (delay r c.in-Delay.least c.in-Delay.most s) ≤ 127 =
     subst (λ w. weight w ≤ 127) e c.requires.bound in
-    let shared : c.is_shared-shares.result ≡ (takes_ticks r && takes_ticks s) =
-    c.is_shared-shares.ensures
-    ∙ ap (λ q. takes_ticks (written_form q) && takes_ticks (written_form c.deref-in-Delay.result.now))
-    (c.deref.ensures ∙ sym c.deref-in-Delay-2.ensures)
-    ∙ ap (λ q. takes_ticks r && takes_ticks (written_form q))
-    (c.deref-in-Delay.ensures ∙ sym c.deref-in-Delay-3.ensures) in
-    let same : apart_data c.is_shared-shares.result c.in_ok-front-in-Delay.front c.in_ok-rest-in-Delay.rest
+    let same : apart_data c.in_ok-front-in-Delay.front c.in_ok-rest-in-Delay.rest
     c.in-Delay.least c.in-Delay.most ≡ listed_for (written_form c.args.sequence.now) =
-    ap (λ b. apart_data b c.in_ok-front-in-Delay.front c.in_ok-rest-in-Delay.rest c.in-Delay.least c.in-Delay.most)
-    shared
-    ∙ ap (λ x. apart_data (takes_ticks r && takes_ticks s) x c.in_ok-rest-in-Delay.rest c.in-Delay.least
+    ap (λ x. apart_data x c.in_ok-rest-in-Delay.rest c.in-Delay.least
     c.in-Delay.most) c.in_ok-front-in-Delay.ensures.ok
-    ∙ ap (λ x. apart_data (takes_ticks r && takes_ticks s) (listed_for r) x c.in-Delay.least c.in-Delay.most)
+    ∙ ap (λ x. apart_data (listed_for r) x c.in-Delay.least c.in-Delay.most)
     c.in_ok-rest-in-Delay.ensures.ok
     ∙ sym (made-delay r s c.in-Delay.least c.in-Delay.most ordered takes)
     ∙ sym (told (written_form c.args.sequence.now) (delay r c.in-Delay.least c.in-Delay.most s) e) in
-    err_same c.apart.result _ _ c.apart.ensures.err (ap (λ (x : TableData). rows_size x.rows) same)
+    err_more c.apart.result _ _ c.apart.ensures.err
+    (own_as (written_form c.args.sequence.now) (delay r c.in-Delay.least c.in-Delay.most s) _ e same
+    (own-within (delay r c.in-Delay.least c.in-Delay.most s) (max (largest r) (largest s)) takes))
 
 pub returns-in_err-front-in-Or-clause-err : goal.returns-in_err-front-in-Or-clause-err
 returns-in_err-front-in-Or-clause-err t c =
@@ -197,12 +221,13 @@ returns-in_err-front-in-Or-clause-err t c =
     let s : Written Boolean = written_form c.in-Or.second.value in
     let e : written_form c.args.sequence.now ≡ or r s =
     ap written_form c.in-Or.is ∙ ap (λ q. or (written_form q) s) (sym c.deref-in-Or.ensures) in
-    let takes : IsTrue (takes_ticks (or r s)) =
-    ap takes_ticks (sym e) ∙ sym c.extent_of-extent.ensures.ticks ∙ c.if-not-extent.false in
+    let takes : IsTrue (weighs (or r s)) =
+    ap weighs (sym e) ∙ sym c.is_weighty.ensures ∙ c.if-not-is_weighty.false in
     let ordered : IsOrdered (or r s) = subst IsOrdered e c.requires.ordered in
     let bound : weight (or r s) ≤ 127 = subst (λ w. weight w ≤ 127) e c.requires.bound in
     long_on _ _ _ _ c.from_residual-in_err-front-in-Or.ensures.1 c.in_err-front-in-Or.ensures.err
-    (size_as (written_form c.args.sequence.now) (or r s) _ e (first-or r s takes))
+    (most_as (written_form c.args.sequence.now) (or r s) _ e
+    (part-within (or r s) (max (largest r) (largest s)) (largest r) takes (omega arith)))
 
 pub returns-in_err-rest-in-Or-clause-err : goal.returns-in_err-rest-in-Or-clause-err
 returns-in_err-rest-in-Or-clause-err t c =
@@ -211,12 +236,13 @@ returns-in_err-rest-in-Or-clause-err t c =
     let e : written_form c.args.sequence.now ≡ or r s =
     ap written_form c.in-Or.is ∙ ap (λ q. or (written_form q) (written_form c.in-Or.second.value))
     (sym c.deref-in-Or.ensures) ∙ ap (λ q. or r (written_form q)) (sym c.deref-in-Or-2.ensures) in
-    let takes : IsTrue (takes_ticks (or r s)) =
-    ap takes_ticks (sym e) ∙ sym c.extent_of-extent.ensures.ticks ∙ c.if-not-extent.false in
+    let takes : IsTrue (weighs (or r s)) =
+    ap weighs (sym e) ∙ sym c.is_weighty.ensures ∙ c.if-not-is_weighty.false in
     let ordered : IsOrdered (or r s) = subst IsOrdered e c.requires.ordered in
     let bound : weight (or r s) ≤ 127 = subst (λ w. weight w ≤ 127) e c.requires.bound in
     long_on _ _ _ _ c.from_residual-in_err-rest-in-Or.ensures.1 c.in_err-rest-in-Or.ensures.err
-    (size_as (written_form c.args.sequence.now) (or r s) _ e (second-or r s takes))
+    (most_as (written_form c.args.sequence.now) (or r s) _ e
+    (part-within (or r s) (max (largest r) (largest s)) (largest s) takes (omega arith)))
 
 pub either-requires-clause-first_placed : goal.either-requires-clause-first_placed
 either-requires-clause-first_placed t c =
@@ -225,8 +251,8 @@ either-requires-clause-first_placed t c =
     let e : written_form c.args.sequence.now ≡ or r s =
     ap written_form c.in-Or.is ∙ ap (λ q. or (written_form q) (written_form c.in-Or.second.value))
     (sym c.deref-in-Or.ensures) ∙ ap (λ q. or r (written_form q)) (sym c.deref-in-Or-2.ensures) in
-    let takes : IsTrue (takes_ticks (or r s)) =
-    ap takes_ticks (sym e) ∙ sym c.extent_of-extent.ensures.ticks ∙ c.if-not-extent.false in
+    let takes : IsTrue (weighs (or r s)) =
+    ap weighs (sym e) ∙ sym c.is_weighty.ensures ∙ c.if-not-is_weighty.false in
     let ordered : IsOrdered (or r s) = subst IsOrdered e c.requires.ordered in
     let bound : weight (or r s) ≤ 127 = subst (λ w. weight w ≤ 127) e c.requires.bound in
     let rb : weight r ≤ 127 = omega (arith, bound) in
@@ -240,8 +266,8 @@ either-requires-clause-second_placed t c =
     let e : written_form c.args.sequence.now ≡ or r s =
     ap written_form c.in-Or.is ∙ ap (λ q. or (written_form q) (written_form c.in-Or.second.value))
     (sym c.deref-in-Or.ensures) ∙ ap (λ q. or r (written_form q)) (sym c.deref-in-Or-2.ensures) in
-    let takes : IsTrue (takes_ticks (or r s)) =
-    ap takes_ticks (sym e) ∙ sym c.extent_of-extent.ensures.ticks ∙ c.if-not-extent.false in
+    let takes : IsTrue (weighs (or r s)) =
+    ap weighs (sym e) ∙ sym c.is_weighty.ensures ∙ c.if-not-is_weighty.false in
     let ordered : IsOrdered (or r s) = subst IsOrdered e c.requires.ordered in
     let bound : weight (or r s) ≤ 127 = subst (λ w. weight w ≤ 127) e c.requires.bound in
     let rb : weight r ≤ 127 = omega (arith, bound) in
@@ -255,8 +281,8 @@ either-requires-clause-few t c =
     let e : written_form c.args.sequence.now ≡ or r s =
     ap written_form c.in-Or.is ∙ ap (λ q. or (written_form q) (written_form c.in-Or.second.value))
     (sym c.deref-in-Or.ensures) ∙ ap (λ q. or r (written_form q)) (sym c.deref-in-Or-2.ensures) in
-    let takes : IsTrue (takes_ticks (or r s)) =
-    ap takes_ticks (sym e) ∙ sym c.extent_of-extent.ensures.ticks ∙ c.if-not-extent.false in
+    let takes : IsTrue (weighs (or r s)) =
+    ap weighs (sym e) ∙ sym c.is_weighty.ensures ∙ c.if-not-is_weighty.false in
     let ordered : IsOrdered (or r s) = subst IsOrdered e c.requires.ordered in
     let bound : weight (or r s) ≤ 127 = subst (λ w. weight w ≤ 127) e c.requires.bound in
     let long = length_as c.in_ok-front-in-Or.front r c.in_ok-front-in-Or.ensures.ok ordered.0 in
@@ -270,8 +296,8 @@ returns-in_ok-rest-in-Or-clause-ok t c =
     let e : written_form c.args.sequence.now ≡ or r s =
     ap written_form c.in-Or.is ∙ ap (λ q. or (written_form q) (written_form c.in-Or.second.value))
     (sym c.deref-in-Or.ensures) ∙ ap (λ q. or r (written_form q)) (sym c.deref-in-Or-2.ensures) in
-    let takes : IsTrue (takes_ticks (or r s)) =
-    ap takes_ticks (sym e) ∙ sym c.extent_of-extent.ensures.ticks ∙ c.if-not-extent.false in
+    let takes : IsTrue (weighs (or r s)) =
+    ap weighs (sym e) ∙ sym c.is_weighty.ensures ∙ c.if-not-is_weighty.false in
     let ordered : IsOrdered (or r s) = subst IsOrdered e c.requires.ordered in
     let bound : weight (or r s) ≤ 127 = subst (λ w. weight w ≤ 127) e c.requires.bound in
     let same : either_data c.in_ok-front-in-Or.front c.in_ok-rest-in-Or.rest
@@ -288,8 +314,8 @@ returns-in_ok-rest-in-Or-clause-err t c =
     let e : written_form c.args.sequence.now ≡ or r s =
     ap written_form c.in-Or.is ∙ ap (λ q. or (written_form q) (written_form c.in-Or.second.value))
     (sym c.deref-in-Or.ensures) ∙ ap (λ q. or r (written_form q)) (sym c.deref-in-Or-2.ensures) in
-    let takes : IsTrue (takes_ticks (or r s)) =
-    ap takes_ticks (sym e) ∙ sym c.extent_of-extent.ensures.ticks ∙ c.if-not-extent.false in
+    let takes : IsTrue (weighs (or r s)) =
+    ap weighs (sym e) ∙ sym c.is_weighty.ensures ∙ c.if-not-is_weighty.false in
     let ordered : IsOrdered (or r s) = subst IsOrdered e c.requires.ordered in
     let bound : weight (or r s) ≤ 127 = subst (λ w. weight w ≤ 127) e c.requires.bound in
     let same : either_data c.in_ok-front-in-Or.front c.in_ok-rest-in-Or.rest
@@ -297,7 +323,9 @@ returns-in_ok-rest-in-Or-clause-err t c =
     ap (λ x. either_data x c.in_ok-rest-in-Or.rest) c.in_ok-front-in-Or.ensures.ok
     ∙ ap (either_data (listed_for r)) c.in_ok-rest-in-Or.ensures.ok
     ∙ sym (made-or r s takes) ∙ sym (told (written_form c.args.sequence.now) (or r s) e) in
-    err_same c.either.result _ _ c.either.ensures.err (ap (λ (x : TableData). rows_size x.rows) same)
+    err_more c.either.result _ _ c.either.ensures.err
+    (own_as (written_form c.args.sequence.now) (or r s) _ e same
+    (own-within (or r s) (max (largest r) (largest s)) takes))
 
 pub returns-in_err-front-in-And-clause-err : goal.returns-in_err-front-in-And-clause-err
 returns-in_err-front-in-And-clause-err t c =
@@ -305,12 +333,13 @@ returns-in_err-front-in-And-clause-err t c =
     let s : Written Boolean = written_form c.in-And.second.value in
     let e : written_form c.args.sequence.now ≡ and r s =
     ap written_form c.in-And.is ∙ ap (λ q. and (written_form q) s) (sym c.deref-in-And.ensures) in
-    let takes : IsTrue (takes_ticks (and r s)) =
-    ap takes_ticks (sym e) ∙ sym c.extent_of-extent.ensures.ticks ∙ c.if-not-extent.false in
+    let takes : IsTrue (weighs (and r s)) =
+    ap weighs (sym e) ∙ sym c.is_weighty.ensures ∙ c.if-not-is_weighty.false in
     let ordered : IsOrdered (and r s) = subst IsOrdered e c.requires.ordered in
     let bound : weight (and r s) ≤ 127 = subst (λ w. weight w ≤ 127) e c.requires.bound in
     long_on _ _ _ _ c.from_residual-in_err-front-in-And.ensures.1 c.in_err-front-in-And.ensures.err
-    (size_as (written_form c.args.sequence.now) (and r s) _ e (first-and r s takes))
+    (most_as (written_form c.args.sequence.now) (and r s) _ e
+    (part-within (and r s) (max (largest r) (largest s)) (largest r) takes (omega arith)))
 
 pub returns-in_err-rest-in-And-clause-err : goal.returns-in_err-rest-in-And-clause-err
 returns-in_err-rest-in-And-clause-err t c =
@@ -319,12 +348,13 @@ returns-in_err-rest-in-And-clause-err t c =
     let e : written_form c.args.sequence.now ≡ and r s =
     ap written_form c.in-And.is ∙ ap (λ q. and (written_form q) (written_form c.in-And.second.value))
     (sym c.deref-in-And.ensures) ∙ ap (λ q. and r (written_form q)) (sym c.deref-in-And-2.ensures) in
-    let takes : IsTrue (takes_ticks (and r s)) =
-    ap takes_ticks (sym e) ∙ sym c.extent_of-extent.ensures.ticks ∙ c.if-not-extent.false in
+    let takes : IsTrue (weighs (and r s)) =
+    ap weighs (sym e) ∙ sym c.is_weighty.ensures ∙ c.if-not-is_weighty.false in
     let ordered : IsOrdered (and r s) = subst IsOrdered e c.requires.ordered in
     let bound : weight (and r s) ≤ 127 = subst (λ w. weight w ≤ 127) e c.requires.bound in
     long_on _ _ _ _ c.from_residual-in_err-rest-in-And.ensures.1 c.in_err-rest-in-And.ensures.err
-    (size_as (written_form c.args.sequence.now) (and r s) _ e (second-and r s takes))
+    (most_as (written_form c.args.sequence.now) (and r s) _ e
+    (part-within (and r s) (max (largest r) (largest s)) (largest s) takes (omega arith)))
 
 pub both-requires-clause-first_placed : goal.both-requires-clause-first_placed
 both-requires-clause-first_placed t c =
@@ -333,8 +363,8 @@ both-requires-clause-first_placed t c =
     let e : written_form c.args.sequence.now ≡ and r s =
     ap written_form c.in-And.is ∙ ap (λ q. and (written_form q) (written_form c.in-And.second.value))
     (sym c.deref-in-And.ensures) ∙ ap (λ q. and r (written_form q)) (sym c.deref-in-And-2.ensures) in
-    let takes : IsTrue (takes_ticks (and r s)) =
-    ap takes_ticks (sym e) ∙ sym c.extent_of-extent.ensures.ticks ∙ c.if-not-extent.false in
+    let takes : IsTrue (weighs (and r s)) =
+    ap weighs (sym e) ∙ sym c.is_weighty.ensures ∙ c.if-not-is_weighty.false in
     let ordered : IsOrdered (and r s) = subst IsOrdered e c.requires.ordered in
     let bound : weight (and r s) ≤ 127 = subst (λ w. weight w ≤ 127) e c.requires.bound in
     let wide : (weight r + 1) * (weight s + 1) ≡ weight r * weight s + weight r + weight s + 1 = omega arith in
@@ -349,8 +379,8 @@ both-requires-clause-second_placed t c =
     let e : written_form c.args.sequence.now ≡ and r s =
     ap written_form c.in-And.is ∙ ap (λ q. and (written_form q) (written_form c.in-And.second.value))
     (sym c.deref-in-And.ensures) ∙ ap (λ q. and r (written_form q)) (sym c.deref-in-And-2.ensures) in
-    let takes : IsTrue (takes_ticks (and r s)) =
-    ap takes_ticks (sym e) ∙ sym c.extent_of-extent.ensures.ticks ∙ c.if-not-extent.false in
+    let takes : IsTrue (weighs (and r s)) =
+    ap weighs (sym e) ∙ sym c.is_weighty.ensures ∙ c.if-not-is_weighty.false in
     let ordered : IsOrdered (and r s) = subst IsOrdered e c.requires.ordered in
     let bound : weight (and r s) ≤ 127 = subst (λ w. weight w ≤ 127) e c.requires.bound in
     let wide : (weight r + 1) * (weight s + 1) ≡ weight r * weight s + weight r + weight s + 1 = omega arith in
@@ -365,8 +395,8 @@ both-requires-clause-few t c =
     let e : written_form c.args.sequence.now ≡ and r s =
     ap written_form c.in-And.is ∙ ap (λ q. and (written_form q) (written_form c.in-And.second.value))
     (sym c.deref-in-And.ensures) ∙ ap (λ q. and r (written_form q)) (sym c.deref-in-And-2.ensures) in
-    let takes : IsTrue (takes_ticks (and r s)) =
-    ap takes_ticks (sym e) ∙ sym c.extent_of-extent.ensures.ticks ∙ c.if-not-extent.false in
+    let takes : IsTrue (weighs (and r s)) =
+    ap weighs (sym e) ∙ sym c.is_weighty.ensures ∙ c.if-not-is_weighty.false in
     let ordered : IsOrdered (and r s) = subst IsOrdered e c.requires.ordered in
     let bound : weight (and r s) ≤ 127 = subst (λ w. weight w ≤ 127) e c.requires.bound in
     let long = length_as c.in_ok-front-in-And.front r c.in_ok-front-in-And.ensures.ok ordered.0 in
@@ -385,8 +415,8 @@ returns-in_ok-rest-in-And-clause-ok t c =
     let e : written_form c.args.sequence.now ≡ and r s =
     ap written_form c.in-And.is ∙ ap (λ q. and (written_form q) (written_form c.in-And.second.value))
     (sym c.deref-in-And.ensures) ∙ ap (λ q. and r (written_form q)) (sym c.deref-in-And-2.ensures) in
-    let takes : IsTrue (takes_ticks (and r s)) =
-    ap takes_ticks (sym e) ∙ sym c.extent_of-extent.ensures.ticks ∙ c.if-not-extent.false in
+    let takes : IsTrue (weighs (and r s)) =
+    ap weighs (sym e) ∙ sym c.is_weighty.ensures ∙ c.if-not-is_weighty.false in
     let ordered : IsOrdered (and r s) = subst IsOrdered e c.requires.ordered in
     let bound : weight (and r s) ≤ 127 = subst (λ w. weight w ≤ 127) e c.requires.bound in
     let same : both_data c.in_ok-front-in-And.front c.in_ok-rest-in-And.rest
@@ -403,8 +433,8 @@ returns-in_ok-rest-in-And-clause-err t c =
     let e : written_form c.args.sequence.now ≡ and r s =
     ap written_form c.in-And.is ∙ ap (λ q. and (written_form q) (written_form c.in-And.second.value))
     (sym c.deref-in-And.ensures) ∙ ap (λ q. and r (written_form q)) (sym c.deref-in-And-2.ensures) in
-    let takes : IsTrue (takes_ticks (and r s)) =
-    ap takes_ticks (sym e) ∙ sym c.extent_of-extent.ensures.ticks ∙ c.if-not-extent.false in
+    let takes : IsTrue (weighs (and r s)) =
+    ap weighs (sym e) ∙ sym c.is_weighty.ensures ∙ c.if-not-is_weighty.false in
     let ordered : IsOrdered (and r s) = subst IsOrdered e c.requires.ordered in
     let bound : weight (and r s) ≤ 127 = subst (λ w. weight w ≤ 127) e c.requires.bound in
     let same : both_data c.in_ok-front-in-And.front c.in_ok-rest-in-And.rest
@@ -412,7 +442,9 @@ returns-in_ok-rest-in-And-clause-err t c =
     ap (λ x. both_data x c.in_ok-rest-in-And.rest) c.in_ok-front-in-And.ensures.ok
     ∙ ap (both_data (listed_for r)) c.in_ok-rest-in-And.ensures.ok
     ∙ sym (made-and r s takes) ∙ sym (told (written_form c.args.sequence.now) (and r s) e) in
-    err_same c.both.result _ _ c.both.ensures.err (ap (λ (x : TableData). rows_size x.rows) same)
+    err_more c.both.result _ _ c.both.ensures.err
+    (own_as (written_form c.args.sequence.now) (and r s) _ e same
+    (own-within (and r s) (max (largest r) (largest s)) takes))
 
 pub returns-in_err-table-in-Lead-clause-err : goal.returns-in_err-table-in-Lead-clause-err
 returns-in_err-table-in-Lead-clause-err t c =
@@ -420,13 +452,13 @@ returns-in_err-table-in-Lead-clause-err t c =
     let e : written_form c.args.sequence.now ≡ lead c.in-Lead.least c.in-Lead.most r =
     ap written_form c.in-Lead.is ∙ ap (λ q. lead c.in-Lead.least c.in-Lead.most (written_form q))
     (sym c.deref-in-Lead.ensures) in
-    let takes : IsTrue (takes_ticks (lead c.in-Lead.least c.in-Lead.most r)) =
-    ap takes_ticks (sym e) ∙ sym c.extent_of-extent.ensures.ticks ∙ c.if-not-extent.false in
+    let takes : IsTrue (weighs (lead c.in-Lead.least c.in-Lead.most r)) =
+    ap weighs (sym e) ∙ sym c.is_weighty.ensures ∙ c.if-not-is_weighty.false in
     let ordered : IsOrdered (lead c.in-Lead.least c.in-Lead.most r) = subst IsOrdered e c.requires.ordered in
     let bound : weight (lead c.in-Lead.least c.in-Lead.most r) ≤ 127 = subst (λ w. weight w ≤ 127) e c.requires.bound in
     long_on _ _ _ _ c.from_residual-in_err-table-in-Lead.ensures.1 c.in_err-table-in-Lead.ensures.err
-    (size_as (written_form c.args.sequence.now) (lead c.in-Lead.least c.in-Lead.most r) _ e
-    (body-lead r c.in-Lead.least c.in-Lead.most takes))
+    (most_as (written_form c.args.sequence.now) (lead c.in-Lead.least c.in-Lead.most r) _ e
+    (part-within (lead c.in-Lead.least c.in-Lead.most r) (largest r) (largest r) takes (omega arith)))
 
 pub lead_in-requires-clause-placed : goal.lead_in-requires-clause-placed
 lead_in-requires-clause-placed t c =
@@ -434,8 +466,8 @@ lead_in-requires-clause-placed t c =
     let e : written_form c.args.sequence.now ≡ lead c.in-Lead.least c.in-Lead.most r =
     ap written_form c.in-Lead.is ∙ ap (λ q. lead c.in-Lead.least c.in-Lead.most (written_form q))
     (sym c.deref-in-Lead.ensures) in
-    let takes : IsTrue (takes_ticks (lead c.in-Lead.least c.in-Lead.most r)) =
-    ap takes_ticks (sym e) ∙ sym c.extent_of-extent.ensures.ticks ∙ c.if-not-extent.false in
+    let takes : IsTrue (weighs (lead c.in-Lead.least c.in-Lead.most r)) =
+    ap weighs (sym e) ∙ sym c.is_weighty.ensures ∙ c.if-not-is_weighty.false in
     let ordered : IsOrdered (lead c.in-Lead.least c.in-Lead.most r) = subst IsOrdered e c.requires.ordered in
     let bound : weight (lead c.in-Lead.least c.in-Lead.most r) ≤ 127 = subst (λ w. weight w ≤ 127) e c.requires.bound in
     let rb : weight r ≤ 127 = omega (arith, bound) in
@@ -447,8 +479,8 @@ lead_in-requires-clause-few t c =
     let e : written_form c.args.sequence.now ≡ lead c.in-Lead.least c.in-Lead.most r =
     ap written_form c.in-Lead.is ∙ ap (λ q. lead c.in-Lead.least c.in-Lead.most (written_form q))
     (sym c.deref-in-Lead.ensures) in
-    let takes : IsTrue (takes_ticks (lead c.in-Lead.least c.in-Lead.most r)) =
-    ap takes_ticks (sym e) ∙ sym c.extent_of-extent.ensures.ticks ∙ c.if-not-extent.false in
+    let takes : IsTrue (weighs (lead c.in-Lead.least c.in-Lead.most r)) =
+    ap weighs (sym e) ∙ sym c.is_weighty.ensures ∙ c.if-not-is_weighty.false in
     let ordered : IsOrdered (lead c.in-Lead.least c.in-Lead.most r) = subst IsOrdered e c.requires.ordered in
     let bound : weight (lead c.in-Lead.least c.in-Lead.most r) ≤ 127 = subst (λ w. weight w ≤ 127) e c.requires.bound in
     let long = length_as c.in_ok-table-in-Lead.table r c.in_ok-table-in-Lead.ensures.ok ordered.1 in
@@ -460,8 +492,8 @@ returns-in_ok-table-in-Lead-clause-ok t c =
     let e : written_form c.args.sequence.now ≡ lead c.in-Lead.least c.in-Lead.most r =
     ap written_form c.in-Lead.is ∙ ap (λ q. lead c.in-Lead.least c.in-Lead.most (written_form q))
     (sym c.deref-in-Lead.ensures) in
-    let takes : IsTrue (takes_ticks (lead c.in-Lead.least c.in-Lead.most r)) =
-    ap takes_ticks (sym e) ∙ sym c.extent_of-extent.ensures.ticks ∙ c.if-not-extent.false in
+    let takes : IsTrue (weighs (lead c.in-Lead.least c.in-Lead.most r)) =
+    ap weighs (sym e) ∙ sym c.is_weighty.ensures ∙ c.if-not-is_weighty.false in
     let ordered : IsOrdered (lead c.in-Lead.least c.in-Lead.most r) = subst IsOrdered e c.requires.ordered in
     let bound : weight (lead c.in-Lead.least c.in-Lead.most r) ≤ 127 = subst (λ w. weight w ≤ 127) e c.requires.bound in
     let same : lead_in_data c.in-Lead.least c.in-Lead.most c.in_ok-table-in-Lead.table
@@ -477,8 +509,8 @@ returns-in_ok-table-in-Lead-clause-err t c =
     let e : written_form c.args.sequence.now ≡ lead c.in-Lead.least c.in-Lead.most r =
     ap written_form c.in-Lead.is ∙ ap (λ q. lead c.in-Lead.least c.in-Lead.most (written_form q))
     (sym c.deref-in-Lead.ensures) in
-    let takes : IsTrue (takes_ticks (lead c.in-Lead.least c.in-Lead.most r)) =
-    ap takes_ticks (sym e) ∙ sym c.extent_of-extent.ensures.ticks ∙ c.if-not-extent.false in
+    let takes : IsTrue (weighs (lead c.in-Lead.least c.in-Lead.most r)) =
+    ap weighs (sym e) ∙ sym c.is_weighty.ensures ∙ c.if-not-is_weighty.false in
     let ordered : IsOrdered (lead c.in-Lead.least c.in-Lead.most r) = subst IsOrdered e c.requires.ordered in
     let bound : weight (lead c.in-Lead.least c.in-Lead.most r) ≤ 127 = subst (λ w. weight w ≤ 127) e c.requires.bound in
     let same : lead_in_data c.in-Lead.least c.in-Lead.most c.in_ok-table-in-Lead.table
@@ -486,7 +518,9 @@ returns-in_ok-table-in-Lead-clause-err t c =
     ap (lead_in_data c.in-Lead.least c.in-Lead.most) c.in_ok-table-in-Lead.ensures.ok
     ∙ sym (made-lead r c.in-Lead.least c.in-Lead.most takes)
     ∙ sym (told (written_form c.args.sequence.now) (lead c.in-Lead.least c.in-Lead.most r) e) in
-    err_same c.lead_in.result _ _ c.lead_in.ensures.err (ap (λ (x : TableData). rows_size x.rows) same)
+    err_more c.lead_in.result _ _ c.lead_in.ensures.err
+    (own_as (written_form c.args.sequence.now) (lead c.in-Lead.least c.in-Lead.most r) _ e same
+    (own-within (lead c.in-Lead.least c.in-Lead.most r) (largest r) takes))
 
 pub returns-in_err-table-in-Repeat-clause-err : goal.returns-in_err-table-in-Repeat-clause-err
 returns-in_err-table-in-Repeat-clause-err t c =
@@ -494,14 +528,14 @@ returns-in_err-table-in-Repeat-clause-err t c =
     let e : written_form c.args.sequence.now ≡ repeat r c.in-Repeat.least c.in-Repeat.most =
     ap written_form c.in-Repeat.is ∙ ap (λ q. repeat (written_form q) c.in-Repeat.least c.in-Repeat.most)
     (sym c.deref-in-Repeat.ensures) in
-    let takes : IsTrue (takes_ticks (repeat r c.in-Repeat.least c.in-Repeat.most)) =
-    ap takes_ticks (sym e) ∙ sym c.extent_of-extent.ensures.ticks ∙ c.if-not-extent.false in
+    let takes : IsTrue (weighs (repeat r c.in-Repeat.least c.in-Repeat.most)) =
+    ap weighs (sym e) ∙ sym c.is_weighty.ensures ∙ c.if-not-is_weighty.false in
     let ordered : IsOrdered (repeat r c.in-Repeat.least c.in-Repeat.most) = subst IsOrdered e c.requires.ordered in
     let bound : weight (repeat r c.in-Repeat.least c.in-Repeat.most) ≤ 127 =
     subst (λ w. weight w ≤ 127) e c.requires.bound in
     long_on _ _ _ _ c.from_residual-in_err-table-in-Repeat.ensures.1 c.in_err-table-in-Repeat.ensures.err
-    (size_as (written_form c.args.sequence.now) (repeat r c.in-Repeat.least c.in-Repeat.most) _ e
-    (body-for-repeat r c.in-Repeat.least c.in-Repeat.most ordered takes))
+    (most_as (written_form c.args.sequence.now) (repeat r c.in-Repeat.least c.in-Repeat.most) _ e
+    (part-within (repeat r c.in-Repeat.least c.in-Repeat.most) (largest r) (largest r) takes (omega arith)))
 
 pub table_of-requires-in-Repeat : goal.table_of-requires-in-Repeat
 table_of-requires-in-Repeat t c =
@@ -509,12 +543,12 @@ table_of-requires-in-Repeat t c =
     let e : written_form c.args.sequence.now ≡ repeat r c.in-Repeat.least c.in-Repeat.most =
     ap written_form c.in-Repeat.is ∙ ap (λ q. repeat (written_form q) c.in-Repeat.least c.in-Repeat.most)
     (sym c.deref-in-Repeat.ensures) in
-    let takes : IsTrue (takes_ticks (repeat r c.in-Repeat.least c.in-Repeat.most)) =
-    ap takes_ticks (sym e) ∙ sym c.extent_of-extent.ensures.ticks ∙ c.if-not-extent.false in
+    let takes : IsTrue (weighs (repeat r c.in-Repeat.least c.in-Repeat.most)) =
+    ap weighs (sym e) ∙ sym c.is_weighty.ensures ∙ c.if-not-is_weighty.false in
     let ordered : IsOrdered (repeat r c.in-Repeat.least c.in-Repeat.most) = subst IsOrdered e c.requires.ordered in
     let bound : weight (repeat r c.in-Repeat.least c.in-Repeat.most) ≤ 127 =
     subst (λ w. weight w ≤ 127) e c.requires.bound in
-    let some = (repeat-told r c.in-Repeat.least c.in-Repeat.most takes).0 in
+    let some = repeat-told r c.in-Repeat.least c.in-Repeat.most takes in
     let one_of : 1 * weight r ≤ c.in-Repeat.most * weight r = mul-le-mul_right (weight r) some in
     let rb : weight r ≤ 127 = omega (arith, bound, one_of) in
     let listed : EachBoolean (IsListed 127) (repeat r c.in-Repeat.least c.in-Repeat.most) =
@@ -527,12 +561,12 @@ repeat-requires-clause-placed t c =
     let e : written_form c.args.sequence.now ≡ repeat r c.in-Repeat.least c.in-Repeat.most =
     ap written_form c.in-Repeat.is ∙ ap (λ q. repeat (written_form q) c.in-Repeat.least c.in-Repeat.most)
     (sym c.deref-in-Repeat.ensures) in
-    let takes : IsTrue (takes_ticks (repeat r c.in-Repeat.least c.in-Repeat.most)) =
-    ap takes_ticks (sym e) ∙ sym c.extent_of-extent.ensures.ticks ∙ c.if-not-extent.false in
+    let takes : IsTrue (weighs (repeat r c.in-Repeat.least c.in-Repeat.most)) =
+    ap weighs (sym e) ∙ sym c.is_weighty.ensures ∙ c.if-not-is_weighty.false in
     let ordered : IsOrdered (repeat r c.in-Repeat.least c.in-Repeat.most) = subst IsOrdered e c.requires.ordered in
     let bound : weight (repeat r c.in-Repeat.least c.in-Repeat.most) ≤ 127 =
     subst (λ w. weight w ≤ 127) e c.requires.bound in
-    let some = (repeat-told r c.in-Repeat.least c.in-Repeat.most takes).0 in
+    let some = repeat-told r c.in-Repeat.least c.in-Repeat.most takes in
     let one_of : 1 * weight r ≤ c.in-Repeat.most * weight r = mul-le-mul_right (weight r) some in
     let rb : weight r ≤ 127 = omega (arith, bound, one_of) in
     placed_as c.in_ok-table-in-Repeat.table r c.in_ok-table-in-Repeat.ensures.ok ordered.1 rb
@@ -543,8 +577,8 @@ repeat-requires-clause-few t c =
     let e : written_form c.args.sequence.now ≡ repeat r c.in-Repeat.least c.in-Repeat.most =
     ap written_form c.in-Repeat.is ∙ ap (λ q. repeat (written_form q) c.in-Repeat.least c.in-Repeat.most)
     (sym c.deref-in-Repeat.ensures) in
-    let takes : IsTrue (takes_ticks (repeat r c.in-Repeat.least c.in-Repeat.most)) =
-    ap takes_ticks (sym e) ∙ sym c.extent_of-extent.ensures.ticks ∙ c.if-not-extent.false in
+    let takes : IsTrue (weighs (repeat r c.in-Repeat.least c.in-Repeat.most)) =
+    ap weighs (sym e) ∙ sym c.is_weighty.ensures ∙ c.if-not-is_weighty.false in
     let ordered : IsOrdered (repeat r c.in-Repeat.least c.in-Repeat.most) = subst IsOrdered e c.requires.ordered in
     let bound : weight (repeat r c.in-Repeat.least c.in-Repeat.most) ≤ 127 =
     subst (λ w. weight w ≤ 127) e c.requires.bound in
@@ -559,8 +593,8 @@ returns-in_ok-table-in-Repeat-clause-ok t c =
     let e : written_form c.args.sequence.now ≡ repeat r c.in-Repeat.least c.in-Repeat.most =
     ap written_form c.in-Repeat.is ∙ ap (λ q. repeat (written_form q) c.in-Repeat.least c.in-Repeat.most)
     (sym c.deref-in-Repeat.ensures) in
-    let takes : IsTrue (takes_ticks (repeat r c.in-Repeat.least c.in-Repeat.most)) =
-    ap takes_ticks (sym e) ∙ sym c.extent_of-extent.ensures.ticks ∙ c.if-not-extent.false in
+    let takes : IsTrue (weighs (repeat r c.in-Repeat.least c.in-Repeat.most)) =
+    ap weighs (sym e) ∙ sym c.is_weighty.ensures ∙ c.if-not-is_weighty.false in
     let ordered : IsOrdered (repeat r c.in-Repeat.least c.in-Repeat.most) = subst IsOrdered e c.requires.ordered in
     let bound : weight (repeat r c.in-Repeat.least c.in-Repeat.most) ≤ 127 =
     subst (λ w. weight w ≤ 127) e c.requires.bound in
@@ -577,8 +611,8 @@ returns-in_ok-table-in-Repeat-clause-err t c =
     let e : written_form c.args.sequence.now ≡ repeat r c.in-Repeat.least c.in-Repeat.most =
     ap written_form c.in-Repeat.is ∙ ap (λ q. repeat (written_form q) c.in-Repeat.least c.in-Repeat.most)
     (sym c.deref-in-Repeat.ensures) in
-    let takes : IsTrue (takes_ticks (repeat r c.in-Repeat.least c.in-Repeat.most)) =
-    ap takes_ticks (sym e) ∙ sym c.extent_of-extent.ensures.ticks ∙ c.if-not-extent.false in
+    let takes : IsTrue (weighs (repeat r c.in-Repeat.least c.in-Repeat.most)) =
+    ap weighs (sym e) ∙ sym c.is_weighty.ensures ∙ c.if-not-is_weighty.false in
     let ordered : IsOrdered (repeat r c.in-Repeat.least c.in-Repeat.most) = subst IsOrdered e c.requires.ordered in
     let bound : weight (repeat r c.in-Repeat.least c.in-Repeat.most) ≤ 127 =
     subst (λ w. weight w ≤ 127) e c.requires.bound in
@@ -587,7 +621,9 @@ returns-in_ok-table-in-Repeat-clause-err t c =
     ap ((λ x. repeat_data x c.in-Repeat.least c.in-Repeat.most)) c.in_ok-table-in-Repeat.ensures.ok
     ∙ sym (made-repeat r c.in-Repeat.least c.in-Repeat.most takes)
     ∙ sym (told (written_form c.args.sequence.now) (repeat r c.in-Repeat.least c.in-Repeat.most) e) in
-    err_same c.repeat.result _ _ c.repeat.ensures.err (ap (λ (x : TableData). rows_size x.rows) same)
+    err_more c.repeat.result _ _ c.repeat.ensures.err
+    (own_as (written_form c.args.sequence.now) (repeat r c.in-Repeat.least c.in-Repeat.most) _ e same
+    (own-within (repeat r c.in-Repeat.least c.in-Repeat.most) (largest r) takes))
 
 pub returns-in_err-table-in-Throughout-clause-err : goal.returns-in_err-table-in-Throughout-clause-err
 returns-in_err-table-in-Throughout-clause-err t c =
@@ -595,13 +631,13 @@ returns-in_err-table-in-Throughout-clause-err t c =
     let e : written_form c.args.sequence.now ≡ throughout c.in-Throughout.boolean r =
     ap written_form c.in-Throughout.is ∙ ap (λ q. throughout c.in-Throughout.boolean (written_form q))
     (sym c.deref-in-Throughout.ensures) in
-    let takes : IsTrue (takes_ticks (throughout c.in-Throughout.boolean r)) =
-    ap takes_ticks (sym e) ∙ sym c.extent_of-extent.ensures.ticks ∙ c.if-not-extent.false in
+    let takes : IsTrue (weighs (throughout c.in-Throughout.boolean r)) =
+    ap weighs (sym e) ∙ sym c.is_weighty.ensures ∙ c.if-not-is_weighty.false in
     let ordered : IsOrdered (throughout c.in-Throughout.boolean r) = subst IsOrdered e c.requires.ordered in
     let bound : weight (throughout c.in-Throughout.boolean r) ≤ 127 = subst (λ w. weight w ≤ 127) e c.requires.bound in
     long_on _ _ _ _ c.from_residual-in_err-table-in-Throughout.ensures.1 c.in_err-table-in-Throughout.ensures.err
-    (size_as (written_form c.args.sequence.now) (throughout c.in-Throughout.boolean r) _ e
-    (body-throughout c.in-Throughout.boolean r takes))
+    (most_as (written_form c.args.sequence.now) (throughout c.in-Throughout.boolean r) _ e
+    (part-within (throughout c.in-Throughout.boolean r) (largest r) (largest r) takes (omega arith)))
 
 pub during-requires : goal.during-requires
 during-requires t c =
@@ -609,8 +645,8 @@ during-requires t c =
     let e : written_form c.args.sequence.now ≡ throughout c.in-Throughout.boolean r =
     ap written_form c.in-Throughout.is ∙ ap (λ q. throughout c.in-Throughout.boolean (written_form q))
     (sym c.deref-in-Throughout.ensures) in
-    let takes : IsTrue (takes_ticks (throughout c.in-Throughout.boolean r)) =
-    ap takes_ticks (sym e) ∙ sym c.extent_of-extent.ensures.ticks ∙ c.if-not-extent.false in
+    let takes : IsTrue (weighs (throughout c.in-Throughout.boolean r)) =
+    ap weighs (sym e) ∙ sym c.is_weighty.ensures ∙ c.if-not-is_weighty.false in
     let ordered : IsOrdered (throughout c.in-Throughout.boolean r) = subst IsOrdered e c.requires.ordered in
     let bound : weight (throughout c.in-Throughout.boolean r) ≤ 127 = subst (λ w. weight w ≤ 127) e c.requires.bound in
     let rb : weight r ≤ 127 = omega (arith, bound) in
@@ -622,8 +658,8 @@ returns-in_ok-table-in-Throughout-clause-ok t c =
     let e : written_form c.args.sequence.now ≡ throughout c.in-Throughout.boolean r =
     ap written_form c.in-Throughout.is ∙ ap (λ q. throughout c.in-Throughout.boolean (written_form q))
     (sym c.deref-in-Throughout.ensures) in
-    let takes : IsTrue (takes_ticks (throughout c.in-Throughout.boolean r)) =
-    ap takes_ticks (sym e) ∙ sym c.extent_of-extent.ensures.ticks ∙ c.if-not-extent.false in
+    let takes : IsTrue (weighs (throughout c.in-Throughout.boolean r)) =
+    ap weighs (sym e) ∙ sym c.is_weighty.ensures ∙ c.if-not-is_weighty.false in
     let ordered : IsOrdered (throughout c.in-Throughout.boolean r) = subst IsOrdered e c.requires.ordered in
     let bound : weight (throughout c.in-Throughout.boolean r) ≤ 127 = subst (λ w. weight w ≤ 127) e c.requires.bound in
     let same : during_data c.atom_number-in-Throughout.result c.in_ok-table-in-Throughout.table
@@ -640,8 +676,8 @@ returns-in_ok-table-in-Throughout-clause-err t c =
     let e : written_form c.args.sequence.now ≡ throughout c.in-Throughout.boolean r =
     ap written_form c.in-Throughout.is ∙ ap (λ q. throughout c.in-Throughout.boolean (written_form q))
     (sym c.deref-in-Throughout.ensures) in
-    let takes : IsTrue (takes_ticks (throughout c.in-Throughout.boolean r)) =
-    ap takes_ticks (sym e) ∙ sym c.extent_of-extent.ensures.ticks ∙ c.if-not-extent.false in
+    let takes : IsTrue (weighs (throughout c.in-Throughout.boolean r)) =
+    ap weighs (sym e) ∙ sym c.is_weighty.ensures ∙ c.if-not-is_weighty.false in
     let ordered : IsOrdered (throughout c.in-Throughout.boolean r) = subst IsOrdered e c.requires.ordered in
     let bound : weight (throughout c.in-Throughout.boolean r) ≤ 127 = subst (λ w. weight w ≤ 127) e c.requires.bound in
     let same : during_data c.atom_number-in-Throughout.result c.in_ok-table-in-Throughout.table
@@ -650,4 +686,291 @@ returns-in_ok-table-in-Throughout-clause-err t c =
     ∙ ap (during_data (atom_of c.in-Throughout.boolean)) c.in_ok-table-in-Throughout.ensures.ok
     ∙ sym (made-throughout c.in-Throughout.boolean r takes)
     ∙ sym (told (written_form c.args.sequence.now) (throughout c.in-Throughout.boolean r) e) in
-    err_same c.during.result _ _ c.during.ensures.err (ap (λ (x : TableData). rows_size x.rows) same)
+    err_more c.during.result _ _ c.during.ensures.err
+    (own_as (written_form c.args.sequence.now) (throughout c.in-Throughout.boolean r) _ e same
+    (own-within (throughout c.in-Throughout.boolean r) (largest r) takes))
+
+pub returns-in_ok-rest-in-Delay-clause-short : goal.returns-in_ok-rest-in-Delay-clause-short
+returns-in_ok-rest-in-Delay-clause-short t c =
+    let r : Written Boolean = written_form c.deref.result.now in
+    let s : Written Boolean = written_form c.deref-in-Delay.result.now in
+    let e : written_form c.args.sequence.now ≡ delay r c.in-Delay.least c.in-Delay.most s =
+    ap written_form c.in-Delay.is
+    ∙ ap (λ q. delay (written_form q) c.in-Delay.least c.in-Delay.most (written_form c.in-Delay.second.value))
+    (sym c.deref.ensures) ∙ ap (λ q. delay r c.in-Delay.least c.in-Delay.most (written_form q))
+    (sym c.deref-in-Delay.ensures) in
+    let takes : IsTrue (weighs (delay r c.in-Delay.least c.in-Delay.most s)) =
+    ap weighs (sym e) ∙ sym c.is_weighty.ensures ∙ c.if-not-is_weighty.false in
+    let ordered : IsOrdered (delay r c.in-Delay.least c.in-Delay.most s) = subst IsOrdered e c.requires.ordered in
+    let bound : weight (delay r c.in-Delay.least c.in-Delay.most s) ≤ 127 =
+    subst (λ w. weight w ≤ 127) e c.requires.bound in
+    let same : apart_data c.in_ok-front-in-Delay.front c.in_ok-rest-in-Delay.rest
+    c.in-Delay.least c.in-Delay.most ≡ listed_for (written_form c.args.sequence.now) =
+    ap (λ x. apart_data x c.in_ok-rest-in-Delay.rest c.in-Delay.least
+    c.in-Delay.most) c.in_ok-front-in-Delay.ensures.ok
+    ∙ ap (λ x. apart_data (listed_for r) x c.in-Delay.least c.in-Delay.most)
+    c.in_ok-rest-in-Delay.ensures.ok
+    ∙ sym (made-delay r s c.in-Delay.least c.in-Delay.most ordered takes)
+    ∙ sym (told (written_form c.args.sequence.now) (delay r c.in-Delay.least c.in-Delay.most s) e) in
+    short_on c.apart.result _ (written_form c.args.sequence.now)
+    (delay r c.in-Delay.least c.in-Delay.most s) e c.apart.ensures.ok c.apart.ensures.short same
+    (λ own. all-within (delay r c.in-Delay.least c.in-Delay.most s) (max (largest r) (largest s)) 65535
+    (omega (arith, c.in_ok-front-in-Delay.ensures.short, c.in_ok-rest-in-Delay.ensures.short)) own)
+
+pub returns-in_ok-rest-in-Or-clause-short : goal.returns-in_ok-rest-in-Or-clause-short
+returns-in_ok-rest-in-Or-clause-short t c =
+    let r : Written Boolean = written_form c.deref-in-Or.result.now in
+    let s : Written Boolean = written_form c.deref-in-Or-2.result.now in
+    let e : written_form c.args.sequence.now ≡ or r s =
+    ap written_form c.in-Or.is ∙ ap (λ q. or (written_form q) (written_form c.in-Or.second.value))
+    (sym c.deref-in-Or.ensures) ∙ ap (λ q. or r (written_form q)) (sym c.deref-in-Or-2.ensures) in
+    let takes : IsTrue (weighs (or r s)) =
+    ap weighs (sym e) ∙ sym c.is_weighty.ensures ∙ c.if-not-is_weighty.false in
+    let ordered : IsOrdered (or r s) = subst IsOrdered e c.requires.ordered in
+    let bound : weight (or r s) ≤ 127 = subst (λ w. weight w ≤ 127) e c.requires.bound in
+    let same : either_data c.in_ok-front-in-Or.front c.in_ok-rest-in-Or.rest
+    ≡ listed_for (written_form c.args.sequence.now) =
+    ap (λ x. either_data x c.in_ok-rest-in-Or.rest) c.in_ok-front-in-Or.ensures.ok
+    ∙ ap (either_data (listed_for r)) c.in_ok-rest-in-Or.ensures.ok
+    ∙ sym (made-or r s takes) ∙ sym (told (written_form c.args.sequence.now) (or r s) e) in
+    short_on c.either.result _ (written_form c.args.sequence.now)
+    (or r s) e c.either.ensures.ok c.either.ensures.short same
+    (λ own. all-within (or r s) (max (largest r) (largest s)) 65535
+    (omega (arith, c.in_ok-front-in-Or.ensures.short, c.in_ok-rest-in-Or.ensures.short)) own)
+
+pub returns-in_ok-rest-in-And-clause-short : goal.returns-in_ok-rest-in-And-clause-short
+returns-in_ok-rest-in-And-clause-short t c =
+    let r : Written Boolean = written_form c.deref-in-And.result.now in
+    let s : Written Boolean = written_form c.deref-in-And-2.result.now in
+    let e : written_form c.args.sequence.now ≡ and r s =
+    ap written_form c.in-And.is ∙ ap (λ q. and (written_form q) (written_form c.in-And.second.value))
+    (sym c.deref-in-And.ensures) ∙ ap (λ q. and r (written_form q)) (sym c.deref-in-And-2.ensures) in
+    let takes : IsTrue (weighs (and r s)) =
+    ap weighs (sym e) ∙ sym c.is_weighty.ensures ∙ c.if-not-is_weighty.false in
+    let ordered : IsOrdered (and r s) = subst IsOrdered e c.requires.ordered in
+    let bound : weight (and r s) ≤ 127 = subst (λ w. weight w ≤ 127) e c.requires.bound in
+    let same : both_data c.in_ok-front-in-And.front c.in_ok-rest-in-And.rest
+    ≡ listed_for (written_form c.args.sequence.now) =
+    ap (λ x. both_data x c.in_ok-rest-in-And.rest) c.in_ok-front-in-And.ensures.ok
+    ∙ ap (both_data (listed_for r)) c.in_ok-rest-in-And.ensures.ok
+    ∙ sym (made-and r s takes) ∙ sym (told (written_form c.args.sequence.now) (and r s) e) in
+    short_on c.both.result _ (written_form c.args.sequence.now) (and r s) e c.both.ensures.ok c.both.ensures.short same
+    (λ own. all-within (and r s) (max (largest r) (largest s)) 65535
+    (omega (arith, c.in_ok-front-in-And.ensures.short, c.in_ok-rest-in-And.ensures.short)) own)
+
+pub returns-in_ok-table-in-Lead-clause-short : goal.returns-in_ok-table-in-Lead-clause-short
+returns-in_ok-table-in-Lead-clause-short t c =
+    let r : Written Boolean = written_form c.deref-in-Lead.result.now in
+    let e : written_form c.args.sequence.now ≡ lead c.in-Lead.least c.in-Lead.most r =
+    ap written_form c.in-Lead.is ∙ ap (λ q. lead c.in-Lead.least c.in-Lead.most (written_form q))
+    (sym c.deref-in-Lead.ensures) in
+    let takes : IsTrue (weighs (lead c.in-Lead.least c.in-Lead.most r)) =
+    ap weighs (sym e) ∙ sym c.is_weighty.ensures ∙ c.if-not-is_weighty.false in
+    let ordered : IsOrdered (lead c.in-Lead.least c.in-Lead.most r) = subst IsOrdered e c.requires.ordered in
+    let bound : weight (lead c.in-Lead.least c.in-Lead.most r) ≤ 127 = subst (λ w. weight w ≤ 127) e c.requires.bound in
+    let same : lead_in_data c.in-Lead.least c.in-Lead.most c.in_ok-table-in-Lead.table
+    ≡ listed_for (written_form c.args.sequence.now) =
+    ap (lead_in_data c.in-Lead.least c.in-Lead.most) c.in_ok-table-in-Lead.ensures.ok
+    ∙ sym (made-lead r c.in-Lead.least c.in-Lead.most takes)
+    ∙ sym (told (written_form c.args.sequence.now) (lead c.in-Lead.least c.in-Lead.most r) e) in
+    short_on c.lead_in.result _ (written_form c.args.sequence.now)
+    (lead c.in-Lead.least c.in-Lead.most r) e c.lead_in.ensures.ok c.lead_in.ensures.short same
+    (λ own. all-within (lead c.in-Lead.least c.in-Lead.most r) (largest r) 65535
+    (omega (arith, c.in_ok-table-in-Lead.ensures.short)) own)
+
+pub returns-in_ok-table-in-Repeat-clause-short : goal.returns-in_ok-table-in-Repeat-clause-short
+returns-in_ok-table-in-Repeat-clause-short t c =
+    let r : Written Boolean = written_form c.deref-in-Repeat.result.now in
+    let e : written_form c.args.sequence.now ≡ repeat r c.in-Repeat.least c.in-Repeat.most =
+    ap written_form c.in-Repeat.is ∙ ap (λ q. repeat (written_form q) c.in-Repeat.least c.in-Repeat.most)
+    (sym c.deref-in-Repeat.ensures) in
+    let takes : IsTrue (weighs (repeat r c.in-Repeat.least c.in-Repeat.most)) =
+    ap weighs (sym e) ∙ sym c.is_weighty.ensures ∙ c.if-not-is_weighty.false in
+    let ordered : IsOrdered (repeat r c.in-Repeat.least c.in-Repeat.most) = subst IsOrdered e c.requires.ordered in
+    let bound : weight (repeat r c.in-Repeat.least c.in-Repeat.most) ≤ 127 =
+    subst (λ w. weight w ≤ 127) e c.requires.bound in
+    let same : repeat_data c.in_ok-table-in-Repeat.table c.in-Repeat.least c.in-Repeat.most
+    ≡ listed_for (written_form c.args.sequence.now) =
+    ap ((λ x. repeat_data x c.in-Repeat.least c.in-Repeat.most)) c.in_ok-table-in-Repeat.ensures.ok
+    ∙ sym (made-repeat r c.in-Repeat.least c.in-Repeat.most takes)
+    ∙ sym (told (written_form c.args.sequence.now) (repeat r c.in-Repeat.least c.in-Repeat.most) e) in
+    short_on c.repeat.result _ (written_form c.args.sequence.now)
+    (repeat r c.in-Repeat.least c.in-Repeat.most) e c.repeat.ensures.ok c.repeat.ensures.short same
+    (λ own. all-within (repeat r c.in-Repeat.least c.in-Repeat.most) (largest r) 65535
+    (omega (arith, c.in_ok-table-in-Repeat.ensures.short)) own)
+
+pub returns-in_ok-table-in-Throughout-clause-short : goal.returns-in_ok-table-in-Throughout-clause-short
+returns-in_ok-table-in-Throughout-clause-short t c =
+    let r : Written Boolean = written_form c.deref-in-Throughout.result.now in
+    let e : written_form c.args.sequence.now ≡ throughout c.in-Throughout.boolean r =
+    ap written_form c.in-Throughout.is ∙ ap (λ q. throughout c.in-Throughout.boolean (written_form q))
+    (sym c.deref-in-Throughout.ensures) in
+    let takes : IsTrue (weighs (throughout c.in-Throughout.boolean r)) =
+    ap weighs (sym e) ∙ sym c.is_weighty.ensures ∙ c.if-not-is_weighty.false in
+    let ordered : IsOrdered (throughout c.in-Throughout.boolean r) = subst IsOrdered e c.requires.ordered in
+    let bound : weight (throughout c.in-Throughout.boolean r) ≤ 127 = subst (λ w. weight w ≤ 127) e c.requires.bound in
+    let same : during_data c.atom_number-in-Throughout.result c.in_ok-table-in-Throughout.table
+    ≡ listed_for (written_form c.args.sequence.now) =
+    ap (λ o. during_data o c.in_ok-table-in-Throughout.table) c.atom_number-in-Throughout.ensures
+    ∙ ap (during_data (atom_of c.in-Throughout.boolean)) c.in_ok-table-in-Throughout.ensures.ok
+    ∙ sym (made-throughout c.in-Throughout.boolean r takes)
+    ∙ sym (told (written_form c.args.sequence.now) (throughout c.in-Throughout.boolean r) e) in
+    short_on c.during.result _ (written_form c.args.sequence.now)
+    (throughout c.in-Throughout.boolean r) e c.during.ensures.ok c.during.ensures.short same
+    (λ own. all-within (throughout c.in-Throughout.boolean r) (largest r) 65535
+    (omega (arith, c.in_ok-table-in-Throughout.ensures.short)) own)
+
+pub returns-in_err-front-in-Intersect-clause-err : goal.returns-in_err-front-in-Intersect-clause-err
+returns-in_err-front-in-Intersect-clause-err t c =
+    let r : Written Boolean = written_form c.deref-in-Intersect.result.now in
+    let s : Written Boolean = written_form c.in-Intersect.second.value in
+    let e : written_form c.args.sequence.now ≡ intersect r s =
+    ap written_form c.in-Intersect.is ∙ ap (λ q. intersect (written_form q) s) (sym c.deref-in-Intersect.ensures) in
+    let takes : IsTrue (weighs (intersect r s)) =
+    ap weighs (sym e) ∙ sym c.is_weighty.ensures ∙ c.if-not-is_weighty.false in
+    let ordered : IsOrdered (intersect r s) = subst IsOrdered e c.requires.ordered in
+    let bound : weight (intersect r s) ≤ 127 = subst (λ w. weight w ≤ 127) e c.requires.bound in
+    long_on _ _ _ _ c.from_residual-in_err-front-in-Intersect.ensures.1 c.in_err-front-in-Intersect.ensures.err
+    (most_as (written_form c.args.sequence.now) (intersect r s) _ e
+    (part-within (intersect r s) (max (largest r) (largest s)) (largest r) takes (omega arith)))
+
+pub returns-in_err-rest-in-Intersect-clause-err : goal.returns-in_err-rest-in-Intersect-clause-err
+returns-in_err-rest-in-Intersect-clause-err t c =
+    let r : Written Boolean = written_form c.deref-in-Intersect.result.now in
+    let s : Written Boolean = written_form c.deref-in-Intersect-2.result.now in
+    let e : written_form c.args.sequence.now ≡ intersect r s =
+    ap written_form c.in-Intersect.is ∙ ap (λ q. intersect (written_form q) (written_form c.in-Intersect.second.value))
+    (sym c.deref-in-Intersect.ensures) ∙ ap (λ q. intersect r (written_form q)) (sym c.deref-in-Intersect-2.ensures) in
+    let takes : IsTrue (weighs (intersect r s)) =
+    ap weighs (sym e) ∙ sym c.is_weighty.ensures ∙ c.if-not-is_weighty.false in
+    let ordered : IsOrdered (intersect r s) = subst IsOrdered e c.requires.ordered in
+    let bound : weight (intersect r s) ≤ 127 = subst (λ w. weight w ≤ 127) e c.requires.bound in
+    long_on _ _ _ _ c.from_residual-in_err-rest-in-Intersect.ensures.1 c.in_err-rest-in-Intersect.ensures.err
+    (most_as (written_form c.args.sequence.now) (intersect r s) _ e
+    (part-within (intersect r s) (max (largest r) (largest s)) (largest s) takes (omega arith)))
+
+pub pair-requires-clause-first_placed : goal.pair-requires-clause-first_placed
+pair-requires-clause-first_placed t c =
+    let r : Written Boolean = written_form c.deref-in-Intersect.result.now in
+    let s : Written Boolean = written_form c.deref-in-Intersect-2.result.now in
+    let e : written_form c.args.sequence.now ≡ intersect r s =
+    ap written_form c.in-Intersect.is ∙ ap (λ q. intersect (written_form q) (written_form c.in-Intersect.second.value))
+    (sym c.deref-in-Intersect.ensures) ∙ ap (λ q. intersect r (written_form q)) (sym c.deref-in-Intersect-2.ensures) in
+    let takes : IsTrue (weighs (intersect r s)) =
+    ap weighs (sym e) ∙ sym c.is_weighty.ensures ∙ c.if-not-is_weighty.false in
+    let ordered : IsOrdered (intersect r s) = subst IsOrdered e c.requires.ordered in
+    let bound : weight (intersect r s) ≤ 127 = subst (λ w. weight w ≤ 127) e c.requires.bound in
+    let sides = sides-light r s takes bound in
+    let rb : weight r ≤ 127 = sides.0 in
+    let sb : weight s ≤ 127 = sides.1 in
+    placed_as c.in_ok-front-in-Intersect.front r c.in_ok-front-in-Intersect.ensures.ok ordered.0 rb
+
+pub pair-requires-clause-second_placed : goal.pair-requires-clause-second_placed
+pair-requires-clause-second_placed t c =
+    let r : Written Boolean = written_form c.deref-in-Intersect.result.now in
+    let s : Written Boolean = written_form c.deref-in-Intersect-2.result.now in
+    let e : written_form c.args.sequence.now ≡ intersect r s =
+    ap written_form c.in-Intersect.is ∙ ap (λ q. intersect (written_form q) (written_form c.in-Intersect.second.value))
+    (sym c.deref-in-Intersect.ensures) ∙ ap (λ q. intersect r (written_form q)) (sym c.deref-in-Intersect-2.ensures) in
+    let takes : IsTrue (weighs (intersect r s)) =
+    ap weighs (sym e) ∙ sym c.is_weighty.ensures ∙ c.if-not-is_weighty.false in
+    let ordered : IsOrdered (intersect r s) = subst IsOrdered e c.requires.ordered in
+    let bound : weight (intersect r s) ≤ 127 = subst (λ w. weight w ≤ 127) e c.requires.bound in
+    let sides = sides-light r s takes bound in
+    let rb : weight r ≤ 127 = sides.0 in
+    let sb : weight s ≤ 127 = sides.1 in
+    placed_as c.in_ok-rest-in-Intersect.rest s c.in_ok-rest-in-Intersect.ensures.ok ordered.1 sb
+
+pub pair-requires-clause-few : goal.pair-requires-clause-few
+pair-requires-clause-few t c =
+    let r : Written Boolean = written_form c.deref-in-Intersect.result.now in
+    let s : Written Boolean = written_form c.deref-in-Intersect-2.result.now in
+    let e : written_form c.args.sequence.now ≡ intersect r s =
+    ap written_form c.in-Intersect.is ∙ ap (λ q. intersect (written_form q) (written_form c.in-Intersect.second.value))
+    (sym c.deref-in-Intersect.ensures) ∙ ap (λ q. intersect r (written_form q)) (sym c.deref-in-Intersect-2.ensures) in
+    let takes : IsTrue (weighs (intersect r s)) =
+    ap weighs (sym e) ∙ sym c.is_weighty.ensures ∙ c.if-not-is_weighty.false in
+    let ordered : IsOrdered (intersect r s) = subst IsOrdered e c.requires.ordered in
+    let bound : weight (intersect r s) ≤ 127 = subst (λ w. weight w ≤ 127) e c.requires.bound in
+    let long = length_as c.in_ok-front-in-Intersect.front r c.in_ok-front-in-Intersect.ensures.ok ordered.0 in
+    let more = length_as c.in_ok-rest-in-Intersect.rest s c.in_ok-rest-in-Intersect.ensures.ok ordered.1 in
+    let n : ℕ = length c.in_ok-front-in-Intersect.front.rows in
+    let m : ℕ = length c.in_ok-rest-in-Intersect.rest.rows in
+    let x : n * m ≤ weight r * m = mul-le-mul_right m long in
+    let y : weight r * m ≤ weight r * weight s = mul-le-mul_left (weight r) more in
+    omega (arith, bound, x, y)
+
+pub returns-in_ok-rest-in-Intersect-clause-ok : goal.returns-in_ok-rest-in-Intersect-clause-ok
+returns-in_ok-rest-in-Intersect-clause-ok t c =
+    let r : Written Boolean = written_form c.deref-in-Intersect.result.now in
+    let s : Written Boolean = written_form c.deref-in-Intersect-2.result.now in
+    let e : written_form c.args.sequence.now ≡ intersect r s =
+    ap written_form c.in-Intersect.is ∙ ap (λ q. intersect (written_form q) (written_form c.in-Intersect.second.value))
+    (sym c.deref-in-Intersect.ensures) ∙ ap (λ q. intersect r (written_form q)) (sym c.deref-in-Intersect-2.ensures) in
+    let takes : IsTrue (weighs (intersect r s)) =
+    ap weighs (sym e) ∙ sym c.is_weighty.ensures ∙ c.if-not-is_weighty.false in
+    let ordered : IsOrdered (intersect r s) = subst IsOrdered e c.requires.ordered in
+    let bound : weight (intersect r s) ≤ 127 = subst (λ w. weight w ≤ 127) e c.requires.bound in
+    let same : pair_data c.in_ok-front-in-Intersect.front c.in_ok-rest-in-Intersect.rest
+    ≡ listed_for (written_form c.args.sequence.now) =
+    ap (λ x. pair_data x c.in_ok-rest-in-Intersect.rest) c.in_ok-front-in-Intersect.ensures.ok
+    ∙ ap (pair_data (listed_for r)) c.in_ok-rest-in-Intersect.ensures.ok
+    ∙ sym (made-intersect r s takes) ∙ sym (told (written_form c.args.sequence.now) (intersect r s) e) in
+    ok_same c.pair.result _ _ c.pair.ensures.ok same
+
+pub returns-in_ok-rest-in-Intersect-clause-err : goal.returns-in_ok-rest-in-Intersect-clause-err
+returns-in_ok-rest-in-Intersect-clause-err t c =
+    let r : Written Boolean = written_form c.deref-in-Intersect.result.now in
+    let s : Written Boolean = written_form c.deref-in-Intersect-2.result.now in
+    let e : written_form c.args.sequence.now ≡ intersect r s =
+    ap written_form c.in-Intersect.is ∙ ap (λ q. intersect (written_form q) (written_form c.in-Intersect.second.value))
+    (sym c.deref-in-Intersect.ensures) ∙ ap (λ q. intersect r (written_form q)) (sym c.deref-in-Intersect-2.ensures) in
+    let takes : IsTrue (weighs (intersect r s)) =
+    ap weighs (sym e) ∙ sym c.is_weighty.ensures ∙ c.if-not-is_weighty.false in
+    let ordered : IsOrdered (intersect r s) = subst IsOrdered e c.requires.ordered in
+    let bound : weight (intersect r s) ≤ 127 = subst (λ w. weight w ≤ 127) e c.requires.bound in
+    let same : pair_data c.in_ok-front-in-Intersect.front c.in_ok-rest-in-Intersect.rest
+    ≡ listed_for (written_form c.args.sequence.now) =
+    ap (λ x. pair_data x c.in_ok-rest-in-Intersect.rest) c.in_ok-front-in-Intersect.ensures.ok
+    ∙ ap (pair_data (listed_for r)) c.in_ok-rest-in-Intersect.ensures.ok
+    ∙ sym (made-intersect r s takes) ∙ sym (told (written_form c.args.sequence.now) (intersect r s) e) in
+    err_more c.pair.result _ _ c.pair.ensures.err
+    (own_as (written_form c.args.sequence.now) (intersect r s) _ e same
+    (own-within (intersect r s) (max (largest r) (largest s)) takes))
+
+pub returns-in_ok-rest-in-Intersect-clause-short : goal.returns-in_ok-rest-in-Intersect-clause-short
+returns-in_ok-rest-in-Intersect-clause-short t c =
+    let r : Written Boolean = written_form c.deref-in-Intersect.result.now in
+    let s : Written Boolean = written_form c.deref-in-Intersect-2.result.now in
+    let e : written_form c.args.sequence.now ≡ intersect r s =
+    ap written_form c.in-Intersect.is ∙ ap (λ q. intersect (written_form q) (written_form c.in-Intersect.second.value))
+    (sym c.deref-in-Intersect.ensures) ∙ ap (λ q. intersect r (written_form q)) (sym c.deref-in-Intersect-2.ensures) in
+    let takes : IsTrue (weighs (intersect r s)) =
+    ap weighs (sym e) ∙ sym c.is_weighty.ensures ∙ c.if-not-is_weighty.false in
+    let ordered : IsOrdered (intersect r s) = subst IsOrdered e c.requires.ordered in
+    let bound : weight (intersect r s) ≤ 127 = subst (λ w. weight w ≤ 127) e c.requires.bound in
+    let same : pair_data c.in_ok-front-in-Intersect.front c.in_ok-rest-in-Intersect.rest
+    ≡ listed_for (written_form c.args.sequence.now) =
+    ap (λ x. pair_data x c.in_ok-rest-in-Intersect.rest) c.in_ok-front-in-Intersect.ensures.ok
+    ∙ ap (pair_data (listed_for r)) c.in_ok-rest-in-Intersect.ensures.ok
+    ∙ sym (made-intersect r s takes) ∙ sym (told (written_form c.args.sequence.now) (intersect r s) e) in
+    short_on c.pair.result _ (written_form c.args.sequence.now)
+    (intersect r s) e c.pair.ensures.ok c.pair.ensures.short same
+    (λ own. all-within (intersect r s) (max (largest r) (largest s)) 65535
+    (omega (arith, c.in_ok-front-in-Intersect.ensures.short, c.in_ok-rest-in-Intersect.ensures.short)) own)
+
+-- nothing is made from what weighs nothing
+still-largest : (w : Written Boolean) → weighs w ≡ false → largest w ≤ 65535
+still-largest (boolean b) quiet = cc
+still-largest (delay r least most s) quiet =
+    none-within (delay r least most s) (max (largest r) (largest s)) quiet
+still-largest (lead least most s) quiet = none-within (lead least most s) (largest s) quiet
+still-largest (repeat r least most) quiet = none-within (repeat r least most) (largest r) quiet
+still-largest (or r s) quiet = none-within (or r s) (max (largest r) (largest s)) quiet
+still-largest (and r s) quiet = none-within (and r s) (max (largest r) (largest s)) quiet
+still-largest (intersect r s) quiet = none-within (intersect r s) (max (largest r) (largest s)) quiet
+still-largest (throughout b r) quiet = none-within (throughout b r) (largest r) quiet
+
+pub returns-then-not-is_weighty-clause-short : goal.returns-then-not-is_weighty-clause-short
+returns-then-not-is_weighty-clause-short t c =
+    still-largest (written_form c.args.sequence.now) (sym c.is_weighty.ensures ∙ c.if-not-is_weighty.true)

@@ -12,6 +12,8 @@ returns-in-Some-clause-err c = λ s items clear sides consequents.
 pub returns-in-Some-first_degenerate-clause-err : goal.returns-in-Some-first_degenerate-clause-err
 returns-in-Some-first_degenerate-clause-err c = λ s items clear sides consequents.
     first_8 s items c.args.sides.now sides c.in-Some-first_degenerate.at
+    (all_light c.args.sides.now
+    (nowhere (places_where is_wide c.args.sides.now) (sym c.first_wide.ensures ∙ c.in_default.is)))
     (clear_7 s items c.args.sides.now sides clear (sym c.first_wide.ensures ∙ c.in_default.is))
     (sym c.first_degenerate.ensures ∙ c.in-Some-first_degenerate.is)
 
@@ -19,6 +21,8 @@ pub returns-in-Some-first_empty-clause-err : goal.returns-in-Some-first_empty-cl
 returns-in-Some-first_empty-clause-err c = λ s items clear sides consequents.
     first_9 s items c.args.consequents.now consequents c.in-Some-first_empty.at
     (clear_8 s items c.args.sides.now sides
+    (all_light c.args.sides.now
+    (nowhere (places_where is_wide c.args.sides.now) (sym c.first_wide.ensures ∙ c.in_default.is)))
     (clear_7 s items c.args.sides.now sides clear (sym c.first_wide.ensures ∙ c.in_default.is))
     (sym c.first_degenerate.ensures ∙ c.in_default-first_degenerate.is))
     (sym c.first_empty.ensures ∙ c.in-Some-first_empty.is)
@@ -28,6 +32,8 @@ returns-clause-ok c = λ s items clear sides consequents.
     clear_all s items
     (clear_9 s items c.args.consequents.now consequents
     (clear_8 s items c.args.sides.now sides
+    (all_light c.args.sides.now
+    (nowhere (places_where is_wide c.args.sides.now) (sym c.first_wide.ensures ∙ c.in_default.is)))
     (clear_7 s items c.args.sides.now sides clear (sym c.first_wide.ensures ∙ c.in_default.is))
     (sym c.first_degenerate.ensures ∙ c.in_default-first_degenerate.is))
     (sym c.first_empty.ensures ∙ c.in_default-first_empty.is))

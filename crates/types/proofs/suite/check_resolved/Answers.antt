@@ -4,8 +4,3 @@ use Rattle.types.proofs.suite.check_resolved.Goals as goal
 pub returns-in_err-sides-clause-err : goal.returns-in_err-sides-clause-err
 returns-in_err-sides-clause-err c =
     λ s items clear sides consequents. refused_memory s items c.from_residual.result c.from_residual.ensures.1
-
-pub returns-in_err-consequents-clause-err : goal.returns-in_err-consequents-clause-err
-returns-in_err-consequents-clause-err c =
-    λ s items clear sides consequents. refused_memory s items c.from_residual-in_err-consequents.result
-    c.from_residual-in_err-consequents.ensures.1

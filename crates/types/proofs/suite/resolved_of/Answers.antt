@@ -8,7 +8,7 @@ use Rattle.types_suites.specs.Readings.{outlines_of}
 use Rattle.types_suites.specs.Faults.{sides_of, consequents_of}
 use Rattle.types_suites.specs.Texts.{declarations_of, assertions_of}
 use Rattle.types_suites.proofs.BodyLaws.{outlined, bodies_stay}
-use Rattle.types.proofs.WeighLaws.{sides_weighed, consequents_weighed, sides_fit}
+use Rattle.types.proofs.WeighLaws.{sides_weighed, consequents_weighed, sides_fit, sides_known}
 use Rattle.types.proofs.StageLaws.{clear_sound, refused_memory, refused_same}
 use Rattle.types.proofs.suite.resolved_of.Goals as goal
 
@@ -31,6 +31,14 @@ all_resolved-requires-clause-listed c =
 pub all_resolved-requires-clause-declared : goal.all_resolved-requires-clause-declared
 all_resolved-requires-clause-declared c =
     λ t p h. omega (arith, c.requires.declared t p h, c.in_ok-table.ensures.long, ap length c.as_slice.ensures.value)
+
+pub check_resolved-requires : goal.check_resolved-requires
+check_resolved-requires c =
+    let h = c.in_ok-table.ensures.bodies in
+    rw c.as_slice-2.ensures.value
+    (sides_known (scope_of c.args.scope.now) (columns_in c.args.columns.now) c.all_resolved.new.booleans.items h.bodies
+    (assertions_of (map item_of c.args.items.now)) c.in_ok-resolved.resolved.items 0
+    (c.in_ok-resolved.ensures.resolved h.bodies (rw c.as_slice.ensures.value h.entries)))
 
 pub returns-in_err-resolved-clause-refused : goal.returns-in_err-resolved-clause-refused
 returns-in_err-resolved-clause-refused c =

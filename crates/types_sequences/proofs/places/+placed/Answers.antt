@@ -1,6 +1,7 @@
 use Rattle.assertions.specs.Shapes.{written_form}
 use Rattle.types_sequences.specs.Placed.{ArePlaced}
 use Rattle.types_sequences.proofs.PlacedLaws.{in_box, are_boolean, are_lead, are_repeat, are_delay, are_or, are_and}
+use Rattle.types_sequences.proofs.PlacedLaws.{are_intersect}
 use Rattle.types_sequences.proofs.PlacedLaws.{are_throughout}
 use Rattle.types_sequences.proofs.places.+placed.Goals as goal
 
@@ -72,6 +73,21 @@ returns-in_ok-second-in-And t c =
     (written_form c.in_ok-first-in-And.first.value) (written_form c.in_ok-second-in-And.second.value)
     first second))
     c.boxed-in-And.ensures
+
+pub returns-in_ok-second-in-Intersect : goal.returns-in_ok-second-in-Intersect
+returns-in_ok-second-in-Intersect t c =
+    let first = rw c.deref-in-Intersect.ensures at c.in_ok-first-in-Intersect.ensures in
+    let second = rw c.deref-in-Intersect-2.ensures at c.in_ok-second-in-Intersect.ensures in
+    in_box c.boxed-in-Intersect.result _
+    (λ u. ArePlaced c.args.places.now.items c.placed-in-Intersect-2.new.places.items
+    (written_form c.args.sequence.now) u)
+    (rw c.in-Intersect.is
+    (are_intersect c.args.places.now.items c.placed-in-Intersect.new.places.items
+    c.placed-in-Intersect-2.new.places.items
+    (written_form c.in-Intersect.first.value) (written_form c.in-Intersect.second.value)
+    (written_form c.in_ok-first-in-Intersect.first.value) (written_form c.in_ok-second-in-Intersect.second.value)
+    first second))
+    c.boxed-in-Intersect.ensures
 
 pub returns-in_ok-body-in-Throughout : goal.returns-in_ok-body-in-Throughout
 returns-in_ok-body-in-Throughout t c =

@@ -2,7 +2,8 @@ use Rattle.assertions.specs.declared.sequence.Boolean.TheVariants.{Listed}
 use Rattle.types_sequences.specs.Drafts.{uses}
 use Rattle.types_sequences.specs.Views.{draft_of}
 use Rattle.types_sequences.proofs.LackLaws.{lacks_first, lacks_second}
-use Rattle.types_sequences.proofs.SpellLaws.{has_delay, has_lead, has_repeat, has_or, has_and, has_throughout}
+use Rattle.types_sequences.proofs.SpellLaws.{has_delay, has_lead, has_repeat, has_or, has_and, has_intersect}
+use Rattle.types_sequences.proofs.SpellLaws.{has_throughout}
 use Rattle.types_sequences.proofs.table.+entry_of.Goals as goal
 
 pub returns-in_default-clause-lacking : goal.returns-in_default-clause-lacking
@@ -90,3 +91,27 @@ returns-in_ok-throughout-in-Throughout-clause-entry t c = λ bodies table.
     c.in-Some-9.body c.in_ok-throughout-in-Throughout.field-0
     ((rw (c.in-Some-9.is, c.deref-in-Throughout.ensures) at c.in_ok-body-in-Throughout.ensures.entry) bodies table)
     c.in_ok-throughout-in-Throughout.ensures)
+
+pub returns-in_default-10-clause-lacking : goal.returns-in_default-10-clause-lacking
+returns-in_default-10-clause-lacking t c =
+    rw c.in-Intersect.is
+    (lacks_first c.args.table.now (uses (draft_of c.in-Intersect.first.value))
+    (uses (draft_of c.in-Intersect.second.value))
+    (rw (c.in_default-10.is, c.deref-in-Intersect.ensures) at c.in_ok-first-in-Intersect.ensures.lacking))
+
+pub returns-in_default-11-clause-lacking : goal.returns-in_default-11-clause-lacking
+returns-in_default-11-clause-lacking t c =
+    rw c.in-Intersect.is
+    (lacks_second c.args.table.now (uses (draft_of c.in-Intersect.first.value))
+    (uses (draft_of c.in-Intersect.second.value))
+    (rw (c.in_default-11.is, c.deref-in-Intersect-2.ensures) at c.in_ok-second-in-Intersect.ensures.lacking))
+
+pub returns-in_ok-intersect-in-Intersect-clause-entry : goal.returns-in_ok-intersect-in-Intersect-clause-entry
+returns-in_ok-intersect-in-Intersect-clause-entry t c = λ bodies table.
+    rw c.in-Intersect.is
+    (has_intersect bodies (draft_of c.in-Intersect.first.value)
+    (draft_of c.in-Intersect.second.value) c.in-Some-10.first
+    c.in-Some-11.second c.in_ok-intersect-in-Intersect.field-0
+    ((rw (c.in-Some-10.is, c.deref-in-Intersect.ensures) at c.in_ok-first-in-Intersect.ensures.entry) bodies table)
+    ((rw (c.in-Some-11.is, c.deref-in-Intersect-2.ensures) at c.in_ok-second-in-Intersect.ensures.entry) bodies table)
+    c.in_ok-intersect-in-Intersect.ensures)

@@ -1,5 +1,5 @@
 use Rattle.std.proofs.Common.{◌≡◌, map, take}
-use Rattle.positions.specs.Rows.{with_edges, pair_row}
+use Rattle.positions.specs.Rows.{with_edges, joint_row}
 use Rattle.positions.specs.Views.{edge_data}
 use Rattle.positions.proofs.pairing.Pairing.put_row.Given as goal
 
@@ -7,4 +7,5 @@ abbrev pub invariant-loop-edge : goal.invariant-loop-edge
 invariant-loop-edge l =
     l.draft
     ≡ with_edges l.fn.draft
-    (pair_row l.self.first l.self.second (map edge_data (take l.edge-index l.edges)) (map edge_data l.row))
+    (joint_row l.self.alone l.self.first l.self.second (map edge_data (take l.edge-index l.edges))
+    (map edge_data l.row))

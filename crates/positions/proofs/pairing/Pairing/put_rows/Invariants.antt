@@ -1,5 +1,5 @@
 use Rattle.std.proofs.Common.{◌≡◌, map, take}
-use Rattle.positions.specs.Rows.{with_rows, pair_row}
+use Rattle.positions.specs.Rows.{with_rows, joint_row}
 use Rattle.positions.specs.Views.{edge_data, rows_data}
 use Rattle.positions.proofs.pairing.Pairing.put_rows.Given as goal
 
@@ -7,4 +7,5 @@ abbrev pub invariant-loop-row : goal.invariant-loop-row
 invariant-loop-row l =
     l.draft
     ≡ with_rows l.fn.draft
-    (map (pair_row l.self.first l.self.second (map edge_data l.edges)) (rows_data (take l.row-index l.rows)))
+    (map (joint_row l.self.alone l.self.first l.self.second (map edge_data l.edges))
+    (rows_data (take l.row-index l.rows)))

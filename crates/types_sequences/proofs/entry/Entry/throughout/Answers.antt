@@ -8,6 +8,6 @@ returns c =
     ok_map c.entry_with.result _ _
     (λ e p w y.
     p (throughout (Listed c.args.place) w) y.ordered
-    (record { weighs = y.facts.weighs; empty = y.facts.empty; ticks = y.facts.ticks })
+    (record { weighs = y.facts.weighs; empty = y.facts.empty })
     (λ some most. c.in_ok-sequence.ensures w (y.same most)))
     c.entry_with.ensures
