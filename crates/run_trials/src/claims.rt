@@ -1,1 +1,130 @@
 //! Claims from a bench, and one worker's round.
+
+ghost use Rattle.std.specs.Prelude.{◌≡◌};
+ghost use Rattle.tally.specs.Blanks.{HaveParts, AreOf};
+
+use crate::job::job_of;
+use crate::tests::{OVERLAPPED, THREE, TWO_POSITIONS};
+use bench::{Bench, Numbered};
+use board::Board;
+use rounds::round::put_all;
+use rounds::work::work;
+use std::alloc::{AllocError, Global};
+use std::marker::Brand;
+use std::sync::Wait;
+use std::test::Fail;
+use tally::{Blanks, Tally, Tallying};
+use threaded_runs::{NoGate, first_monitors};
+use workers::{Job, window_of};
+
+/// The numbers that claims answered, and how many monitors the bench held at the end.
+#[derive(Drop)]
+struct Claims {
+    numbers: Vec<Option<usize>>,
+    rest: usize,
+}
+
+/// The number of a claimed monitor.
+fn number_of(claimed: &Option<Numbered>) -> Option<usize> {
+    match claimed {
+        Some(monitor) => Some(monitor.number),
+        None => None,
+    }
+}
+
+/// Four claims from a bench with all monitors of a job.
+fn claims_of(rt: &impl Wait, alloc: Global, job: &Job) -> Result<Claims, AllocError> {
+    let monitors = first_monitors(alloc, job)?;
+    let (bench, pass, mut passes) = Bench::new(alloc, job, 0, monitors.len(), 1)?;
+    let mut numbers = Vec::new(alloc);
+    let pass = put_all(rt, &bench, pass, monitors);
+    let Some(mut taking) = passes.pop() else {
+        unreachable!()
+    };
+    for _claim in 0..4 {
+        let (back, claimed) = bench.claim(rt, taking);
+        taking = back;
+        numbers.push(number_of(&claimed))?;
+    }
+    passes.push(taking)?;
+    let rest = bench.finish(rt, pass, passes);
+    Ok(Claims {
+        numbers,
+        rest: rest.len(),
+    })
+}
+
+/// A bench gives its monitors in the order in which they were put, and then none, and holds none.
+#[test]
+fn claims_in_order(rt: HostRuntime) -> Result<(), Fail> {
+    let codes = [OVERLAPPED, TWO_POSITIONS, OVERLAPPED];
+    let job = job_of(rt.alloc(), THREE, codes.as_slice())?;
+    let claims = claims_of(&rt, rt.alloc(), &job)?;
+    let wanted = [Some(0), Some(1), Some(2), None];
+    assert!(rt; claims.numbers.as_slice() == wanted.as_slice());
+    assert!(rt; claims.rest == 0);
+    Ok(())
+}
+
+/// What a worker's round came to: its claims, how many monitors it published, and how many the bench
+/// held at the end.
+#[derive(Clone, Copy, PartialEq, Eq)]
+struct Alone {
+    claims: u64,
+    published: usize,
+    rest: usize,
+}
+
+/// The round of one worker, through the empty window before the first clock.
+fn round_alone<L: Tallying>(
+    rt: &impl Wait,
+    alloc: Global,
+    job: &Job,
+    blanks: Blanks,
+) -> Result<Alone, AllocError>
+    requires shares { L.shares ≡ 1 }
+    requires parts { HaveParts 1 blanks }
+    requires names { AreOf L.holds L.vacuous L.fails L.disabled blanks }
+{
+    let Ok(window) = window_of(alloc, job, 1024) else {
+        return Err(AllocError);
+    };
+    let board = Board::new(alloc)?;
+    let (tally, mut shares) = Tally::<L>::new(alloc, blanks, 1)?;
+    let monitors = first_monitors(alloc, job)?;
+    let (bench, pass, mut passes) = Bench::new(alloc, job, 0, monitors.len(), 1)?;
+    let pass = put_all(rt, &bench, pass, monitors);
+    let Some(taking) = passes.pop() else {
+        unreachable!()
+    };
+    let Some(share) = shares.pop() else {
+        unreachable!()
+    };
+    let worked = work(
+        rt, alloc, &bench, taking, share, &window, &board, &tally, &NoGate, 0, 0,
+    );
+    let claims = worked.claims;
+    let published = worked.published.len();
+    passes.push(worked.pass)?;
+    let rest = bench.finish(rt, pass, passes);
+    Ok(Alone {
+        claims,
+        published,
+        rest: rest.len(),
+    })
+}
+
+/// A worker claims until the bench is empty.
+#[test]
+fn worker_leaves_none(rt: HostRuntime) -> Result<(), Fail> {
+    let codes = [OVERLAPPED, TWO_POSITIONS, OVERLAPPED];
+    let job = job_of(rt.alloc(), THREE, codes.as_slice())?;
+    let alone = round_alone::<Brand>(&rt, rt.alloc(), &job, Blanks::new(1))?;
+    let wanted = Alone {
+        claims: 3,
+        published: 3,
+        rest: 0,
+    };
+    assert!(rt; alone == wanted);
+    Ok(())
+}
