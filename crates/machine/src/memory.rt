@@ -76,12 +76,13 @@ impl Memory {
         let atoms = Vec::from_elem(alloc, false, program.atoms as usize)?;
         let counters = Vec::from_elem(alloc, 0u128, program.counters.len())?;
         let live = live_at_first(alloc, program)?;
+        let stack = Stack::new(alloc)?;
         Ok(Memory {
             bases,
             frame,
             history,
             row,
-            stack: Stack::new(),
+            stack,
             atoms,
             counters,
             live,

@@ -1,37 +1,40 @@
 //! Operands of sample code.
 
-ghost use Rattle.std.specs.Prelude.{◌≡◌, ◌<◌, [], ◌∷◌, length};
+ghost use Rattle.std.specs.Prelude.{◌≡◌, ◌<◌, [], ◌∷◌, length, IfOk};
 
 use signals::Bits;
+use std::alloc::{AllocError, Global};
 use std::marker::Model;
 
-/// A stack of at most 1,024 operands: to its users the list of them, the top first.
+/// The most operands.
+const MOST: usize = 1024;
+
+/// A stack of at most 1,024 operands: to its users the list of them, the top first. Its places lie in
+/// a block of their own, so that a machine is small and cheap to move.
 #[derive(Drop)]
 pub struct Stack {
-    places: [Bits; 1024],
+    places: Vec<Bits>,
     depth: usize,
 }
 
 impl Model for Stack {
-    ghost use Rattle.std.specs.Prelude.{◌≤◌, List, reverse, take};
+    ghost use Rattle.std.specs.Prelude.{◌≡◌, ◌≤◌, List, length, reverse, take};
     ghost use Rattle.signals.specs.declared.bits.Bits.{Bits};
 
     ghost Value = { List Bits };
 
-    ghost view = { λ s. reverse (take s.depth s.places) };
+    ghost view = { λ s. reverse (take s.depth s.places.items) };
 
-    ghost invariant = { λ s. s.depth ≤ 1024 };
+    ghost invariant = { λ s. (s.depth ≤ 1024) × (length s.places.items ≡ 1024) };
 }
 
 impl Stack {
-    /// No operand.
-    pub fn new() -> Self
-        ensures { result ≡ [] }
+    /// No operand. Takes the memory for all; no other call takes any.
+    pub fn new(alloc: Global) -> Result<Stack, AllocError>
+        ensures { IfOk result (λ stack. stack ≡ []) }
     {
-        Stack {
-            places: [Bits { width: 1, value: 0 }; 1024],
-            depth: 0,
-        }
+        let places = Vec::from_elem(alloc, Bits { width: 1, value: 0 }, MOST)?;
+        Ok(Stack { places, depth: 0 })
     }
 
     /// Takes all operands off.

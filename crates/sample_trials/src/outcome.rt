@@ -118,7 +118,7 @@ fn run_over_rows(alloc: Global, program: &Program) -> Result<Option<Outcome>, Al
     if program.atoms != 1 || !fits(program.counters.as_slice(), &counters) {
         return Ok(None);
     }
-    let mut stack = Stack::new();
+    let mut stack = Stack::new(alloc)?;
     let ticks = run(
         program,
         widths,

@@ -1,5 +1,6 @@
 pub mod PlaceLaws
 pub mod FloorLaws
+pub mod OrderLaws
 pub mod RunLaws
 pub mod ToldLaws
 pub mod JobLaws

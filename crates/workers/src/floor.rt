@@ -19,6 +19,7 @@ use crate::worker::{Worker, put_down};
 use batches::Batch;
 use cycle_window::{Clocks, Window};
 use std::alloc::{AllocError, Global};
+use std::collections::VecDeque;
 use vcd_reader::Dump;
 
 /// The window, the monitors, who has which, and the board.
@@ -28,7 +29,7 @@ pub(crate) struct Floor<'j> {
     /// In source order: a monitor's number is its place here.
     pub(crate) monitors: Vec<Monitor>,
     /// The numbers of those that wait, front first.
-    pub(crate) waiting: Vec<usize>,
+    pub(crate) waiting: VecDeque<usize>,
     pub(crate) workers: Vec<Worker>,
     pub(crate) board: Vec<Batch>,
 }
@@ -55,7 +56,7 @@ impl<'j> Floor<'j> {
         Ok(Floor {
             window,
             monitors,
-            waiting,
+            waiting: VecDeque::from(waiting),
             workers,
             board: Vec::new(alloc),
         })
@@ -79,7 +80,7 @@ impl<'j> Floor<'j> {
             return Reply::Refused;
         }
         self.workers[worker].hand = Some(front);
-        self.waiting.remove(0);
+        self.waiting.pop_front();
         Reply::Done
     }
 
@@ -159,7 +160,7 @@ impl<'j> Floor<'j> {
         match numbers_of(alloc, self.workers.as_slice()) {
             Err(_) => Reply::Memory,
             Ok(all) => {
-                self.waiting = all;
+                self.waiting = VecDeque::from(all);
                 empty_done(self.workers.as_mut_slice());
                 Reply::Done
             }

@@ -18,11 +18,7 @@ use std::alloc::{AllocError, Global};
 use verifier::Verified;
 
 /// An empty window before the first clock, over the rows of all programs' signals.
-pub fn window_of<'j>(
-    alloc: Global,
-    job: &'j Job,
-    size: usize,
-) -> Result<Window<'j>, WindowFault>
+pub fn window_of<'j>(alloc: Global, job: &'j Job, size: usize) -> Result<Window<'j>, WindowFault>
     ensures { IfOk result (IsFirstWindow job.now size) }
 {
     let signals = signals_of(alloc, job.programs.as_slice())?;

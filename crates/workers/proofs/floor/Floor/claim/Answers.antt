@@ -44,10 +44,10 @@ returns-clause-reply c =
     ≡ done_of (slice_get (map worker_state ws) c.args.worker) =
     ap (λ x. x.done.items) c.index_mut.ensures.value
     ∙ laws.done-is ws c.args.worker c.index_mut.result.now free in
-    laws.claimed (core_state f) c.args.worker front c.remove.new.self.items _
+    laws.claimed (core_state f) c.args.worker front c.pop_front.new.self.items _
     (laws.head-first f.waiting.items front some
     ∙ ap (λ (x : ℕ). x ∷ drop 1 f.waiting.items) (sym c.index-front.ensures)
-    ∙ ap (λ (xs : List ℕ). front ∷ xs) (sym c.remove.ensures.items))
+    ∙ ap (λ (xs : List ℕ). front ∷ xs) (sym c.pop_front.ensures.rest))
     free below
     (map-set worker_state ws c.args.worker
     (record { hand = Some front; done = c.index_mut.result.now.done })

@@ -13,7 +13,7 @@ returns c = record {
       (c.in_ok-monitors.ensures.opened ∙ ap (map opened_monitor) programs)
       (c.in_ok-monitors.ensures.parts ∙ ap (parts_from 0) programs)
       c.in_ok-monitors.ensures.new
-      (c.in_ok-waiting.ensures ∙ ap (range_with_len 0) (c.len.ensures ∙ ms.ok.0))
+      (c.from.ensures.0 ∙ c.in_ok-waiting.ensures ∙ ap (range_with_len 0) (c.len.ensures ∙ ms.ok.0))
       c.in_ok-workers.ensures
       c.new.ensures.items;
 }
