@@ -19,9 +19,10 @@
 //!
 //! The definitions: `specs/Plans.antt` (what positions are made from), `specs/States.antt` (what
 //! the positions of a plan mean), `specs/Tables.antt` and `specs/Rows.antt` (tables),
-//! `specs/Living.antt` (what is kept), `specs/Sections.antt` (their code), `specs/Sequences.antt` (the atoms), `specs/Laws.antt` (that
-//! the section follows the sequence: it accepts exactly where a match ends, and no position is left
-//! exactly where no longer match is possible; that it is well formed; that it is small).
+//! `specs/Living.antt` (what is kept), `specs/Sections.antt` (their code), `specs/Sequences.antt`
+//! (the atoms), `specs/Laws.antt` (that the section follows the sequence: it accepts exactly where
+//! a match ends, and no position is left exactly where no longer match is possible; that it is well
+//! formed; that it is small).
 //!
 //! Not promised: the fewest positions or instructions; how long the section of a sequence is that
 //! has `and`, `intersect`, or a delay between two parts that may be 0.
