@@ -12,7 +12,8 @@ pub enum CompileFault {
     /// K1: it has over 127 booleans, its disabling expression among them.
     #[error("K1 TooManyAtoms")]
     TooManyAtoms,
-    /// K2: its sample code or the code of a side would have over 4,096 instructions.
+    /// K2: its sample code or the code of a side would have over 4,096 instructions, or a table on
+    /// the way to that of a side over 65,535.
     #[error("K2 CodeTooLong")]
     CodeTooLong,
     /// K3: it reads so many signals and counters that its program would have over 256 slots.

@@ -6,8 +6,8 @@ use thiserror::Error;
 /// Why a sequence has no section.
 #[derive(Debug, PartialEq, Eq, Clone, Copy, Error)]
 pub enum SectionFault {
-    /// Its code would have more than 4,096 instructions.
-    #[error("the code of the sequence would have more than 4,096 instructions")]
+    /// Its code would have more than 4,096 instructions, or a table on the way more than 65,535.
+    #[error("the code of the sequence would be too long")]
     TooLong,
     /// Memory ran out.
     #[error("out of memory")]

@@ -11,18 +11,21 @@
 //!
 //! A position stands for what an attempt waits for at a tick. It has edges: where each atom that an
 //! edge wants is 1, it enters other positions for the next tick, and accepts or not. A table of
-//! positions is made form by form of the sequence (`table_of`), and written down as one block for
-//! each position (`blocks_for`). Making it stops at 4,096 instructions: `positions_of` answers
-//! `TooLong` only where there would be more, and `Memory` where memory ran out.
+//! positions is made form by form of the sequence (`table_of`), those positions are kept that
+//! something leads to and that may still come to an end (`sift`), and each of these is written down
+//! as one block (`blocks_for`). A table may make up 65,535 instructions, and a section has at most
+//! 4,096: `positions_of` answers `TooLong` only where there would be more, and `Memory` where
+//! memory ran out.
 //!
 //! The definitions: `specs/Plans.antt` (what positions are made from), `specs/States.antt` (what
 //! the positions of a plan mean), `specs/Tables.antt` and `specs/Rows.antt` (tables),
-//! `specs/Sections.antt` (their code), `specs/Sequences.antt` (the atoms), `specs/Laws.antt` (that
-//! the section follows the sequence: it accepts exactly where a match ends, and no position is left
-//! exactly where no longer match is possible; that it is well formed; that it is small).
+//! `specs/Living.antt` (what is kept), `specs/Sections.antt` (their code), `specs/Sequences.antt`
+//! (the atoms), `specs/Laws.antt` (that the section follows the sequence: it accepts exactly where
+//! a match ends, and no position is left exactly where no longer match is possible; that it is well
+//! formed; that it is small).
 //!
 //! Not promised: the fewest positions or instructions; how long the section of a sequence is that
-//! has `and`, or a delay between two parts that may be 0.
+//! has `and`, `intersect`, or a delay between two parts that may be 0.
 #![tactic(auto)]
 
 mod block;

@@ -4,7 +4,6 @@ ghost use Rattle.std.specs.Prelude.{◌≡◌, ℕ, ◌++◌, length, map, OnOk,
 ghost use Rattle.std.specs.List.{flat_map};
 ghost use Rattle.positions.specs.Living.{is_among, led_to};
 ghost use Rattle.positions.specs.Rows.{row_at, marked, kept_in};
-ghost use Rattle.positions.specs.Tables.{Edge as edge};
 ghost use Rattle.positions.specs.Views.{edge_data, rows_data};
 
 use crate::edge::Edge;
