@@ -9,8 +9,8 @@ Drawn are: each form of sequence; the operators and functions of expressions, an
 them, and now and then where it doesn't; zeros of a dump written as 0, x or z; changes before the edge and in its step; changes left out where
 the value stays; pulses between the steps; a clock that falls to x or z, or is 1 at first; two names of one variable, in other scopes. Not drawn are
 $dumpoff, faults but Y5, Y6 and Y9, and traces of more than 20 clocks. It stops at the first case whose report, refusal or status differs,
-or that takes over a minute, and leaves its files in the working folder. A case that `check` doesn't compile (K2), through
-either window, is compared by `judge` alone, and counted; more than one in a thousand is told as a difference.
+or that takes over a minute, and leaves its files in the working folder. A case that `check` doesn't compile (K2), by
+any team, is compared by `judge` alone, and counted; more than one in a thousand is told as a difference.
 """
 import pathlib
 import re
@@ -24,6 +24,8 @@ HEAVIEST = 127
 MARK = '`'
 SECONDS = 60
 TOO_LONG = ('', 'svamon: K2 CodeTooLong\n', 2)
+# Each case is checked by each of these teams, through each of these windows.
+TEAMS = [('check', '--workers', workers, '--window', window) for workers in ('1', '2', '4', '64') for window in ('1', '3', '1024')]
 draw = values.draw
 
 
@@ -397,7 +399,7 @@ def main():
         text_file.write_text(text)
         report_file.write_text(report)
         answers = {}
-        for command in (('check',), ('check', '--window', '3'), ('judge',)):
+        for command in (*TEAMS, ('judge',)):
             words = [program, *command, '--vcd', str(dump_file), '--sva', str(text_file)]
             try:
                 ran = subprocess.run(words, capture_output=True, text=True, timeout=SECONDS)

@@ -2,7 +2,7 @@
 """Whether `check` and `judge` write the same: scripts/same_reports.py SVAMON
 
 Over each example, and each text of oracle_suites and of oracle_texts over a dump of random values of all the names in them, it compares what
-`svamon check` writes through windows of 1, 7, 1,000 and 65,536 clocks, and its status, with what `svamon judge` writes. A text that
+`svamon check` writes by 1, 4, 2 and 64 workers through windows of 1, 7, 1,000 and 65,536 clocks, and its status, with what `svamon judge` writes. A text that
 `check` can't compile (K1 to K4), or on which the slow `judge` takes over ten seconds, is counted apart.
 """
 import os
@@ -31,12 +31,12 @@ def compare(svamon, vcd, text, *more):
     judged = run([svamon, "judge", *files])
     if judged is None:
         return None
-    for window in ("1", "7", "1000", "65536"):
-        checked = run([svamon, "check", *files, "--window", window])
+    for workers, window in ("1", "1"), ("4", "7"), ("2", "1000"), ("64", "65536"):
+        checked = run([svamon, "check", *files, "--workers", workers, "--window", window])
         if checked and checked[2].startswith("svamon: K"):
             return None
         if checked != judged:
-            sys.exit(f"same_reports: {' '.join(files)}, window {window}: {checked} and {judged}")
+            sys.exit(f"same_reports: {' '.join(files)}, workers {workers}, window {window}: {checked} and {judged}")
     return judged[0] in (0, 1)
 
 
