@@ -63,7 +63,16 @@ fn report_of_a_program(rt: HostRuntime) -> Result<(), Fail> {
     let mut source = Counted::new(DUMP.as_bytes());
     let mut out = Counted::new(CutWriter::new(rt.alloc(), 1000)?);
     let code = PROGRAM.as_slice();
-    let answer = run_code(&rt, rt.alloc(), &mut source, code, 4, 1024, &NoGate, &mut out);
+    let answer = run_code(
+        &rt,
+        rt.alloc(),
+        &mut source,
+        code,
+        4,
+        1024,
+        &NoGate,
+        &mut out,
+    );
     let told = told(rt.alloc(), answer)?;
     assert!(rt; told.totals == Some([0, 0, 1, 0, 0]));
     assert!(rt; out.inner.as_slice() == REPORT);

@@ -70,7 +70,8 @@ over_rows c suite signals code ticks n ls r are many is h = record {
 }
 
 -- the report by several workers
-pub team_rows : (suite : Suite) (rows : List (List ℕ)) (r : ReportData) → IsReportOf suite rows r → OverRows suite rows r
+pub team_rows : (suite : Suite) (rows : List (List ℕ)) (r : ReportData) → IsReportOf suite rows r
+    → OverRows suite rows r
 team_rows suite rows r of = record {
   lines = r.lines;
   judged = lines_kept suite rows suite.assertions.items r.lines of.lines;

@@ -59,13 +59,7 @@ pub fn check_one<'a, S: Source, W: Sink>(
 ///
 /// Those of [`check_one`], and U1 where `workers` is out of its range, which is tested after C3 and
 /// before anything is read.
-pub fn check_all<
-    'a,
-    S: Source,
-    W: Sink,
-    G: Gate + Sync,
-    R: Threads + Wait + Sync,
->(
+pub fn check_all<'a, S: Source, W: Sink, G: Gate + Sync, R: Threads + Wait + Sync>(
     rt: &R,
     alloc: Global,
     source: &mut S,

@@ -35,11 +35,7 @@ struct TimedSuite {
 }
 
 /// The suite that a text says over a dump, and the ticks of its clock there.
-fn timed_suite<'a>(
-    alloc: Global,
-    dump: &Dump,
-    text: &'a str,
-) -> Result<TimedSuite, Fault<'a>>
+fn timed_suite<'a>(alloc: Global, dump: &Dump, text: &'a str) -> Result<TimedSuite, Fault<'a>>
     requires held { (c : Contents) × HoldsContents dump.now c }
     ensures says { (c : Contents) → HoldsContents dump.now c
         → IfOk result (λ t. SaysSuite c text.entry.now t.suite) }
@@ -134,13 +130,7 @@ pub(crate) fn check_through<'a, S: Source, W: Sink>(
 }
 
 /// The same by 1 to 64 workers.
-pub(crate) fn check_by_team<
-    'a,
-    S: Source,
-    W: Sink,
-    G: Gate + Sync,
-    R: Threads + Wait + Sync,
->(
+pub(crate) fn check_by_team<'a, S: Source, W: Sink, G: Gate + Sync, R: Threads + Wait + Sync>(
     rt: &R,
     alloc: Global,
     source: &mut S,

@@ -15,8 +15,8 @@
 //! to in `specs/Outcomes.antt`, what a build comes to in `specs/Builds.antt`; the report on a suite
 //! in `suite_reports`; faults, their lines and statuses in `outcomes`.
 //!
-//! Not promised: that memory suffices; of `check_all`, that it returns, and that two workers were at
-//! work at once.
+//! Not promised: that memory suffices; of `check_all`, that it returns, and that two workers were
+//! at work at once.
 #![tactic(auto)]
 
 mod build;

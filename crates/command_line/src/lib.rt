@@ -18,7 +18,8 @@
 //! and for each of its options the value behind it or else its default; the file of `verify` is a
 //! word alone, and `--axi` may be left out where a text is read, which gives None. The contract of
 //! `read_words` says that a request is that command with those values, that there are 1 to 64
-//! workers, and that a window has from 1 to 65,536 clocks. Not promised: which words are refused, and with what text; tests show that.
+//! workers, and that a window has from 1 to 65,536 clocks. Not promised: which words are refused,
+//! and with what text; tests show that.
 #![tactic(auto)]
 
 mod command;

@@ -18,8 +18,8 @@
 //!
 //! The definitions: what a line is in `specs/Lines.antt`, why there are none in
 //! `specs/Faults.antt`. Programs are those of `compiler`, the line of a program is that of
-//! `core_runs`, the report of a job is that of `threaded_runs`, and that the two lines are one rests
-//! on the law of `assertion_programs`.
+//! `core_runs`, the report of a job is that of `threaded_runs`, and that the two lines are one
+//! rests on the law of `assertion_programs`.
 //!
 //! Not promised: that memory suffices.
 #![tactic(auto)]

@@ -191,7 +191,16 @@ fn eight_report<R: Threads + Wait + Sync + AllocGlobal>(
     let mut out = Counted::new(CutWriter::new(alloc, 50_000)?);
     let told = told(
         alloc,
-        check_all(rt, alloc, &mut source, EIGHT, workers, window, &NoGate, &mut out),
+        check_all(
+            rt,
+            alloc,
+            &mut source,
+            EIGHT,
+            workers,
+            window,
+            &NoGate,
+            &mut out,
+        ),
     )?;
     if told.totals.is_none() {
         return Err(Fail::from("it is refused"));
@@ -208,7 +217,10 @@ fn eight_monitors_any_team_and_window(rt: HostRuntime) -> Result<(), Fail> {
     }
     for (workers, window) in [(8, 1), (1, 1000), (8, 1000), (3, 7), (64, 65_536)] {
         let other = eight_report(&rt, dump.as_str(), workers, window)?;
-        assert!(rt; other.as_str() == first.as_str(), "{workers} workers, windows of {window}");
+        assert!(rt;
+            other.as_str() == first.as_str(),
+            "{workers} workers, windows of {window}"
+        );
     }
     Ok(())
 }
@@ -314,10 +326,7 @@ fn first_fault_of_a_program(rt: HostRuntime) -> Result<(), Fail> {
 }
 
 /// What is written by a program over the dump.
-fn report_run<R: Threads + Wait + Sync + AllocGlobal>(
-    rt: &R,
-    code: &[u8],
-) -> Result<String, Fail> {
+fn report_run<R: Threads + Wait + Sync + AllocGlobal>(rt: &R, code: &[u8]) -> Result<String, Fail> {
     let alloc = rt.alloc();
     let mut source = Counted::new(DUMP.as_bytes());
     let mut out = Counted::new(CutWriter::new(alloc, 10_000)?);

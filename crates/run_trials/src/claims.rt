@@ -66,8 +66,8 @@ fn claims_in_order(rt: HostRuntime) -> Result<(), Fail> {
     Ok(())
 }
 
-/// What a worker's round came to: its claims, how many monitors it published, and how many the bench
-/// held at the end.
+/// What a worker's round came to: its claims, how many monitors it published, and how many the
+/// bench held at the end.
 #[derive(Clone, Copy, PartialEq, Eq)]
 struct Alone {
     claims: u64,

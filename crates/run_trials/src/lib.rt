@@ -5,7 +5,7 @@
 //! whose attempts take two, were worked out on paper from what implications mean.
 //!
 //! ```text
-//! let report = told(&rt, BROKEN, OVERLAPPED, 4, 1024)?;    // dump, file, workers, clocks of a window
+//! let report = told(&rt, BROKEN, OVERLAPPED, 4, 1024)?;    // dump, file, workers, window
 //! assert!(rt; report.as_str() == "svamon 1\nclocks 1\nmonitor r holds 0 ..");
 //! ```
 //!

@@ -52,12 +52,18 @@ fn hundred_thousand_clocks(rt: HostRuntime) -> Result<(), Fail> {
             let Ok(report) = run(&rt, alloc, &job, workers, window, &NoGate) else {
                 return Err(Fail::from("a run was refused"));
             };
-            assert!(rt; is_counted(&report), "{workers} workers, windows of {window}");
+            assert!(rt;
+                is_counted(&report),
+                "{workers} workers, windows of {window}"
+            );
             let text = text_of(alloc, &report, 10_000_000)?;
             if first.as_str().is_empty() {
                 first.push_str(text.as_str())?;
             }
-            assert!(rt; text.as_str() == first.as_str(), "{workers} workers, windows of {window}");
+            assert!(rt;
+                text.as_str() == first.as_str(),
+                "{workers} workers, windows of {window}"
+            );
         }
     }
     Ok(())

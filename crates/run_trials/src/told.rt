@@ -62,8 +62,8 @@ fn told_over<R: Threads + Wait + Sync + AllocGlobal>(
     }
 }
 
-/// What a run of a file of bytecode over the text of a dump tells, by so many workers through windows
-/// of that size.
+/// What a run of a file of bytecode over the text of a dump tells, by so many workers through
+/// windows of that size.
 pub(crate) fn told<R: Threads + Wait + Sync + AllocGlobal>(
     rt: &R,
     dump: &str,

@@ -9,8 +9,8 @@ use std::marker::Model;
 /// The most operands.
 const MOST: usize = 1024;
 
-/// A stack of at most 1,024 operands: to its users the list of them, the top first. Its places lie in
-/// a block of their own, so that a machine is small and cheap to move.
+/// A stack of at most 1,024 operands: to its users the list of them, the top first. Its places lie
+/// in a block of their own, so that a machine is small and cheap to move.
 #[derive(Drop)]
 pub struct Stack {
     places: Vec<Bits>,

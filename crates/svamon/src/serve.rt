@@ -21,8 +21,8 @@ struct Team {
     window: u64,
 }
 
-/// Judges a text over a dump by a team, or by the slow judge where there is none; the report goes to
-/// standard output.
+/// Judges a text over a dump by a team, or by the slow judge where there is none; the report goes
+/// to standard output.
 fn judge_text<'a, R: Files + Print + AllocGlobal + Threads + Wait + Sync>(
     rt: &R,
     dump: R::File,
@@ -135,7 +135,16 @@ fn run_bytes<R: Files + Print + AllocGlobal + Threads + Wait + Sync>(
     let mut dump = Counted::new(dump);
     let mut out = Counted::new(io::writer(rt));
     let Team { workers, window } = team;
-    run_code(rt, rt.alloc(), &mut dump, code, workers, window, &NoGate, &mut out)
+    run_code(
+        rt,
+        rt.alloc(),
+        &mut dump,
+        code,
+        workers,
+        window,
+        &NoGate,
+        &mut out,
+    )
 }
 
 /// Opens the dump, then reads the program, and runs it.

@@ -76,7 +76,8 @@ count-open : (is : Verdict → Bool) → is outcome.Open ≡ false → (live : L
 count-open is never [] = refl
 count-open is never (a ∷ live) =
     let rest = count-open is never live in
-    let one = sum_by-cons (λ (d : Decided). cond (is d.verdict) 1 0) (record { start = a.start; verdict = outcome.Open })
+    let one = sum_by-cons (λ (d : Decided). cond (is d.verdict) 1 0)
+    (record { start = a.start; verdict = outcome.Open })
     (open_ones live) in
     let weight : Bool → ℕ = (λ b. cond b 1 0) in
     let none = ap weight never in
@@ -199,7 +200,8 @@ all-counts n xs ys same all = all-each (λ (l : Line). attempts_of l.counts ≡ 
     let y = some-at ys i (omega (arith, lt, long)) in
     let is : line x ≡ line y.0 =
     some-is (line x) (line y.0)
-    (sym (get-mapped line xs i x at) ∙ (ap (λ (ds : List LineData). slice_get ds i) same ∙ get-mapped line ys i y.0 y.1)) in
+    (sym (get-mapped line xs i x at)
+    ∙ (ap (λ (ds : List LineData). slice_get ds i) same ∙ get-mapped line ys i y.0 y.1)) in
     ap (λ (d : LineData). attempts_of d.counts) is
     ∙ all-at (λ (l : Line). attempts_of l.counts ≡ n) ys i y.0 all y.1)
 

@@ -1,5 +1,5 @@
--- How many attempts of a kind lines have, and workers added: kind 0 are those that hold, 1 those that
--- are vacuous, 2 those that fail, and each other number those that are disabled.
+-- How many attempts of a kind lines have, and workers added: kind 0 are those that hold, 1 those
+-- that are vacuous, 2 those that fail, and each other number those that are disabled.
 use Rattle.std.specs.Prelude.{◌≡◌, ℕ, zero, suc, List, [], ◌∷◌}
 use Rattle.std.specs.List.{sum_by}
 use Rattle.verdicts.specs.declared.line.Counts.{Counts}

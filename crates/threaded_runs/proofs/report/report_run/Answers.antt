@@ -17,5 +17,11 @@ returns-in-Ok-clause-count g c =
     let of = c.in_ok-job.ensures in
     counted c.in_ok-job.job c.args.verified c.in-Ok.report.lines.items (data_of c.in-Ok.report)
     of.programs refl
-    (omega (arith, c.len-count.type_inv, c.len-count.ensures, ap (λ (k : Clocks). length (ticks_in k)) c.clocks.ensures))
+    (omega (
+      arith,
+      c.len-count.type_inv,
+      c.len-count.ensures,
+      ap
+          (λ (k : Clocks). length (ticks_in k)) c.clocks.ensures,
+    ))
     c.in-Ok.ensures.report c.in-Ok.ensures.count

@@ -9,7 +9,8 @@ pub returns : goal.returns
 returns c =
     let ls = c.args.lines.items in
     let is = c.requires in
-    let held : (k : ℕ) → held_count (sum_by (λ (l : LineData). count_in k l.counts) (map line ls)) ≡ held_count (said_by k ls) =
+    let held : (k : ℕ) → held_count (sum_by (λ (l : LineData). count_in k l.counts) (map line ls))
+    ≡ held_count (said_by k ls) =
     (λ k. ap held_count (said-line k ls)) in
     let holds = ap (λ (ts : List ℕ). slice_index ts 0) is ∙ sym (held 0) in
     let vacuous = ap (λ (ts : List ℕ). slice_index ts 1) is ∙ sym (held 1) in

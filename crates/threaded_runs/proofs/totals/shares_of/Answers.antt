@@ -27,8 +27,8 @@ loop-member-preserved g c =
       All-tail IsMember m rest all,
       omega (arith, more, here, was.3, c.push_reserved.ensures.len),
       (λ k.
-      let f = λ (s : Share g.row.L.Denot). amount_of k s in
-      let new = ap (shared_by k) pushed ∙ sum_by_push f c.loop-member.shares.items m.share in
-      let old = ap (added_by k) steps in
-      omega (arith, new, old, was.4 k)),
+          let f = λ (s : Share g.row.L.Denot). amount_of k s in
+          let new = ap (shared_by k) pushed ∙ sum_by_push f c.loop-member.shares.items m.share in
+          let old = ap (added_by k) steps in
+          omega (arith, new, old, was.4 k)),
     )
