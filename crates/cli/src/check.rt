@@ -77,10 +77,10 @@ pub fn check_all<'a, S: Source, W: Sink, G: Gate + Sync, R: Threads + Wait + Syn
     ensures bad_team { (1 ≤ window) × (window ≤ 65536) × IsBadTeam workers
         → result ≡ Err BadWorkers }
 {
-    if window < 1 || window > 65_536 {
+    if window == 0 || window > 65_536 {
         return Err(Fault::Window(WindowFault::BadSize));
     }
-    if workers < 1 || workers > 64 {
+    if workers == 0 || workers > 64 {
         return Err(Fault::BadWorkers);
     }
     let (team, size) = (workers as usize, window as usize);

@@ -148,10 +148,10 @@ pub(crate) fn check_by_team<'a, S: Source, W: Sink, G: Gate + Sync, R: Threads +
         (S.state source.old) (S.state source.new) (W.state out.old) (W.state out.new))) }
 {
     let dump = read_dump(alloc, source)?;
-    let report = report_by_team(rt, alloc, dump, text, workers, size, gate)?;
+    let report_of_all = report_by_team(rt, alloc, dump, text, workers, size, gate)?;
     // An arm knows which fault it is; by `?` the search doesn't find why that one stands.
-    match write_report(alloc, &report, out) {
-        Ok(()) => Ok(totals(&report)),
+    match write_report(alloc, &report_of_all, out) {
+        Ok(()) => Ok(totals(&report_of_all)),
         Err(ReportFault::Memory) => Err(Fault::Memory),
         Err(ReportFault::Write) => Err(Fault::Report(ReportFault::Write)),
     }
