@@ -5,6 +5,7 @@ CASES ?= 1000
 MUTANTS ?= 100000
 PROGRAMS ?= 10000
 SEED ?= 1
+SECONDS ?= 3600
 EXAMPLES := $(wildcard crates/demo/data/*/*)
 UNPROVED := Builds svamon without proof, with run-time checks: what you see is unproved and slow. make install proves and installs it.
 
@@ -23,9 +24,10 @@ help:
 	@echo 'make test             the gate: proves all from nothing, and runs tests, programs, and the edits of what changed'
 	@echo 'make test-all         the gate with all edits'
 	@echo 'make edits NAME=      tries the must-fail edits of a crate, and writes its stamp'
-	@echo 'make bench            times reading against the plain C baseline, on dumps of 50 and 200 MB made from DUMP (clock CLOCK), and on odd shapes; reading and checking texts; bytecode; verifying; judging; checking by programs; and the machine against a plain C one'
+	@echo 'make bench            times reading against the plain C baseline, on dumps of 50 and 200 MB made from DUMP (clock CLOCK), and on odd shapes; reading and checking texts; bytecode; verifying; judging; checking by programs; the machine against a plain C one; and what several workers gain'
 	@echo 'make allocations      refuses each allocation of svamon in turn, and of the reader and writer of bytecode, of the verifier, and of a core at its steps; and looks at what counts in bytecode take'
-	@echo 'make random           compares svamon with an independent judge on CASES random dumps and texts (SEED), the reader of bytecode with another on MUTANTS random mutants of each of two programs, the verifier with another on CASES random programs and their mutants, and the machine with another on PROGRAMS random programs of 100 clocks'
+	@echo 'make random           compares svamon by 1, 2, 4 and 64 workers with an independent judge on CASES random dumps and texts (SEED), the reader of bytecode with another on MUTANTS random mutants of each of two programs, the verifier with another on CASES random programs and their mutants, and the machine with another on PROGRAMS random programs of 100 clocks'
+	@echo 'make soak             compares svamon so for SECONDS (an hour), twice as many cases at once as there are processors'
 
 demo:
 	@echo '$(UNPROVED)'
@@ -73,11 +75,13 @@ bench: svamon oracle_bytecode oracle_verifier oracle_machine
 	bench/rules
 	bench/machine
 	bench/core
+	bench/threads
 
 allocations: svamon oracle_bytecode oracle_verifier oracle_core
 	scripts/bytecode_memory.py $(BYTECODE)
 	scripts/verifier_memory $(VERIFIER)
-	$(REFUSING) check $(call FILES,fails_at_its_tick)
+	$(REFUSING) check $(call FILES,fails_at_its_tick) --workers 2
+	$(REFUSING) check $(call FILES,fails_at_its_tick) --workers 1
 	$(REFUSING) check $(call FILES,one_then_down)
 	$(REFUSING) judge $(call FILES,whole_profile)
 	$(REFUSING) check $(call FILES,axi_port) --axi examples/axi_port/ports.txt
@@ -99,4 +103,7 @@ random: svamon oracle_bytecode oracle_verifier oracle_machine
 	scripts/long_chains.py crates/svamon/out/svamon
 	scripts/random_axi4.py crates/svamon/out/svamon 100 $(SEED)
 
-.PHONY: help demo try test test-all edits install svamon oracle_bytecode oracle_verifier oracle_machine oracle_core bench allocations random
+soak: svamon
+	scripts/soak crates/svamon/out/svamon $(SECONDS) $(SEED)
+
+.PHONY: help demo try test test-all edits install svamon oracle_bytecode oracle_verifier oracle_machine oracle_core bench allocations random soak

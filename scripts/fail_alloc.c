@@ -1,5 +1,5 @@
 /*
- * Refuses the allocation whose number is in FAIL_ALLOC, and all behind it where FAIL_ALLOC_ON is
+ * Refuses the allocation whose number is in FAIL_ALLOC, and all after it where FAIL_ALLOC_ON is
  * set. Where COUNT_ALLOC names a file, writes into it how many bytes the largest request wanted,
  * and how many all of them did, as the program ends.
  */
@@ -16,11 +16,13 @@ static int refused(size_t size)
 	const char *fail = getenv("FAIL_ALLOC");
 	const long at = fail ? atol(fail) : 0;
 
-	count++;
-	total += size;
+	/* Several threads ask. */
+	const long now = __atomic_add_fetch(&count, 1, __ATOMIC_RELAXED);
+
+	__atomic_add_fetch(&total, size, __ATOMIC_RELAXED);
 	if (size > largest)
 		largest = size;
-	return at && (getenv("FAIL_ALLOC_ON") ? count >= at : count == at);
+	return at && (getenv("FAIL_ALLOC_ON") ? now >= at : now == at);
 }
 
 void *malloc(size_t size)
