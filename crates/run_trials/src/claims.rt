@@ -17,13 +17,6 @@ use tally::{Blanks, Tally, Tallying};
 use threaded_runs::{NoGate, first_monitors};
 use workers::{Job, window_of};
 
-/// The numbers that claims answered, and how many monitors the bench held at the end.
-#[derive(Drop)]
-struct Claims {
-    numbers: Vec<Option<usize>>,
-    rest: usize,
-}
-
 /// The number of a claimed monitor.
 fn number_of(claimed: &Option<Numbered>) -> Option<usize> {
     match claimed {
@@ -32,26 +25,30 @@ fn number_of(claimed: &Option<Numbered>) -> Option<usize> {
     }
 }
 
-/// Four claims from a bench with all monitors of a job.
-fn claims_of(rt: &impl Wait, alloc: Global, job: &Job) -> Result<Claims, AllocError> {
+/// The numbers of the monitors that four claims answered.
+type Claimed = [Option<usize>; 4];
+
+/// Four claims from a bench with all monitors of a job, and how many it held after them.
+fn claims_of(rt: &impl Wait, alloc: Global, job: &Job) -> Result<(Claimed, usize), AllocError> {
     let monitors = first_monitors(alloc, job)?;
     let (bench, pass, mut passes) = Bench::new(alloc, job, 0, monitors.len(), 1)?;
-    let mut numbers = Vec::new(alloc);
     let pass = put_all(rt, &bench, pass, monitors);
-    let Some(mut taking) = passes.pop() else {
+    let Some(taking) = passes.pop() else {
         unreachable!()
     };
-    for _claim in 0..4 {
-        let (back, claimed) = bench.claim(rt, taking);
-        taking = back;
-        numbers.push(number_of(&claimed))?;
-    }
+    let (taking, first) = bench.claim(rt, taking);
+    let (taking, second) = bench.claim(rt, taking);
+    let (taking, third) = bench.claim(rt, taking);
+    let (taking, fourth) = bench.claim(rt, taking);
     passes.push(taking)?;
     let rest = bench.finish(rt, pass, passes);
-    Ok(Claims {
-        numbers,
-        rest: rest.len(),
-    })
+    let numbers = [
+        number_of(&first),
+        number_of(&second),
+        number_of(&third),
+        number_of(&fourth),
+    ];
+    Ok((numbers, rest.len()))
 }
 
 /// A bench gives its monitors in the order in which they were put, and then none, and holds none.
@@ -59,10 +56,10 @@ fn claims_of(rt: &impl Wait, alloc: Global, job: &Job) -> Result<Claims, AllocEr
 fn claims_in_order(rt: HostRuntime) -> Result<(), Fail> {
     let codes = [OVERLAPPED, TWO_POSITIONS, OVERLAPPED];
     let job = job_of(rt.alloc(), THREE, codes.as_slice())?;
-    let claims = claims_of(&rt, rt.alloc(), &job)?;
+    let (numbers, rest) = claims_of(&rt, rt.alloc(), &job)?;
     let wanted = [Some(0), Some(1), Some(2), None];
-    assert!(rt; claims.numbers.as_slice() == wanted.as_slice());
-    assert!(rt; claims.rest == 0);
+    assert!(rt; numbers.as_slice() == wanted.as_slice());
+    assert!(rt; rest == 0);
     Ok(())
 }
 
