@@ -7,7 +7,11 @@ use raw_block::{Lease, Places};
 use std::alloc::{AllocError, Global};
 use std::marker::Model;
 
-/// Places that all hold a node, with the right to give their block back.
+/// How many places at the end stay empty: of the nodes of a machine 128 bytes and more, so that none
+/// shares a line of a cache with the block behind, which another thread may write.
+const SPARE: usize = 2;
+
+/// Places that all hold a node, but for the spare ones, with the right to give their block back.
 pub(crate) struct Nodes<T: Copy> {
     places: Places<Node<T>>,
     lease: Lease<Node<T>, Global>,
@@ -51,7 +55,7 @@ impl<T: Copy> Nodes<T> {
         ensures { IfOk result (λ nodes. AreFresh cap nodes) }
     {
         let count = cap + 1;
-        let Some((mut places, lease)) = Places::take(&alloc, count) else {
+        let Some((mut places, lease)) = Places::take(&alloc, count + SPARE) else {
             return Err(AllocError);
         };
         let ends = Node {

@@ -1,6 +1,6 @@
 -- The values that places hold.
 use Rattle.std.specs.Prelude.{◌≡◌, ℕ, ◌+◌, List, [], ◌∷◌, ◌++◌, length, take, drop, map, Option}
-use Rattle.std.specs.Prelude.{Some, None}
+use Rattle.std.specs.Prelude.{Some, None, replicate}
 
 -- the values of the places that hold one
 abbrev pub values_of : List (Option ℕ) → List ℕ
@@ -8,9 +8,13 @@ values_of [] = []
 values_of (None ∷ places) = values_of places
 values_of (Some value ∷ places) = value ∷ values_of places
 
--- each place holds a value
+-- the places at the end that stay empty
+abbrev pub spare : List (Option ℕ)
+spare = replicate 8 None
+
+-- each place holds a value, but for the spare ones
 abbrev pub AllHeld : List (Option ℕ) → Type 0
-AllHeld places = places ≡ map Some (values_of places)
+AllHeld places = places ≡ map Some (values_of places) ++ spare
 
 -- a row of values stands in the places from a place on, and the others are as they were
 abbrev pub IsRowWritten : ℕ → List ℕ → List (Option ℕ) → List (Option ℕ) → Type 0

@@ -1,6 +1,6 @@
 //! The values of a ring, row after row, in one block of memory.
 
-ghost use Rattle.std.specs.Prelude.{◌≡◌, ◌+◌, ◌^◌, ◌<◌, ◌≤◌, ◌++◌, Some, map, length};
+ghost use Rattle.std.specs.Prelude.{◌≡◌, ◌+◌, ◌^◌, ◌<◌, ◌≤◌, ◌++◌, length};
 ghost use Rattle.history_ring.specs.Held.{IsRowWritten};
 ghost use Rattle.std.specs.Prelude.{take, drop, replicate, slice_index, IfOk};
 
@@ -8,7 +8,11 @@ use raw_block::{Lease, Places};
 use std::alloc::{AllocError, Global};
 use std::marker::Model;
 
-/// Places that all hold a value, with the right to give their block back.
+/// How many places at the end stay empty: 128 bytes, so that no value shares a line of a cache with
+/// the block behind, which another thread may write.
+const SPARE: usize = 8;
+
+/// Places that all hold a value, but for the spare ones, with the right to give their block back.
 pub struct Store {
     places: Places<u128>,
     lease: Lease<u128, Global>,
@@ -38,11 +42,11 @@ impl Drop for Store {
     }
 }
 
-/// Writes a zero into each place.
+/// Writes so many zeros into the first places.
 fn clear(places: &mut Places<u128>, count: usize)
-    requires { length places.old.held ≡ count }
+    requires { count ≤ length places.old.held }
     ensures same { (places.new.start ≡ places.old.start) × (places.new.count ≡ places.old.count) }
-    ensures zeros { places.new.held ≡ map Some (replicate count 0) }
+    ensures zeros { IsRowWritten 0 (replicate count 0) places.old.held places.new.held }
 {
     for index in 0..count {
         places.write(index, 0);
@@ -67,7 +71,7 @@ impl Store {
         requires { count < 2 ^ 59 }
         ensures { IfOk result (λ store. store ≡ replicate count 0) }
     {
-        let Some((mut places, lease)) = Places::take(&alloc, count) else {
+        let Some((mut places, lease)) = Places::take(&alloc, count + SPARE) else {
             return Err(AllocError);
         };
         clear(&mut places, count);

@@ -1,6 +1,7 @@
 //! The memory of a machine.
 
 ghost use Rattle.std.specs.Prelude.{◌≡◌, ◌+◌, ◌^◌, ◌<◌, ◌≤◌, length, IfOk};
+ghost use Rattle.std.specs.Prelude.{replicate, false, vec_capacity};
 ghost use Rattle.bytecode.specs.Programs.{data_of};
 ghost use Rattle.verifier.specs.Programs.{IsAccepted};
 ghost use Rattle.checked_machine.specs.Machine.{opening};
@@ -20,6 +21,10 @@ use sample_code::{Stack, run};
 use signals::Decided;
 use std::alloc::{AllocError, Global};
 use visits::bases_of;
+
+/// How many bytes at least stay unused behind what a clock writes, so that it shares no line of a
+/// cache with the block behind, which another thread may write.
+const SPARE: usize = 128;
 
 /// All that a machine needs besides its program; no clock takes more.
 #[derive(Drop)]
@@ -61,6 +66,26 @@ fn bases_in(alloc: Global, program: &Program) -> Result<Bases, AllocError>
     })
 }
 
+/// So many zeros, with room behind them.
+fn zeros(alloc: Global, count: usize) -> Result<Vec<u128>, AllocError>
+    ensures zeros { IfOk result (λ zeros. zeros.items ≡ replicate count 0) }
+    ensures room { IfOk result (λ zeros. count + 8 ≤ vec_capacity zeros) }
+{
+    let mut zeros = Vec::from_elem(alloc, 0u128, count)?;
+    zeros.reserve(SPARE / 16)?;
+    Ok(zeros)
+}
+
+/// So many atoms that don't hold, with room behind them.
+fn no_atoms(alloc: Global, count: usize) -> Result<Vec<bool>, AllocError>
+    ensures atoms { IfOk result (λ atoms. atoms.items ≡ replicate count false) }
+    ensures room { IfOk result (λ atoms. count + 128 ≤ vec_capacity atoms) }
+{
+    let mut atoms = Vec::from_elem(alloc, false, count)?;
+    atoms.reserve(SPARE)?;
+    Ok(atoms)
+}
+
 impl Memory {
     /// The memory for a program, before its first clock.
     pub(crate) fn new(alloc: Global, program: &Program) -> Result<Memory, AllocError>
@@ -72,9 +97,9 @@ impl Memory {
         let frame = Frame::of(alloc, program)?;
         let slots = frame.slots.len();
         let history = Ring::new(alloc, program.limits.history as usize, slots)?;
-        let row = Vec::from_elem(alloc, 0u128, slots)?;
-        let atoms = Vec::from_elem(alloc, false, program.atoms as usize)?;
-        let counters = Vec::from_elem(alloc, 0u128, program.counters.len())?;
+        let row = zeros(alloc, slots)?;
+        let atoms = no_atoms(alloc, program.atoms as usize)?;
+        let counters = zeros(alloc, program.counters.len())?;
         let live = live_at_first(alloc, program)?;
         let stack = Stack::new(alloc)?;
         Ok(Memory {

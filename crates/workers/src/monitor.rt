@@ -17,6 +17,10 @@ use std::alloc::{AllocError, Global};
 use std::mem;
 use verifier::Verified;
 
+/// How many places of a row stay unused at its end: 128 bytes, so that it shares no line of a cache
+/// with the block behind, which another thread may write.
+const SPARE: usize = 8;
+
 /// A program of a job at work.
 #[derive(Drop)]
 pub struct Monitor {
@@ -55,7 +59,7 @@ impl Monitor {
         let Some(to) = from.checked_add(width) else {
             return Err(AllocError);
         };
-        let row = Vec::with_capacity(alloc, width)?;
+        let row = Vec::with_capacity(alloc, width + SPARE)?;
         let attempts = usize::from(verified.limits().attempts);
         let copied = verified.copy(alloc)?;
         let Ok(machine) = Machine::new(alloc, copied) else {

@@ -1,4 +1,4 @@
-use Rattle.std.proofs.Common.{◌≡◌, ℕ, zero, suc, List, length, replicate, refl, sym, ap, ◌∙◌, subst, arith, pow_pos}
+use Rattle.std.proofs.Common.{◌≡◌, ℕ, zero, suc, false, List, length, replicate, refl, sym, ap, ◌∙◌, subst, arith, pow_pos}
 use Rattle.std.proofs.Math.ListN.{length-replicate}
 use Rattle.std.specs.Prelude.{slice_index}
 use Rattle.bytecode.specs.Programs.{data_of}
@@ -40,11 +40,11 @@ returns-clause-memory c =
           subst (AreRows p c.in_ok-frame.frame.slots.items)
           (sym (c.in_ok-history.ensures ∙ ap (cleared p.header.limits.history) long))
           (AreRows-cleared p c.in_ok-frame.frame.slots.items slots);
-      row = sym (vec-long c.in_ok-row.row) ∙ c.in_ok-row.ensures.len ∙ long;
-      atoms = sym (vec-long c.in_ok-atoms.atoms) ∙ c.in_ok-atoms.ensures.len;
+      row = ap length c.in_ok-row.ensures.zeros ∙ length-replicate c.len-slots.result 0 ∙ long;
+      atoms = ap length c.in_ok-atoms.ensures.atoms ∙ length-replicate p.header.atoms false;
       counters =
           zeros-fit p.counters c.in_ok-counters.counters.items
-          (c.in_ok-counters.ensures.items_if_clones_equal (λ y e. e)
+          (c.in_ok-counters.ensures.zeros
           ∙ ap (λ n. replicate n 0) (c.len.ensures ∙ vec-long c.args.program.now.counters));
       pools =
           record {
