@@ -7,8 +7,8 @@ use raw_block::{Lease, Places};
 use std::alloc::{AllocError, Global};
 use std::marker::Model;
 
-/// How many places at the end stay empty: of the nodes of a machine 128 bytes and more, so that none
-/// shares a line of a cache with the block behind, which another thread may write.
+/// How many places at the end stay empty: of the nodes of a machine 128 bytes and more, so that
+/// none shares a line of a cache with the next block, which another thread may write.
 const SPARE: usize = 2;
 
 /// Places that all hold a node, but for the spare ones, with the right to give their block back.
