@@ -1,5 +1,5 @@
 -- The report on a text over a dump, and why there is none by programs, once its suite is known.
-use Rattle.std.proofs.Common.{◌≡◌, ℕ, List, refl, subst}
+use Rattle.std.proofs.Common.{ℕ, List, refl, subst}
 use Rattle.std.specs.Prelude.{string_bytes}
 use Rattle.assertions.specs.declared.suite.Suite.{Suite}
 use Rattle.vcd_reader.specs.declared.dump.Dump.{Dump}
@@ -12,7 +12,6 @@ use Rattle.compiled_lines.specs.declared.fault.LinesFault.{LinesFault}
 use Rattle.compiled_lines.specs.Lines.{AreVariables, rows_at}
 use Rattle.compiled_lines.specs.Faults.{WhyNoLines}
 use Rattle.suite_reports.specs.Reported.{OverRows}
-use Rattle.outcomes.specs.declared.fault.Fault.{Fault}
 use Rattle.cli.specs.Programs.{lines_fault}
 use Rattle.cli.specs.Reported.{HasReport, SaysSuite}
 use Rattle.cli.specs.Outcomes.{WhyNoneByPrograms}

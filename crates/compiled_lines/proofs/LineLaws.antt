@@ -39,7 +39,6 @@ use Rattle.expressions.specs.Tables.{column}
 use Rattle.expressions.specs.Terms.{Samples}
 use Rattle.expressions.specs.Counters.{counter_samples}
 use Rattle.bytecode.specs.Values.{ProgramData}
-use Rattle.verifier.specs.Programs.{IsAccepted}
 use Rattle.checked_machine.specs.Outcomes.{Ran, done, trapped}
 use Rattle.checked_machine.specs.Machine.{Outcome}
 use Rattle.machine.specs.Running.{open_ones}
@@ -62,7 +61,6 @@ use Rattle.workers.specs.Values.{Says, job_value}
 use Rattle.core_runs.specs.Lines.{AreLinesOf}
 use Rattle.workers.specs.Jobs.{sampled}
 use Rattle.workers.specs.Wanted.{wanted_in}
-use Rattle.compiler.specs.Programs.{IsProgramOf}
 use Rattle.assertion_programs.specs.Laws.{AreVerdictsOver}
 use Rattle.assertion_programs.proofs.Decides.{programs-decide}
 use Rattle.compiled_lines.specs.Lines.{IsWatched, AreVariables, rows_at, IsLineOf, IsReportOf}

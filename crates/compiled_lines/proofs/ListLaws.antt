@@ -39,10 +39,7 @@ use Rattle.compiler.specs.declared.fault.CompileFault.TheVariants as faults
 use Rattle.compiler.specs.Faults.{WhyNotCompiled}
 use Rattle.workers.specs.declared.job_fault.JobFault.{JobFault}
 use Rattle.workers.specs.declared.job_fault.JobFault.TheVariants as jobs
-use Rattle.workers.specs.declared.run_fault.RunFault.{RunFault}
-use Rattle.workers.specs.declared.run_fault.RunFault.TheVariants as runs
 use Rattle.workers.specs.Wanted.{wanted_in, WhyUnfit}
-use Rattle.workers.specs.Values.{WhyNoCore}
 use Rattle.compiled_lines.specs.declared.fault.LinesFault.{LinesFault}
 use Rattle.compiled_lines.specs.declared.fault.LinesFault.TheVariants.{Program, BadJob, Memory}
 use Rattle.compiled_lines.specs.Faults.{
@@ -134,16 +131,6 @@ no-programs suite place a faults.TextTooLong is before why =
     record { place = place; assertion = a; is = is; why = why; before = before }
 no-programs suite place a faults.Memory is before why = tt
 
--- no programs, and so no lines
-pub programs-lines : (suite : Suite) (e : LinesFault) → WhyNoPrograms suite e → WhyNoLines suite e
-programs-lines suite (Program faults.Memory) why = why
-programs-lines suite (Program faults.TooManyAtoms) why = why
-programs-lines suite (Program faults.CodeTooLong) why = why
-programs-lines suite (Program faults.TooManySlots) why = why
-programs-lines suite (Program faults.TextTooLong) why = why
-programs-lines suite BadJob why = absurd why
-programs-lines suite Memory why = why
-
 -- no job, and so no lines
 pub job-lines : (suite : Suite) (ps : List ProgramData) (e : LinesFault)
     → AllZip (IsMadeOf suite) suite.assertions.items ps → WhyNoJob ps e → WhyNoLines suite e
@@ -169,22 +156,3 @@ no-misfit vs ps jobs.BadJob none why = tt
 no-misfit vs ps (jobs.NoSignal path) none why = absurd cc
 no-misfit vs ps (jobs.SignalWidth path) none why = absurd cc
 no-misfit vs ps jobs.Memory none why = tt
-
--- only memory can lack, where the window's size is allowed and there is one worker
-pub core-memory : (size : ℕ) (e : RunFault) → 1 ≤ size → size ≤ 65536 → WhyNoCore 1 size e
-    → e ≡ runs.Memory
-core-memory size runs.BadSize some most why =
-    elim why [
-      | inl zero ↦
-          absurd (omega (arith, zero, some))
-      | inr over ↦ absurd (omega (arith, over, most))
-    ]
-core-memory size runs.BadWorkers some most why =
-    elim why.2 [ inl zero ↦ absurd (omega (arith, zero)) | inr over ↦ absurd (omega (arith, over)) ]
-core-memory size runs.Memory some most why = refl
-
--- what an error that is known says
-pub err-is : {X E : Type 0} (r : Result X E) (e : E) (Why : E → Type 0) → IsErrAnd r (λ f. f ≡ e)
-    → Why e → IfErr r Why
-err-is (Ok x) e Why h why = tt
-err-is (Err f) e Why h why = subst Why (sym h) why

@@ -1,18 +1,17 @@
 -- What workers and lines count, kind by kind.
-use Rattle.std.proofs.Common.{◌≡◌, ℕ, zero, suc, ◌+◌, ◌<◌, ◌≤◌, Bool, List, [], ◌∷◌, ◌++◌, length, map, take, Some}
-use Rattle.std.proofs.Common.{All, false, cond, get_or, refl, sym, ap, ◌∙◌, subst, arith}
+use Rattle.std.proofs.Common.{◌≡◌, ℕ, zero, suc, ◌+◌, ◌≤◌, Bool, List, [], ◌∷◌, ◌++◌, length, map, take, Some}
+use Rattle.std.proofs.Common.{All, false, cond, get_or, refl, sym, ap, ◌∙◌, arith}
 use Rattle.std.specs.Prelude.{slice_get, count_by}
 use Rattle.std.specs.List.{sum_by}
-use Rattle.std.proofs.lemmas.List.{map-append, length-map}
+use Rattle.std.proofs.lemmas.List.{length-map}
 use Rattle.std.proofs.lemmas.List.Sums.{sum_by-cons, sum_by-append, sum_by_push, sum_by_more}
 use Rattle.std.proofs.lemmas.Option.{slice_get_within}
 use Rattle.signals.specs.declared.verdict.Verdict.{Verdict}
 use Rattle.signals.specs.declared.verdict.Verdict.TheVariants as outcome
 use Rattle.signals.specs.declared.verdict.Decided.{Decided}
 use Rattle.bytecode.specs.Values.{ProgramData}
-use Rattle.vcd_reader.specs.Dump.{Contents}
 use Rattle.cycle_window.specs.declared.window.Window.{Window}
-use Rattle.cycle_window.specs.Held.{first_in, end_in}
+use Rattle.cycle_window.specs.Held.{first_in}
 use Rattle.checked_machine.specs.Clocks.{Attempt}
 use Rattle.machine.specs.Running.{open_ones}
 use Rattle.batches.specs.Batches.{batch_of}
@@ -21,7 +20,7 @@ use Rattle.verdicts.specs.Tallies.{tally_of}
 use Rattle.verdicts.specs.Lines.{LineData, ReportData, line}
 use Rattle.verdicts.specs.declared.line.Counts.{Counts}
 use Rattle.workers.specs.declared.job.Job.{Job}
-use Rattle.workers.specs.Values.{Says, job_value, rows_over}
+use Rattle.workers.specs.Values.{job_value, rows_over}
 use Rattle.core_runs.specs.declared.line_so_far.LineSoFar.{LineSoFar}
 use Rattle.core_runs.specs.Taken.{TookIn}
 use Rattle.core_runs.proofs.CoreLaws.{same-traced}

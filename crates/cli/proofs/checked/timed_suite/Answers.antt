@@ -1,15 +1,14 @@
-use Rattle.std.proofs.Common.{List, ℕ, refl, sym, subst, string_bytes}
+use Rattle.std.proofs.Common.{List, ℕ, subst, string_bytes}
 use Rattle.text_trees.specs.Views.{items_of}
 use Rattle.vcd_reader.specs.Held.{variables_of}
 use Rattle.cycle_window.specs.Bound.{IsClock, IsClockFault}
 use Rattle.cycle_window.specs.Held.{code_in}
-use Rattle.verdicts.specs.Shown.{data_of}
 use Rattle.outcomes.specs.Faults.{type_fault, window_fault}
 use Rattle.cli.specs.Reported.{SaysSuite}
 use Rattle.cli.specs.Outcomes.{WhyNoneByPrograms}
-use Rattle.cli.proofs.TextLaws.{are_named, untyped, unclocked, uncompiled, none_by_programs}
+use Rattle.cli.proofs.TextLaws.{are_named, untyped, unclocked, none_by_programs}
 use Rattle.outcomes.proofs.FaultLaws.{err_is}
-use Rattle.cli.proofs.ProgramLaws.{all_watched, has_clock, clock_of, reports_by, all_fit}
+use Rattle.cli.proofs.ProgramLaws.{all_watched, clock_of, all_fit}
 use Rattle.cli.proofs.checked.timed_suite.Goals as goal
 
 pub returns-in_err-suite-clause-err : goal.returns-in_err-suite-clause-err

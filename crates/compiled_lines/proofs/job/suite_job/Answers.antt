@@ -3,7 +3,7 @@ use Rattle.std.specs.List.{AllZip}
 use Rattle.std.proofs.lemmas.Result.{IfOk-weaker, IfErr-weaker}
 use Rattle.bytecode.specs.Values.{ProgramData}
 use Rattle.vcd_reader.specs.Held.{variables_of}
-use Rattle.compiled_lines.specs.Faults.{IsMadeOf, WhyNoLines}
+use Rattle.compiled_lines.specs.Faults.{IsMadeOf}
 use Rattle.compiled_lines.proofs.ListLaws.{job-lines}
 use Rattle.compiled_lines.proofs.LineLaws.{have-variables, none-unfit}
 use Rattle.compiled_lines.proofs.job.suite_job.Goals as goal
