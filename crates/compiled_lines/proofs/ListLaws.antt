@@ -8,7 +8,6 @@ use Rattle.std.proofs.Common.{
   suc,
   ◌+◌,
   ◌<◌,
-  ◌≤◌,
   List,
   [],
   ◌∷◌,
@@ -25,7 +24,7 @@ use Rattle.std.proofs.Common.{
   add-one,
   arith,
 }
-use Rattle.std.specs.Prelude.{slice_index_or, Result, Ok, Err, IfErr, IsErrAnd}
+use Rattle.std.specs.Prelude.{slice_index_or}
 use Rattle.std.specs.List.{AllByRecursion, AllZip}
 use Rattle.std.proofs.Math.Seq.{take-suc}
 use Rattle.std.proofs.lemmas.Option.{slice_get-get_or}
