@@ -80,7 +80,6 @@ fn nested_weightless(rt: HostRuntime) -> Result<(), Fail> {
     if let Some(Some(entry)) = table.get(64) {
         assert!(rt; entry.facts.weight == 0);
         assert!(rt; entry.facts.empty);
-        assert!(rt; !entry.facts.ticks);
     }
     assert!(rt; has_sequence(table.as_slice(), 64));
     Ok(())
