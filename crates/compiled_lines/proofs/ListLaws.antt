@@ -8,6 +8,7 @@ use Rattle.std.proofs.Common.{
   suc,
   ◌+◌,
   ◌<◌,
+  ◌≤◌,
   List,
   [],
   ◌∷◌,
@@ -24,7 +25,7 @@ use Rattle.std.proofs.Common.{
   add-one,
   arith,
 }
-use Rattle.std.specs.Prelude.{slice_index_or}
+use Rattle.std.specs.Prelude.{slice_index_or, Result, Ok, Err, IfErr, IsErrAnd}
 use Rattle.std.specs.List.{AllByRecursion, AllZip}
 use Rattle.std.proofs.Math.Seq.{take-suc}
 use Rattle.std.proofs.lemmas.Option.{slice_get-get_or}
@@ -155,3 +156,9 @@ no-misfit vs ps jobs.BadJob none why = tt
 no-misfit vs ps (jobs.NoSignal path) none why = absurd cc
 no-misfit vs ps (jobs.SignalWidth path) none why = absurd cc
 no-misfit vs ps jobs.Memory none why = tt
+
+-- what an error that is known says
+pub err-is : {X E : Type 0} (r : Result X E) (e : E) (Why : E → Type 0) → IsErrAnd r (λ f. f ≡ e)
+    → Why e → IfErr r Why
+err-is (Ok x) e Why h why = tt
+err-is (Err f) e Why h why = subst Why (sym h) why
