@@ -7,15 +7,15 @@ use Rattle.cli.proofs.checked.report_checked.Goals as goal
 
 pub returns-clause-err : goal.returns-clause-err
 returns-clause-err c = λ k holds.
-    let t = c.in_ok-timed_suite.field-0 in
+    let t = c.in_ok-suite.field-0 in
     let text = c.args.text.now in
     subst (WhyNoneByPrograms k text) (sym c.lines_fault.ensures)
-    (no_report k c.args.dump text t.suite (code_in t.clocks) holds (c.in_ok-timed_suite.ensures.says k holds)
-    c.in_ok-timed_suite.ensures.clock c.in-Err.fault c.in-Err.ensures.err)
+    (no_report k c.args.dump text t.suite (code_in t.clocks) holds (c.in_ok-suite.ensures.says k holds)
+    c.in_ok-suite.ensures.clock c.in-Err.fault c.in-Err.ensures.err)
 
 pub returns-in-Ok-clause-ok : goal.returns-in-Ok-clause-ok
 returns-in-Ok-clause-ok c = λ k holds.
-    let t = c.in_ok-timed_suite.field-0 in
+    let t = c.in_ok-suite.field-0 in
     has_report k c.args.dump c.args.text.now t.suite (code_in t.clocks) holds
-    (c.in_ok-timed_suite.ensures.says k holds) c.in_ok-timed_suite.ensures.clock (data_of c.in-Ok.report)
+    (c.in_ok-suite.ensures.says k holds) c.in_ok-suite.ensures.clock (data_of c.in-Ok.report)
     (λ signals named. c.in-Ok.ensures.ok k signals holds named)
