@@ -103,7 +103,7 @@ fn visited(section: &Section, set: u128, atoms: &[bool]) -> (u128, bool) {
     let mut entered = 0;
     let mut accepted = false;
     let mut base = 0;
-    let mut position = 0;
+    let mut position = 0u32;
     for block in &section.blocks {
         if position < 128 && (set >> position) & 1 == 1 {
             let mut over = 0;
