@@ -1,8 +1,10 @@
 use Rattle.std.proofs.Common.{◌≡◌, ℕ, ◌+◌, List, [], ◌∷◌, ◌++◌, length, length-append, refl, ap, arith}
-use Rattle.crossbeam_queue.specs.Passes.{view}
+use Rattle.crossbeam_queue.specs.Passes.{Pass, view}
+use Rattle.bench.specs.declared.numbered.Numbered.{Numbered}
 use Rattle.bench.specs.declared.hand.Hand.{Hand}
 use Rattle.bench.specs.Hands.{total}
-use Rattle.bench.specs.Passes.{parts_of}
+use Rattle.bench.specs.Passes.{parts_of, TakesNone}
+use Rattle.bench.specs.Benches.{IsOf, round_at}
 use Rattle.bench.proofs.Keeps.{total_push, all_popped}
 use Rattle.run_trials.proofs.claims.round_alone.Goals as goal
 
@@ -17,7 +19,8 @@ finish-rest-requires-clause-all g c =
     let one : length made.passes.items ≡ 1 = omega (arith, made.ensures.count, made.passes.ok.0) in
     let none = none-before parts_of _ _ _ c.in-Some.ensures.items one in
     let pushed = total_push parts_of _ _ _ c.in_ok-push.ensures.items in
-    let taken = all_popped _ _ _ _ c.in-Some.ensures.items made.ensures.taking in
+    let free = λ (p : Pass Numbered Hand). IsOf made.bench p × TakesNone (round_at c.args.job.now 0) p in
+    let taken = all_popped free _ _ _ c.in-Some.ensures.items made.ensures.taking in
     let fresh : parts_of c.in-Some.taking ≡ 1 = ap (λ (v : Hand). v.parts) taken.1.1 in
     let worked : parts_of c.work-worked.result.pass ≡ parts_of c.in-Some.taking =
     ap (λ (v : Hand). v.parts) c.work-worked.ensures.taken in
