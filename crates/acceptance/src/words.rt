@@ -18,8 +18,12 @@ fn line_of(alloc: Global, request: &Request) -> Result<String, AllocError> {
             vcd,
             sva,
             axi,
+            workers,
             window,
-        } => format!(in alloc; "check {vcd} {sva} {} {window}", file_or_none(axi)),
+        } => format!(in alloc;
+            "check {vcd} {sva} {} {workers} {window}",
+            file_or_none(axi)
+        ),
         Request::Judge { vcd, sva, axi } => {
             format!(in alloc; "judge {vcd} {sva} {}", file_or_none(axi))
         }
@@ -32,7 +36,12 @@ fn line_of(alloc: Global, request: &Request) -> Result<String, AllocError> {
             name,
             out,
         } => format!(in alloc; "build {vcd} {sva} {} {name} {out}", file_or_none(axi)),
-        Request::Run { vcd, code, window } => format!(in alloc; "run {vcd} {code} {window}"),
+        Request::Run {
+            vcd,
+            code,
+            workers,
+            window,
+        } => format!(in alloc; "run {vcd} {code} {workers} {window}"),
     }
 }
 
@@ -56,12 +65,12 @@ fn told(alloc: Global, line: &str) -> Result<String, AllocError> {
 fn words_are_read(rt: HostRuntime) -> Result<(), Fail> {
     for (words, wanted) in [
         (
-            "svamon check --vcd a.vcd --sva a.sva --window 7",
-            "check a.vcd a.sva none 7",
+            "svamon check --vcd a.vcd --sva a.sva --window 7 --workers 64",
+            "check a.vcd a.sva none 64 7",
         ),
         (
             "svamon check --sva a.sva --vcd a.vcd",
-            "check a.vcd a.sva none 1024",
+            "check a.vcd a.sva none 4 1024",
         ),
         (
             "svamon judge --vcd a.vcd --sva a.sva --axi p",
@@ -74,14 +83,16 @@ fn words_are_read(rt: HostRuntime) -> Result<(), Fail> {
             "build a.vcd a.sva p r r.svm",
         ),
         (
-            "svamon run --vcd a.vcd --code a.svm --window 7",
-            "run a.vcd a.svm 7",
+            "svamon run --vcd a.vcd --code a.svm --workers 1 --window 7",
+            "run a.vcd a.svm 1 7",
         ),
         (
             "svamon run --code a.svm --vcd a.vcd",
-            "run a.vcd a.svm 1024",
+            "run a.vcd a.svm 4 1024",
         ),
         ("svamon check --vcd a --sva b --window 0", "refused 2 true"),
+        ("svamon check --vcd a --sva b --workers 0", "refused 2 true"),
+        ("svamon run --vcd a --code b --workers 65", "refused 2 true"),
         ("svamon check --vcd a", "refused 2 true"),
         ("svamon chek", "refused 2 true"),
         ("svamon --help", "refused 2 true"),
