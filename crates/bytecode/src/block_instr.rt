@@ -11,6 +11,8 @@ pub enum BlockInstr {
     Enter(u8),
     Accept,
     Stop,
+    /// Accepts, and behind the visit the attempt has no position.
+    AcceptFirst,
 }
 
 impl BlockInstr {

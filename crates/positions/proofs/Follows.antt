@@ -5,7 +5,7 @@ use Rattle.std.specs.Prelude.{IsTrue, slice_index_or, nat_le}
 use Rattle.std.specs.Int.{bit_at}
 use Rattle.std.proofs.lemmas.Bool.{cases_lt, and_parts, and_from, or_left, le-leb}
 use Rattle.std.proofs.lemmas.Nat.Bits.{bit_at-zero, bit_at-lt, same_from_bits}
-use Rattle.checked_machine.specs.Blocks.{Visit}
+use Rattle.checked_machine.specs.Blocks.{Visit, ended}
 use Rattle.assertions.specs.Segments.{sat, Matches}
 use Rattle.assertions.specs.Attempts.{IsOver}
 use Rattle.positions.specs.Plans.{Plan, shape}
@@ -17,7 +17,7 @@ use Rattle.positions.proofs.Local.{seen-sat, sat-seen}
 use Rattle.positions.specs.Sections.{section_of, coded, numbered, with_atom, atoms_of, told}
 use Rattle.positions.specs.States.{State, Left}
 use Rattle.positions.proofs.Effects.{bits-Has, Has-bits, all_now, made_by, blocks-effects, EnterNow, AcceptNow, by-bit}
-use Rattle.positions.proofs.Effects.{bit-by, by-accepts, accepts-by}
+use Rattle.positions.proofs.Effects.{bit-by, by-accepts, accepts-by, ended-same, made_by-first}
 use Rattle.positions.proofs.Lists.{SomeOf-each, SomeOf-map, map-SomeOf}
 use Rattle.positions.proofs.Standing.{Stands, Stands-below, Stands-local, Stands-At, At-Stands}
 use Rattle.positions.specs.Living.{lives, is_kept, rank, sifted}
@@ -45,11 +45,13 @@ module _ (B : Type 0) (t : Table B) (rising : IsRising t) (atom : B → Option �
   value b i = told (atom b) (rows i)
 
   abbrev nothing : Visit
-  nothing = record { entered = 0; accepted = false }
+  nothing = record { entered = 0; accepted = false; first = false }
 
   step-made : (i set : ℕ) → a.step i set ≡ made_by (rows i) set prow 0 t.size nothing
   unfolding visit_of
-  step-made i set = blocks-effects (rows i) set prow 0 0 t.size nothing
+  step-made i set =
+      ap ended (blocks-effects (rows i) set prow 0 0 t.size nothing)
+      ∙ ended-same (made_by (rows i) set prow 0 t.size nothing) (made_by-first (rows i) set prow 0 t.size nothing)
 
   now-more : (i : ℕ) (o : Option ℕ) (ns : List ℕ) → all_now (rows i) (with_atom o ns) ≡ true → (told o (rows i) ≡ true)
       × (all_now (rows i) ns ≡ true)

@@ -8,6 +8,8 @@ use Rattle.assertions.specs.Written.{Written, boolean, delay, lead, repeat, or, 
 use Rattle.assertions.specs.Written.{throughout, kernel, weight, IsOrdered}
 use Rattle.monitors.specs.Automata.{Follows}
 use Rattle.monitors.specs.Effects.{automaton_of}
+use Rattle.monitors.specs.Firsts.{accepting_first, FollowsFirst}
+use Rattle.assertions.specs.Segments.{Matches}
 use Rattle.positions.specs.Plans.{plan}
 use Rattle.positions.specs.Tables.{table_of}
 use Rattle.positions.specs.Living.{sifted}
@@ -91,3 +93,24 @@ SectionIsShort =
     IsOrdered w → IsPlain w →
     2 * size_of (section_for atom true_one w).blocks + weight w
     ≤ weight w * weight w + 2 * (weight w * (booleans w + 2))
+
+-- Its section with AcceptFirst in place of Accept follows the first matches, where none is empty.
+abbrev pub SectionFollowsFirst : Type 0
+SectionFollowsFirst =
+    (atom : Boolean → Option ℕ) (true_one : Boolean) (rows : ℕ → List Bool)
+    (value : Boolean → ℕ → Bool) (w : Written Boolean) →
+    IsOrdered w → Tells atom rows value true_one w →
+    ((e : ℕ) → Matches value (kernel true_one w) e e → ⊥) →
+    FollowsFirst value (kernel true_one w)
+    (automaton_of (accepting_first (section_for atom true_one w)) rows)
+
+-- A well formed antecedent stays so with AcceptFirst in place of Accept, and is as long.
+abbrev pub AcceptingFirstIsWellFormed : Type 0
+AcceptingFirstIsWellFormed =
+    (atoms : ℕ) (s : SectionData) → IsSection 2 atoms s → IsSection 2 atoms (accepting_first s)
+
+abbrev pub AcceptingFirstIsAsLong : Type 0
+AcceptingFirstIsAsLong =
+    (s : SectionData) →
+    (length (accepting_first s).blocks ≡ length s.blocks)
+    × (size_of (accepting_first s).blocks ≡ size_of s.blocks)

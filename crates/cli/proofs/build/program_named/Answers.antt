@@ -37,5 +37,5 @@ returns-clause-ok c =
       accepted = c.in_ok-verified.ensures.accepted;
       least = c.in_ok-verified.ensures.least;
       spells = subst (λ (p : ProgramData). Spells bytes p) c.program.ensures.same
-          (record { fits = c.program.result.now.fits; spelled = c.in_ok-encode.ensures });
+          (record { newer = true; fits = c.program.result.now.fits; spelled = c.in_ok-encode.ensures });
     }
