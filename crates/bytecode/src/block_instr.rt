@@ -11,7 +11,7 @@ pub enum BlockInstr {
     Enter(u8),
     Accept,
     Stop,
-    /// Accepts, and behind the visit the attempt has no position.
+    /// Accepts, and after the visit the attempt has no position.
     AcceptFirst,
 }
 

@@ -92,7 +92,7 @@ module _ (block : List BlockInstr) (base positions : ℕ) (atoms : List Bool) (c
         (branch-meets left go goes pc target v _ leaves low allows.1 allows.2 allows.3 allows.4 allows.5 fits)
     obey-meets left go goes pc v (Enter q) leaves low allows fits =
         rw (lt-ltb q positions allows.0)
-        (go-meets left go goes pc (pc + 1) 
+        (go-meets left go goes pc (pc + 1)
         (record { entered = bit_or v.entered (2 ^ q); accepted = v.accepted; first = v.first })
         (record { entered = EachIn-or P v.entered q leaves.entered allows.1; accepted = leaves.accepted })
         (omega arith) allows.2 allows.3 fits)

@@ -62,8 +62,8 @@ TwoPositionsRun =
     ∷ record { decided = at 1 (Vacuous 2) ∷ at 2 (Vacuous 2) ∷ []; ticks = 13 }
     ∷ []
 
--- An antecedent of three positions, of which 0 and 1 begin: 0 accepts where x holds, 1 enters 2, and
--- 2 accepts; each accepts first. The consequent is x.
+-- An antecedent of three positions, of which 0 and 1 begin: 0 accepts where x holds, 1 enters 2,
+-- and 2 accepts; each accepts first. The consequent is x.
 abbrev pub first_positions : ProgramData
 first_positions =
     record {

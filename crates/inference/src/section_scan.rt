@@ -159,9 +159,7 @@ fn scan_block(
     }
     let mut marks = vec![in alloc; false; block.len()]?;
     marks[0] = true;
-    Ok(scan_marks(
-        side, atoms, positions, p, base, block, &mut marks,
-    ))
+    Ok(scan_marks(side, atoms, positions, p, base, block, &mut marks))
 }
 
 /// The first fault of a section.
@@ -182,7 +180,10 @@ pub fn section_fault(
     let mut base = 0;
     'each: for p in 0..positions {
         let block = section.blocks[p].as_slice();
-        first = earlier(first, scan_block(alloc, side, atoms, positions, p, base, block)?);
+        first = earlier(
+            first,
+            scan_block(alloc, side, atoms, positions, p, base, block)?,
+        );
         base += block.len();
     }
     Ok(first)

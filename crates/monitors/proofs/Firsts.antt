@@ -235,13 +235,16 @@ module _ (a f : Automaton) (start : f.start ≡ a.start)
         → Matches (sat value (c + k)) r c j → ⊥
     none-later c k never over zero j below later m = omega arith
     none-later c k never over (suc n) j below later m =
-        over j later (m, λ i less m'.
-        elim (cases_lt (c + k) i) [
-          | inl after ↦ none-later c k never over n i (omega arith) after m'
-          | inr by ↦
-              both_ways (before a c k) never
-              (match-before c k i (omega arith) (Matches-seen B value r (c + k) c i by m'))
-        ])
+        over j later (
+          m,
+          λ i less m'.
+              elim (cases_lt (c + k) i) [
+                | inl after ↦ none-later c k never over n i (omega arith) after m'
+                | inr by ↦
+                    both_ways (before a c k) never
+                    (match-before c k i (omega arith) (Matches-seen B value r (c + k) c i by m'))
+              ],
+        )
 
     first-over : (c k : ℕ) → ((j : ℕ) → c + k < j → MatchesFirst (sat value (c + k)) r c j → ⊥) → places f c k ≡ 0
     first-over c k over =

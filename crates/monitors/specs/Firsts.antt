@@ -1,5 +1,5 @@
--- Sections that accept first: AcceptFirst in place of each Accept, and the first matches that such a
--- section follows.
+-- Sections that accept first: AcceptFirst in place of each Accept, and the first matches that such
+-- a section follows.
 use Rattle.std.specs.Prelude.{◌≡◌, ◌↔◌, ℕ, ◌+◌, ◌<◌, Bool, IsTrue, List, [], ◌∷◌, map}
 use Rattle.bytecode.specs.declared.block_instr.BlockInstr.{BlockInstr}
 use Rattle.bytecode.specs.declared.block_instr.BlockInstr.TheVariants.{Unless, Enter, Accept, Stop}
@@ -18,12 +18,12 @@ MatchesFirst holds r i j = Matches holds r i j × ((k : ℕ) → k < j → Match
 -- exactly where the first match ends with it, and has no position left exactly where no first match
 -- is possible any more.
 pub record FollowsFirst {B : Type 0} (value : B → ℕ → Bool) (r : Seq B) (a : Automaton) : Type 0
-    where
-  pub ends : (c k : ℕ) → IsTrue (accepts a c k) ↔ MatchesFirst value r c (c + k + 1)
-  pub over :
-      (c k : ℕ) →
-      (places a c k ≡ 0)
-      ↔ ((j : ℕ) → c + k < j → MatchesFirst (sat value (c + k)) r c j → ⊥)
+  where
+    pub ends : (c k : ℕ) → IsTrue (accepts a c k) ↔ MatchesFirst value r c (c + k + 1)
+    pub over :
+        (c k : ℕ) →
+        (places a c k ≡ 0)
+        ↔ ((j : ℕ) → c + k < j → MatchesFirst (sat value (c + k)) r c j → ⊥)
 
 -- AcceptFirst in place of Accept
 abbrev pub first_step : BlockInstr → BlockInstr

@@ -37,7 +37,8 @@ Has-bits (q ∷ qs) p (inr h) = more-bit (bits qs) q p (inr (Has-bits qs p h))
 
 abbrev pub entering : List ℕ → Visit → Visit
 entering [] v = v
-entering (q ∷ qs) v = entering qs (record { entered = bit_or v.entered (2 ^ q); accepted = v.accepted; first = v.first })
+entering (q ∷ qs) v =
+    entering qs (record { entered = bit_or v.entered (2 ^ q); accepted = v.accepted; first = v.first })
 
 abbrev pub accepting : Bool → Visit → Visit
 accepting true v = record { entered = v.entered; accepted = true; first = v.first }

@@ -113,8 +113,7 @@ module _ (atoms positions p : ℕ) where
             ap block_flow (sym x.2) ∙ same-flow x.0 ∙ h.ends x.0 x.1;
         reached =
             λ k some below.
-            let x = h.reached k some (omega (arith, below, long)) in
-            (
+            let x = h.reached k some (omega (arith, below, long)) in (
               x.0,
               first_step x.1,
               x.2,

@@ -19,8 +19,8 @@ pub fn size_law()
     ensures instructions { SectionIsShort }
 {}
 
-/// The section of a sequence that accepts first: it follows the first matches, and is well formed as
-/// an antecedent, with as many positions and instructions.
+/// The section of a sequence that accepts first: it follows the first matches, and is well formed
+/// as an antecedent, with as many positions and instructions.
 pub fn first_law()
     ensures follows { SectionFollowsFirst }
     ensures well_formed { AcceptingFirstIsWellFormed }

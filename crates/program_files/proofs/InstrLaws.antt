@@ -388,7 +388,8 @@ record IsStep (first : Bool) (bytes : List ℕ) (o : ℕ) (i : BlockInstr) (rest
   pub opcode : block_opcode i ≡ o
   pub fits : fits_block_in first i ≡ true
 
-unless-read : (first : Bool) (bytes : List ℕ) (i : BlockInstr) (rest : List ℕ) → IsBytes bytes → unless_at bytes ≡ Ok (i, rest)
+unless-read : (first : Bool) (bytes : List ℕ) (i : BlockInstr) (rest : List ℕ) → IsBytes bytes → unless_at bytes
+    ≡ Ok (i, rest)
     → IsStep first bytes 0x40 i rest
 unfolding unless_at
 unless-read first bytes i rest fits e =
@@ -406,13 +407,15 @@ unless-read first bytes i rest fits e =
       fits = and_from (in_byte a.0.0) (in_two b.0.0) s.1 t.1;
     })
 
-enter-read : (first : Bool) (bytes : List ℕ) (i : BlockInstr) (rest : List ℕ) → IsBytes bytes → enter_at bytes ≡ Ok (i, rest)
+enter-read : (first : Bool) (bytes : List ℕ) (i : BlockInstr) (rest : List ℕ) → IsBytes bytes → enter_at bytes
+    ≡ Ok (i, rest)
     → IsStep first bytes 0x41 i rest
 unfolding enter_at
 enter-read first bytes i rest fits e =
     let a = bind_ok (byte_at bytes) (λ position. Ok (block.Enter position.0, position.1)) (i, rest) e in
     let s = byte-codec.takes bytes a.0.0 a.0.1 fits a.1 in
-    subst (λ (p : BlockInstr × List ℕ). IsStep first bytes 0x41 p.0 p.1) (ok_is (block.Enter a.0.0, a.0.1) (i, rest) a.2)
+    subst (λ (p : BlockInstr × List ℕ). IsStep first bytes 0x41 p.0 p.1)
+    (ok_is (block.Enter a.0.0, a.0.1) (i, rest) a.2)
     (record { taken = s.0; opcode = refl; fits = s.1 })
 
 abbrev found : BlockInstr → List ℕ → Result (BlockInstr × List ℕ) Stop
@@ -421,7 +424,8 @@ found i bytes = Ok (i, bytes)
 abbrev stopped : Stop → Result (BlockInstr × List ℕ) Stop
 stopped d = Err d
 
-lone-step : (first : Bool) (bytes : List ℕ) (o : ℕ) (j i : BlockInstr) (rest : List ℕ) → IsBytes bytes → block_opcode j ≡ o
+lone-step : (first : Bool) (bytes : List ℕ) (o : ℕ) (j i : BlockInstr) (rest : List ℕ) → IsBytes bytes → block_opcode j
+    ≡ o
     → block_operands j ≡ [] → fits_block_in first j ≡ true → found j bytes ≡ Ok (i, rest) → IsStep first bytes o i rest
 lone-step first bytes o j i rest are opcode empty fits e =
     subst (λ (p : BlockInstr × List ℕ). IsStep first bytes o p.0 p.1) (ok_is (j, bytes) (i, rest) e)
@@ -435,7 +439,8 @@ no_step : (first : Bool) (bytes : List ℕ) (o : ℕ) (d : Stop) (i : BlockInstr
     → IsStep first bytes o i rest
 no_step first bytes o d i rest e = absurd cc
 
-step_as : (first : Bool) (bytes : List ℕ) (o code : ℕ) (i : BlockInstr) (rest : List ℕ) → eqb o code ≡ true → IsStep first bytes code i rest
+step_as : (first : Bool) (bytes : List ℕ) (o code : ℕ) (i : BlockInstr) (rest : List ℕ) → eqb o code ≡ true
+    → IsStep first bytes code i rest
     → IsStep first bytes o i rest
 step_as first bytes o code i rest e h = subst (λ (n : ℕ). IsStep first bytes n i rest) (sym (eqb-true o code e)) h
 
@@ -449,7 +454,8 @@ step-by : (first : Bool) (bytes : List ℕ) (o : ℕ) (d : Stop) (i : BlockInstr
     (if eqb o 0x41 then enter_at bytes else
     (if eqb o 0x42 then found block.Accept bytes else
     (if eqb o 0x43 then found block.Stop bytes else
-    (if eqb o 0x44 then (if first then found block.AcceptFirst bytes else stopped d) else stopped d))))) ≡ Ok (i, rest) → IsStep first bytes o i rest
+    (if eqb o 0x44 then (if first then found block.AcceptFirst bytes else stopped d) else stopped d))))) ≡ Ok (i, rest)
+    → IsStep first bytes o i rest
 step-by first bytes o d i rest fits e =
     branch (eqb o 0x40) (unless_at bytes)
     (if eqb o 0x41 then enter_at bytes else
@@ -468,14 +474,16 @@ step-by first bytes o d i rest fits e =
     (i, rest) (IsStep first bytes o i rest)
     (λ h r. step_as first bytes o 0x42 i rest h (lone-step first bytes 0x42 block.Accept i rest fits refl refl refl r))
     (λ n2 e2. branch (eqb o 0x43) (found block.Stop bytes)
-    (if eqb o 0x44 then (if first then found block.AcceptFirst bytes else stopped d) else stopped d) (i, rest) (IsStep first bytes o i rest)
+    (if eqb o 0x44 then (if first then found block.AcceptFirst bytes else stopped d) else stopped d) (i, rest)
+    (IsStep first bytes o i rest)
     (λ h r. step_as first bytes o 0x43 i rest h (lone-step first bytes 0x43 block.Stop i rest fits refl refl refl r))
     (λ n3 e3. branch (eqb o 0x44) (if first then found block.AcceptFirst bytes else stopped d) (stopped d) (i, rest)
     (IsStep first bytes o i rest)
     (λ h r. step_as first bytes o 0x44 i rest h (first-step first bytes d i rest fits r))
     (λ n4 e4. no_step first bytes o d i rest e4) e3) e2) e1) e0) e
 
-step-takes : (first : Bool) (bytes : List ℕ) (i : BlockInstr) (rest : List ℕ) → IsBytes bytes → step_at first bytes ≡ Ok (i, rest)
+step-takes : (first : Bool) (bytes : List ℕ) (i : BlockInstr) (rest : List ℕ) → IsBytes bytes → step_at first bytes
+    ≡ Ok (i, rest)
     → Takes bytes (block_spelling i) rest × (fits_block_in first i ≡ true)
 unfolding step_at
 step-takes first bytes i rest fits e =
@@ -492,7 +500,8 @@ step-takes first bytes i rest fits e =
     let both = Takes-then bytes (byte a.0.0) a.0.1 (block_operands i) rest s.0 r.taken in
     (subst (λ (o : ℕ). Takes bytes (byte o ++ block_operands i) rest) (sym r.opcode) both, r.fits)
 
-step-again : (first : Bool) (i : BlockInstr) (rest : List ℕ) → fits_block_in first i ≡ true → step_at first (block_spelling i ++ rest) ≡ Ok (i, rest)
+step-again : (first : Bool) (i : BlockInstr) (rest : List ℕ) → fits_block_in first i ≡ true
+    → step_at first (block_spelling i ++ rest) ≡ Ok (i, rest)
 unfolding step_at byte_at unless_at enter_at
 step-again first (block.Unless atom target) rest fits =
     rw (two-codec.again target rest (and_parts (in_byte atom) (in_two target) fits).1) refl

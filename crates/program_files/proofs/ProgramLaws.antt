@@ -174,7 +174,8 @@ steps-codec : (first : Bool)
     → IsCodec (fits_list (fits_block_in first)) (counted_spelling block_spelling) (counted_at (step_at first))
 steps-codec first = counted-codec (fits_block_in first) block_spelling (step_at first) (step-codec first)
 
-section-takes : (first : Bool) (bytes : List ℕ) (x : SectionData) (rest : List ℕ) → IsBytes bytes → section_at first bytes ≡ Ok (x, rest)
+section-takes : (first : Bool) (bytes : List ℕ) (x : SectionData) (rest : List ℕ) → IsBytes bytes
+    → section_at first bytes ≡ Ok (x, rest)
     → Takes bytes (section_spelling x) rest × (fits_section_in first x ≡ true)
 unfolding section_at
 section-takes first bytes x rest fits e =
@@ -190,7 +191,8 @@ section-takes first bytes x rest fits e =
     let s = sixteen-codec.takes bytes a.0.0 a.0.1 fits a.1 in
     let t = byte-codec.takes a.0.1 b.0.0 b.0.1 s.0.rest_fits b.1 in
     let u =
-    many-takes (fits_list (fits_block_in first)) (counted_spelling block_spelling) (counted_at (step_at first)) (steps-codec first) b.0.0
+    many-takes (fits_list (fits_block_in first)) (counted_spelling block_spelling) (counted_at (step_at first))
+    (steps-codec first) b.0.0
     b.0.1 c.0.0 c.0.1 t.0.rest_fits c.1 in
     let behind = Takes-then a.0.1 (byte b.0.0) b.0.1 (flat_map (counted_spelling block_spelling) c.0.0) c.0.1 t.0 u.0 in
     let counted : Takes a.0.1 (byte (length c.0.0) ++ flat_map (counted_spelling block_spelling) c.0.0) c.0.1 =
@@ -208,12 +210,14 @@ section-takes first bytes x rest fits e =
           (and_from (in_byte (length c.0.0)) (list_all (fits_list (fits_block_in first)) c.0.0) few u.2),
     )
 
-section-again : (first : Bool) (x : SectionData) (rest : List ℕ) → fits_section_in first x ≡ true → section_at first (section_spelling x ++ rest)
+section-again : (first : Bool) (x : SectionData) (rest : List ℕ) → fits_section_in first x ≡ true
+    → section_at first (section_spelling x ++ rest)
     ≡ Ok (x, rest)
 unfolding section_at
 section-again first x rest fits =
     let a =
-    and_parts (in_sixteen x.start) (in_byte (length x.blocks) && list_all (fits_list (fits_block_in first)) x.blocks) fits in
+    and_parts (in_sixteen x.start) (in_byte (length x.blocks) && list_all (fits_list (fits_block_in first)) x.blocks)
+    fits in
     let b = and_parts (in_byte (length x.blocks)) (list_all (fits_list (fits_block_in first)) x.blocks) a.1 in
     let more = flat_map (counted_spelling block_spelling) x.blocks in
     let regrouped : section_spelling x ++ rest ≡ sixteen x.start ++ (byte (length x.blocks) ++ (more ++ rest)) =
@@ -229,7 +233,6 @@ section-again first x rest fits =
 pub section-codec : (first : Bool) → IsCodec (fits_section_in first) section_spelling (section_at first)
 section-codec first = record { takes = section-takes first; again = section-again first }
 
-
 -- ---- the head
 
 abbrev head_of : Bool → List ℕ → Result (Bool × List ℕ) Stop
@@ -241,17 +244,16 @@ version-ok : (o : ℕ) (bytes rest : List ℕ) (first : Bool)
 version-ok o bytes rest first e = by (eqb o 2) (eqb o 1) refl refl e
   where
     by : (two one : Bool) → eqb o 2 ≡ two → eqb o 1 ≡ one
-        → (if two then head_of true bytes else (if one then head_of false bytes else Err stops.Version)) ≡ head_of first rest
+        → (if two then head_of true bytes else (if one then head_of false bytes else Err stops.Version))
+        ≡ head_of first rest
         → (o ≡ version_of first) × (bytes ≡ rest)
     by true one is_two is_one e =
-        let same = ok_is (true, bytes) (first, rest) e in
-        (
+        let same = ok_is (true, bytes) (first, rest) e in (
           eqb-true o 2 is_two ∙ ap (λ (p : Bool × List ℕ). version_of p.0) same,
           ap (λ (p : Bool × List ℕ). p.1) same,
         )
     by false true is_two is_one e =
-        let same = ok_is (false, bytes) (first, rest) e in
-        (
+        let same = ok_is (false, bytes) (first, rest) e in (
           eqb-true o 1 is_one ∙ ap (λ (p : Bool × List ℕ). version_of p.0) same,
           ap (λ (p : Bool × List ℕ). p.1) same,
         )
@@ -474,7 +476,8 @@ module _ (header : HeaderData) (signals : List SlotData) (counters : List ℕ) (
         consequent = consequent;
       }
 
-  made-taken : (first : Bool) (bytes h a b c d e f : List ℕ) → Takes bytes (head_spelling_in first) h → Takes h (header_spelling header) a
+  made-taken : (first : Bool) (bytes h a b c d e f : List ℕ) → Takes bytes (head_spelling_in first) h
+      → Takes h (header_spelling header) a
       → Takes a (counted_spelling slot_spelling signals) b → Takes b (counted_spelling byte counters) c
       → Takes c (counted_spelling sample_spelling sample) d → Takes d (section_spelling antecedent) e
       → Takes e (section_spelling consequent) f → Takes bytes (spelling_in first made) f
@@ -488,8 +491,10 @@ module _ (header : HeaderData) (signals : List SlotData) (counters : List ℕ) (
       (counted_spelling byte counters) (counted_spelling sample_spelling sample) (section_spelling antecedent)
       (section_spelling consequent) p q r t k m)
 
-  made-fits : (first : Bool) → fits_header header ≡ true → fits_list fits_slot signals ≡ true → fits_list is_width counters ≡ true
-      → fits_list fits_sample sample ≡ true → fits_section_in first antecedent ≡ true → fits_section_in first consequent ≡ true
+  made-fits : (first : Bool) → fits_header header ≡ true → fits_list fits_slot signals ≡ true
+      → fits_list is_width counters ≡ true
+      → fits_list fits_sample sample ≡ true → fits_section_in first antecedent ≡ true
+      → fits_section_in first consequent ≡ true
       → fits_program_in first made ≡ true
   unfolding made
   made-fits first p q r t k m =
@@ -508,7 +513,8 @@ module _ (header : HeaderData) (signals : List SlotData) (counters : List ℕ) (
 abbrev ok_program : ProgramData → List ℕ → Result (ProgramData × List ℕ) Stop
 ok_program x rest = Ok (x, rest)
 
-record Rest5 (first : Bool) (header : HeaderData) (signals : List SlotData) (counters : List ℕ) (sample : List SampleInstr)
+record Rest5 (first : Bool) (header : HeaderData) (signals : List SlotData) (counters : List ℕ)
+    (sample : List SampleInstr)
     (antecedent : SectionData) (bytes : List ℕ) (x : ProgramData) (rest : List ℕ) : Type 0 where
   pub consequent' : SectionData
   pub after5 : List ℕ
@@ -565,7 +571,8 @@ rest5 first header signals counters sample antecedent bytes x rest fits e =
       left = ap (λ (p : ProgramData × List ℕ). p.1) same;
     }
 
-record Rest4 (first : Bool) (header : HeaderData) (signals : List SlotData) (counters : List ℕ) (sample : List SampleInstr)
+record Rest4 (first : Bool) (header : HeaderData) (signals : List SlotData) (counters : List ℕ)
+    (sample : List SampleInstr)
     (bytes : List ℕ) (x : ProgramData) (rest : List ℕ) : Type 0 where
   pub antecedent' : SectionData
   pub after4 : List ℕ
@@ -578,7 +585,8 @@ record Rest4 (first : Bool) (header : HeaderData) (signals : List SlotData) (cou
   pub is : x ≡ made header signals counters sample antecedent' consequent'
   pub left : after5 ≡ rest
 
-rest4 : (first : Bool) (header : HeaderData) (signals : List SlotData) (counters : List ℕ) (sample : List SampleInstr) (bytes : List ℕ)
+rest4 : (first : Bool) (header : HeaderData) (signals : List SlotData) (counters : List ℕ) (sample : List SampleInstr)
+    (bytes : List ℕ)
     (x : ProgramData) (rest : List ℕ) → IsBytes bytes
     → (section_at first bytes >>= λ n_antecedent. section_at first n_antecedent.1
     >>= λ n_consequent. ok_program
@@ -618,7 +626,8 @@ rest4 first header signals counters sample bytes x rest fits e =
       left = m.left;
     }
 
-record Rest3 (first : Bool) (header : HeaderData) (signals : List SlotData) (counters : List ℕ) (bytes : List ℕ) (x : ProgramData)
+record Rest3 (first : Bool) (header : HeaderData) (signals : List SlotData) (counters : List ℕ) (bytes : List ℕ)
+    (x : ProgramData)
     (rest : List ℕ) : Type 0 where
   pub sample' : List SampleInstr
   pub after3 : List ℕ
@@ -635,9 +644,11 @@ record Rest3 (first : Bool) (header : HeaderData) (signals : List SlotData) (cou
   pub is : x ≡ made header signals counters sample' antecedent' consequent'
   pub left : after5 ≡ rest
 
-rest3 : (first : Bool) (header : HeaderData) (signals : List SlotData) (counters : List ℕ) (bytes : List ℕ) (x : ProgramData)
+rest3 : (first : Bool) (header : HeaderData) (signals : List SlotData) (counters : List ℕ) (bytes : List ℕ)
+    (x : ProgramData)
     (rest : List ℕ) → IsBytes bytes
-    → (counted_at sample_at bytes >>= λ n_sample. section_at first n_sample.1 >>= λ n_antecedent. section_at first n_antecedent.1
+    → (counted_at sample_at bytes >>= λ n_sample. section_at first n_sample.1
+    >>= λ n_antecedent. section_at first n_antecedent.1
     >>= λ n_consequent. ok_program
     (record {
       header = header;
@@ -681,7 +692,8 @@ rest3 first header signals counters bytes x rest fits e =
       left = m.left;
     }
 
-record Rest2 (first : Bool) (header : HeaderData) (signals : List SlotData) (bytes : List ℕ) (x : ProgramData) (rest : List ℕ) : Type 0
+record Rest2 (first : Bool) (header : HeaderData) (signals : List SlotData) (bytes : List ℕ) (x : ProgramData)
+    (rest : List ℕ) : Type 0
   where
     pub counters' : List ℕ
     pub after2 : List ℕ
@@ -702,7 +714,8 @@ record Rest2 (first : Bool) (header : HeaderData) (signals : List SlotData) (byt
     pub is : x ≡ made header signals counters' sample' antecedent' consequent'
     pub left : after5 ≡ rest
 
-rest2 : (first : Bool) (header : HeaderData) (signals : List SlotData) (bytes : List ℕ) (x : ProgramData) (rest : List ℕ)
+rest2 : (first : Bool) (header : HeaderData) (signals : List SlotData) (bytes : List ℕ) (x : ProgramData)
+    (rest : List ℕ)
     → IsBytes bytes
     → (counted_at width_at bytes >>= λ n_counters. counted_at sample_at n_counters.1
     >>= λ n_sample. section_at first n_sample.1 >>= λ n_antecedent. section_at first n_antecedent.1
@@ -948,16 +961,19 @@ program-takes bytes x rest fits e =
     )) (x, rest) e in
     let th = head-takes h.0.0 bytes h.0.1 fits h.1 in
     let m = rest0 h.0.0 h.0.1 x rest th.rest_fits h.2 in
-    let taken : Takes bytes (spelling_in h.0.0 (made m.header' m.signals' m.counters' m.sample' m.antecedent' m.consequent'))
+    let taken : Takes bytes
+    (spelling_in h.0.0 (made m.header' m.signals' m.counters' m.sample' m.antecedent' m.consequent'))
     rest =
     subst (λ (r : List ℕ). Takes bytes
     (spelling_in h.0.0 (made m.header' m.signals' m.counters' m.sample' m.antecedent' m.consequent')) r) m.left
-    (made-taken m.header' m.signals' m.counters' m.sample' m.antecedent' m.consequent' h.0.0 bytes h.0.1 m.after0 m.after1
+    (made-taken m.header' m.signals' m.counters' m.sample' m.antecedent' m.consequent' h.0.0 bytes h.0.1 m.after0
+    m.after1
     m.after2 m.after3 m.after4 m.after5 th m.taken0 m.taken1 m.taken2 m.taken3 m.taken4 m.taken5) in (
       h.0.0,
       subst (λ (y : ProgramData). Takes bytes (spelling_in h.0.0 y) rest) (sym m.is) taken,
       subst (λ (y : ProgramData). fits_program_in h.0.0 y ≡ true) (sym m.is)
-          (made-fits m.header' m.signals' m.counters' m.sample' m.antecedent' m.consequent' h.0.0 m.fits0 m.fits1 m.fits2
+          (made-fits m.header' m.signals' m.counters' m.sample' m.antecedent' m.consequent' h.0.0 m.fits0 m.fits1
+          m.fits2
           m.fits3 m.fits4 m.fits5),
     )
 
@@ -1025,7 +1041,8 @@ again3 : (first : Bool) (header : HeaderData) (signals : List SlotData) (counter
     → fits_section_in first antecedent ≡ true → fits_section_in first consequent ≡ true
     → (counted_at sample_at
     (counted_spelling sample_spelling sample
-    ++ (section_spelling antecedent ++ (section_spelling consequent ++ rest))) >>= λ n_sample. section_at first n_sample.1
+    ++ (section_spelling antecedent ++ (section_spelling consequent ++ rest)))
+    >>= λ n_sample. section_at first n_sample.1
     >>= λ n_antecedent. section_at first n_antecedent.1
     >>= λ n_consequent. ok_program
     (record {
@@ -1055,7 +1072,8 @@ again3 first header signals counters sample antecedent consequent rest h3 h4 h5 
 
 again2 : (first : Bool) (header : HeaderData) (signals : List SlotData) (counters : List ℕ) (sample : List SampleInstr)
     (antecedent : SectionData) (consequent : SectionData) (rest : List ℕ) → fits_list is_width counters ≡ true
-    → fits_list fits_sample sample ≡ true → fits_section_in first antecedent ≡ true → fits_section_in first consequent ≡ true
+    → fits_list fits_sample sample ≡ true → fits_section_in first antecedent ≡ true → fits_section_in first consequent
+    ≡ true
     → (counted_at width_at
     (counted_spelling byte counters
     ++ (counted_spelling sample_spelling sample
@@ -1175,21 +1193,25 @@ again0 first header signals counters sample antecedent consequent rest h0 h1 h2 
     ++ (section_spelling antecedent ++ (section_spelling consequent ++ rest))))) h0)
     ∙ again1 first header signals counters sample antecedent consequent rest h1 h2 h3 h4 h5
 
-program-again : (first : Bool) (x : ProgramData) (rest : List ℕ) → fits_program_in first x ≡ true → program_at (spelling_in first x ++ rest)
+program-again : (first : Bool) (x : ProgramData) (rest : List ℕ) → fits_program_in first x ≡ true
+    → program_at (spelling_in first x ++ rest)
     ≡ ok_program x rest
 unfolding program_at made
 program-again first x rest fits =
     let p0 =
     and_parts (fits_header x.header) (fits_list fits_slot x.signals
     && (fits_list is_width x.counters
-    && (fits_list fits_sample x.sample && (fits_section_in first x.antecedent && fits_section_in first x.consequent)))) fits in
+    && (fits_list fits_sample x.sample && (fits_section_in first x.antecedent && fits_section_in first x.consequent))))
+    fits in
     let p1 =
     and_parts (fits_list fits_slot x.signals) (fits_list is_width x.counters
-    && (fits_list fits_sample x.sample && (fits_section_in first x.antecedent && fits_section_in first x.consequent))) p0.1 in
+    && (fits_list fits_sample x.sample && (fits_section_in first x.antecedent && fits_section_in first x.consequent)))
+    p0.1 in
     let p2 =
     and_parts (fits_list is_width x.counters) (fits_list fits_sample x.sample
     && (fits_section_in first x.antecedent && fits_section_in first x.consequent)) p1.1 in
-    let p3 = and_parts (fits_list fits_sample x.sample) (fits_section_in first x.antecedent && fits_section_in first x.consequent) p2.1 in
+    let p3 = and_parts (fits_list fits_sample x.sample)
+    (fits_section_in first x.antecedent && fits_section_in first x.consequent) p2.1 in
     let p4 = and_parts (fits_section_in first x.antecedent) (fits_section_in first x.consequent) p3.1 in
     let texts : spelling_in first x ++ rest
     ≡ head_spelling_in first

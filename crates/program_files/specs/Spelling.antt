@@ -1,5 +1,5 @@
--- The spellings of a program, one in each version: the fields of the file in their order, numbers with the highest
--- byte first.
+-- The spellings of a program, one in each version: the fields of the file in their order, numbers
+-- with the highest byte first.
 use Rattle.std.specs.Prelude.{ℕ, ◌/◌, ◌%◌, ◌^◌, List, [], ◌∷◌, ◌++◌, length, Option, Some, None}
 use Rattle.std.specs.Prelude.{◌≡◌, Bool, true, if◌then◌else◌, IsTrue}
 use Rattle.std.specs.List.{flat_map}

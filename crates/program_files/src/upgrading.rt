@@ -1,8 +1,10 @@
 //! Files of either version, written in version 2.
 
-ghost use Rattle.std.specs.Prelude.{◌≡◌, IfOk, IfErr};
+ghost use Rattle.std.specs.Prelude.{◌≡◌, IfOk, IfErr, IsTrue, Bool};
+ghost use Rattle.bytecode.specs.Values.{ProgramData, fits_program_in};
+ghost use Rattle.program_files.specs.declared.fault.CodeFault.TheVariants.{Memory};
 ghost use Rattle.program_files.specs.Reading.{IsFirstFault};
-ghost use Rattle.program_files.specs.Spelling.{IsUpgraded};
+ghost use Rattle.program_files.specs.Spelling.{IsUpgraded, spelling_in};
 
 use crate::fault::CodeFault;
 use crate::program_reading::decode;
@@ -14,6 +16,9 @@ use std::alloc::Global;
 pub fn upgrade(alloc: Global, bytes: &[u8]) -> Result<Vec<u8>, CodeFault>
     // It is the version 2 spelling of the program that was read.
     ensures upgraded { IfOk result (λ file. IsUpgraded bytes.now file.items) }
+    // What spells a program is upgraded, unless memory runs out.
+    ensures read { (first : Bool) (x : ProgramData) → IsTrue (fits_program_in first x) →
+        bytes.now ≡ spelling_in first x → IfErr result (λ e. e ≡ Memory) }
     // Which fault it is.
     ensures fault { IfErr result (IsFirstFault bytes.now) }
 {

@@ -36,13 +36,7 @@ impl Visit {
 }
 
 /// Runs the blocks of a set of positions in rising order, and takes a tick for each instruction.
-fn run_set(
-    section: &Section,
-    bases: &[usize],
-    atoms: &[bool],
-    set: u128,
-    left: &mut u64,
-) -> Visit
+fn run_set(section: &Section, bases: &[usize], atoms: &[bool], set: u128, left: &mut u64) -> Visit
     requires few { length section.now.blocks.items ≤ 127 }
     requires size { size_of (section_data section.now).blocks ≤ 4096 }
     requires bases { AreBases (section_data section.now).blocks bases.now }

@@ -20,7 +20,8 @@ block-init c =
 
 pub returns-in-Some : goal.returns-in-Some
 returns-in-Some c =
-    block_refused (section_of_side c.args.side) c.args.atoms c.args.positions c.args.p c.args.base c.args.block.now c.block.marks c.block.k _
+    block_refused (section_of_side c.args.side) c.args.atoms c.args.positions c.args.p c.args.base c.args.block.now
+    c.block.marks c.block.k _
     (Unless 0 0) _ (c.block.invariant.read) (omega arith) refl
     (slice_get-get_or c.block.marks c.block.k false (omega (arith, c.block.invariant.long))) c.in-Some.refusal
     (sym c.in-Some.is ∙ c.block_fault.ensures)
@@ -28,7 +29,8 @@ returns-in-Some c =
 pub mark_on-requires-clause-forward : goal.mark_on-requires-clause-forward
 mark_on-requires-clause-forward c =
     let parts =
-    block_parts (section_of_side c.args.side) c.args.atoms c.args.positions c.args.p c.args.base c.args.block.now c.block.marks c.block.k _
+    block_parts (section_of_side c.args.side) c.args.atoms c.args.positions c.args.p c.args.base c.args.block.now
+    c.block.marks c.block.k _
     (Unless 0 0) _ (c.block.invariant.read) (omega arith) refl
     (slice_get-get_or c.block.marks c.block.k false (omega (arith, c.block.invariant.long)))
     (sym c.in-None.is ∙ c.block_fault.ensures) in
@@ -40,7 +42,8 @@ mark_on-requires-clause-forward c =
 pub mark_on-requires-clause-ends : goal.mark_on-requires-clause-ends
 mark_on-requires-clause-ends c =
     let parts =
-    block_parts (section_of_side c.args.side) c.args.atoms c.args.positions c.args.p c.args.base c.args.block.now c.block.marks c.block.k _
+    block_parts (section_of_side c.args.side) c.args.atoms c.args.positions c.args.p c.args.base c.args.block.now
+    c.block.marks c.block.k _
     (Unless 0 0) _ (c.block.invariant.read) (omega arith) refl
     (slice_get-get_or c.block.marks c.block.k false (omega (arith, c.block.invariant.long)))
     (sym c.in-None.is ∙ c.block_fault.ensures) in
@@ -53,7 +56,8 @@ pub block-preserved : goal.block-preserved
 block-preserved c =
     record {
       read =
-          block_step (section_of_side c.args.side) c.args.atoms c.args.positions c.args.p c.args.base c.args.block.now c.block.marks c.block.k
+          block_step (section_of_side c.args.side) c.args.atoms c.args.positions c.args.p c.args.base c.args.block.now
+          c.block.marks c.block.k
           _ (Unless 0 0) _ (c.block.invariant.read) (omega arith) refl
           (slice_get-get_or c.block.marks c.block.k false (omega (arith, c.block.invariant.long))) c.mark_on.new.marks
           (sym c.in-None.is ∙ c.block_fault.ensures)
@@ -65,5 +69,6 @@ block-preserved c =
 
 pub returns : goal.returns
 returns c =
-    block_stop (section_of_side c.args.side) c.args.atoms c.args.positions c.args.p c.args.base c.args.block.now c.block.marks
+    block_stop (section_of_side c.args.side) c.args.atoms c.args.positions c.args.p c.args.base c.args.block.now
+    c.block.marks
     c.block.k (c.block.invariant.read) (omega arith)

@@ -15,7 +15,8 @@ each-init c =
     record {
       seen =
           see_start (section_of_side c.args.side) c.args.atoms (section_data c.args.section.now)
-          (found_in (section_of_side c.args.side) c.start_fault-first.result) (c.start_fault-first.ensures (section_of_side c.args.side));
+          (found_in (section_of_side c.args.side) c.start_fault-first.result)
+          (c.start_fault-first.ensures (section_of_side c.args.side));
       size = omega (arith, c.requires.size);
     }
 
@@ -36,13 +37,16 @@ each-preserved c =
     ∙ ap (λ (b : List BlockInstr). b ∷ drop (c.each.p + 1) s.blocks) (sym c.as_slice-block.ensures.value) in
     record {
       seen =
-          see_block (section_of_side c.args.side) c.args.atoms s (found_in (section_of_side c.args.side) c.each.first) c.each.p c.each.base
-          (c.each.invariant.seen) c.as_slice-block.result.now (found_in (section_of_side c.args.side) c.earlier-first.result)
+          see_block (section_of_side c.args.side) c.args.atoms s (found_in (section_of_side c.args.side) c.each.first)
+          c.each.p c.each.base
+          (c.each.invariant.seen) c.as_slice-block.result.now
+          (found_in (section_of_side c.args.side) c.earlier-first.result)
           block
           (λ xs first. c.earlier-first.ensures (section_of_side c.args.side) xs _ first
           (subst
           (λ (n : ℕ). IsFirstOf
-          (code_faults (block_rules (section_of_side c.args.side) c.args.atoms n c.each.p) c.each.base c.as_slice-block.result.now)
+          (code_faults (block_rules (section_of_side c.args.side) c.args.atoms n c.each.p) c.each.base
+          c.as_slice-block.result.now)
           (found_in (section_of_side c.args.side) c.in_ok-scan_block.field-0)) many (c.in_ok-scan_block.ensures)));
       size = omega (arith, c.each.invariant.size, ap size_of block);
     }

@@ -10,6 +10,7 @@ use Rattle.inference.proofs.section_scan.section_fault.Given as goal
 abbrev pub invariant-each : goal.invariant-each
 invariant-each l =
     record {
-      seen : HasSeen (section_of_side l.side) l.atoms (section_data l.section) (found_in (section_of_side l.side) l.first) l.p l.base;
+      seen : HasSeen (section_of_side l.side) l.atoms (section_data l.section)
+          (found_in (section_of_side l.side) l.first) l.p l.base;
       size : l.base + size_of (drop l.p (blocks_of l.section.blocks.items)) ≤ 4096;
     }
