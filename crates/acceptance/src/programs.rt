@@ -9,8 +9,8 @@ use std::alloc::{AllocError, Global};
 use std::test::Fail;
 use verifier::{Field, Pool, Refusal};
 
-/// In version 1, `r: .. top.x |-> top.y` at `top.clk`: the samples of both become atoms 0 and 1, and each section
-/// has a block that accepts where its atom is 1.
+/// In version 1, `r: .. top.x |-> top.y` at `top.clk`: the samples of both become atoms 0 and 1,
+/// and each section has a block that accepts where its atom is 1.
 const PROGRAM: [u8; 114] = [
     0x53, 0x56, 0x41, 0x4d, 1, // 0: the magic number, the version
     0, 0, 0, 1, 0, 1, 0, 1, 0, 0, 0, 14, 255, 2, // 5: the limits, no disabling atom, two atoms

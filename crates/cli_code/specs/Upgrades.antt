@@ -7,7 +7,8 @@ use Rattle.outcomes.specs.declared.fault.Fault.{Fault}
 use Rattle.outcomes.specs.declared.fault.Fault.TheVariants.{Code, Memory}
 use Rattle.outcomes.specs.Codes.{Spells, IsMisspelled}
 
--- The bytes spell a program, in version 2 or in version 1, and the file is its spelling in version 2.
+-- The bytes spell a program, in version 2 or in version 1, and the file is its spelling in
+-- version 2.
 pub record IsUpgrade (bytes file : List ℕ) : Type 0 where
   pub program : ProgramData
   pub spells : Spells bytes program

@@ -19,9 +19,9 @@
 //! written nothing, but where the sink itself failed: that holds a beginning of the text.
 //!
 //! The definitions: what a run comes to in `specs/Outcomes.antt`, what a verification comes to in
-//! `specs/Verifications.antt`, what an upgrade comes to in `specs/Upgrades.antt`, the line of limits
-//! in `specs/Limits.antt`; the report of a program over a dump in `program_runs`; which programs may
-//! run in `verifier`; faults, their lines and statuses in `outcomes`.
+//! `specs/Verifications.antt`, what an upgrade comes to in `specs/Upgrades.antt`, the line of
+//! limits in `specs/Limits.antt`; the report of a program over a dump in `program_runs`; which
+//! programs may run in `verifier`; faults, their lines and statuses in `outcomes`.
 //!
 //! Not promised: that the program means what its writer meant; that memory suffices; and that
 //! `run_code` returns.

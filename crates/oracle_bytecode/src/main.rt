@@ -16,7 +16,8 @@
 //! that file took at best (`bench/bytecode`).
 //!
 //! What is answered is said by the contracts of `decode`, `encode` and `upgrade` of
-//! `program_files`; the definitions stand in its `specs/Spelling.antt`, and in `bytecode/specs/Values.antt`.
+//! `program_files`; the definitions stand in its `specs/Spelling.antt`, and in
+//! `bytecode/specs/Values.antt`.
 //!
 //! Not promised: that a program is accepted, which is `oracle_verifier`'s.
 #![tactic(auto)]

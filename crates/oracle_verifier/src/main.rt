@@ -1,8 +1,9 @@
 //! Tells which programs are accepted, and by which limits, against answers from outside.
 //!
 //! Of each file of `data/cases.txt`, one a line in hexadecimal digits, which is upgraded first, it
-//! prints the least limits and the lives of a program that is accepted, or else the fault. An accepted program and its copy
-//! are to say the same as the file, and `least_limits` the same of it before it is verified.
+//! prints the least limits and the lives of a program that is accepted, or else the fault. An
+//! accepted program and its copy are to say the same as the upgraded file, and `least_limits` the
+//! same of it before it is verified.
 //!
 //! ```text
 //! 5356414d01..  accepted history 0 stack 1 attempts 1 obligations 1 budget 14 lives 1 1
