@@ -16,6 +16,7 @@ use Rattle.monitors.specs.Firsts.{first_step, accepting_first, IsPlain, ArePlain
 use Rattle.monitors.proofs.Firsts as firsts
 use Rattle.positions.specs.Tables.{Edge, Table, table_of}
 use Rattle.positions.specs.Plans.{plan}
+use Rattle.positions.specs.Living.{sifted}
 use Rattle.positions.specs.Sections.{edge_size, guards, enter_all, accept_if, edge_code, block_of, blocks_of, rows_of}
 use Rattle.positions.specs.Sections.{coded}
 use Rattle.positions.specs.Laws.{SectionFollowsFirst, AcceptingFirstIsWellFormed, AcceptingFirstIsAsLong, section_for}
@@ -60,7 +61,9 @@ blocks-plain base (row ∷ rows) = (block-plain base row, blocks-plain (base + l
 pub law-follows_first : SectionFollowsFirst
 law-follows_first atom true_one rows value w ordered tells fills =
     firsts.law (section_for atom true_one w) rows value _
-    (blocks-plain 0 (rows_of (coded atom (table_of (plan true_one w))) 0 (table_of (plan true_one w)).size)) fills
+    (blocks-plain 0 (rows_of (coded atom (sifted (table_of (plan true_one w)))) 0
+    (sifted (table_of (plan true_one w))).size))
+    fills
     (law-section_follows atom true_one rows value w ordered tells)
 
 -- ---- it is well formed
