@@ -11,13 +11,12 @@ use Rattle.bytecode.specs.declared.block_instr.BlockInstr.TheVariants.{Unless, E
 use Rattle.bytecode.specs.declared.block_instr.BlockInstr.TheVariants.{AcceptFirst}
 use Rattle.bytecode.specs.Values.{SectionData}
 use Rattle.checked_machine.specs.Blocks.{Visit, ended}
-use Rattle.assertions.specs.Segments.{Seq, sat, Matches}
-use Rattle.assertions.specs.Attempts.{IsOver}
+use Rattle.assertions.specs.Segments.{Seq, sat, Matches, MatchesFirst}
+use Rattle.assertions.specs.Attempts.{every, first_match, IsOver}
 use Rattle.assertions.proofs.Segments.{Matches-forward}
 use Rattle.monitors.specs.Automata.{Automaton, places, accepts, Follows}
 use Rattle.monitors.specs.Effects.{effect, effects, visit_of, automaton_of}
-use Rattle.monitors.specs.Firsts.{MatchesFirst, FollowsFirst, first_step, accepting_first, IsPlain, ArePlain}
-use Rattle.monitors.specs.Firsts.{AcceptsFirst}
+use Rattle.monitors.specs.Firsts.{first_step, accepting_first, IsPlain, ArePlain, AcceptsFirst}
 use Rattle.monitors.proofs.Local.{Matches-seen, Matches-sat}
 
 -- ---- what the blocks make
@@ -179,7 +178,7 @@ module _ (a f : Automaton) (start : f.start ≡ a.start)
   accepts-first c k = accepts-by c k (before a c k) (places-first c k)
 
   module _ (B : Type 0) (value : B → ℕ → Bool) (r : Seq B) (fills : (e : ℕ) → Matches value r e e → ⊥)
-      (follows : Follows value r a) where
+      (follows : Follows value (every r) a) where
     -- a match that ends by a tick was accepted before it
     match-before : (c k j : ℕ) → j < c + k + 1 → Matches value r c j → before a c k ≡ true
     match-before c k j below m =
@@ -255,7 +254,7 @@ module _ (a f : Automaton) (start : f.start ≡ a.start)
               ∙ (follows.over c k).1 (λ j later m. none-later c k never over (suc j) j (omega arith) later m)
         ]
 
-    follows-first : FollowsFirst value r f
+    follows-first : Follows value (first_match r) f
     follows-first = record {
       ends = λ c k. (first-ends c k, ends-first c k);
       over = λ c k. (over-first c k, first-over c k);
