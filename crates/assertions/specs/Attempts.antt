@@ -9,7 +9,7 @@ use Rattle.signals.specs.declared.verdict.Verdict.{Verdict}
 use Rattle.signals.specs.declared.verdict.Verdict.TheVariants as outcome
 use Rattle.assertions.specs.Quantifiers.{some_in, each_in, first_in, first_true}
 use Rattle.assertions.specs.Segments.{Seq, sat, is_match, is_first_match, Matches, MatchesFirst}
-use Rattle.assertions.specs.Segments.{longest}
+use Rattle.assertions.specs.Segments.{longest, always}
 
 -- An antecedent: a sequence, of which each match counts, or first_match of it, of which the first
 -- one does.
@@ -30,6 +30,10 @@ MatchesBy holds true r i j = MatchesFirst holds r i j
 -- The antecedent matches the ticks i up to j.
 abbrev pub Leads : {B : Type 0} → (B → ℕ → Bool) → Antecedent B → ℕ → ℕ → Type 0
 Leads holds r i j = MatchesBy holds r.first r.sequence i j
+
+-- no such match of a tick or more, were every boolean true (16.12.22)
+abbrev pub IsDegenerateBy : {B : Type 0} → Bool → Seq B → Type 0
+IsDegenerateBy first r = (j : ℕ) → 0 < j → MatchesBy always first r 0 j → ⊥
 
 -- A non-empty match of the antecedent from c ends with the tick e, where the ticks below n were
 -- seen.

@@ -1,5 +1,6 @@
 -- What is decided doesn't depend on where the attempt lies.
-use Rattle.std.proofs.Common.{◌≡◌, inl, inr, ℕ, zero, suc, ◌+◌, ◌-◌, ◌<◌, ◌≤◌, Bool, Option, Some, None, refl, sym}
+use Rattle.std.proofs.Common.{◌≡◌, inl, inr, ℕ, zero, suc, ◌+◌, ◌-◌, ◌<◌, ◌≤◌, Bool, true, false, Option, Some}
+use Rattle.std.proofs.Common.{None, refl, sym}
 use Rattle.std.proofs.Common.{subst, ◌∙◌, arith, nat_le}
 use Rattle.std.specs.Prelude.{IsTrue}
 use Rattle.std.proofs.lemmas.Bool.{or_cases, or_left, or_right, cases_lt, le-leb, leb-true}

@@ -92,7 +92,7 @@ module _ (s : Scope) (cs : List (List ℕ)) (e : List Expr) where
   consequent_outline : (p : PropertyForm) (d : Draft Boolean) → ReadsConsequent s cs e p d →
       dotted d ≡ (consequent_in s p).outline
   consequent_outline (plain q) d h = reads_outline s cs e q d h
-  consequent_outline (implication a t c) d h = reads_outline s cs e c d h
+  consequent_outline (implication word a t c) d h = reads_outline s cs e c d h
 
   pub never_empty : (items : List ItemForm) (bodies : List (Draft Boolean))
       (before : List trees.AssertionForm) (a : trees.AssertionForm)
