@@ -1,6 +1,6 @@
 -- The parts of a fit assertion make a program of it, which the verifier accepts with its least limits.
-use Rattle.std.proofs.Common.{◌≡◌, ◌∙◌, ℕ, zero, suc, ◌+◌, ◌-◌, ◌*◌, ◌≤◌, Bool, List, [], ◌∷◌, ◌++◌, length, map}
-use Rattle.std.proofs.Common.{Option, Some, None, ap, sym, subst, arith, inl, inr, length-append}
+use Rattle.std.proofs.Common.{◌≡◌, ◌∙◌, ℕ, zero, suc, ◌+◌, ◌-◌, ◌*◌, ◌≤◌, Bool, true, false, List, [], ◌∷◌, ◌++◌, length, map}
+use Rattle.std.proofs.Common.{Option, Some, None, refl, ap, sym, subst, arith, inl, inr, length-append}
 use Rattle.std.specs.Prelude.{slice_index, count_by}
 use Rattle.std.specs.List.{AllZip}
 use Rattle.std.proofs.Math.Nat.{mul-le-mul_right}
@@ -36,8 +36,9 @@ use Rattle.expression_code.proofs.Quiet.{samples-are-typed}
 use Rattle.expression_code.proofs.DepthLaws.{depth-bounds-code}
 use Rattle.assertion_reads.specs.Marks.{is_marked, places_from}
 use Rattle.positions.specs.Sequences.{atom_of}
-use Rattle.positions.specs.Laws.{Occurs, IsThere, section_for}
+use Rattle.positions.specs.Laws.{Occurs, IsThere, section_for, led_section}
 use Rattle.positions.proofs.Theorem.{law-section_is_well_formed, law-section_is_small}
+use Rattle.positions.proofs.Firsts.{law-well_formed, law-as_long}
 use Rattle.compiler.specs.Conditions.{IsKnown, IsFit}
 use Rattle.compiler.specs.Programs.{disabling_atom, IsSlotOf, IsProgramOf}
 use Rattle.compiler.specs.Readings.{IsReading, slots_over, counters_read}
@@ -107,6 +108,22 @@ occurs-there n (and r s) b h o = elim o [ inl x ↦ occurs-there n r b h.0 x | i
 occurs-there n (intersect r s) b h o = elim o [ inl x ↦ occurs-there n r b h.0 x | inr y ↦ occurs-there n s b h.1 y ]
 occurs-there n (throughout c r) b h o = elim o [ inl x ↦ there-same n b c h.0 x | inr y ↦ occurs-there n r b h.1 y ]
 
+-- The section of an antecedent is well formed, and as long, whether it accepts first or not.
+led-formed : (first : Bool) (atoms : ℕ) (w : Written Boolean) → IsSection 2 atoms (section_for atom_of One w)
+    → IsSection 2 atoms (led_section first atom_of One w)
+led-formed false atoms w h = h
+led-formed true atoms w h = law-well_formed atoms (section_for atom_of One w) h
+
+led-long : (first : Bool) (w : Written Boolean)
+    → length (led_section first atom_of One w).blocks ≡ length (section_for atom_of One w).blocks
+led-long false w = refl
+led-long true w = (law-as_long (section_for atom_of One w)).0
+
+pub led-size : (first : Bool) (w : Written Boolean)
+    → size_of (led_section first atom_of One w).blocks ≡ size_of (section_for atom_of One w).blocks
+led-size false w = refl
+led-size true w = (law-as_long (section_for atom_of One w)).1
+
 -- a disabling boolean that is listed has an atom
 disabling-there : (n : ℕ) (o : Option Boolean) → IsListedOption n o → IsAtom (disabling_atom o) n
 disabling-there n None h = tt
@@ -148,6 +165,7 @@ module _ (suite : Suite) (a : Assertion) (fit : IsFit suite a) (signals counters
         consequent_listed = fit.placed.consequent;
         disabling_listed = fit.placed.disabling;
         fills = fit.proper.filled;
+        led = fit.proper.led;
       }
 
   -- what the sample code asks
@@ -171,14 +189,17 @@ module _ (suite : Suite) (a : Assertion) (fit : IsFit suite a) (signals counters
 
   module _ (p : ProgramData) (parts : AreParts suite a signals counters p)
       (counted : AreCounted suite a signals counters) where
-    section-of : (number : ℕ) (s : SectionData) (w : Written Boolean) → s ≡ section_for atom_of One w
-        → EachBoolean (IsListed (length a.booleans.items)) w →
-        IsSection number p.header.atoms s
-    section-of number s w is listed =
+    section-of : (number : ℕ) (s made : SectionData) → s ≡ made → IsSection number (length a.booleans.items) made
+        → IsSection number p.header.atoms s
+    section-of number s made is formed =
         subst (λ n. IsSection number n s) (sym parts.atoms)
-        (subst (λ x. IsSection number (length a.booleans.items) x) (sym is)
-        (law-section_is_well_formed number (length a.booleans.items) atom_of One w
-        (λ b o. occurs-there (length a.booleans.items) w b listed o)))
+        (subst (λ x. IsSection number (length a.booleans.items) x) (sym is) formed)
+
+    side-formed : (number : ℕ) (w : Written Boolean) → EachBoolean (IsListed (length a.booleans.items)) w
+        → IsSection number (length a.booleans.items) (section_for atom_of One w)
+    side-formed number w listed =
+        law-section_is_well_formed number (length a.booleans.items) atom_of One w
+        (λ b o. occurs-there (length a.booleans.items) w b listed o)
 
     pub formed : IsWellFormed p
     formed =
@@ -191,15 +212,18 @@ module _ (suite : Suite) (a : Assertion) (fit : IsFit suite a) (signals counters
           table = typed.table;
           sample = typed.typed;
           short = typed.short (omega (arith, bounded.need));
-          antecedent = section-of 2 p.antecedent (written_form a.antecedent) parts.antecedent fit.placed.antecedent;
-          consequent = section-of 3 p.consequent (written_form a.consequent) parts.consequent fit.placed.consequent;
+          antecedent =
+              section-of 2 p.antecedent (led_section a.first atom_of One (written_form a.antecedent)) parts.antecedent
+              (led-formed a.first (length a.booleans.items) (written_form a.antecedent)
+              (side-formed 2 (written_form a.antecedent) fit.placed.antecedent));
+          consequent =
+              section-of 3 p.consequent (section_for atom_of One (written_form a.consequent)) parts.consequent
+              (side-formed 3 (written_form a.consequent) fit.placed.consequent);
         }
 
-    few-blocks : (s : SectionData) (w : Written Boolean) → s ≡ section_for atom_of One w → IsOrdered w → weight w ≤ 127
-        → length s.blocks ≤ 127
-    few-blocks s w is ordered bound =
-        let long : length s.blocks ≡ length (section_for atom_of One w).blocks = ap (λ x. length (x.blocks)) is in
-        omega (arith, long, law-section_is_small atom_of One w ordered, bound)
+    few-blocks : (s : SectionData) (w : Written Boolean) → length s.blocks ≡ length (section_for atom_of One w).blocks
+        → IsOrdered w → weight w ≤ 127 → length s.blocks ≤ 127
+    few-blocks s w long ordered bound = omega (arith, long, law-section_is_small atom_of One w ordered, bound)
 
     few-slots : length (frame_of p).slots ≤ 256
     few-slots =
@@ -227,12 +251,14 @@ module _ (suite : Suite) (a : Assertion) (fit : IsFit suite a) (signals counters
           slots = few-slots;
           sample = parts.short_sample;
           antecedent_positions =
-              few-blocks p.antecedent (written_form a.antecedent) parts.antecedent a.antecedent_ordered
-              a.antecedent_bound;
+              few-blocks p.antecedent (written_form a.antecedent)
+              (ap (λ (s : SectionData). length s.blocks) parts.antecedent
+              ∙ led-long a.first (written_form a.antecedent))
+              a.antecedent_ordered a.antecedent_bound;
           antecedent_code = parts.short_antecedent;
           consequent_positions =
-              few-blocks p.consequent (written_form a.consequent) parts.consequent a.consequent_ordered
-              a.consequent_bound;
+              few-blocks p.consequent (written_form a.consequent)
+              (ap (λ (s : SectionData). length s.blocks) parts.consequent) a.consequent_ordered a.consequent_bound;
           consequent_code = parts.short_consequent;
         }
 

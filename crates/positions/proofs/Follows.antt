@@ -7,7 +7,7 @@ use Rattle.std.proofs.lemmas.Bool.{cases_lt, and_parts, and_from, or_left, le-le
 use Rattle.std.proofs.lemmas.Nat.Bits.{bit_at-zero, bit_at-lt, same_from_bits}
 use Rattle.checked_machine.specs.Blocks.{Visit, ended}
 use Rattle.assertions.specs.Segments.{sat, Matches}
-use Rattle.assertions.specs.Attempts.{IsOver}
+use Rattle.assertions.specs.Attempts.{IsOver, every}
 use Rattle.positions.specs.Plans.{Plan, shape}
 use Rattle.positions.specs.Tables.{Edge, Table, EachOf, Has, Fires, Enters, Accepts, IsRising, Spells}
 use Rattle.positions.proofs.Ticks.{Left-after, Match-At, At-Match, Match-ends, ends-Match}
@@ -158,7 +158,7 @@ module _ (B : Type 0) (t : Table B) (up : IsRising t) (atom : B → Option ℕ) 
       (Accepts-sifted B t up seen (spells.number x.0) (c + k)
       (Stands-kept B t up seen c k (spells.number x.0) stands living) on)
 
-  over-forth : (c k : ℕ) → places s c k ≡ 0 → IsOver seen (shape r) (c + k) c
+  over-forth : (c k : ℕ) → places s c k ≡ 0 → IsOver seen (every (shape r)) (c + k) c
   over-forth c k none j past h =
       let holds : B → ℕ → Bool = sat seen (c + k) in
       let x = Match-At B holds r c k j past h in
@@ -173,7 +173,7 @@ module _ (B : Type 0) (t : Table B) (up : IsRising t) (atom : B → Option ℕ) 
       let zeros = ap (λ m. bit_at m n) none in
       omega (arith, bit, zeros, bit_at-zero n)
 
-  over-back : (c k : ℕ) → IsOver seen (shape r) (c + k) c → places s c k ≡ 0
+  over-back : (c k : ℕ) → IsOver seen (every (shape r)) (c + k) c → places s c k ≡ 0
   over-back c k over = set-none (places s c k) (λ q bit.
       let holds : B → ℕ → Bool = sat seen (c + k) in
       let stands =
@@ -187,7 +187,7 @@ module _ (B : Type 0) (t : Table B) (up : IsRising t) (atom : B → Option ℕ) 
       (subst (λ p. IsTrue (lives t p)) (sym y.1) f) in
       over rest.0 (Left-after B holds r y.0 (c + k) rest.0 rest.1) (At-Match B holds r c k rest.0 y.0 y.2 rest.1))
 
-  pub section-follows : Follows seen (shape r) s
+  pub section-follows : Follows seen (every (shape r)) s
   section-follows = record {
     ends = λ c k. (ends-forth c k, ends-back c k);
     over = λ c k. (over-forth c k, over-back c k);
