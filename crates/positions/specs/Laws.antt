@@ -44,7 +44,7 @@ abbrev pub section_for : {B : Type 0} → (B → Option ℕ) → B → Written B
 section_for atom true_one w = section_of atom (sifted (table_of (plan true_one w)))
 
 -- the section of an antecedent, of which each match counts or the first one alone
-abbrev pub led_section : Bool → {B : Type 0} → (B → Option ℕ) → B → Written B → SectionData
+abbrev pub led_section : {B : Type 0} → Bool → (B → Option ℕ) → B → Written B → SectionData
 led_section false atom true_one w = section_for atom true_one w
 led_section true atom true_one w = accepting_first (section_for atom true_one w)
 
