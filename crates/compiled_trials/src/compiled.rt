@@ -336,10 +336,7 @@ fn pools(alloc: Global, bytes: &[u8]) -> Option<(u16, u16)> {
 /// A first match takes no other pools, and both are written in version 2.
 #[test]
 fn first_match_is_built(rt: HostRuntime) -> Result<(), Fail> {
-    for property in [
-        "first_match(x[*1:3] ##1 y) |-> x",
-        "x[*1:3] ##1 y |-> x",
-    ] {
+    for property in ["first_match(x[*1:3] ##1 y) |-> x", "x[*1:3] ##1 y |-> x"] {
         let text = assertion(&rt, "r", property)?;
         let built = build(&rt, text.as_str(), "r")?;
         assert!(rt; pools(rt.alloc(), built.bytes.as_slice()) == Some((4, 1)));

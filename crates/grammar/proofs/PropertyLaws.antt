@@ -12,7 +12,8 @@ use Rattle.grammar.specs.Marks.{mark, precedence_of_terminal, precedence, next_p
 use Rattle.grammar.specs.Operators.{implication_of_terminal, implication_of}
 use Rattle.grammar.specs.Trees.{Tree, SequenceForm, boolean, repeated, late, delayed, throughout, joined, PropertyForm}
 use Rattle.grammar.specs.Trees.{plain, implication}
-use Rattle.grammar.specs.Sequences.{IsBody, is_boolean, in_brackets, is_once, is_prompt, is_head, is_cat, is_intersection, is_during}
+use Rattle.grammar.specs.Sequences.{IsBody, is_boolean, in_brackets, is_once, is_prompt, is_head, is_cat}
+use Rattle.grammar.specs.Sequences.{is_intersection, is_during}
 use Rattle.grammar.specs.Sequences.{IsSequence, is_conjunction, IsProperty, is_plain, is_implication, is_first}
 use Rattle.grammar.specs.Sequences.{bracketed}
 use Rattle.grammar.specs.Expressions as expressions

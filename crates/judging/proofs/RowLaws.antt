@@ -1,6 +1,7 @@
 -- Rows and tables that grow by one.
 use Rattle.std.proofs.Common.{◌≡◌, inl, inr, ℕ, zero, suc, ◌+◌, ◌<◌, ◌≤◌, Bool, true, false, ◌&&◌, ◌||◌, List, [], ◌∷◌}
-use Rattle.std.proofs.Common.{not, ◌++◌, length, get_or, refl, sym, subst, ap, ◌∙◌, arith, length-append, nat_le, max, ◌-◌}
+use Rattle.std.proofs.Common.{not, ◌++◌, length, get_or, refl, sym, subst, ap, ◌∙◌, arith, length-append, nat_le, max}
+use Rattle.std.proofs.Common.{◌-◌}
 use Rattle.std.specs.Prelude.{IsTrue, ◌==◌}
 use Rattle.std.proofs.Math.ListN.{get_or-append}
 use Rattle.std.proofs.lemmas.Bool.{cases_lt, both_ways, le-leb, leb-true, false_from_ne_true, and_parts}

@@ -1,5 +1,6 @@
 -- Two suites that are a text's say the same.
-use Rattle.std.proofs.Common.{◌≡◌, ℕ, ◌+◌, Bool, subst, List, [], ◌∷◌, map, Option, Some, None, refl, sym, ap, ◌∙◌, string_bytes}
+use Rattle.std.proofs.Common.{◌≡◌, ℕ, ◌+◌, Bool, subst, List, [], ◌∷◌, map, Option, Some, None, refl, sym, ap, ◌∙◌}
+use Rattle.std.proofs.Common.{string_bytes}
 use Rattle.std.specs.List.{AllZip}
 use Rattle.grammar.specs.Trees as trees
 use Rattle.grammar.specs.Trees.{Tree, PropertyForm, plain, implication, ItemForm}

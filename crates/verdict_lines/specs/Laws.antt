@@ -47,9 +47,9 @@ row_of rows k = slice_index_or rows k []
 pub record AreVerdicts (value : Boolean → ℕ → Bool) (off : ℕ → Bool)
     (r : Antecedent Boolean) (s : Seq Boolean) (count : ℕ) (verdicts : List Verdict) : Type 0
   where
-  pub long : length verdicts ≡ count
-  pub each : (c : ℕ) → c < count →
-      IsVerdict value off r s count c (slice_index_or verdicts c Open)
+    pub long : length verdicts ≡ count
+    pub each : (c : ℕ) → c < count →
+        IsVerdict value off r s count c (slice_index_or verdicts c Open)
 
 -- Where the sample code sets atoms on which the sections of an accepted program follow an
 -- antecedent and a consequent, its line over rows is that of the verdicts.
