@@ -11,7 +11,7 @@ use Rattle.compiler.specs.declared.fault.CompileFault.TheVariants.{TooManySlots,
 use Rattle.compiler.specs.Readings.{IsReading}
 use Rattle.compiler.specs.Faults.{StandsOver, HasLongCode, AreCounted, IsFaultless, rank}
 use Rattle.compiler.specs.Parts.{AreParts}
-use Rattle.compiler.proofs.Formed.{led-size}
+use Rattle.compiler.proofs.LedLaws.{led-size}
 
 module _ (suite : Suite) (a : Assertion) (signals counters : List Bool) (p : ProgramData) where
   short : AreParts suite a signals counters p → HasLongCode suite a signals counters → ⊥

@@ -1,7 +1,7 @@
 -- The parts of a fit assertion make a program of it, which the verifier accepts with its least limits.
-use Rattle.std.proofs.Common.{◌≡◌, ◌∙◌, ℕ, zero, suc, ◌+◌, ◌-◌, ◌*◌, ◌≤◌, Bool, true, false, List, [], ◌∷◌, ◌++◌}
+use Rattle.std.proofs.Common.{◌≡◌, ◌∙◌, ℕ, zero, suc, ◌+◌, ◌-◌, ◌*◌, ◌≤◌, Bool, List, [], ◌∷◌, ◌++◌}
 use Rattle.std.proofs.Common.{length, map}
-use Rattle.std.proofs.Common.{Option, Some, None, refl, ap, sym, subst, arith, inl, inr, length-append}
+use Rattle.std.proofs.Common.{Option, Some, None, ap, sym, subst, arith, inl, inr, length-append}
 use Rattle.std.specs.Prelude.{slice_index, count_by}
 use Rattle.std.specs.List.{AllZip}
 use Rattle.std.proofs.Math.Nat.{mul-le-mul_right}
@@ -39,13 +39,13 @@ use Rattle.assertion_reads.specs.Marks.{is_marked, places_from}
 use Rattle.positions.specs.Sequences.{atom_of}
 use Rattle.positions.specs.Laws.{Occurs, IsThere, section_for, led_section}
 use Rattle.positions.proofs.Theorem.{law-section_is_well_formed, law-section_is_small}
-use Rattle.positions.proofs.Firsts.{law-well_formed, law-as_long}
 use Rattle.compiler.specs.Conditions.{IsKnown, IsFit}
 use Rattle.compiler.specs.Programs.{disabling_atom, IsSlotOf, IsProgramOf}
 use Rattle.compiler.specs.Readings.{IsReading, slots_over, counters_read}
 use Rattle.compiler.specs.Faults.{AreCounted}
 use Rattle.compiler.specs.Parts.{slot_at, width_at, no_limits, AreParts, AreModest, with_limits, declared_from}
 use Rattle.compiler.proofs.ListLaws.{all-more}
+use Rattle.compiler.proofs.LedLaws.{led-formed, led-long}
 use Rattle.compiler.proofs.Frames as frames
 use Rattle.compiler.proofs.Places.{places-long, all-held, held-widths}
 use Rattle.compiler.proofs.Known as known
@@ -108,22 +108,6 @@ occurs-there n (or r s) b h o = elim o [ inl x ↦ occurs-there n r b h.0 x | in
 occurs-there n (and r s) b h o = elim o [ inl x ↦ occurs-there n r b h.0 x | inr y ↦ occurs-there n s b h.1 y ]
 occurs-there n (intersect r s) b h o = elim o [ inl x ↦ occurs-there n r b h.0 x | inr y ↦ occurs-there n s b h.1 y ]
 occurs-there n (throughout c r) b h o = elim o [ inl x ↦ there-same n b c h.0 x | inr y ↦ occurs-there n r b h.1 y ]
-
--- The section of an antecedent is well formed, and as long, whether it accepts first or not.
-led-formed : (first : Bool) (atoms : ℕ) (w : Written Boolean) → IsSection 2 atoms (section_for atom_of One w)
-    → IsSection 2 atoms (led_section first atom_of One w)
-led-formed false atoms w h = h
-led-formed true atoms w h = law-well_formed atoms (section_for atom_of One w) h
-
-led-long : (first : Bool) (w : Written Boolean)
-    → length (led_section first atom_of One w).blocks ≡ length (section_for atom_of One w).blocks
-led-long false w = refl
-led-long true w = (law-as_long (section_for atom_of One w)).0
-
-pub led-size : (first : Bool) (w : Written Boolean)
-    → size_of (led_section first atom_of One w).blocks ≡ size_of (section_for atom_of One w).blocks
-led-size false w = refl
-led-size true w = (law-as_long (section_for atom_of One w)).1
 
 -- a disabling boolean that is listed has an atom
 disabling-there : (n : ℕ) (o : Option Boolean) → IsListedOption n o → IsAtom (disabling_atom o) n
