@@ -88,6 +88,7 @@ allocations: svamon oracle_bytecode oracle_verifier oracle_core
 	$(REFUSING) build $(call FILES,fails_at_its_tick) --name r --out /dev/null
 	$(REFUSING) rules --axi examples/axi_port/ports.txt
 	$(REFUSING) verify $(PROGRAM)
+	$(REFUSING) upgrade $(PROGRAM) --out /dev/null
 	$(REFUSING) run --vcd examples/fails_at_its_tick/dump.vcd --code $(PROGRAM)
 	awk 'BEGIN { RS = "\001"; ORS = "" } NR == 3' crates/oracle_core/stdin > $(CORE).case
 	scripts/fail_alloc -i $(CORE).case 1 $(CORE)

@@ -29,7 +29,8 @@ SHAPES = {"one_block": 1, "many_blocks": 128}
 
 
 def program(positions):
-    front = cases.SMALL[:cases.SMALL.index(b"\x00\x05\x02\x00\x01")]
+    small = cases.in_version_2(cases.SMALL)
+    front = small[:small.index(b"\x00\x05\x02\x00\x01")]
     return front + COUNT.to_bytes(2, "big") + sample() + section(positions) * 2
 
 

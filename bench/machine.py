@@ -83,7 +83,7 @@ def main(words):
         program = large()
         assert len(program.sample) == 40 and verdict(program).startswith('accepted')
         write('small', SMALL)
-        write('large', encode(program))
+        write('large', encode(program, 1))
     elif len(words) == 3 and words[0] == 'sums':
         print(sums(words[1], int(words[2])))
     else:

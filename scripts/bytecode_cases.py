@@ -12,7 +12,7 @@ import random
 import re
 import sys
 
-# The file of the smallest monitor: `r: .. top.x |-> top.y` at `top.clk`.
+# The file of the smallest monitor in version 1: `r: .. top.x |-> top.y` at `top.clk`.
 SMALL = bytes.fromhex(
     "5356414d01 0000 0001 0001 0001 0000000e ff 02 0001 72 0007 746f702e636c6b 0002 01 0005 746f702e78 01 0005 746f702e79 0000"
     "0005 020001 3200 020002 3201 34 00000000000000000000000000000001 01 0003 40000002 42 43"
@@ -26,6 +26,8 @@ EMPTY = SMALL[:SMALL.index(b"\x34") + 1] + bytes(17) * 2
 SAMPLE = {0x01: "wv", 0x02: "t", 0x03: "tp", 0x27: "w", 0x28: "hl", 0x30: "t", 0x31: "t", 0x32: "b", 0x33: "b"}
 SAMPLE |= {code: "" for code in [*range(0x10, 0x1B), *range(0x20, 0x27), 0x29, 0x34]}
 BLOCK = {0x40: "bt", 0x41: "b", 0x42: "", 0x43: ""}
+# Those of blocks in each version.
+BLOCKS = {1: BLOCK, 2: BLOCK | {0x44: ""}}
 
 # What each instruction is called.
 NAMES = {
@@ -37,7 +39,7 @@ NAMES = {
     0x24: "Reduce(Onehot)", 0x25: "Reduce(Onehot0)",
     0x26: "Concat", 0x27: "Zext", 0x28: "Slice", 0x29: "Mux",
     0x30: "Jump", 0x31: "JumpIfZero", 0x32: "SetAtom", 0x33: "Store", 0x34: "Halt",
-    0x40: "Unless", 0x41: "Enter", 0x42: "Accept", 0x43: "Stop",
+    0x40: "Unless", 0x41: "Enter", 0x42: "Accept", 0x43: "Stop", 0x44: "AcceptFirst",
 }
 
 
@@ -47,7 +49,7 @@ class Fault(Exception):
 
 class Reader:
     def __init__(self, data):
-        self.data, self.at = data, 0
+        self.data, self.at, self.version = data, 0, 2
 
     def number(self, size):
         if len(self.data) - self.at < size:
@@ -109,7 +111,7 @@ class Reader:
 
     def section(self):
         start = self.number(16)
-        blocks = listing([self.code(BLOCK) for _ in range(self.number(1))])
+        blocks = listing([self.code(BLOCKS[self.version]) for _ in range(self.number(1))])
         return f"Section {{ start: {start}, blocks: [{blocks}] }}"
 
     def limits(self):
@@ -132,7 +134,8 @@ class Reader:
         """All that the program holds."""
         if self.number(4) != 0x5356414D:
             raise Fault("B1 Magic")
-        if self.number(1) != 1:
+        self.version = self.number(1)
+        if self.version not in BLOCKS:
             raise Fault("B2 Version")
         fields = {
             "limits": self.limits, "disable": self.atom, "atoms": lambda: self.number(1),
@@ -167,14 +170,30 @@ def text(it):
     return len(it).to_bytes(2, "big") + it
 
 
-def every_instruction():
+def in_version_2(data):
+    """A file in version 2 of what one in version 1 spells."""
+    return data[:4] + b"\x02" + data[5:]
+
+
+def accepting_first(data, which):
+    """The file of the smallest monitor with AcceptFirst for an Accept, the antecedent's or the consequent's."""
+    at = [it for it in range(80, len(data)) if data[it] == 0x42][which]
+    return data[:at] + b"\x44" + data[at + 1:]
+
+
+# The smallest monitor in version 2, its antecedent accepting first.
+FIRST = accepting_first(in_version_2(SMALL), 0)
+
+
+def every_instruction(version=1):
     """A program with each instruction, each at the borders of its operands."""
     code = [bytes([0x01, 1]) + bytes(16), bytes([0x01, 128]) + b"\xff" * 16, bytes([0x01, 9]) + (511).to_bytes(16, "big"), b"\x02\x00\x00", b"\x02\xff\xff", b"\x03\x00\x00\x00\x01", b"\x03\xff\xff\xff\xff"]
     code += [bytes([it]) for it in SAMPLE if not SAMPLE[it]]
     code += [b"\x27\x01", b"\x27\x80", b"\x28\x00\x00", b"\x28\x7f\x00", b"\x28\x7f\x7f", b"\x30\x00\x00", b"\x30\xff\xff", b"\x31\x12\x34", b"\x32\x00", b"\x32\xff", b"\x33\x00", b"\x33\xff"]
     blocks = [[b"\x40\x00\x00\x00", b"\x40\xff\xff\xff", b"\x42", b"\x43"], [], [b"\x41\x00", b"\x41\xff", b"\x43"]]
+    blocks[0] += [b"\x44"] if version == 2 else []
     section = b"\x80" + bytes(14) + b"\x07" + bytes([len(blocks)]) + b"".join(len(it).to_bytes(2, "big") + b"".join(it) for it in blocks)
-    head = b"SVAM\x01" + bytes.fromhex("1000 0400 0400 0400 01000000 00 fe") + text(b"_a$9") + text(b"a.b$._c.d0")
+    head = b"SVAM" + bytes([version]) + bytes.fromhex("1000 0400 0400 0400 01000000 00 fe") + text(b"_a$9") + text(b"a.b$._c.d0")
     signals = [(1, b"x"), (128, b"top.u_1.q$"), (64, b"_._._")]
     lists = len(signals).to_bytes(2, "big") + b"".join(bytes([w]) + text(p) for w, p in signals) + b"\x00\x03\x01\x80\x20"
     return head + lists + len(code).to_bytes(2, "big") + b"".join(code) + section + b"\xff" * 16 + b"\x00"
@@ -198,9 +217,9 @@ def mutants(data, rng, count):
         yield bytes(it)
 
 
-def lone_instructions():
+def lone_instructions(small):
     """For each byte, with operands that it may have, one in sample code, and one in a block."""
-    front, behind = SMALL[:SMALL.index(b"\x00\x05\x02\x00\x01")], bytes(17)
+    front, behind = small[:small.index(b"\x00\x05\x02\x00\x01")], bytes(17)
     operands = {"w": b"\x80", "v": bytes(range(0xe0, 0xf0)), "t": b"\x12\x34", "p": b"\x56\x78"}
     operands |= {"b": b"\x9a", "h": b"\x7e", "l": b"\x7d"}
     for code in range(256):
@@ -221,7 +240,8 @@ def declared_counts():
 def few_cases():
     """Files for which each allocation can be refused in turn."""
     every = every_instruction()
-    return [SMALL, every, EMPTY, SMALL[:90], every[:60], every + b"\0"]
+    made = [SMALL, every, EMPTY, SMALL[:90], every[:60], every + b"\0"]
+    return made + [FIRST, every_instruction(2), FIRST[:90]]
 
 
 def listed_cases():
@@ -229,21 +249,46 @@ def listed_cases():
     every = every_instruction()
     yield from (SMALL, every, EMPTY, b"", b"SVAM", b"SVAN\x01", b"SVAM\x03")
     yield from (SMALL + b"\0", every + b"\0", EMPTY + SMALL)
-    yield from lone_instructions()
+    yield from lone_instructions(SMALL)
+
+
+def swept(whole):
+    """Each beginning of a file, and the file with each byte made another."""
+    yield from (whole[:it] for it in range(len(whole)))
+    for at, byte in enumerate(whole):
+        yield from (
+            whole[:at] + bytes([it]) + whole[at + 1:] for it in (0, 255, (byte + 1) % 256))
 
 
 def cases():
     every = every_instruction()
     for whole in (SMALL, every):
-        yield from (whole[:it] for it in range(len(whole)))
-        for at, byte in enumerate(whole):
-            yield from (
-                whole[:at] + bytes([it]) + whole[at + 1:] for it in (0, 255, (byte + 1) % 256))
+        yield from swept(whole)
     for declared, _ in declared_counts():
         yield declared
     rng = random.Random(1)
     yield from mutants(SMALL, rng, 1000)
     yield from mutants(every, rng, 1000)
+
+
+def later_listed_cases():
+    """Files of version 2, and of other versions than the two, to be listed."""
+    second, every = in_version_2(SMALL), every_instruction(2)
+    yield from (second, every, FIRST, accepting_first(second, 1), in_version_2(EMPTY))
+    yield from (b"SVAM\x02", b"SVAM\x00" + second[5:], b"SVAM\x03" + second[5:])
+    yield from (second + b"\0", every + b"\0", second + SMALL)
+    # what version 1 can't spell
+    yield from (accepting_first(SMALL, 0), accepting_first(SMALL, 1), b"SVAM\x01" + every[5:])
+    yield from lone_instructions(second)
+
+
+def later_cases():
+    every = every_instruction(2)
+    for whole in (FIRST, every):
+        yield from swept(whole)
+    rng = random.Random(2)
+    yield from mutants(FIRST, rng, 500)
+    yield from mutants(every, rng, 500)
 
 
 def all_are_seen(answers):
@@ -262,14 +307,15 @@ def main(folder):
     os.makedirs(f"{folder}/data", exist_ok=True)
     with open(f"{folder}/data/cases.txt", "w") as lines, open(f"{folder}/stdout", "w") as answers:
         held = []
-        for it in listed_cases():
-            lines.write("=" + it.hex() + "\n")
-            held.append(listed(it))
-        answers.writelines(it + "\n" for it in held)
+        for some_listed, others in ((listed_cases, cases), (later_listed_cases, later_cases)):
+            for it in some_listed():
+                lines.write("=" + it.hex() + "\n")
+                held.append(listed(it))
+                answers.write(held[-1] + "\n")
+            for it in others():
+                lines.write(it.hex() + "\n")
+                answers.write(answer(it) + "\n")
         assert all_are_seen(held)
-        for it in cases():
-            lines.write(it.hex() + "\n")
-            answers.write(answer(it) + "\n")
 
 
 if __name__ == "__main__":

@@ -161,7 +161,7 @@ def case_of(programs, columns, core, steps, replies):
     """A case, and its answer."""
     widths = {path: width for it in programs for width, path in it.signals}
     team, made = f"{len(core.workers)} {core.size}\n", "".join(" ".join(map(str, it)) + "\n" for it in steps)
-    parts = [dump_of(widths, columns, core.clocks, len(steps) < 1000), "".join(f"{encode(it).hex()}\n" for it in programs), team, made]
+    parts = [dump_of(widths, columns, core.clocks, len(steps) < 1000), "".join(f"{encode(it, 1).hex()}\n" for it in programs), team, made]
     lines = "".join(map(batch_line, core.board))
     if len(steps) > 1000:
         lines = f"batches {len(core.board)} sum {summed(lines):016x}\n"

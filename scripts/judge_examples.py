@@ -107,6 +107,11 @@ def throughout(value, r):
     return lambda i, n: {j for j in r(i, n) if all(k >= n or value(k) for k in range(i, j))}
 
 
+def first_match(r):
+    """The first match of an antecedent alone."""
+    return lambda i, n: set(sorted(r(i, n))[:1])
+
+
 def verdict(antecedent, consequent, off, start, total):
     disabled = lambda last: next((k for k in range(start, last + 1) if off(k)), None)
     for n in range(start + 1, total + 1):

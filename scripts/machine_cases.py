@@ -16,14 +16,17 @@ import random
 import sys
 
 from machine_makers import (
-    accepting, always, columns, monitor, over_bits, placed, size_of, some_program, some_rows, step)
+    accepting, always, columns, monitor, over_bits, placed, size_of, some_first_program,
+    some_program, some_rows, step)
 from machine_model import COMPARES, JOINS, PURE, REDUCES, SHIFTS, answer_of, case_of, most, run
 from verifier_cases import SMALL, changed, pooled
 from verifier_model import MOST, encode, verdict
 
-ACCEPT, STOP = ("Accept",), ("Stop",)
+ACCEPT, STOP, FIRST = ("Accept",), ("Stop",), ("AcceptFirst",)
 WIDTHS = (1, 64, 127, 128)
 RANDOM, CLOCKS, LARGEST = 400, 20, 40
+# How many random programs of version 2.
+RANDOM_FIRST = 150
 
 
 def named(name, program, rows, decided=None, ticks=None, still=""):
@@ -44,13 +47,13 @@ def delayed(first, last, atom):
     return placed(1, *blocks, step(atom, ACCEPT))
 
 
-def repeated_then(most_often, repeated, last):
+def repeated_then(most_often, repeated, last, accept=ACCEPT):
     """An atom is 1 once or up to so often, and then another one is."""
     blocks = []
     for at in range(most_often):
         onward = [("Enter", at + 1)] if at + 1 < most_often else []
         blocks.append(step(repeated, *onward, ("Enter", most_often)))
-    return placed(1, *blocks, step(last, ACCEPT))
+    return placed(1, *blocks, step(last, accept))
 
 
 def then(first, second):
@@ -151,6 +154,39 @@ def block_cases():
                                  ("history", "stack", "attempts", "obligations", "budget")})
     yield named("limits_at_the_most", roomy, columns("110", "010"),
                 "0 Holds 1, 1 Vacuous 2, 2 Vacuous 2", [10, 19, 13])
+
+
+def first_cases():
+    """Programs of version 2, whose antecedent accepts first."""
+    small = changed(SMALL, antecedent=accepting(0, FIRST))
+    for value, verdict, ticks in (("1", "Holds", 14), ("0", "Fails", 13)):
+        yield named(f"first_of_one_tick_{verdict.lower()}", small, columns("1", value),
+                    f"0 {verdict} 0", [ticks])
+    ends = over_bits(3, repeated_then(3, 0, 1, FIRST), accepting(2))
+    assert (ends.attempts, ends.obligations) == (4, 1)
+    yield named("first_of_several_ends", ends, columns("1110", "0111", "1101"),
+                "0 Holds 1, 1 Fails 2, 2 Holds 3, 3 Vacuous 3")
+    # Position 0 accepts, and the block of position 1 runs none the less; what it enters is dropped.
+    others = placed(3, step(0, FIRST), [("Enter", 2), STOP], [FIRST, STOP])
+    yield named("other_blocks_run", over_bits(1, others, accepting(0)), columns("100"),
+                "0 Holds 0, 1 Fails 2", [14, 9, 16], still="2")
+    # What was entered before is dropped too, and what the block itself enters behind it.
+    before = placed(3, [("Enter", 2), STOP], step(0, FIRST, ("Enter", 2)), [ACCEPT, STOP])
+    yield named("entered_before_is_dropped", over_bits(1, before, always()), columns("101"),
+                "0 Holds 0, 1 Holds 2, 2 Holds 2")
+    # The attempt has no position, and waits for its obligation.
+    waits = over_bits(2, accepting(0, FIRST), delayed(2, 2, 1))
+    yield named("awaited_is_kept", waits, columns("1000", "0010"),
+                "1 Vacuous 1, 0 Holds 2, 2 Vacuous 2, 3 Vacuous 3")
+    yield named("awaited_is_broken", waits, columns("1000", "0000"),
+                "1 Vacuous 1, 0 Fails 2, 2 Vacuous 2, 3 Vacuous 3")
+    # An Accept, on which the attempt goes on, and an AcceptFirst at the next tick.
+    both = placed(1, [ACCEPT, ("Enter", 1), STOP], [FIRST, ("Enter", 2), STOP], [ACCEPT, STOP])
+    yield named("accepts_and_then_first", over_bits(1, both, accepting(0)), columns("1101"),
+                "0 Holds 1, 1 Fails 2, 2 Fails 2", still="3")
+    twice = placed(3, [FIRST, FIRST, STOP], [ACCEPT, ("Enter", 2), STOP], [ACCEPT, STOP])
+    yield named("accepts_first_twice", over_bits(1, twice, accepting(0)), columns("10"),
+                "0 Holds 0, 1 Fails 1")
 
 
 # Sample code: a boolean of it decides each attempt at its own clock.
@@ -356,6 +392,16 @@ def small_random_cases():
             made += 1
 
 
+def small_first_cases():
+    """The same of version 2."""
+    rng, made = random.Random(2), 0
+    while made < RANDOM_FIRST:
+        program = some_first_program(rng)
+        if size_of(program) <= LARGEST and any(FIRST in it for it in program.antecedent.blocks):
+            yield f"random_first_{made}", program, some_rows(rng, program, CLOCKS), (None, None, None)
+            made += 1
+
+
 def fixed_cases():
     yield from itertools.chain(worked_cases(), long_cases(), disabled_cases(), block_cases())
     yield from itertools.chain(sample_cases(), history_cases(), counter_cases(), edge_cases())
@@ -376,14 +422,14 @@ def check(name, clocks, starts, hand):
         assert [spent for spent, _ in clocks] == ticks, (name, clocks)
 
 
-def answered(case):
+def answered(case, version):
     """The lines of a case, those of its answer, and the machine behind its last clock."""
     name, program, rows, hand = case
     assert verdict(program).startswith("accepted"), (name, verdict(program))
     clocks, machine = run(program, rows)
     check(name, clocks, machine.open_starts(), hand)
     answer = answer_of(name, clocks, machine.open_starts())
-    return case_of(name, encode(program), rows), answer, machine
+    return case_of(name, encode(program, version), rows), answer, machine
 
 
 def full_pools(machine):
@@ -405,8 +451,10 @@ def check_spread(answers, machines):
 def write(folder):
     os.makedirs(folder, exist_ok=True)
     lines, answers, machines = [], [], []
-    for case in itertools.chain(fixed_cases(), small_random_cases()):
-        asked, answer, machine = answered(case)
+    firsts = itertools.chain(fixed_cases(), small_random_cases())
+    seconds = itertools.chain(first_cases(), small_first_cases())
+    for case, version in [*((it, 1) for it in firsts), *((it, 2) for it in seconds)]:
+        asked, answer, machine = answered(case, version)
         lines += asked
         answers += answer
         machines.append(machine)

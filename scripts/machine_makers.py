@@ -19,9 +19,9 @@ def step(atom, *instrs):
     return [("Unless", atom, len(instrs) + 1), *instrs, ("Stop",)]
 
 
-def accepting(atom):
+def accepting(atom, accept=("Accept",)):
     """A section of one tick at which an atom is 1."""
-    return placed(1, step(atom, ("Accept",)))
+    return placed(1, step(atom, accept))
 
 
 def always():
@@ -55,6 +55,16 @@ def columns(*texts):
 
 def size_of(program):
     return len(program.sample) + program.antecedent.size() + program.consequent.size()
+
+
+def accepting_first(rng, program):
+    """The program with some of the antecedent's Accepts made AcceptFirst: one in three, or all."""
+    which = rng.choice((1, 3))
+    for block in program.antecedent.blocks:
+        for at, instr in enumerate(block):
+            if instr == ("Accept",) and rng.randrange(which) == 0:
+                block[at] = ("AcceptFirst",)
+    return program
 
 
 def lively_block(rng, atoms, position, positions):
@@ -132,6 +142,11 @@ def some_program(rng):
             more = getattr(program, name) + rng.randrange(4)
             setattr(program, name, min(more, MOST[name]))
     return program
+
+
+def some_first_program(rng):
+    """The same of version 2: its antecedent may accept first."""
+    return accepting_first(rng, some_program(rng))
 
 
 def some_value(rng, width):

@@ -3,7 +3,8 @@
 scripts/random_bytecode.py PROGRAM [MUTANTS [SEED]]
 
 PROGRAM is oracle_bytecode. So many mutants are made of the smallest program, and as many of the
-one with each instruction: bytes are replaced, removed and put in, and bits turned. The answers
+one with each instruction, in version 1 and in version 2: bytes are replaced, removed and put in,
+and bits turned. The answers
 are those of bytecode_cases.py: all that a program holds, or its first fault. It stops at the
 first that differs, or where so many take too long.
 """
@@ -66,9 +67,10 @@ def main():
     mutants, seed = (int(it) for it in (sys.argv[2:] + ["100000", "1"][len(sys.argv) - 2:]))
     rng = random.Random(seed)
     with tempfile.TemporaryDirectory() as folder:
-        for whole in (cases.SMALL, cases.every_instruction()):
+        every = cases.every_instruction()
+        for whole in (cases.SMALL, every, cases.FIRST, cases.every_instruction(2)):
             programs = compare(program, whole, mutants, seed, rng, folder)
-            print(f"{mutants} mutants of {len(whole)} bytes, seed {seed},"
+            print(f"{mutants} mutants of {len(whole)} bytes of version {whole[4]}, seed {seed},"
                   f" {programs} of them programs: all the same", flush=True)
 
 

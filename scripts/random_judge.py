@@ -5,7 +5,7 @@ SVAMON is the program. Each case is a dump of some signals over some clocks, and
 case of four sides may be degenerate, admit an empty match or weigh about 127 or more, and then a refusal is compared. Values of expressions
 and counters are those of reference_values.py, verdicts those of judge_examples.py, which tries all matches; nothing is taken from svamon.
 
-Drawn are: each form of sequence; the operators and functions of expressions, and numbers of each base; brackets where the grammar asks for
+Drawn are: each form of sequence; antecedents in first_match; the operators and functions of expressions, and numbers of each base; brackets where the grammar asks for
 them, and now and then where it doesn't; zeros of a dump written as 0, x or z; changes before the edge and in its step; changes left out where
 the value stays; pulses between the steps; a clock that falls to x or z, or is 1 at first; two names of one variable, in other scopes. Not drawn are
 $dumpoff, faults but Y5, Y6 and Y9, and traces of more than 20 clocks. It stops at the first case whose report, refusal or status differs,
@@ -195,13 +195,14 @@ def written(tree, loosest=6):
     return text if LOOSENESS[kind] <= loosest else '(%s)' % text
 
 
-def fault_of(tree, bodies, trace, kind, is_consequent):
-    """What is wrong with a side, as its rank and line. The antecedent of |=> is judged as it is rewritten."""
+def fault_of(tree, bodies, trace, kind, is_first, is_consequent):
+    """What is wrong with a side, as its rank and line. The antecedent of |=> is judged as it is rewritten, and of first_match the first match."""
     is_rewritten = kind == '|=>' and not is_consequent
     if weight(tree, bodies) + 2 * is_rewritten > HEAVIEST:
         return 0, 'Y9 TooWide'
     plain = matcher(tree, bodies, trace)
-    ends = (judge.following(plain) if is_rewritten else plain)(0, 0)
+    whole = judge.following(plain) if is_rewritten else plain
+    ends = (judge.first_match(whole) if is_first else whole)(0, 0)
     if max(ends, default=0) == 0:
         return 1, 'Y5 Degenerate'
     if is_consequent and 0 in ends:
@@ -215,14 +216,14 @@ def heavier(tree, bodies):
     return ('lead', draw.choice([ticks, 0, ticks // 2]), ticks, tree) if ticks > 0 else tree
 
 
-def side(names, bodies, trace, kind, is_consequent, wanted):
+def side(names, bodies, trace, kind, is_first, is_consequent, wanted):
     """A sequence for a side of an assertion, and what is wrong with it: nothing, or, if it is there, the wanted fault."""
     while True:
         tree = sequence(names, len(bodies), draw.choice([0, 1, 1, 2, 3]))
         if wanted == 'Y9' or not wanted and draw.randrange(16) == 0:
             tree = heavier(tree, bodies)
         if weight(tree, bodies) <= 4 * HEAVIEST:
-            fault = fault_of(tree, bodies, trace, kind, is_consequent)
+            fault = fault_of(tree, bodies, trace, kind, is_first, is_consequent)
             if not fault or wanted and fault[1].startswith(wanted):
                 return tree, fault
 
@@ -345,15 +346,17 @@ def assertion(place, names, bodies, trace, wanted):
     """An assertion's line with its sides marked, what its sides lack, and what judge_examples.py takes."""
     off = values.expression(names, draw.choice([0, 1, 2])) if draw.randrange(3) == 0 else None
     kind = draw.choice(['|->', '|=>', ''])
+    is_first = kind != '' and draw.randrange(3) == 0
     label = 'a%d' % place if draw.randrange(3) else None
     shape, faults, first = '%s', [], judge.TRUE
     if kind:
-        antecedent, fault = side(names, bodies, trace, kind, False, wanted)
+        antecedent, fault = side(names, bodies, trace, kind, is_first, False, wanted)
         faults.append(fault)
         first = matcher(antecedent, bodies, trace)
         first = judge.following(first) if kind == '|=>' else first
-        shape = '%s%s %s %%s' % (MARK, written(antecedent), kind)
-    consequent, fault = side(names, bodies, trace, kind, True, wanted)
+        first = judge.first_match(first) if is_first else first
+        shape = '%s%s %s %%s' % (MARK, 'first_match(%s)' % written(antecedent) if is_first else written(antecedent), kind)
+    consequent, fault = side(names, bodies, trace, kind, False, True, wanted)
     faults.append(fault)
     shape = shape.replace('%s', MARK + written(consequent))
     if draw.randrange(6) == 0 and kind:

@@ -2,8 +2,8 @@
 """Compares oracle_machine with an independent machine on random programs and rows:
 scripts/random_machine.py PROGRAM [CASES [ROWS [SEED]]]
 
-PROGRAM is oracle_machine. So many programs are made that are accepted (10,000), each with so many
-rows (100). The answers are those of machine_model.py: for each clock the ticks and what was
+PROGRAM is oracle_machine. So many programs are made that are accepted (10,000), every other one of
+version 2 whose antecedent may accept first, each with so many rows (100). The answers are those of machine_model.py: for each clock the ticks and what was
 decided, then the open starts. Then the same for each file with one byte changed of the smallest
 monitor that an independent verifier accepts; no clock of it may spend more than its budget. It
 stops at the first that differs, or where so many take too long.
@@ -15,7 +15,7 @@ import subprocess
 import sys
 
 import bytecode_cases
-from machine_makers import some_program, some_rows
+from machine_makers import some_first_program, some_program, some_rows
 from machine_model import answer_of, case_of, run
 from verifier_model import decode, encode, verdict
 
@@ -27,21 +27,22 @@ SECONDS = 120
 def some_cases(rng, count, rows):
     """Random programs by name, with rows of their signals."""
     for at in range(count):
-        program = some_program(rng)
+        program = some_first_program(rng) if at % 2 else some_program(rng)
         yield f"random_{at}", program, some_rows(rng, program, rows)
 
 
 def byte_cases(rng, rows):
-    """The programs that are accepted of all files with one other byte than the smallest."""
-    whole = bytecode_cases.SMALL
-    for at, byte in enumerate(whole):
-        for other in set(range(256)) - {byte}:
-            file = whole[:at] + bytes([other]) + whole[at + 1:]
-            if bytecode_cases.answer(file) != "program":
-                continue
-            program = decode(file)
-            if verdict(program).startswith("accepted"):
-                yield f"byte_{at}_is_{other}", program, some_rows(rng, program, rows)
+    """The programs that are accepted of all files with one other byte than the smallest, and than
+    the smallest that accepts first."""
+    for whole in (bytecode_cases.SMALL, bytecode_cases.FIRST):
+        for at, byte in enumerate(whole):
+            for other in set(range(256)) - {byte}:
+                file = whole[:at] + bytes([other]) + whole[at + 1:]
+                if bytecode_cases.answer(file) != "program":
+                    continue
+                program = decode(file)
+                if verdict(program).startswith("accepted"):
+                    yield f"byte_{at}_is_{other}", program, some_rows(rng, program, rows)
 
 
 def texts_of(case):

@@ -2,7 +2,8 @@
 """Compares oracle_verifier with an independent verifier on random programs:
 scripts/random_verifier.py PROGRAM [CASES [SEED]]
 
-PROGRAM is oracle_verifier. So many programs are made that are accepted, and four mutants of each,
+PROGRAM is oracle_verifier. So many programs are made that are accepted, in about half of them the
+antecedent may accept first, and four mutants of each,
 and where a changed byte still spells a program, that one too. The answers are those of
 verifier_model.py: least limits and lives, or the first fault. It stops at the first that differs,
 or where so many take too long.
@@ -15,7 +16,7 @@ import sys
 import tempfile
 
 from verifier_cases import byte_mutants, mutant
-from verifier_makers import random_program
+from verifier_makers import EITHER, random_program
 from verifier_model import encode, verdict
 
 # How many programs, with their mutants, one run of the program reads.
@@ -25,10 +26,11 @@ SECONDS = 120
 
 def some_programs(rng, count):
     for _ in range(count):
-        whole = random_program(rng, rng.randrange(1, 5), rng.choice((1, 2, 2, 3)))
+        parts, depth = rng.randrange(1, 5), rng.choice((1, 2, 2, 3))
+        whole = random_program(rng, parts, depth, accepts=rng.choice((EITHER[:1], EITHER)))
         yield whole
-        yield from (mutant(rng, whole) for _ in range(4))
-        yield from byte_mutants(rng, whole, 2)
+        yield from (mutant(rng, whole, 2) for _ in range(4))
+        yield from byte_mutants(rng, whole, 2, 2)
 
 
 def answers_of(oracle, programs, folder, named):

@@ -91,7 +91,8 @@ def rules(symbol):
                 for disable in ([], ['disable', 'iff', '(', n('expr', less(inner)), ')'])]
     if name == 'prop':
         brackets = [['(', n('prop', inner), ')']] if deep else []
-        return brackets + [[n('seq')], [n('seq'), '|->', n('seq')], [n('seq'), '|=>', n('seq')]]
+        first = [['first_match', '(', n('seq', inner), ')', arrow, n('seq')] for arrow in ('|->', '|=>')] if deep else []
+        return brackets + first + [[n('seq')], [n('seq'), '|->', n('seq')], [n('seq'), '|=>', n('seq')]]
     if name == 'seq':
         return [[n('and_seq')], [n('seq'), 'or', n('and_seq')]]
     if name == 'and_seq':
@@ -279,11 +280,11 @@ EXTRA = '''( ) { } [ [* ] , ; : ? @ . ## # |-> |=> + - << >> < <= > >= == != & &
     $rose $countones $'''.split()
 
 
-def mutated(seed, count):
+def mutated(seed, count, bases):
     choose = random.Random(seed)
     texts = []
     while len(texts) < count:
-        words = [t for _, t, _ in tokens_of(choose.choice(BASES))][:-1]
+        words = [t for _, t, _ in tokens_of(choose.choice(bases))][:-1]
         for _ in range(choose.choice((1, 1, 1, 2))):
             place = choose.randrange(len(words))
             what = choose.randrange(4)
@@ -357,12 +358,34 @@ def texts_of_rules():
     return (whole + [asserted(text) for text in SMALLEST + BOUNDS] + [f'counter n [{width}]; ' + asserted('a') for width in WIDTHS] + nested(63) + nested(64))
 
 
+# the first match of an antecedent
+FIRST_BASES = [
+    'assert property (@(posedge clk) first_match(a ##[1:3] b) |-> c);',
+    'r: assume property (@(posedge top.clk) disable iff (!rst) (first_match((req[*0:2]) ##1 s) |=> ##[1:4] gnt));',
+    'assert property (@(posedge clk) ((first_match(a throughout b or c and d) |-> e ##1 (f |-> g))));',
+]
+FIRSTS = ['first_match(a) |-> b', 'first_match(a) |=> b', '(first_match(a) |-> b)', '((first_match((a)) |=> (b)))', 'first_match(a)', 'first_match a |-> b',
+          'first_match', 'first_match()', 'first_match() |-> b', 'first_match(a', 'first_match(a |-> b)', 'first_match(a |-> b) |-> c', 'first_match(a) ##1 b |-> c',
+          'a ##1 first_match(b) |-> c', '1 |-> first_match(a)', 'first_match(a) |-> first_match(b)', 'first_match(first_match(a)) |-> b', '(first_match(a)) |-> b',
+          'first_match(a)[*2] |-> b', 'first_match(a) or b |-> c', 'a or first_match(b) |-> c', 'first_match(a) |-> b |-> c', '(first_match(a) |-> b) |-> c',
+          'a |-> (first_match(b) |-> c)', 'first_match(a) && b |-> c', 'first_match(a, b) |-> c', 'first_match(a) |->', 'first_match |-> b', 'first_match[*2] |-> b',
+          'first_match.x |-> b', 'x.first_match |-> b', 'a throughout first_match(b) |-> c', 'a intersect first_match(b) |-> c', '!first_match(a) |-> b',
+          'first_match(a ##[1:3] b)', 'first_match(##2 a) |=> ##2 b', 'first_match(a[*0:1]) |-> b', 'first_match(a[*2:1]) |-> b']
+
+
+def firsts_nested(count):
+    deep = '(' * count + 'a' + ')' * count
+    return [asserted(f'first_match({deep}) |-> b'), asserted(f'first_match({deep[1:-1]}) |-> b'), asserted(f'first_match(a) |-> {deep}'),
+            asserted('(' * count + 'first_match(a) |-> b' + ')' * count), asserted('(' * (count - 1) + 'first_match(a) |-> b' + ')' * (count - 1))]
+
+
 def main(arguments):
     if arguments[0] != '--make':
         for line in open(arguments[0]):
             print(verdict(line.rstrip('\n')))
         return
-    texts = BASES + texts_of_rules() + mutated(16, 400) + foreign_words()
+    texts = BASES + texts_of_rules() + mutated(16, 400, BASES) + foreign_words()
+    texts += FIRST_BASES + [asserted(text) for text in FIRSTS] + firsts_nested(63) + firsts_nested(64) + mutated(43, 200, FIRST_BASES)
     with open(f'{arguments[1]}/data/texts.txt', 'w') as out:
         out.writelines(text + '\n' for text in texts)
     # what stands at the roots of trees was worked out by hand

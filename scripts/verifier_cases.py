@@ -13,12 +13,12 @@ import random
 import sys
 
 import bytecode_cases
-from verifier_makers import WIDTHS, random_program, settle
+from verifier_makers import EITHER, WIDTHS, random_program, settle
 from verifier_model import (
     CODES, COMPARES, JOINS, MOST, NAMES, REDUCES, SHIFTS, TAKEN, Program, Section, answer_to,
     decode, encode, faults_of)
 
-HALT, STOP, ACCEPT = ("Halt",), ("Stop",), ("Accept",)
+HALT, STOP, ACCEPT, FIRST = ("Halt",), ("Stop",), ("Accept",), ("AcceptFirst",)
 LOAD, SET = ("Load", 0), ("SetAtom", 0)
 WIDE = ("Push", 8, 0)
 SMALL = decode(bytecode_cases.SMALL)
@@ -422,9 +422,11 @@ def fixed_cases():
     yield from itertools.chain(chain_cases(), start_cases())
 
 
-def random_instr(rng, program, section, size):
-    """Any instruction of a kind of code, near what a program has."""
-    names = [it for it, (code, _) in CODES.items() if (code < 0x40) == (section == 1)]
+def random_instr(rng, program, section, size, version):
+    """Any instruction of a kind of code in a version, near what a program has."""
+    last = {1: 0x43, 2: 0x44}[version]
+    names = [
+        it for it, (code, _) in CODES.items() if (code < 0x40) == (section == 1) and code <= last]
     name = rng.choice(names)
     numbers = {
         "Push": lambda: (rng.choice(WIDTHS), 1), "Zext": lambda: (rng.choice(WIDTHS),),
@@ -451,13 +453,13 @@ def retargeted(rng, instr, size):
     return (name, *operands[:-1], min(max(last, low), high))
 
 
-def mutate_code(rng, program, section, code, size):
+def mutate_code(rng, program, section, code, size, version):
     """Changes one instruction, its place or its number of times."""
     way, at = rng.randrange(5), rng.randrange(len(code))
     if way == 0:
-        code[at] = random_instr(rng, program, section, size)
+        code[at] = random_instr(rng, program, section, size, version)
     elif way == 1:
-        code.insert(at, random_instr(rng, program, section, size))
+        code.insert(at, random_instr(rng, program, section, size, version))
     elif way == 2:
         del code[at]
     elif way == 3:
@@ -486,7 +488,7 @@ def mutate_header(rng, program):
         section.start ^= 1 << rng.randrange(len(section.blocks) + 1)
 
 
-def mutant(rng, whole):
+def mutant(rng, whole, version=1):
     """A program with one change or a few, and often with room for what it now needs."""
     program = copy.deepcopy(whole)
     for _ in range(rng.choice((1, 1, 1, 2, 3))):
@@ -495,15 +497,15 @@ def mutant(rng, whole):
             codes += [(number, it, section.size()) for it in section.blocks]
         section, code, size = rng.choice(codes)
         if code and rng.randrange(7):
-            mutate_code(rng, program, section, code, size)
+            mutate_code(rng, program, section, code, size, version)
         else:
             mutate_header(rng, program)
     return changed(program, **{it: MOST[it] for it in LIMITS}) if rng.randrange(3) else program
 
 
-def byte_mutants(rng, whole, count):
+def byte_mutants(rng, whole, count, version=1):
     """Programs that a file spells of which a few bytes were changed."""
-    data = encode(whole)
+    data = encode(whole, version)
     for _ in range(count):
         it = bytearray(data)
         for _ in range(rng.choice((1, 1, 2))):
@@ -539,12 +541,86 @@ def all_cases():
     yield from random_cases(rng)
 
 
+def first_rows():
+    """Programs with AcceptFirst, each with the answer that was worked out by hand."""
+    one, two = changed(SMALL, antecedent=accepting(FIRST)), changed(SMALL, consequent=accepting(FIRST))
+    yield one, "accepted history 0 stack 1 attempts 1 obligations 1 budget 14 lives 1 1"
+    yield two, "F16 AcceptKind 1"
+    yield changed(one, consequent=two.consequent), "F16 AcceptKind 1"
+    yield changed(two, budget=13), "F16 AcceptKind 1"
+    yield changed(two, budget=16777217), "F15 LimitTooLarge budget"
+    yield changed(two, disable=2), "F9 SlotRange 0"
+    yield changed(two, sample=[SET, HALT]), "F2 Underflow 0"
+    yield changed(two, antecedent=Section(1, [[("Enter", 0), STOP]])), "F12 Cycle 0"
+    later = [[ACCEPT, STOP], [STOP], [ACCEPT, FIRST, STOP]]
+    yield changed(SMALL, consequent=Section(1, later)), "F16 AcceptKind 4"
+    for body, answer in (
+            ([FIRST, ("Unless", 0, 9999), STOP], "F16 AcceptKind 0"),
+            ([("Unless", 0, 9999), FIRST, STOP], "F4 JumpRange 0"),
+            ([FIRST], "F8 NoHalt"), ([STOP, FIRST, STOP], "F7 Unreached 1"),
+            ([FIRST, FIRST, STOP], "F16 AcceptKind 0")):
+        yield changed(SMALL, consequent=Section(1, [body])), answer
+    yield changed(SMALL, consequent=Section(2, [[FIRST, STOP]])), "F9 SlotRange 0"
+    yield changed(SMALL, antecedent=Section(2, [[FIRST, STOP]])), "F9 SlotRange 0"
+
+
+def accepting(accept):
+    """The small program's section, which accepts so."""
+    return Section(1, [[("Unless", 0, 2), accept, STOP]])
+
+
+def first_places():
+    """AcceptFirst before and after each other fault of a block, in each section."""
+    for code in BLOCK_FAULTS:
+        before = [FIRST, *ended(code, block_fault(code, 1, 0), STOP)]
+        blocks = [[before], [[FIRST, STOP], ended(code, block_fault(code, 2, 1), STOP)]]
+        if code != 8:
+            blocks.append([[("Unless", 0, 1), *block_fault(code, 1, 0), FIRST, STOP]])
+        blocks.append([ended(code, block_fault(code, 0, 0), STOP), [FIRST, STOP]])
+        for it in blocks:
+            yield roomy(antecedent=Section(0, copy.deepcopy(it)))
+            yield roomy(consequent=Section(0, it))
+    for blocks in ([[FIRST, STOP]], [[FIRST]], [[STOP, FIRST]], [[STOP], [FIRST, STOP]], [[FIRST, ACCEPT, STOP]]):
+        for start in (0, 1 << len(blocks)):
+            yield roomy(antecedent=Section(start, copy.deepcopy(blocks)))
+            yield roomy(consequent=Section(start, copy.deepcopy(blocks)))
+
+
+def first_sections():
+    """AcceptFirst in the consequent beside a fault of another part."""
+    wrong = {"consequent": Section(0, [[FIRST, STOP]])}
+    low = dict.fromkeys(LIMITS, 0)
+    for fields in ({"disable": 2}, {"budget": 16777217}, {"atoms": 128}, low):
+        yield roomy(**wrong | fields)
+    yield from (roomy(sample=sample_with(it), **wrong) for it in SAMPLE_FAULTS)
+    yield from (roomy(antecedent=section_with(it), **wrong) for it in BLOCK_FAULTS)
+
+
+def later_cases():
+    """Programs of version 2, after those with answers that were worked out by hand."""
+    rng = random.Random(3)
+    for program, answer in first_rows():
+        assert answer_to(program, faults_of(program)) == answer, answer
+        yield program
+    yield from itertools.chain(first_places(), first_sections())
+    for _ in range(200):
+        whole = random_program(rng, rng.randrange(1, 3), 1, accepts=EITHER)
+        yield whole
+        yield mutant(rng, whole, 2)
+        yield from byte_mutants(rng, whole, rng.randrange(2), 2)
+
+
 def few_cases():
     """Programs for which each allocation can be refused in turn."""
     rng = random.Random(2)
     yield from (SMALL, pooled(), empty(sample=[LOAD, ("JumpIfZero", 3), LOAD, HALT]))
     yield changed(SMALL, budget=13)
     yield random_program(rng, 3, 2)
+
+
+def first_few():
+    """The same of version 2."""
+    yield from (it for it, _ in list(first_rows())[:2])
 
 
 def pairs_of(found):
@@ -562,6 +638,9 @@ MEETING = {
     15: (15,),
 }
 
+# Those of AcceptFirst in a consequent, which comes last at its place.
+FIRST_MEETING = (7, 8, 9)
+
 
 def wanted_pairs():
     yield from (("place", (one, it)) for one, others in MEETING.items() for it in others)
@@ -571,6 +650,14 @@ def wanted_pairs():
     parts = ((9, 15), SAMPLE_FAULTS, BLOCK_FAULTS, BLOCK_FAULTS)
     for one, other in itertools.combinations(parts, 2):
         yield from (("program", it) for it in itertools.product(one, other))
+
+
+def wanted_later_pairs():
+    """The pairs with AcceptFirst in a consequent."""
+    yield from (("place", (it, 16)) for it in FIRST_MEETING)
+    yield from (("section", (16, it)) for it in BLOCK_FAULTS)
+    yield from (("section", (it, 16)) for it in BLOCK_FAULTS)
+    yield from (("program", (it, 16)) for it in {*SAMPLE_FAULTS, *BLOCK_FAULTS, 9, 15})
 
 
 def counted(answers):
@@ -586,19 +673,37 @@ def check_spread(seen, answers):
     assert all(counts[f"F{it}"] >= 30 for it in range(1, 16)), counts
 
 
-def write(folder):
-    os.makedirs(f"{folder}/data", exist_ok=True)
+def judged(programs, version):
+    """The files of programs in a version, their answers, and the pairs of faults that are seen."""
     lines, answers, seen = [], [], set()
-    for program in all_cases():
+    for program in programs:
         found = faults_of(program)
-        lines.append(encode(program).hex())
+        lines.append(encode(program, version).hex())
         answers.append(answer_to(program, found))
         seen.update(pairs_of(found))
+    return lines, answers, seen
+
+
+def check_later_spread(seen, answers):
+    """The kinds of answers and pairs that version 2 adds are all there."""
+    missing = sorted(set(wanted_later_pairs()) - seen)
+    assert not missing, missing
+    counts = counted(answers)
+    assert counts["F16"] >= 25 and counts["accepted"] * 3 >= len(answers), counts
+
+
+def write(folder):
+    os.makedirs(f"{folder}/data", exist_ok=True)
+    lines, answers, seen = judged(all_cases(), 1)
     check_spread(seen, answers)
     for program, answer in spelled_cases():
         assert answer_to(program, faults_of(program)) == answer, answer
-        lines.append(encode(program).hex())
+        lines.append(encode(program, 1).hex())
         answers.append(answer)
+    later_lines, later_answers, seen = judged(later_cases(), 2)
+    check_later_spread(seen, later_answers)
+    lines += later_lines
+    answers += later_answers
     for name, written in (("data/cases.txt", lines), ("stdout", answers)):
         with open(f"{folder}/{name}", "w") as file:
             file.writelines(f"{it}\n" for it in written)
@@ -608,7 +713,7 @@ def write(folder):
 def main(words):
     if words[:1] == ["-f"] and len(words) == 2:
         with open(words[1], "w") as file:
-            file.writelines(f"{encode(it).hex()}\n" for it in few_cases())
+            file.writelines(f"{encode(it).hex()}\n" for it in (*few_cases(), *first_few()))
     elif len(words) == 1:
         counts = counted(write(words[0]))
         print(" ".join(f"{it} {counts[it]}" for it in ["accepted", *(f"F{it}" for it in NAMES)]))

@@ -151,16 +151,16 @@ class Maker:
 class BlockMaker:
     """The block of a position, with targets from the section's start."""
 
-    def __init__(self, rng, atoms, position, positions, first):
+    def __init__(self, rng, atoms, position, positions, first, accepts=("Accept",)):
         self.rng, self.atoms, self.first, self.code = rng, atoms, first, []
-        self.later = range(position + 1, positions)
+        self.later, self.accepts = range(position + 1, positions), accepts
 
     def step(self, depth):
         way = self.rng.randrange(5)
         if way < 2 and self.later:
             self.code.append(("Enter", self.rng.choice(self.later[:4])))
         elif way == 2 or not self.atoms or depth == 0:
-            self.code.append(("Accept",))
+            self.code.append((self.rng.choice(self.accepts) if self.accepts[1:] else "Accept",))
         else:
             self.guarded(depth - 1)
 
@@ -181,10 +181,11 @@ class BlockMaker:
         return [*self.code, ("Stop",)]
 
 
-def random_section(rng, atoms, positions):
+def random_section(rng, atoms, positions, accepts=("Accept",)):
+    """A section whose blocks accept by these instructions."""
     section = Section(rng.randrange(1 << positions) if rng.randrange(8) else 0)
     for position in range(positions):
-        maker = BlockMaker(rng, atoms, position, positions, section.size())
+        maker = BlockMaker(rng, atoms, position, positions, section.size(), accepts)
         section.blocks.append(maker.whole())
     return section
 
@@ -197,14 +198,19 @@ def settle(program):
     return program
 
 
-def random_program(rng, parts, depth, front=()):
-    """A program that is accepted, with the least limits; `front` goes before other sample code."""
+# How the antecedent of a program of version 2 may accept.
+EITHER = ("Accept", "AcceptFirst")
+
+
+def random_program(rng, parts, depth, front=(), accepts=("Accept",)):
+    """A program that is accepted, with the least limits; `front` goes before other sample code, and
+    the antecedent accepts by the instructions named last."""
     atoms = rng.choice((1, 2, 3, 5, 127) if front else (0, 1, 2, 3, 5, 127))
     signals = [(rng.choice(WIDTHS), b"s%d" % it) for it in range(rng.randrange(5))]
     counters = [rng.choice(WIDTHS) for _ in range(rng.randrange(4))]
     disable = rng.randrange(atoms) if atoms and rng.randrange(3) == 0 else 255
     program = Program(atoms=atoms, signals=signals, counters=counters, disable=disable)
     program.sample = Maker(rng, program, front).whole(parts, depth)
-    program.antecedent = random_section(rng, atoms, rng.randrange(6))
+    program.antecedent = random_section(rng, atoms, rng.randrange(6), accepts)
     program.consequent = random_section(rng, atoms, rng.randrange(6))
     return settle(program)

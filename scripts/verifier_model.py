@@ -20,6 +20,7 @@ CODES = {
     "Jump": (0x30, "t"), "JumpIfZero": (0x31, "t"), "SetAtom": (0x32, "b"), "Store": (0x33, "b"),
     "Halt": (0x34, ""),
     "Unless": (0x40, "bt"), "Enter": (0x41, "b"), "Accept": (0x42, ""), "Stop": (0x43, ""),
+    "AcceptFirst": (0x44, ""),
 }
 SIZES = {"b": 1, "t": 2, "v": 16}
 JOINS = ("And", "Or", "Xor", "Add", "Sub", "AddSat", "SubSat")
@@ -37,7 +38,7 @@ NAMES = {
     1: "Operand", 2: "Underflow", 3: "Overflow", 4: "JumpRange", 5: "BackwardJump",
     6: "JoinMismatch", 7: "Unreached", 8: "NoHalt", 9: "SlotRange", 10: "HistoryTooShort",
     11: "StackTooShort", 12: "Cycle", 13: "PoolTooSmall", 14: "BudgetTooSmall",
-    15: "LimitTooLarge",
+    15: "LimitTooLarge", 16: "AcceptKind",
 }
 
 # The most of each field, in the order in which they are judged.
@@ -102,10 +103,10 @@ def section_bytes(section):
     return number(section.start, 16) + number(len(blocks), 1) + b"".join(blocks)
 
 
-def encode(it):
-    """The file of a program."""
+def encode(it, version=2):
+    """The file of a program; that of version 1 only where no AcceptFirst stands in it."""
     limits = [number(at, 2) for at in (it.history, it.stack, it.attempts, it.obligations)]
-    head = b"SVAM\x01" + b"".join(limits) + number(it.budget, 4)
+    head = b"SVAM" + bytes([version]) + b"".join(limits) + number(it.budget, 4)
     head += number(it.disable, 1) + number(it.atoms, 1) + text(it.name) + text(it.clock)
     signals = listed([number(width, 1) + text(path) for width, path in it.signals])
     lists = signals + listed([number(width, 1) for width in it.counters])
@@ -252,6 +253,7 @@ def faults_at(piece, pc, instr, lists):
     found += [8] if pc == piece.end() - 1 and name != last else []
     found += [9] if is_missing(piece, instr) else []
     found += [12] if name == "Enter" and operands[0] <= piece.position else []
+    found += [16] if name == "AcceptFirst" and piece.section != 2 else []
     return found
 
 

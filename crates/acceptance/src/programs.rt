@@ -1,16 +1,16 @@
-//! Programs from bytes: their limits, and each refusal with its line.
+//! Programs from bytes: their limits, each refusal with its line, and upgrades.
 
 use crate::outcome::told;
 use crate::reports::has_line;
 use cli::{Fault, NoGate};
-use cli_code::{run_code, verify_code};
+use cli_code::{run_code, upgrade_code, verify_code};
 use signals::{Counted, CutWriter};
 use std::alloc::{AllocError, Global};
 use std::test::Fail;
 use verifier::{Field, Pool, Refusal};
 
-/// `r: .. top.x |-> top.y` at `top.clk`: the samples of both become atoms 0 and 1, and each section
-/// has a block that accepts where its atom is 1.
+/// In version 1, `r: .. top.x |-> top.y` at `top.clk`: the samples of both become atoms 0 and 1,
+/// and each section has a block that accepts where its atom is 1.
 const PROGRAM: [u8; 114] = [
     0x53, 0x56, 0x41, 0x4d, 1, // 0: the magic number, the version
     0, 0, 0, 1, 0, 1, 0, 1, 0, 0, 0, 14, 255, 2, // 5: the limits, no disabling atom, two atoms
@@ -58,24 +58,84 @@ const DUMP: &str =
 const REPORT: &[u8] = b"svamon 1\nclocks 1\nmonitor r holds 0 vacuous 0 fails 1 disabled 0 open 0\n\
     fail r start 0 clock 0\ntotal holds 0 vacuous 0 fails 1 disabled 0 open 0\n";
 
+/// Whether a program has the report over the dump.
+fn is_reported<R: Threads + Wait + Sync + AllocGlobal>(rt: &R, code: &[u8]) -> Result<bool, Fail> {
+    let alloc = rt.alloc();
+    let mut source = Counted::new(DUMP.as_bytes());
+    let mut out = Counted::new(CutWriter::new(alloc, 1000)?);
+    let answer = run_code(rt, alloc, &mut source, code, 4, 1024, &NoGate, &mut out);
+    let told = told(alloc, answer)?;
+    Ok(told.totals == Some([0, 0, 1, 0, 0]) && out.inner.as_slice() == REPORT)
+}
+
 #[test]
 fn report_of_a_program(rt: HostRuntime) -> Result<(), Fail> {
-    let mut source = Counted::new(DUMP.as_bytes());
-    let mut out = Counted::new(CutWriter::new(rt.alloc(), 1000)?);
-    let code = PROGRAM.as_slice();
-    let answer = run_code(
-        &rt,
-        rt.alloc(),
-        &mut source,
-        code,
-        4,
-        1024,
-        &NoGate,
-        &mut out,
-    );
-    let told = told(rt.alloc(), answer)?;
-    assert!(rt; told.totals == Some([0, 0, 1, 0, 0]));
-    assert!(rt; out.inner.as_slice() == REPORT);
+    assert!(rt; is_reported(&rt, PROGRAM.as_slice())?);
+    Ok(())
+}
+
+/// The file that an upgrade makes, and no line; or no byte, and the line of the fault.
+#[derive(Drop)]
+struct Upgraded {
+    file: Vec<u8>,
+    line: String,
+}
+
+fn upgraded(alloc: Global, code: &[u8]) -> Result<Upgraded, AllocError> {
+    match upgrade_code(alloc, code) {
+        Ok(file) => Ok(Upgraded {
+            file,
+            line: String::new(alloc),
+        }),
+        Err(fault) => Ok(Upgraded {
+            file: Vec::new(alloc),
+            line: told(alloc, Err(fault))?.line,
+        }),
+    }
+}
+
+/// The program in version 2, with another byte at a place.
+fn in_version_2(alloc: Global, place: usize, byte: u8) -> Result<Vec<u8>, AllocError> {
+    let mut code = changed_bytes(alloc, 4, [2].as_slice())?;
+    if let Some(at) = code.get_mut(place) {
+        *at = byte;
+    }
+    Ok(code)
+}
+
+/// The same bytes with the fifth made 2, and the same report; so again from version 2.
+#[test]
+fn upgrade_keeps_the_report(rt: HostRuntime) -> Result<(), Fail> {
+    let wanted = changed_bytes(rt.alloc(), 4, [2].as_slice())?;
+    let once = upgraded(rt.alloc(), PROGRAM.as_slice())?;
+    assert!(rt; once.line.as_str().is_empty() && once.file.as_slice() == wanted.as_slice());
+    let twice = upgraded(rt.alloc(), once.file.as_slice())?;
+    assert!(rt; twice.line.as_str().is_empty() && twice.file.as_slice() == wanted.as_slice());
+    assert!(rt; is_reported(&rt, once.file.as_slice())?);
+    Ok(())
+}
+
+/// A program that may not run is upgraded, and what is no program is not.
+#[test]
+fn upgrade_verifies_nothing(rt: HostRuntime) -> Result<(), Fail> {
+    let poor = changed_bytes(rt.alloc(), 16, [13].as_slice())?;
+    let richer = upgraded(rt.alloc(), poor.as_slice())?;
+    assert!(rt; richer.line.as_str().is_empty());
+    let line = line_of(rt.alloc(), richer.file.as_slice())?;
+    assert!(rt; line.as_str() == "svamon: F14 BudgetTooSmall 14");
+    let cut = upgraded(rt.alloc(), &PROGRAM[..113])?;
+    assert!(rt; cut.file.is_empty() && cut.line.as_str() == "svamon: B3 Truncated 113");
+    Ok(())
+}
+
+/// In the antecedent it accepts first, with the same report; elsewhere it is refused.
+#[test]
+fn accept_first_placed(rt: HostRuntime) -> Result<(), Fail> {
+    let code = in_version_2(rt.alloc(), 87, 0x44)?;
+    assert!(rt; is_reported(&rt, code.as_slice())?);
+    let code = in_version_2(rt.alloc(), 112, 0x44)?;
+    let line = line_of(rt.alloc(), code.as_slice())?;
+    assert!(rt; line.as_str() == "svamon: F16 AcceptKind 1");
     Ok(())
 }
 
@@ -131,7 +191,9 @@ fn refused_programs(rt: HostRuntime) -> Result<(), Fail> {
     for (place, bytes, line) in [
         (0, [0x00].as_slice(), "svamon: B1 Magic"),
         (4, [3].as_slice(), "svamon: B2 Version"),
+        (4, [0].as_slice(), "svamon: B2 Version"),
         (87, [0x30].as_slice(), "svamon: B4 BadOpcode 87"),
+        (87, [0x44].as_slice(), "svamon: B4 BadOpcode 87"),
         (21, [10].as_slice(), "svamon: B5 BadField 19"),
         (53, [0x31, 0, 2].as_slice(), "svamon: F2 Underflow 0"),
         (53, [0x30, 0, 9].as_slice(), "svamon: F4 JumpRange 0"),
@@ -225,6 +287,7 @@ fn lines_of_refusals(rt: HostRuntime) -> Result<(), Fail> {
     );
     let code = Refusal::LimitTooLarge(Field::ConsequentCode);
     assert!(rt; is_line(alloc, code, "svamon: F15 LimitTooLarge consequent code")?);
+    assert!(rt; is_line(alloc, Refusal::AcceptKind(1), "svamon: F16 AcceptKind 1")?);
     let memory = Fault::Refused(Refusal::Memory);
     assert!(rt; has_line(alloc, memory, "svamon: OutOfMemory", 3)?);
     Ok(())

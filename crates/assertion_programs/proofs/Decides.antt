@@ -11,10 +11,12 @@ use Rattle.assertions.specs.declared.sequence.Boolean.{Boolean}
 use Rattle.assertions.specs.declared.sequence.Boolean.TheVariants.{One, Listed}
 use Rattle.assertions.specs.declared.assertion.Assertion.{Assertion}
 use Rattle.assertions.specs.declared.suite.Suite.{Suite}
-use Rattle.assertions.specs.Segments.{always}
+use Rattle.assertions.specs.Segments.{always, AdmitsEmpty}
+use Rattle.assertions.specs.Attempts.{Antecedent, every, first_match}
 use Rattle.assertions.specs.Written.{Written, boolean, delay, lead, repeat, or, and, intersect, throughout, kernel}
 use Rattle.assertions.specs.Written.{IsOrdered}
 use Rattle.assertions.specs.Shapes.{written_form, shape, value_in, off_in, is_true_at, expression_at}
+use Rattle.assertions.specs.Verdicts.{antecedent_of}
 use Rattle.assertions.proofs.EmptinessLaws.{empty-Matches, Matches-empty}
 use Rattle.bytecode.specs.Values.{ProgramData, SectionData}
 use Rattle.verifier.specs.Programs.{IsAccepted}
@@ -28,9 +30,10 @@ use Rattle.monitors.specs.History.{SamplesAs}
 use Rattle.monitors.specs.Laws.{Watches, Fills}
 use Rattle.verdict_lines.specs.Laws.{AreVerdicts}
 use Rattle.verdict_lines.proofs.Lines.{by-meaning}
-use Rattle.positions.specs.Laws.{Occurs, section_for}
+use Rattle.positions.specs.Laws.{Occurs, section_for, led_section}
 use Rattle.positions.specs.Sections.{told}
 use Rattle.positions.proofs.Theorem.{law-section_follows}
+use Rattle.positions.proofs.Firsts.{law-follows_first}
 use Rattle.assertions.specs.Listed.{EachBoolean, IsListed, IsListedOption}
 use Rattle.positions.specs.Sequences.{atom_of}
 use Rattle.compiler.specs.Programs.{disabling_atom, IsProgramOf}
@@ -84,24 +87,39 @@ module _ (suite : Suite) (a : Assertion) (p : ProgramData) (of : IsProgramOf sui
   told-at k (Listed i) h = get_or_from_slice_get (atoms k) i (value (Listed i) k) true (atom-at k i h)
 
   follows : (w : Written Boolean) (s : SectionData) → IsOrdered w → EachBoolean (IsListed (length a.booleans.items)) w →
-      s ≡ section_for atom_of One w → Follows value (kernel One w) (automaton_of s atoms)
+      s ≡ section_for atom_of One w → Follows value (every (kernel One w)) (automaton_of s atoms)
   follows w s ordered listed is =
-      subst (λ x. Follows value (kernel One w) (automaton_of x atoms)) (sym is)
+      subst (λ x. Follows value (every (kernel One w)) (automaton_of x atoms)) (sym is)
       (law-section_follows atom_of One atoms value w ordered
       (λ k b occurs. told-at k b (occurs-listed (length a.booleans.items) w b listed occurs)))
 
-  pub watches : Watches p atoms value (shape a.antecedent) (shape a.consequent)
+  -- no match is empty at a tick of a sequence that admits no empty match
+  filled : (w : Written Boolean) → IsOrdered w → (AdmitsEmpty (kernel One w) → ⊥) → Fills value (kernel One w)
+  filled w ordered none e m =
+      none (empty-Matches Boolean always One w 0 ordered (Matches-empty Boolean value One w e ordered m))
+
+  leads : (first : Bool) (w : Written Boolean) (s : SectionData) → IsOrdered w
+      → EachBoolean (IsListed (length a.booleans.items)) w → (first ≡ true → AdmitsEmpty (kernel One w) → ⊥)
+      → s ≡ led_section first atom_of One w
+      → Follows value (record { first = first; sequence = kernel One w }) (automaton_of s atoms)
+  leads false w s ordered listed none is = follows w s ordered listed is
+  leads true w s ordered listed none is =
+      subst (λ x. Follows value (first_match (kernel One w)) (automaton_of x atoms)) (sym is)
+      (law-follows_first atom_of One atoms value w ordered
+      (λ k b occurs. told-at k b (occurs-listed (length a.booleans.items) w b listed occurs))
+      (filled w ordered (none refl)))
+
+  pub watches : Watches p atoms value (antecedent_of a) (shape a.consequent)
   watches = record {
     antecedent =
-        follows (written_form a.antecedent) p.antecedent a.antecedent_ordered of.antecedent_listed of.antecedent;
+        leads a.first (written_form a.antecedent) p.antecedent a.antecedent_ordered of.antecedent_listed of.led
+        of.antecedent;
     consequent =
         follows (written_form a.consequent) p.consequent a.consequent_ordered of.consequent_listed of.consequent;
   }
 
   pub fills : Fills value (shape a.consequent)
-  fills e m =
-      of.fills (empty-Matches Boolean always One (written_form a.consequent) 0 a.consequent_ordered
-      (Matches-empty Boolean value One (written_form a.consequent) e a.consequent_ordered m))
+  fills = filled (written_form a.consequent) a.consequent_ordered of.fills
 
   disabled-at : (d : Option Boolean) → IsListedOption (length a.booleans.items) d → (k : ℕ) →
       unwrap_or (disabling (disabling_atom d) (atoms k)) false ≡ off_in suite.booleans.items a.booleans.items
@@ -123,12 +141,12 @@ module _ (suite : Suite) (a : Assertion) (p : ProgramData) (of : IsProgramOf sui
       sym (length-map rows (picked of.layout.signals)) in
       subst (λ n. IsLineOver p (map (picked of.layout.signals) rows) (line_data_of n verdicts)) of.name
       (by-meaning p (map (picked of.layout.signals) rows) (made.counters suite a p of rows fit) atoms value
-      (shape a.antecedent) (shape a.consequent) verdicts accepted
+      (antecedent_of a) (shape a.consequent) verdicts accepted
       (subst (λ n. SamplesAs p (made.signals suite a p of rows fit) (made.counters suite a p of rows fit) atoms n) long
       (made.samples suite a p of rows fit accepted))
       watches fills
-      (subst (λ n. AreVerdicts value (monitor_of p atoms).off (shape a.antecedent) (shape a.consequent) n verdicts) long
-      (subst (λ o. AreVerdicts value o (shape a.antecedent) (shape a.consequent) (length rows) verdicts) same-off
+      (subst (λ n. AreVerdicts value (monitor_of p atoms).off (antecedent_of a) (shape a.consequent) n verdicts) long
+      (subst (λ o. AreVerdicts value o (antecedent_of a) (shape a.consequent) (length rows) verdicts) same-off
       judged)))
 
 pub programs-decide : ProgramsDecide

@@ -8,6 +8,7 @@ use Rattle.assertions.specs.declared.signal.Signal.{Signal}
 use Rattle.assertions.specs.declared.assertion.Assertion.{Assertion}
 use Rattle.assertions.specs.declared.suite.Suite.{Suite}
 use Rattle.assertions.specs.Shapes.{shape, value_in, off_in}
+use Rattle.assertions.specs.Verdicts.{antecedent_of}
 use Rattle.bytecode.specs.Values.{ProgramData}
 use Rattle.verifier.specs.Programs.{IsAccepted}
 use Rattle.verdicts.specs.Lines.{line_data_of}
@@ -32,7 +33,7 @@ AreVerdictsOver suite rows a =
     AreVerdicts
     (value_in suite.booleans.items a.booleans.items read)
     (off_in suite.booleans.items a.booleans.items read a.disabling)
-    (shape a.antecedent)
+    (antecedent_of a)
     (shape a.consequent)
     (length rows)
 

@@ -13,9 +13,10 @@ use Rattle.assertions.specs.declared.sequence.Boolean.TheVariants.{One, Listed}
 use Rattle.assertions.specs.declared.assertion.Assertion.{Assertion}
 use Rattle.assertions.specs.declared.suite.Suite.{Suite}
 use Rattle.assertions.specs.Segments.{Seq, sat, Matches}
+use Rattle.assertions.specs.Attempts.{Antecedent, Leads}
 use Rattle.assertions.specs.Attempts.{IsDecided, IsFirstDecided, IsUndecided, IsFirstOff, IsNeverOff, IsVerdict}
 use Rattle.assertions.specs.Shapes.{shape, is_true_at, expression_at, value_in, off_in}
-use Rattle.assertions.specs.Verdicts.{IsVerdictOn, IsVerdictOver}
+use Rattle.assertions.specs.Verdicts.{antecedent_of, IsVerdictOn, IsVerdictOver}
 use Rattle.expressions.specs.declared.expr.Expr.{Expr}
 use Rattle.expressions.specs.declared.rows.Rows.{Rows}
 use Rattle.expressions.specs.Terms.{Samples, width_of}
@@ -43,8 +44,8 @@ same_sat value other end n le same =
     same b k (omega arith))))
 
 -- how an attempt is decided, by what holds
-abbrev EndsAt : {B : Type 0} → (B → ℕ → Bool) → Seq B → ℕ → ℕ → ℕ → Type 0
-EndsAt holds r n c e = (c ≤ e) × (e < n) × Matches holds r c (e + 1)
+abbrev EndsAt : {B : Type 0} → (B → ℕ → Bool) → Antecedent B → ℕ → ℕ → ℕ → Type 0
+EndsAt holds r n c e = (c ≤ e) × (e < n) × Leads holds r c (e + 1)
 
 abbrev Keeps : {B : Type 0} → (B → ℕ → Bool) → Seq B → ℕ → ℕ → Type 0
 Keeps holds s n e = (j : ℕ) × (j ≤ n) × Matches holds s e j
@@ -52,28 +53,30 @@ Keeps holds s n e = (j : ℕ) × (j ≤ n) × Matches holds s e j
 abbrev Breaks : {B : Type 0} → (B → ℕ → Bool) → Seq B → ℕ → Type 0
 Breaks holds s e = (j : ℕ) → Matches holds s e j → ⊥
 
-abbrev Stops : {B : Type 0} → (B → ℕ → Bool) → Seq B → ℕ → ℕ → Type 0
-Stops holds r n c = (j : ℕ) → n < j → Matches holds r c j → ⊥
+abbrev Stops : {B : Type 0} → (B → ℕ → Bool) → Antecedent B → ℕ → ℕ → Type 0
+Stops holds r n c = (j : ℕ) → n < j → Leads holds r c j → ⊥
 
-abbrev Decides : {B : Type 0} → (B → ℕ → Bool) → Seq B → Seq B → ℕ → ℕ → Decision → Type 0
+abbrev Decides : {B : Type 0} → (B → ℕ → Bool) → Antecedent B → Seq B → ℕ → ℕ → Decision → Type 0
 Decides holds r s n c Failed = (e : ℕ) × EndsAt holds r n c e × Breaks holds s e
 Decides holds r s n c Held =
     ((e : ℕ) × EndsAt holds r n c e) × ((e : ℕ) → EndsAt holds r n c e → Keeps holds s n e) × Stops holds r n c
 Decides holds r s n c Vacuously = ((e : ℕ) → EndsAt holds r n c e → ⊥) × Stops holds r n c
 
-to_holds : {B : Type 0} (value : B → ℕ → Bool) (r s : Seq B) (n c : ℕ) (d : Decision) → IsDecided value r s n c d
+to_holds : {B : Type 0} (value : B → ℕ → Bool) (r : Antecedent B) (s : Seq B) (n c : ℕ) (d : Decision)
+    → IsDecided value r s n c d
     → Decides (sat value n) r s n c d
 to_holds value r s n c Failed h = h
 to_holds value r s n c Held h = h
 to_holds value r s n c Vacuously h = h
 
-from_holds : {B : Type 0} (value : B → ℕ → Bool) (r s : Seq B) (n c : ℕ) (d : Decision)
+from_holds : {B : Type 0} (value : B → ℕ → Bool) (r : Antecedent B) (s : Seq B) (n c : ℕ) (d : Decision)
     → Decides (sat value n) r s n c d → IsDecided value r s n c d
 from_holds value r s n c Failed h = h
 from_holds value r s n c Held h = h
 from_holds value r s n c Vacuously h = h
 
-same_decided : {B : Type 0} (value other : B → ℕ → Bool) (r s : Seq B) (end n c : ℕ) (d : Decision) → n ≤ end
+same_decided : {B : Type 0} (value other : B → ℕ → Bool) (r : Antecedent B) (s : Seq B) (end n c : ℕ) (d : Decision)
+    → n ≤ end
     → AgreeBelow end value other → IsDecided value r s n c d → IsDecided other r s n c d
 same_decided {B} value other r s end n c d le same h =
     from_holds other r s n c d
@@ -83,7 +86,7 @@ same_decided {B} value other r s end n c d le same h =
 turned : {B : Type 0} (end : ℕ) (value other : B → ℕ → Bool) → AgreeBelow end value other → AgreeBelow end other value
 turned end value other same = λ b k below. sym (same b k below)
 
-same_first : {B : Type 0} (value other : B → ℕ → Bool) (r s : Seq B) (end c n : ℕ) (d : Decision)
+same_first : {B : Type 0} (value other : B → ℕ → Bool) (r : Antecedent B) (s : Seq B) (end c n : ℕ) (d : Decision)
     → AgreeBelow end value other → IsFirstDecided value r s end c n d → IsFirstDecided other r s end c n d
 same_first value other r s end c n d same h = record {
   above = h.above;
@@ -95,7 +98,8 @@ same_first value other r s end c n d same h = record {
       (same_decided other value r s end m c way (omega arith) (turned end value other same) is);
 }
 
-same_undecided : {B : Type 0} (value other : B → ℕ → Bool) (r s : Seq B) (end c : ℕ) → AgreeBelow end value other
+same_undecided : {B : Type 0} (value other : B → ℕ → Bool) (r : Antecedent B) (s : Seq B) (end c : ℕ)
+    → AgreeBelow end value other
     → IsUndecided value r s end c → IsUndecided other r s end c
 same_undecided value other r s end c same h =
     λ m way low high is. h m way low high
@@ -122,7 +126,8 @@ same_first_off off other end c n t le same h = record {
 }
 
 -- the verdict is the same where all is the same up to the end
-same_verdict : {B : Type 0} (value other : B → ℕ → Bool) (off off' : ℕ → Bool) (r s : Seq B) (end c : ℕ) (v : Verdict)
+same_verdict : {B : Type 0} (value other : B → ℕ → Bool) (off off' : ℕ → Bool) (r : Antecedent B) (s : Seq B)
+    (end c : ℕ) (v : Verdict)
     → AgreeBelow end value other → OffAlike end off off'
     → IsVerdict value off r s end c v → IsVerdict other off' r s end c v
 same_verdict value other off off' r s end c (outcome.Holds t) same alike h =
@@ -168,7 +173,7 @@ pub same_verdict_on : (booleans : List Expr) (t u : Samples) (ticks : ℕ) (a : 
 same_verdict_on booleans t u ticks a clock v agree h =
     let places = a.booleans.items in
     same_verdict (value_in booleans places t) (value_in booleans places u) (off_in booleans places t a.disabling)
-    (off_in booleans places u a.disabling) (shape a.antecedent) (shape a.consequent) ticks clock v
+    (off_in booleans places u a.disabling) (antecedent_of a) (shape a.consequent) ticks clock v
     (λ b k inside. same_boolean booleans places t u b k (sooner t u ticks k (omega arith) agree))
     (λ k inside. same_off booleans places t u a.disabling k (sooner t u ticks k (omega arith) agree))
     h

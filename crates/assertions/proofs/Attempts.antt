@@ -5,7 +5,8 @@ use Rattle.std.proofs.lemmas.Bool.{or_cases, or_left, or_right, and_parts, and_f
 use Rattle.std.proofs.lemmas.Bool.{not_from_false, false_from_ne_true, cases_Bool}
 use Rattle.assertions.specs.declared.decision.Decision.{Decision}
 use Rattle.assertions.specs.declared.decision.Decision.TheVariants.{Held, Vacuously, Failed}
-use Rattle.assertions.specs.Segments.{Seq, sat, is_match, longest}
+use Rattle.assertions.specs.Segments.{Seq, sat, is_match, is_first_match, longest, Matches, MatchesFirst}
+use Rattle.assertions.specs.Attempts.{Antecedent, MatchesBy, Leads, is_match_by, is_leading}
 use Rattle.assertions.specs.Attempts.{IsEnd, IsKept, IsBroken, IsOver, IsDecided, has_end, is_kept, is_possible}
 use Rattle.assertions.specs.Attempts.{goes_on, is_failed, all_kept, decide, decision}
 use Rattle.assertions.proofs.Quantifiers.{some_in-found, some_in-true, each_in-at, each_in-true}
@@ -32,7 +33,50 @@ decide-held false false false k e = cc
 decide-held false false true true e = (refl, refl, refl)
 decide-held false false true false e = cc
 
-module _ (B : Type 0) (value : B → ℕ → Bool) (r s : Seq B) (n : ℕ) where
+module _ (B : Type 0) (holds : B → ℕ → Bool) where
+  is_first-MatchesFirst : (r : Seq B) (i j : ℕ) → IsTrue (is_first_match holds r i j) → MatchesFirst holds r i j
+  is_first-MatchesFirst r i j h =
+      let p = and_parts (is_match holds r i j) _ h in (
+        is_match-Matches B holds r i j p.0,
+        λ k below m.
+            both_ways _
+            (not-true _ (each_in-at i j (λ k. not (is_match holds r i k)) k p.1 (Matches-forward B holds r i k m)
+            below))
+            (Matches-is_match B holds r i k m),
+      )
+
+  MatchesFirst-is_first : (r : Seq B) (i j : ℕ) → MatchesFirst holds r i j → IsTrue (is_first_match holds r i j)
+  MatchesFirst-is_first r i j h =
+      and_from (is_match holds r i j) _ (Matches-is_match B holds r i j h.0)
+      (each_in-true i j (λ k. not (is_match holds r i k))
+      (λ k from below. not_from_false _
+      (false_from_ne_true _ (λ t. h.1 k below (is_match-Matches B holds r i k t)))))
+
+  is_match_by-MatchesBy : (first : Bool) (r : Seq B) (i j : ℕ) → IsTrue (is_match_by holds first r i j)
+      → MatchesBy holds first r i j
+  is_match_by-MatchesBy false r i j h = is_match-Matches B holds r i j h
+  is_match_by-MatchesBy true r i j h = is_first-MatchesFirst r i j h
+
+  MatchesBy-is_match_by : (first : Bool) (r : Seq B) (i j : ℕ) → MatchesBy holds first r i j
+      → IsTrue (is_match_by holds first r i j)
+  MatchesBy-is_match_by false r i j h = Matches-is_match B holds r i j h
+  MatchesBy-is_match_by true r i j h = MatchesFirst-is_first r i j h
+
+  MatchesBy-Matches : (first : Bool) (r : Seq B) (i j : ℕ) → MatchesBy holds first r i j → Matches holds r i j
+  MatchesBy-Matches false r i j h = h
+  MatchesBy-Matches true r i j h = h.0
+
+  pub is_leading-Leads : (r : Antecedent B) (i j : ℕ) → IsTrue (is_leading holds r i j) → Leads holds r i j
+  is_leading-Leads r i j h = is_match_by-MatchesBy r.first r.sequence i j h
+
+  pub Leads-is_leading : (r : Antecedent B) (i j : ℕ) → Leads holds r i j → IsTrue (is_leading holds r i j)
+  Leads-is_leading r i j h = MatchesBy-is_match_by r.first r.sequence i j h
+
+  -- the sequence matches there
+  pub Leads-Matches : (r : Antecedent B) (i j : ℕ) → Leads holds r i j → Matches holds r.sequence i j
+  Leads-Matches r i j h = MatchesBy-Matches r.first r.sequence i j h
+
+module _ (B : Type 0) (value : B → ℕ → Bool) (r : Antecedent B) (s : Seq B) (n : ℕ) where
   is_kept-IsKept : (e : ℕ) → IsTrue (is_kept value s n e) → IsKept value s n e
   is_kept-IsKept e h =
       let f = some_in-found e (n + 1) (λ j. is_match (sat value n) s e j) h in
@@ -58,51 +102,54 @@ module _ (B : Type 0) (value : B → ℕ → Bool) (r s : Seq B) (n : ℕ) where
 
   not_on-IsOver : (c : ℕ) → goes_on value r n c ≡ false → IsOver value r n c
   not_on-IsOver c h j above m =
-      both_ways _ h (some_in-true (n + 1) (c + longest r + 1) (λ j. is_match (sat value n) r c j) j (omega arith)
-      (omega (arith, Matches-longest B (sat value n) r c j m)) (Matches-is_match B (sat value n) r c j m))
+      both_ways _ h (some_in-true (n + 1) (c + longest r.sequence + 1) (λ j. is_leading (sat value n) r c j) j
+      (omega arith)
+      (omega (arith, Matches-longest B (sat value n) r.sequence c j (Leads-Matches B (sat value n) r c j m)))
+      (Leads-is_leading B (sat value n) r c j m))
 
   IsOver-not_on : (c : ℕ) → IsOver value r n c → goes_on value r n c ≡ false
   IsOver-not_on c h =
-      false_from_ne_true _ (λ t. let f = some_in-found (n + 1) (c + longest r + 1) (λ j. is_match (sat value n) r c j) t
-      in h f.0 (omega (arith, f.1)) (is_match-Matches B (sat value n) r c f.0 f.3))
+      false_from_ne_true _ (λ t. let f =
+      some_in-found (n + 1) (c + longest r.sequence + 1) (λ j. is_leading (sat value n) r c j) t
+      in h f.0 (omega (arith, f.1)) (is_leading-Leads B (sat value n) r c f.0 f.3))
 
   has_end-IsEnd : (c : ℕ) → IsTrue (has_end value r n c) → (e : ℕ) × IsEnd value r n c e
   has_end-IsEnd c h =
-      let f = some_in-found c n (λ e. is_match (sat value n) r c (e + 1)) h in
-      (f.0, (f.1, f.2, is_match-Matches B (sat value n) r c (f.0 + 1) f.3))
+      let f = some_in-found c n (λ e. is_leading (sat value n) r c (e + 1)) h in
+      (f.0, (f.1, f.2, is_leading-Leads B (sat value n) r c (f.0 + 1) f.3))
 
   IsEnd-has_end : (c e : ℕ) → IsEnd value r n c e → IsTrue (has_end value r n c)
   IsEnd-has_end c e h =
-      some_in-true c n (λ e. is_match (sat value n) r c (e + 1)) e h.0 h.1
-      (Matches-is_match B (sat value n) r c (e + 1) h.2)
+      some_in-true c n (λ e. is_leading (sat value n) r c (e + 1)) e h.0 h.1
+      (Leads-is_leading B (sat value n) r c (e + 1) h.2)
 
   is_failed-Failed : (c : ℕ) → IsTrue (is_failed value r s n c) → IsDecided value r s n c Failed
   is_failed-Failed c h =
-      let f = some_in-found c n (λ e. is_match (sat value n) r c (e + 1) && not (is_possible value s n e)) h in
-      let p = and_parts (is_match (sat value n) r c (f.0 + 1)) (not (is_possible value s n f.0)) f.3 in
-      (f.0, (f.1, f.2, is_match-Matches B (sat value n) r c (f.0 + 1) p.0), impossible-IsBroken f.0 (not-true _ p.1))
+      let f = some_in-found c n (λ e. is_leading (sat value n) r c (e + 1) && not (is_possible value s n e)) h in
+      let p = and_parts (is_leading (sat value n) r c (f.0 + 1)) (not (is_possible value s n f.0)) f.3 in
+      (f.0, (f.1, f.2, is_leading-Leads B (sat value n) r c (f.0 + 1) p.0), impossible-IsBroken f.0 (not-true _ p.1))
 
   Failed-is_failed : (c : ℕ) → IsDecided value r s n c Failed → IsTrue (is_failed value r s n c)
   Failed-is_failed c h =
-      some_in-true c n (λ e. is_match (sat value n) r c (e + 1) && not (is_possible value s n e)) h.0 h.1.0 h.1.1
-      (and_from _ _ (Matches-is_match B (sat value n) r c (h.0 + 1) h.1.2)
+      some_in-true c n (λ e. is_leading (sat value n) r c (e + 1) && not (is_possible value s n e)) h.0 h.1.0 h.1.1
+      (and_from _ _ (Leads-is_leading B (sat value n) r c (h.0 + 1) h.1.2)
       (not_from_false _ (IsBroken-impossible h.0 h.2)))
 
   all_kept-each : (c : ℕ) → IsTrue (all_kept value r s n c) → (e : ℕ) → IsEnd value r n c e → IsKept value s n e
   all_kept-each c h e end =
-      let o = each_in-at c n (λ e. not (is_match (sat value n) r c (e + 1)) || is_kept value s n e) e h end.0 end.1 in
-      elim (or_cases (not (is_match (sat value n) r c (e + 1))) (is_kept value s n e) o) [
-        | inl off ↦ absurd (both_ways _ (not-true _ off) (Matches-is_match B (sat value n) r c (e + 1) end.2))
+      let o = each_in-at c n (λ e. not (is_leading (sat value n) r c (e + 1)) || is_kept value s n e) e h end.0 end.1 in
+      elim (or_cases (not (is_leading (sat value n) r c (e + 1))) (is_kept value s n e) o) [
+        | inl off ↦ absurd (both_ways _ (not-true _ off) (Leads-is_leading B (sat value n) r c (e + 1) end.2))
         | inr on ↦ is_kept-IsKept e on
       ]
 
   each-all_kept : (c : ℕ) → ((e : ℕ) → IsEnd value r n c e → IsKept value s n e) → IsTrue (all_kept value r s n c)
   each-all_kept c h =
-      each_in-true c n (λ e. not (is_match (sat value n) r c (e + 1)) || is_kept value s n e) (λ e from below.
-      elim (cases_Bool (is_match (sat value n) r c (e + 1))) [
-        | inl on ↦ or_right (not (is_match (sat value n) r c (e + 1))) (is_kept value s n e)
-            (IsKept-is_kept e (h e (from, below, is_match-Matches B (sat value n) r c (e + 1) on)))
-        | inr off ↦ or_left (not (is_match (sat value n) r c (e + 1))) (is_kept value s n e) (not_from_false _ off)
+      each_in-true c n (λ e. not (is_leading (sat value n) r c (e + 1)) || is_kept value s n e) (λ e from below.
+      elim (cases_Bool (is_leading (sat value n) r c (e + 1))) [
+        | inl on ↦ or_right (not (is_leading (sat value n) r c (e + 1))) (is_kept value s n e)
+            (IsKept-is_kept e (h e (from, below, is_leading-Leads B (sat value n) r c (e + 1) on)))
+        | inr off ↦ or_left (not (is_leading (sat value n) r c (e + 1))) (is_kept value s n e) (not_from_false _ off)
       ])
 
   -- a decision is as stated

@@ -7,3 +7,4 @@ pub mod LengthLaws
 pub mod EmptinessLaws
 pub mod WeightLaws
 pub mod AgreeLaws
+pub mod FirstLaws

@@ -7,13 +7,15 @@ use Rattle.signals.specs.declared.verdict.Verdict.{Verdict}
 use Rattle.signals.specs.declared.verdict.Verdict.TheVariants as verdicts
 use Rattle.assertions.specs.Quantifiers.{first_in, first_true}
 use Rattle.assertions.specs.Segments.{Seq}
+use Rattle.assertions.specs.Attempts.{Antecedent}
 use Rattle.assertions.specs.Attempts.{decision, decided_at, disabled_or, verdict_by, verdict, IsFirstDecided}
 use Rattle.assertions.specs.Attempts.{IsUndecided, IsFirstOff, IsNeverOff, IsVerdict}
 use Rattle.assertions.proofs.Quantifiers.{first_in-found, first_in-none, first_true-found, first_true-none, first_in-at}
 use Rattle.assertions.proofs.Quantifiers.{first_in-never, first_true-at, first_true-none_at, none_from}
 use Rattle.assertions.proofs.Attempts.{decision-IsDecided, IsDecided-decision}
 
-module _ (B : Type 0) (value : B → ℕ → Bool) (off : ℕ → Bool) (r s : Seq B) (end c : ℕ) where
+module _ (B : Type 0) (value : B → ℕ → Bool) (off : ℕ → Bool) (r : Antecedent B) (s : Seq B)
+    (end c : ℕ) where
   first_decided : (n : ℕ) (d : Decision) → first_in (c + 1) (end + 1) (λ n. decision value r s n c) ≡ Some (n, d)
       → IsFirstDecided value r s end c n d
   first_decided n d h =

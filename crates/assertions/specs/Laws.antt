@@ -3,7 +3,7 @@ use Rattle.std.specs.Prelude.{◌≡◌, ℕ, ◌+◌, ◌≤◌, Bool, false, I
 use Rattle.signals.specs.declared.verdict.Verdict.{Verdict}
 use Rattle.assertions.specs.declared.sequence.Boolean.{Boolean}
 use Rattle.assertions.specs.Segments.{Seq, Matches, is_match, longest, IsDegenerate, AdmitsEmpty}
-use Rattle.assertions.specs.Attempts.{IsVerdict, verdict}
+use Rattle.assertions.specs.Attempts.{Antecedent, IsVerdict, verdict}
 use Rattle.assertions.specs.Written.{Written, kernel, weight, IsOrdered}
 use Rattle.assertions.specs.Emptiness.{admits_empty, takes_ticks}
 
@@ -27,13 +27,15 @@ TestsMatches =
 -- Each attempt has a verdict, the one that is computed.
 abbrev pub HasVerdict : Type 0
 HasVerdict =
-    (value : Boolean → ℕ → Bool) (off : ℕ → Bool) (r s : Seq Boolean) (end c : ℕ)
+    (value : Boolean → ℕ → Bool) (off : ℕ → Bool) (r : Antecedent Boolean) (s : Seq Boolean)
+    (end c : ℕ)
     → IsVerdict value off r s end c (verdict value off r s end c)
 
 -- It has no other.
 abbrev pub HasOneVerdict : Type 0
 HasOneVerdict =
-    (value : Boolean → ℕ → Bool) (off : ℕ → Bool) (r s : Seq Boolean) (end c : ℕ) (v w : Verdict)
+    (value : Boolean → ℕ → Bool) (off : ℕ → Bool) (r : Antecedent Boolean) (s : Seq Boolean)
+    (end c : ℕ) (v w : Verdict)
     → IsVerdict value off r s end c v → IsVerdict value off r s end c w → v ≡ w
 
 -- No match of what is written takes more ticks than it weighs.

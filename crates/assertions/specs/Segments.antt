@@ -1,7 +1,6 @@
 -- Sequences, and the segments of ticks that they match (IEEE 1800-2017, 16.9 and annex F.5).
 use Rattle.std.specs.Prelude.{◌≡◌, ◌⊎◌, ℕ, zero, suc, ◌+◌, ◌*◌, ◌<◌, ◌≤◌, ◌==◌, max, min, Bool}
-use Rattle.std.specs.Prelude.{true}
-use Rattle.std.specs.Prelude.{◌&&◌, ◌||◌, nat_le, IsTrue}
+use Rattle.std.specs.Prelude.{true, ◌&&◌, ◌||◌, not, nat_le, IsTrue}
 use Rattle.assertions.specs.Quantifiers.{some_in, each_in}
 
 -- A sequence over booleans B, by its kernel: delays and repetitions are written out.
@@ -52,6 +51,10 @@ Matches holds (during b r) i j =
 Matches holds (times r least most) i j =
     (k : ℕ) × (least ≤ k) × (k ≤ most) × Chain (Matches holds r) k i j
 
+-- first_match r: r matches the ticks i up to j, and up to no smaller end (16.9.8).
+abbrev pub MatchesFirst : {B : Type 0} → (B → ℕ → Bool) → Seq B → ℕ → ℕ → Type 0
+MatchesFirst holds r i j = Matches holds r i j × ((k : ℕ) → k < j → Matches holds r i k → ⊥)
+
 -- the same as tests
 abbrev pub chain : (ℕ → ℕ → Bool) → ℕ → ℕ → ℕ → Bool
 chain passes zero i j = i == j
@@ -72,6 +75,9 @@ is_match holds (meet r s) i j = is_match holds r i j && is_match holds s i j
 is_match holds (during b r) i j = is_match holds r i j && each_in i j (λ k. holds b k)
 is_match holds (times r least most) i j =
     some_in least (most + 1) (λ k. chain (is_match holds r) k i j)
+
+abbrev pub is_first_match : {B : Type 0} → (B → ℕ → Bool) → Seq B → ℕ → ℕ → Bool
+is_first_match holds r i j = is_match holds r i j && each_in i j (λ k. not (is_match holds r i k))
 
 -- no match takes more ticks than this
 abbrev pub longest : {B : Type 0} → Seq B → ℕ

@@ -6,9 +6,14 @@ use Rattle.expressions.specs.Terms.{Samples}
 use Rattle.expressions.specs.Tables.{column}
 use Rattle.expressions.specs.Counters.{counter_samples}
 use Rattle.assertions.specs.declared.assertion.Assertion.{Assertion}
+use Rattle.assertions.specs.declared.sequence.Boolean.{Boolean}
 use Rattle.assertions.specs.declared.suite.Suite.{Suite}
-use Rattle.assertions.specs.Attempts.{IsVerdict}
+use Rattle.assertions.specs.Attempts.{Antecedent, IsVerdict}
 use Rattle.assertions.specs.Shapes.{shape, value_in, off_in}
+
+-- what an assertion's attempts begin with
+abbrev pub antecedent_of : Assertion → Antecedent Boolean
+antecedent_of a = record { first = a.first; sequence = shape a.antecedent }
 
 -- The verdict on the attempt of an assertion that begins at a tick, over so many ticks, with its
 -- suite's expressions and what they read.
@@ -17,7 +22,7 @@ IsVerdictOn booleans read ticks a =
     IsVerdict
     (value_in booleans a.booleans.items read)
     (off_in booleans a.booleans.items read a.disabling)
-    (shape a.antecedent)
+    (antecedent_of a)
     (shape a.consequent)
     ticks
 

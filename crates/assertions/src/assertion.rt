@@ -9,11 +9,14 @@ use crate::sequence::{Boolean, Sequence};
 use crate::weight::weight_of;
 
 /// An assertion `antecedent |-> consequent`: from the last tick of each match of the antecedent
-/// that isn't empty the consequent must match. Neither weighs more than 127.
+/// that isn't empty the consequent must match, or with `first_match` round the antecedent from that
+/// of its first one. Neither weighs more than 127.
 #[derive(Drop)]
 pub struct Assertion {
     /// Its label, or `assert_N` where it has none.
     pub name: String,
+    /// Whether `first_match` stands round the antecedent.
+    pub first: bool,
     /// The antecedent of `|->`.
     pub antecedent: Sequence,
     pub consequent: Sequence,
@@ -34,6 +37,7 @@ impl Assertion {
     /// than 127.
     pub fn new(
         name: String,
+        first: bool,
         antecedent: Sequence,
         consequent: Sequence,
         disabling: Option<Boolean>,
@@ -41,7 +45,7 @@ impl Assertion {
     ) -> Option<Assertion>
         ensures { MatchOption result
             (IsUnfit (written_form antecedent) ⊎ IsUnfit (written_form consequent))
-            (λ made. (made.name ≡ name) × (made.antecedent ≡ antecedent)
+            (λ made. (made.name ≡ name) × (made.first ≡ first) × (made.antecedent ≡ antecedent)
             × (made.consequent ≡ consequent) × (made.disabling ≡ disabling)
             × (made.booleans ≡ booleans)) }
     {
@@ -50,6 +54,7 @@ impl Assertion {
         }
         Some(Assertion {
             name,
+            first,
             antecedent,
             consequent,
             disabling,

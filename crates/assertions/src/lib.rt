@@ -2,14 +2,14 @@
 //!
 //! A suite has the assertions of a text, the path of their clock, and what they read: signals by
 //! path and width, counters, and typed expressions. An assertion is `antecedent |-> consequent`:
-//! from the last tick of each match of the antecedent that isn't empty the consequent must match.
-//! Its sides are sequences as they are written, with names written out. A boolean of a sequence is
-//! the constant 1, or a place in the assertion's own list, which has the place of an expression
-//! among the suite's.
+//! from the last tick of each match of the antecedent that isn't empty the consequent must match,
+//! or, with `first_match` round it, from that of its first match. Its sides are sequences as they
+//! are written, with names written out. A boolean of a sequence is the constant 1, or a place in
+//! the assertion's own list, which has the place of an expression among the suite's.
 //!
 //! ```text
 //! let weight = weight_of(&sequence);   // none where it is over 127, or a range is out of order
-//! let assertion = Assertion::new(name, antecedent, consequent, disabling, booleans);
+//! let assertion = Assertion::new(name, first, antecedent, consequent, disabling, booleans);
 //! let all = suite.assertions();        // in the order of the text
 //! ```
 //!

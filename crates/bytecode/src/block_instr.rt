@@ -11,6 +11,8 @@ pub enum BlockInstr {
     Enter(u8),
     Accept,
     Stop,
+    /// Accepts, and after the visit the attempt has no position.
+    AcceptFirst,
 }
 
 impl BlockInstr {

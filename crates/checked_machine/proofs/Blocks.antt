@@ -1,15 +1,16 @@
 -- A visit of a well formed section ends within the sum of its longest paths.
 use Rattle.std.proofs.Common.{◌≡◌, inl, inr, ℕ, zero, suc, ◌+◌, ◌-◌, ◌^◌, ◌<◌, ◌≤◌, Bool, true}
 use Rattle.std.proofs.Common.{false, List, length, Some, sym, subst, arith}
-use Rattle.std.specs.Prelude.{slice_get, bit_or}
+use Rattle.std.specs.Prelude.{slice_get, bit_or, if◌then◌else◌}
 use Rattle.std.proofs.lemmas.Bool.{cases_eq, lt-ltb, le-ltb}
 use Rattle.std.proofs.lemmas.Option.{slice_get-get_or}
 use Rattle.std.proofs.lemmas.Nat.Bits.{bit_at_or, bit_at-pow_other, bit_at-zero}
 use Rattle.bytecode.specs.declared.block_instr.BlockInstr.{BlockInstr}
 use Rattle.bytecode.specs.declared.block_instr.BlockInstr.TheVariants.{Unless, Enter, Accept, Stop}
+use Rattle.bytecode.specs.declared.block_instr.BlockInstr.TheVariants.{AcceptFirst}
 use Rattle.checked_machine.specs.Outcomes.{Ran, Meets}
 use Rattle.checked_machine.specs.Blocks.{Visit}
-use Rattle.checked_machine.specs.Blocks.{fetch, branch, obey, run}
+use Rattle.checked_machine.specs.Blocks.{fetch, branch, obey, run, ended}
 use Rattle.checked_machine.specs.Bounds.{EachIn}
 use Rattle.checked_machine.proofs.Outcomes.{Meets-weaker}
 
@@ -31,12 +32,21 @@ Allows atoms positions cost P A end pc (Unless atom target) =
 Allows atoms positions cost P A end pc (Enter q) =
     (q < positions) × P q × (pc + 1 < end) × (cost (pc + 1) + 1 ≤ cost pc)
 Allows atoms positions cost P A end pc Accept = A × (pc + 1 < end) × (cost (pc + 1) + 1 ≤ cost pc)
+Allows atoms positions cost P A end pc AcceptFirst = A × (pc + 1 < end) × (cost (pc + 1) + 1 ≤ cost pc)
 Allows atoms positions cost P A end pc Stop = 1 ≤ cost pc
 
 -- what a visit leaves
 pub record Leaves (P : ℕ → Type 0) (A : Type 0) (v : Visit) : Type 0 where
   pub entered : EachIn P v.entered
   pub accepted : v.accepted ≡ true → A
+
+-- the end of a visit leaves no more
+pub Leaves-ended : (P : ℕ → Type 0) (A : Type 0) (v : Visit) → Leaves P A v → Leaves P A (ended v)
+Leaves-ended P A v h = record { entered = by v.first; accepted = h.accepted }
+  where
+    by : (b : Bool) → EachIn P (if b then 0 else v.entered)
+    by true = EachIn-none P
+    by false = h.entered
 
 abbrev pub Within : (ℕ → Type 0) → Type 0 → ℕ → ℕ → Visit → ℕ → Type 0
 Within P A left cost w rest = Leaves P A w × (left ≤ rest + cost)
@@ -47,6 +57,7 @@ module _ (block : List BlockInstr) (base positions : ℕ) (atoms : List Bool) (c
     Allows-cost end pc (Unless atom target) h = omega (arith, h.4)
     Allows-cost end pc (Enter q) h = omega (arith, h.3)
     Allows-cost end pc Accept h = omega (arith, h.2)
+    Allows-cost end pc AcceptFirst h = omega (arith, h.2)
     Allows-cost end pc Stop h = h
 
     -- going on from another instruction of the block
@@ -81,11 +92,15 @@ module _ (block : List BlockInstr) (base positions : ℕ) (atoms : List Bool) (c
         (branch-meets left go goes pc target v _ leaves low allows.1 allows.2 allows.3 allows.4 allows.5 fits)
     obey-meets left go goes pc v (Enter q) leaves low allows fits =
         rw (lt-ltb q positions allows.0)
-        (go-meets left go goes pc (pc + 1) (record { entered = bit_or v.entered (2 ^ q); accepted = v.accepted })
+        (go-meets left go goes pc (pc + 1)
+        (record { entered = bit_or v.entered (2 ^ q); accepted = v.accepted; first = v.first })
         (record { entered = EachIn-or P v.entered q leaves.entered allows.1; accepted = leaves.accepted })
         (omega arith) allows.2 allows.3 fits)
     obey-meets left go goes pc v Accept leaves low allows fits =
-        go-meets left go goes pc (pc + 1) (record { entered = v.entered; accepted = true })
+        go-meets left go goes pc (pc + 1) (record { entered = v.entered; accepted = true; first = v.first })
+        (record { entered = leaves.entered; accepted = λ h. allows.0 }) (omega arith) allows.1 allows.2 fits
+    obey-meets left go goes pc v AcceptFirst leaves low allows fits =
+        go-meets left go goes pc (pc + 1) (record { entered = v.entered; accepted = true; first = true })
         (record { entered = leaves.entered; accepted = λ h. allows.0 }) (omega arith) allows.1 allows.2 fits
     obey-meets left go goes pc v Stop leaves low allows fits = (leaves, omega (arith, allows))
 

@@ -7,6 +7,7 @@ use Rattle.std.proofs.lemmas.Bool.{cases_eq, cases_Bool, eq-eqb}
 use Rattle.std.proofs.lemmas.Option.{slice_get_within}
 use Rattle.bytecode.specs.declared.block_instr.BlockInstr.{BlockInstr}
 use Rattle.bytecode.specs.declared.block_instr.BlockInstr.TheVariants.{Unless, Enter, Accept, Stop}
+use Rattle.bytecode.specs.declared.block_instr.BlockInstr.TheVariants.{AcceptFirst}
 use Rattle.checked_machine.proofs.Typing.{IsFine, IsBlock, AreBlocks}
 use Rattle.bytecode.specs.Instructions.{block_flow}
 use Rattle.verifier.specs.Limits.{longest_entered, lives_from, most_in, path_of, paths_from}
@@ -18,6 +19,7 @@ longest_entered-head next later q is (Enter r) e =
     omega (arith, ap (λ n. slice_index later (n - next)) same)
 longest_entered-head next later q is (Unless atom target) e = cc
 longest_entered-head next later q is Accept e = cc
+longest_entered-head next later q is AcceptFirst e = cc
 longest_entered-head next later q is Stop e = cc
 
 longest_entered-tail : (next : ℕ) (later : List ℕ) (is : List BlockInstr) (i : BlockInstr)
@@ -25,6 +27,7 @@ longest_entered-tail : (next : ℕ) (later : List ℕ) (is : List BlockInstr) (i
 longest_entered-tail next later is (Enter r) = omega arith
 longest_entered-tail next later is (Unless atom target) = omega arith
 longest_entered-tail next later is Accept = omega arith
+longest_entered-tail next later is AcceptFirst = omega arith
 longest_entered-tail next later is Stop = omega arith
 
 longest_entered-at : (next : ℕ) (later : List ℕ) (b : List BlockInstr) (k q : ℕ) → slice_get b k ≡ Some (Enter q)
@@ -78,6 +81,7 @@ abbrev pub IsCosted : (ℕ → ℕ) → ℕ → BlockInstr → Type 0
 IsCosted cost pc (Unless atom target) = (cost (pc + 1) + 1 ≤ cost pc) × (cost target + 1 ≤ cost pc)
 IsCosted cost pc (Enter q) = cost (pc + 1) + 1 ≤ cost pc
 IsCosted cost pc Accept = cost (pc + 1) + 1 ≤ cost pc
+IsCosted cost pc AcceptFirst = cost (pc + 1) + 1 ≤ cost pc
 IsCosted cost pc Stop = 1 ≤ cost pc
 
 module _ (cost : ℕ → ℕ) (atoms positions p end : ℕ) where
@@ -93,6 +97,8 @@ module _ (cost : ℕ → ℕ) (atoms positions p end : ℕ) where
   costed pc later (Enter q) fine here is =
       let next : pc + 1 ≡ pc + 1 + 0 = omega arith in omega (arith, here, ap cost next ∙ is 0)
   costed pc later Accept fine here is =
+      let next : pc + 1 ≡ pc + 1 + 0 = omega arith in omega (arith, here, ap cost next ∙ is 0)
+  costed pc later AcceptFirst fine here is =
       let next : pc + 1 ≡ pc + 1 + 0 = omega arith in omega (arith, here, ap cost next ∙ is 0)
   costed pc later Stop fine here is = omega (arith, here)
 

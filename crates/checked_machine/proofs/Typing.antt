@@ -3,6 +3,7 @@ use Rattle.std.specs.Prelude.{◌≡◌, ℕ, ◌+◌, ◌-◌, ◌*◌, ◌^◌
 use Rattle.std.specs.Prelude.{Some, None, slice_get}
 use Rattle.bytecode.specs.declared.block_instr.BlockInstr.{BlockInstr}
 use Rattle.bytecode.specs.declared.block_instr.BlockInstr.TheVariants.{Unless, Enter, Accept, Stop}
+use Rattle.bytecode.specs.declared.block_instr.BlockInstr.TheVariants.{AcceptFirst}
 use Rattle.bytecode.specs.Values.{SectionData, ProgramData}
 use Rattle.verifier.specs.Limits.{path_sum}
 use Rattle.verifier.specs.Programs.{least_attempts, least_obligations}
@@ -12,6 +13,7 @@ abbrev pub IsFine : ℕ → ℕ → ℕ → ℕ → ℕ → BlockInstr → Type 
 IsFine atoms positions p end pc (Unless atom target) = (atom < atoms) × (pc < target) × (target < end)
 IsFine atoms positions p end pc (Enter q) = (p < q) × (q < positions)
 IsFine atoms positions p end pc Accept = Unit {0}
+IsFine atoms positions p end pc AcceptFirst = Unit {0}
 IsFine atoms positions p end pc Stop = Unit {0}
 
 -- the block of position p, which begins at base

@@ -6,16 +6,17 @@ use Rattle.std.specs.Int.{bit_at}
 use Rattle.std.proofs.lemmas.Bool.{cases_Bool, eqb-true}
 use Rattle.bytecode.specs.declared.block_instr.BlockInstr.{BlockInstr}
 use Rattle.bytecode.specs.declared.block_instr.BlockInstr.TheVariants.{Unless, Enter, Accept, Stop}
+use Rattle.bytecode.specs.declared.block_instr.BlockInstr.TheVariants.{AcceptFirst}
 use Rattle.checked_machine.specs.Outcomes.{done, Meets}
 use Rattle.bytecode.specs.Values.{SectionData}
 use Rattle.checked_machine.specs.Blocks.{Visit}
-use Rattle.checked_machine.specs.Blocks.{run, visit_blocks, visit}
+use Rattle.checked_machine.specs.Blocks.{run, visit_blocks, run_set, visit, ended}
 use Rattle.checked_machine.proofs.Typing.{IsFine, IsBlock, AreBlocks, IsSection}
 use Rattle.bytecode.specs.Instructions.{block_flow}
 use Rattle.verifier.specs.Limits.{start_life, paths_from, path_sum}
 use Rattle.checked_machine.specs.Bounds.{EachIn, IsAlive, life}
 use Rattle.checked_machine.proofs.Outcomes.{Meets-and_then, Meets-weaker, Meets-at}
-use Rattle.checked_machine.proofs.Blocks.{EachIn-none, Allows, Leaves, Within, run-meets}
+use Rattle.checked_machine.proofs.Blocks.{EachIn-none, Allows, Leaves, Leaves-ended, Within, run-meets}
 use Rattle.checked_machine.proofs.Limits.{IsCosted, paths-costed, followed, IsBlock-length, Falls}
 use Rattle.checked_machine.proofs.Limits.{lives-fall}
 
@@ -37,6 +38,8 @@ module _ (atoms : List Bool) (positions : ℕ) (P : ℕ → Type 0) (A : Type 0)
       (fine.1, enters q k h, followed (length atoms) positions p base b block k (Enter q) h (λ e. cc), costs)
   allowed cost p base b block enters accepts k Accept h fine costs =
       (accepts, followed (length atoms) positions p base b block k Accept h (λ e. cc), costs)
+  allowed cost p base b block enters accepts k AcceptFirst h fine costs =
+      (accepts, followed (length atoms) positions p base b block k AcceptFirst h (λ e. cc), costs)
   allowed cost p base b block enters accepts k Stop h fine costs = costs
 
   block-meets : (p base : ℕ) (b : List BlockInstr) → IsBlock (length atoms) positions p base b
@@ -112,16 +115,21 @@ Visited s since now left = Within (IsAlive s since (now + 1)) (now < since + sta
 pub visit-meets : (s : SectionData) (atoms : List Bool) → IsSection (length atoms) s → (since now set left : ℕ)
     → EachIn (IsAlive s since now) set → path_sum 0 s.blocks ≤ left
     → Meets (Visited s since now left) (visit s atoms set left)
-unfolding visit
+unfolding visit run_set
 visit-meets s atoms section since now set left alive fits =
     let falls =
     lives-fall (life s) (length atoms) (length s.blocks) 0 0 s.blocks section.blocks
     (λ k. let e : 0 + k ≡ k = omega arith in ap (life s) e) in
-    visit_blocks-meets atoms (length s.blocks) (IsAlive s since (now + 1)) (now < since + start_life s) set 0 0 s.blocks
-    section.blocks
+    Meets-and_then (Visited s since now left) (Visited s since now left)
+    (visit_blocks (length s.blocks) atoms set s.blocks 0 0 (record { entered = 0; accepted = false; first = false })
+    left)
+    (λ v rest. done (ended v) rest)
+    (visit_blocks-meets atoms (length s.blocks) (IsAlive s since (now + 1)) (now < since + start_life s) set 0 0
+    s.blocks section.blocks
     (alive-enters s atoms since now set alive 0 0 s.blocks section.blocks falls) left
-    (record { entered = 0; accepted = false })
-    (record { entered = EachIn-none (IsAlive s since (now + 1)); accepted = λ h. cc }) fits
+    (record { entered = 0; accepted = false; first = false })
+    (record { entered = EachIn-none (IsAlive s since (now + 1)); accepted = λ h. cc }) fits)
+    (λ v rest h. (Leaves-ended (IsAlive s since (now + 1)) (now < since + start_life s) v h.0, h.1))
 
 -- what accepts is alive
 pub visit-accepted : (s : SectionData) (atoms : List Bool) → IsSection (length atoms) s

@@ -1,9 +1,13 @@
 -- The worked run, by computing.
 use Rattle.std.proofs.Common.{refl}
 use Rattle.checked_machine.specs.Clocks.{clock_after}
-use Rattle.checked_machine.specs.Blocks.{visit}
-use Rattle.checked_machine.specs.Worked.{TwoPositionsRun}
+use Rattle.checked_machine.specs.Blocks.{run_set, visit}
+use Rattle.checked_machine.specs.Worked.{TwoPositionsRun, FirstPositionsRun}
 
 pub worked : TwoPositionsRun
-unfolding clock_after visit
+unfolding clock_after visit run_set
 worked = refl
+
+pub worked-first : FirstPositionsRun
+unfolding clock_after visit run_set
+worked-first = refl

@@ -2,9 +2,10 @@
 use Rattle.std.specs.Prelude.{◌≡◌, ℕ, ◌-◌, List, [], ◌∷◌, None}
 use Rattle.signals.specs.declared.verdict.Decided.{Decided}
 use Rattle.signals.specs.declared.verdict.Verdict.{Verdict}
-use Rattle.signals.specs.declared.verdict.Verdict.TheVariants.{Holds, Vacuous}
+use Rattle.signals.specs.declared.verdict.Verdict.TheVariants.{Holds, Vacuous, Fails}
 use Rattle.bytecode.specs.declared.sample_instr.SampleInstr.TheVariants.{Load, SetAtom, Halt}
 use Rattle.bytecode.specs.declared.block_instr.BlockInstr.TheVariants.{Unless, Enter, Accept, Stop}
+use Rattle.bytecode.specs.declared.block_instr.BlockInstr.TheVariants.{AcceptFirst}
 use Rattle.bytecode.specs.Values.{ProgramData, SlotData}
 use Rattle.checked_machine.specs.Outcomes.{done, trapped}
 use Rattle.checked_machine.specs.Machine.{State, opening, clock}
@@ -59,4 +60,39 @@ TwoPositionsRun =
     ≡ record { decided = []; ticks = 10 }
     ∷ record { decided = at 0 (Holds 1) ∷ []; ticks = 19 }
     ∷ record { decided = at 1 (Vacuous 2) ∷ at 2 (Vacuous 2) ∷ []; ticks = 13 }
+    ∷ []
+
+-- An antecedent of three positions, of which 0 and 1 begin: 0 accepts where x holds, 1 enters 2,
+-- and 2 accepts; each accepts first. The consequent is x.
+abbrev pub first_positions : ProgramData
+first_positions =
+    record {
+      header = record {
+        limits = record { history = 0; stack = 1; attempts = 2; obligations = 1; budget = 40 };
+        disable = None;
+        atoms = 1;
+        name = [];
+        clock = [];
+      };
+      signals = bit ∷ [];
+      counters = [];
+      sample = Load 1 ∷ SetAtom 0 ∷ Halt ∷ [];
+      antecedent = record {
+        start = 3;
+        blocks =
+            (Unless 0 2 ∷ AcceptFirst ∷ Stop ∷ []) ∷ (Enter 2 ∷ Stop ∷ [])
+            ∷ (AcceptFirst ∷ Stop ∷ []) ∷ [];
+      };
+      consequent = record { start = 1; blocks = (Unless 0 2 ∷ Accept ∷ Stop ∷ []) ∷ [] };
+    }
+
+-- Over x = 1, 0, 0 the first attempt accepts at tick 0, the block of position 1 runs none the less,
+-- and what it enters is dropped: it holds at tick 0. The second waits in position 2, accepts and
+-- fails at tick 2. These take 14, 9 and 16 ticks.
+abbrev pub FirstPositionsRun : Type 0
+FirstPositionsRun =
+    told first_positions (opening first_positions) ((1 ∷ []) ∷ (0 ∷ []) ∷ (0 ∷ []) ∷ [])
+    ≡ record { decided = at 0 (Holds 0) ∷ []; ticks = 14 }
+    ∷ record { decided = []; ticks = 9 }
+    ∷ record { decided = at 1 (Fails 2) ∷ []; ticks = 16 }
     ∷ []

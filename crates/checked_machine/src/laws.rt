@@ -2,7 +2,7 @@
 
 ghost use Rattle.checked_machine.specs.Laws.{NeverTraps, FewAreLive};
 ghost use Rattle.checked_machine.specs.Awaited.{KeepsAwaitedTicks};
-ghost use Rattle.checked_machine.specs.Worked.{TwoPositionsRun};
+ghost use Rattle.checked_machine.specs.Worked.{TwoPositionsRun, FirstPositionsRun};
 
 /// A verified program meets no trap over any rows, and what stands between its clocks is bounded.
 pub fn never_traps()
@@ -13,6 +13,11 @@ pub fn never_traps()
 /// A run of three clocks, worked out by hand.
 pub fn worked_run()
     ensures { TwoPositionsRun }
+{}
+
+/// Another, of a program that accepts first.
+pub fn worked_first_run()
+    ensures { FirstPositionsRun }
 {}
 
 /// The set of all ticks at which an attempt accepted says the same as the list of those whose

@@ -24,4 +24,4 @@
 
 mod laws;
 
-pub use laws::{awaited_ticks_law, never_traps, worked_run};
+pub use laws::{awaited_ticks_law, never_traps, worked_first_run, worked_run};

@@ -1,10 +1,11 @@
 -- What a build of an assertion's program comes to: no clock is looked up.
-use Rattle.std.specs.Prelude.{◌≡◌, ℕ, List, Some, slice_get, string_bytes}
+use Rattle.std.specs.Prelude.{◌≡◌, ℕ, List, IsTrue, Some, slice_get, string_bytes}
 use Rattle.std.specs.List.{AllByRecursion}
 use Rattle.signals.specs.Source.{SourceState}
 use Rattle.assertions.specs.declared.assertion.Assertion.{Assertion}
 use Rattle.assertions.specs.declared.suite.Suite.{Suite}
-use Rattle.bytecode.specs.Values.{ProgramData}
+use Rattle.bytecode.specs.Values.{ProgramData, fits_program}
+use Rattle.program_files.specs.Spelling.{spelling}
 use Rattle.verifier.specs.Programs.{IsAccepted, least_limits}
 use Rattle.parser.specs.declared.fault.ParseFault.TheVariants as parsing
 use Rattle.compiler.specs.declared.fault.CompileFault.{CompileFault}
@@ -20,7 +21,6 @@ use Rattle.outcomes.specs.declared.fault.Fault.TheVariants.{Vcd, Lex, Parse, Typ
 use Rattle.outcomes.specs.declared.fault.Fault.TheVariants.{NoAssertion, Memory}
 use Rattle.cli.specs.Reported.{SaysSuite}
 use Rattle.cli.specs.Outcomes.{HasNoItems, IsMistyped}
-use Rattle.outcomes.specs.Codes.{Spells}
 
 -- The suite's assertion of this name.
 pub record IsNamed (suite : Suite) (name : List ℕ) (a : Assertion) : Type 0 where
@@ -33,8 +33,8 @@ abbrev pub LacksName : Suite → List ℕ → Type 0
 LacksName suite name =
     AllByRecursion (λ (a : Assertion). string_bytes a.name ≡ name → ⊥) suite.assertions.items
 
--- The bytes spell an accepted program of the suite's assertion of this name, which has no fault;
--- the limits that it declares are the least that serve it.
+-- The bytes are the spelling in version 2 of an accepted program of the suite's assertion of this
+-- name, which has no fault; the limits that it declares are the least that serve it.
 pub record IsSpelledProgram (suite : Suite) (name bytes : List ℕ) : Type 0 where
   pub assertion : Assertion
   pub of : IsNamed suite name assertion
@@ -43,7 +43,8 @@ pub record IsSpelledProgram (suite : Suite) (name bytes : List ℕ) : Type 0 whe
   pub means : IsProgramOf suite assertion program
   pub accepted : IsAccepted program
   pub least : program.header.limits ≡ declared_from (least_limits program)
-  pub spells : Spells bytes program
+  pub fits : IsTrue (fits_program program)
+  pub spelled : bytes ≡ spelling program
 
 -- The suite's assertion of this name has no program.
 pub record HasNoneOfName (suite : Suite) (name : List ℕ) (fault : CompileFault) : Type 0 where

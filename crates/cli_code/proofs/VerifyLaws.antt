@@ -61,6 +61,8 @@ module _ (bytes : List ℕ) (program : ProgramData) (spells : Spells bytes progr
       not_accepted (refusals.BudgetTooSmall least) (λ e. cc) refused first
   refused_code (refusals.LimitTooLarge field) refused first =
       not_accepted (refusals.LimitTooLarge field) (λ e. cc) refused first
+  refused_code (refusals.AcceptKind pc) refused first =
+      not_accepted (refusals.AcceptKind pc) (λ e. cc) refused first
   refused_code refusals.Memory refused first = tt
 
 -- a line that was not written, or not all of it

@@ -1,3 +1,4 @@
 pub mod Limits
 pub mod Verifications
 pub mod Outcomes
+pub mod Upgrades

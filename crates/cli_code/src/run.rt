@@ -82,7 +82,7 @@ fn run_through<S: Source, W: Sink, G: Gate + Sync, R: Threads + Wait + Sync>(
 /// # Errors
 ///
 /// C3 where `window` is out of its range, then U1 where `workers` is, before anything is read; then
-/// what is wrong with the dump (V1 to V8), with the bytes (B1 to B6), with the program (F1 to F15),
+/// what is wrong with the dump (V1 to V8), with the bytes (B1 to B6), with the program (F1 to F16),
 /// with its clock (C1, C2) and with its signals (C4, C5), all before anything is written; G1 where
 /// the sink failed, which then holds a beginning of the report after what it held before; and want
 /// of memory.

@@ -25,7 +25,7 @@ pub(crate) fn verified_of(alloc: Global, bytes: &[u8]) -> Result<Verified, Fault
 ///
 /// # Errors
 ///
-/// What is wrong with the bytes (B1 to B6), or else with the program (F1 to F15), before anything
+/// What is wrong with the bytes (B1 to B6), or else with the program (F1 to F16), before anything
 /// is written; G1 where the sink failed, which then holds a beginning of the line behind what it
 /// held before; and want of memory.
 pub fn verify_code<W: Sink>(alloc: Global, bytes: &[u8], out: &mut W) -> Result<(), Fault<'static>>

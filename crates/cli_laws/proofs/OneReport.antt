@@ -34,7 +34,7 @@ use Rattle.assertions.specs.declared.signal.Signal.{Signal}
 use Rattle.assertions.specs.declared.suite.Suite.{Suite}
 use Rattle.assertions.specs.Shapes.{shape, value_in, off_in}
 use Rattle.assertions.proofs.Verdicts.{IsVerdict-only}
-use Rattle.assertions.specs.Verdicts.{IsVerdictOn}
+use Rattle.assertions.specs.Verdicts.{antecedent_of, IsVerdictOn}
 use Rattle.types_laws.specs.Same.{AreAlike, SaySame}
 use Rattle.types_laws.proofs.SameLaws.{say_same}
 use Rattle.vcd_reader.specs.Variables.{Declared, variable_named}
@@ -55,8 +55,8 @@ one_verdict :
 one_verdict booleans read ticks a clock v w h k =
     let value = value_in booleans a.booleans.items read in
     let off = off_in booleans a.booleans.items read a.disabling in
-    sym (IsVerdict-only Boolean value off (shape a.antecedent) (shape a.consequent) ticks clock v h)
-    ∙ IsVerdict-only Boolean value off (shape a.antecedent) (shape a.consequent) ticks clock w k
+    sym (IsVerdict-only Boolean value off (antecedent_of a) (shape a.consequent) ticks clock v h)
+    ∙ IsVerdict-only Boolean value off (antecedent_of a) (shape a.consequent) ticks clock w k
 
 -- so lists of verdicts on assertions that are alike are one
 same_verdicts :

@@ -12,7 +12,7 @@ use Rattle.clap.specs.declared.parser.matches.ArgMatches.{ArgMatches}
 use Rattle.clap.specs.declared.builder.value_parser.ValueParser.TheVariants.{Unsigned}
 use Rattle.command_line.specs.declared.request.Request.{Request}
 use Rattle.command_line.specs.declared.request.Request.TheVariants.{Check, Build, Verify}
-use Rattle.command_line.specs.declared.request.Request.TheVariants.{Run, Judge, Rules}
+use Rattle.command_line.specs.declared.request.Request.TheVariants.{Run, Judge, Rules, Upgrade}
 
 -- an option `--name`, of one value
 abbrev pub option_rule : Text → Rule
@@ -75,6 +75,11 @@ judge_app = text_app (codes "judge")
 abbrev pub rules_app : App
 rules_app = with_rule (new_app (codes "rules")) (file_rule (codes "axi"))
 
+abbrev pub upgrade_app : App
+upgrade_app =
+    with_rule (with_rule (new_app (codes "upgrade")) (word_rule (codes "code")))
+    (file_rule (codes "out"))
+
 -- `svamon`, which wants a subcommand
 abbrev pub svamon_top : App
 svamon_top = record (new_app (codes "svamon")) {
@@ -91,7 +96,8 @@ abbrev pub svamon_app : App
 svamon_app =
     let first_two = with_subcommand (with_subcommand svamon_top check_app.top) build_app.top in
     let first_four = with_subcommand (with_subcommand first_two verify_app.top) run_app.top in
-    with_subcommand (with_subcommand first_four judge_app.top) rules_app.top
+    let first_six = with_subcommand (with_subcommand first_four judge_app.top) rules_app.top in
+    with_subcommand first_six upgrade_app.top
 
 -- what the rows give for an option, which is there or not
 abbrev pub Gives : Text → List Row → Option (String Global) → Type 0
@@ -134,6 +140,7 @@ command_of (Verify code) = codes "verify"
 command_of (Run vcd code workers window) = codes "run"
 command_of (Judge vcd sva axi) = codes "judge"
 command_of (Rules axi) = codes "rules"
+command_of (Upgrade code out) = codes "upgrade"
 
 -- the request has what the rows of its command give
 abbrev pub IsGiven : List Row → Request → Type 0
@@ -145,6 +152,8 @@ IsGiven rows (Run vcd code workers window) =
     HasProgram rows vcd code × HasTeam rows workers window
 IsGiven rows (Judge vcd sva axi) = HasText rows vcd sva axi
 IsGiven rows (Rules axi) = Gives (codes "axi") rows (Some axi)
+IsGiven rows (Upgrade code out) =
+    Gives (codes "code") rows (Some code) × Gives (codes "out") rows (Some out)
 
 -- a request of the command of this name, by its rows
 pub record IsRequest (name : Text) (rows : List Row) (request : Request) : Type 0 where

@@ -6,7 +6,8 @@ ghost use Rattle.clap.specs.declared.builder.value_parser.ValueParser.TheVariant
 ghost use Rattle.command_line.specs.Words.{file_rule, word_rule, axi_rule, workers_rule};
 ghost use Rattle.command_line.specs.Words.{window_rule};
 ghost use Rattle.command_line.specs.Words.{text_app, check_app, build_app, verify_app, run_app};
-ghost use Rattle.command_line.specs.Words.{judge_app, rules_app, first_app, svamon_app};
+ghost use Rattle.command_line.specs.Words.{judge_app, rules_app, upgrade_app, first_app};
+ghost use Rattle.command_line.specs.Words.{svamon_app};
 
 use clap::{Arg, Command, value_parser};
 use std::alloc::{AllocError, Global};
@@ -170,6 +171,15 @@ fn rules_command<'a>(alloc: Global) -> Result<Command<'a>, AllocError>
         .arg(file_option(alloc, "axi", "The port file"))
 }
 
+fn upgrade_command<'a>(alloc: Global) -> Result<Command<'a>, AllocError>
+    ensures { IfOk result (λ c. app_of c ≡ upgrade_app) }
+{
+    Command::new(alloc, "upgrade")
+        .about("Writes a program anew in version 2 of the bytecode")
+        .arg(file_word(alloc, "code", "The program, in bytecode of version 1 or 2"))?
+        .arg(file_option(alloc, "out", "The file to write"))
+}
+
 /// The command with one more subcommand, if that could be made.
 fn with_subcommand<'a>(
     command: Command<'a>,
@@ -200,5 +210,6 @@ pub(crate) fn svamon_command<'a>(alloc: Global) -> Result<Command<'a>, AllocErro
     let svamon = first_commands(alloc)?;
     let svamon = with_subcommand(svamon, run_command(alloc))?;
     let svamon = with_subcommand(svamon, judge_command(alloc))?;
-    with_subcommand(svamon, rules_command(alloc))
+    let svamon = with_subcommand(svamon, rules_command(alloc))?;
+    with_subcommand(svamon, upgrade_command(alloc))
 }

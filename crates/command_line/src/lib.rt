@@ -8,6 +8,7 @@
 //!     Ok(Request::Run { vcd, code, workers, window }) => ..,
 //!     Ok(Request::Judge { vcd, sva, axi }) => ..,
 //!     Ok(Request::Rules { axi }) => ..,
+//!     Ok(Request::Upgrade { code, out }) => ..,
 //!     Err(WordsFault::Words(error)) => ..,             // `{error}` is the text to show
 //!     Err(WordsFault::OutOfMemory) => ..,
 //! }
@@ -15,11 +16,11 @@
 //!
 //! The words are read by `clap`, and what they give is `clap`'s own definition of that
 //! (`subcommand_of`, for a command written out in `specs/Words.antt`): the command that is named,
-//! and for each of its options the value behind it or else its default; the file of `verify` is a
-//! word alone, and `--axi` may be left out where a text is read, which gives None. The contract of
-//! `read_words` says that a request is that command with those values, that there are 1 to 64
-//! workers, and that a window has from 1 to 65,536 clocks. Not promised: which words are refused,
-//! and with what text; tests show that.
+//! and for each of its options the value behind it or else its default; the file of `verify` and
+//! that of `upgrade` is a word alone, and `--axi` may be left out where a text is read, which gives
+//! None. The contract of `read_words` says that a request is that command with those values, that
+//! there are 1 to 64 workers, and that a window has from 1 to 65,536 clocks. Not promised: which
+//! words are refused, and with what text; tests show that.
 #![tactic(auto)]
 
 mod command;

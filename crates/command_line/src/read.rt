@@ -110,6 +110,16 @@ fn rules_request(alloc: Global, options: &ArgMatches) -> Result<Request, WordsFa
     })
 }
 
+fn upgrade_request(alloc: Global, options: &ArgMatches) -> Result<Request, WordsFault>
+    ensures { IfOk result (IsRequest (codes "upgrade") (rows_of (found_of options.now))) }
+{
+    let out = text_of(alloc, options, "out")?;
+    Ok(Request::Upgrade {
+        code: text_of(alloc, options, "code")?,
+        out,
+    })
+}
+
 /// What the command that was entered asks for.
 fn request_of(alloc: Global, matches: &ArgMatches) -> Result<Request, WordsFault>
     ensures { IfOk result (IsNamed matches.now) }
@@ -121,6 +131,7 @@ fn request_of(alloc: Global, matches: &ArgMatches) -> Result<Request, WordsFault
         Some(("run", options)) => run_request(alloc, options),
         Some(("judge", options)) => judge_request(alloc, options),
         Some(("rules", options)) => rules_request(alloc, options),
+        Some(("upgrade", options)) => upgrade_request(alloc, options),
         _ => Err(WordsFault::OutOfMemory),
     }
 }

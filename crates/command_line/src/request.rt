@@ -50,4 +50,10 @@ pub enum Request {
     Rules {
         axi: String,
     },
+    /// Writes a program anew in version 2 of its format into a file.
+    Upgrade {
+        code: String,
+        /// The file to write.
+        out: String,
+    },
 }

@@ -32,8 +32,9 @@ use Rattle.assertions.specs.declared.signal.Signal.{Signal}
 use Rattle.assertions.specs.declared.assertion.Assertion.{Assertion}
 use Rattle.assertions.specs.declared.suite.Suite.{Suite}
 use Rattle.assertions.specs.Segments.{Seq}
-use Rattle.assertions.specs.Attempts.{IsVerdict, verdict}
+use Rattle.assertions.specs.Attempts.{Antecedent, IsVerdict, verdict}
 use Rattle.assertions.specs.Shapes.{shape, value_in, off_in}
+use Rattle.assertions.specs.Verdicts.{antecedent_of}
 use Rattle.assertions.proofs.Verdicts.{IsVerdict-verdict}
 use Rattle.expressions.specs.Tables.{column}
 use Rattle.expressions.specs.Terms.{Samples}
@@ -84,7 +85,7 @@ one-line p rows l m a b =
     a.is ∙ ap (λ (r : Ran Outcome). told p (outcome_or first r)) (sym a.ran ∙ b.ran) ∙ sym b.is
 
 -- each attempt has a verdict
-verdicts-are : (value : Boolean → ℕ → Bool) (off : ℕ → Bool) (r s : Seq Boolean) (count : ℕ) →
+verdicts-are : (value : Boolean → ℕ → Bool) (off : ℕ → Bool) (r : Antecedent Boolean) (s : Seq Boolean) (count : ℕ) →
     AreVerdicts value off r s count (map (verdict value off r s count) (range_with_len 0 count))
 verdicts-are value off r s count = record {
   long = length-map-range_with_len (verdict value off r s count) 0 count;
@@ -109,10 +110,10 @@ is-line c code suite a p signals l made named watched ran =
     let value : Boolean → ℕ → Bool = value_in suite.booleans.items a.booleans.items read in
     let off : ℕ → Bool = off_in suite.booleans.items a.booleans.items read a.disabling in
     let verdicts =
-    map (verdict value off (shape a.antecedent) (shape a.consequent) (length rows))
+    map (verdict value off (antecedent_of a) (shape a.consequent) (length rows))
     (range_with_len 0 (length rows)) in
     let judged : AreVerdictsOver suite rows a verdicts =
-    verdicts-are value off (shape a.antecedent) (shape a.consequent) (length rows) in
+    verdicts-are value off (antecedent_of a) (shape a.consequent) (length rows) in
     record {
       verdicts = verdicts;
       judged = judged;

@@ -325,6 +325,26 @@ fn first_fault_of_a_program(rt: HostRuntime) -> Result<(), Fail> {
     Ok(())
 }
 
+/// The pools that a program declares; none where the bytes are no program.
+fn pools(alloc: Global, bytes: &[u8]) -> Option<(u16, u16)> {
+    match decode(alloc, bytes) {
+        Ok(program) => Some((program.limits.attempts, program.limits.obligations)),
+        Err(_) => None,
+    }
+}
+
+/// A first match takes no other pools, and both are written in version 2.
+#[test]
+fn first_match_is_built(rt: HostRuntime) -> Result<(), Fail> {
+    for property in ["first_match(x[*1:3] ##1 y) |-> x", "x[*1:3] ##1 y |-> x"] {
+        let text = assertion(&rt, "r", property)?;
+        let built = build(&rt, text.as_str(), "r")?;
+        assert!(rt; pools(rt.alloc(), built.bytes.as_slice()) == Some((4, 1)));
+        assert!(rt; built.bytes.as_slice().get(4).copied() == Some(2));
+    }
+    Ok(())
+}
+
 /// What is written by a program over the dump.
 fn report_run<R: Threads + Wait + Sync + AllocGlobal>(rt: &R, code: &[u8]) -> Result<String, Fail> {
     let alloc = rt.alloc();

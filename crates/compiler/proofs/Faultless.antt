@@ -2,6 +2,7 @@
 use Rattle.std.proofs.Common.{◌≡◌, ◌<◌, ◌≤◌, ℕ, Bool, List, length, arith, ap, sym, ◌∙◌, inl, inr}
 use Rattle.assertions.specs.declared.assertion.Assertion.{Assertion}
 use Rattle.assertions.specs.declared.suite.Suite.{Suite}
+use Rattle.assertions.specs.Shapes.{written_form}
 use Rattle.inference.specs.Sections.{size_of}
 use Rattle.bytecode.specs.Values.{ProgramData, SectionData}
 use Rattle.compiler.specs.declared.fault.CompileFault.{CompileFault}
@@ -10,12 +11,19 @@ use Rattle.compiler.specs.declared.fault.CompileFault.TheVariants.{TooManySlots,
 use Rattle.compiler.specs.Readings.{IsReading}
 use Rattle.compiler.specs.Faults.{StandsOver, HasLongCode, AreCounted, IsFaultless, rank}
 use Rattle.compiler.specs.Parts.{AreParts}
+use Rattle.compiler.proofs.LedLaws.{led-size}
 
 module _ (suite : Suite) (a : Assertion) (signals counters : List Bool) (p : ProgramData) where
   short : AreParts suite a signals counters p → HasLongCode suite a signals counters → ⊥
   short parts (inl long) = omega (arith, long, parts.short_sample, ap length parts.sample)
   short parts (inr (inl (inl long))) =
-      omega (arith, long, parts.short_antecedent, ap (λ (s : SectionData). size_of s.blocks) parts.antecedent)
+      omega (
+        arith,
+        long,
+        parts.short_antecedent,
+        ap (λ (s : SectionData). size_of s.blocks) parts.antecedent,
+        led-size a.first (written_form a.antecedent),
+      )
   short parts (inr (inl (inr long))) = omega (arith, long, parts.light_antecedent)
   short parts (inr (inr (inl long))) =
       omega (arith, long, parts.short_consequent, ap (λ (s : SectionData). size_of s.blocks) parts.consequent)

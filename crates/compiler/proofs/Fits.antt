@@ -18,6 +18,7 @@ use Rattle.assertions.specs.declared.suite.Suite.{Suite}
 use Rattle.assertions.specs.Listed.{IsListedOption}
 use Rattle.bytecode.specs.declared.block_instr.BlockInstr.{BlockInstr}
 use Rattle.bytecode.specs.declared.block_instr.BlockInstr.TheVariants.{Unless, Enter, Accept, Stop}
+use Rattle.bytecode.specs.declared.block_instr.BlockInstr.TheVariants.{AcceptFirst}
 use Rattle.bytecode.specs.Texts.{is_word, is_path}
 use Rattle.bytecode.specs.Instructions.{frame_of}
 use Rattle.bytecode.specs.Values.{ProgramData, SectionData, in_byte, in_two, is_width, fits_text, fits_slot, fits_list}
@@ -104,6 +105,7 @@ instr-fits section atoms positions p end pc table (Enter q) few many short fine 
     below-is q positions (entered-there (nat_lt q positions) (nat_lt p q) (Cycle p) (SlotRange pc) fine.names) in
     small q 256 (omega (arith, there, many))
 instr-fits section atoms positions p end pc table Accept few many short fine = refl
+instr-fits section atoms positions p end pc table AcceptFirst few many short fine = refl
 instr-fits section atoms positions p end pc table Stop few many short fine = refl
 
 all-by-index : {A : Type 0} (f : A → Bool) (xs : List A) → ((k : ℕ) (x : A) → slice_get xs k ≡ Some x → f x ≡ true)

@@ -1,5 +1,6 @@
 -- The parts of a fit assertion make a program of it, which the verifier accepts with its least limits.
-use Rattle.std.proofs.Common.{◌≡◌, ◌∙◌, ℕ, zero, suc, ◌+◌, ◌-◌, ◌*◌, ◌≤◌, Bool, List, [], ◌∷◌, ◌++◌, length, map}
+use Rattle.std.proofs.Common.{◌≡◌, ◌∙◌, ℕ, zero, suc, ◌+◌, ◌-◌, ◌*◌, ◌≤◌, Bool, List, [], ◌∷◌, ◌++◌}
+use Rattle.std.proofs.Common.{length, map}
 use Rattle.std.proofs.Common.{Option, Some, None, ap, sym, subst, arith, inl, inr, length-append}
 use Rattle.std.specs.Prelude.{slice_index, count_by}
 use Rattle.std.specs.List.{AllZip}
@@ -36,7 +37,7 @@ use Rattle.expression_code.proofs.Quiet.{samples-are-typed}
 use Rattle.expression_code.proofs.DepthLaws.{depth-bounds-code}
 use Rattle.assertion_reads.specs.Marks.{is_marked, places_from}
 use Rattle.positions.specs.Sequences.{atom_of}
-use Rattle.positions.specs.Laws.{Occurs, IsThere, section_for}
+use Rattle.positions.specs.Laws.{Occurs, IsThere, section_for, led_section}
 use Rattle.positions.proofs.Theorem.{law-section_is_well_formed, law-section_is_small}
 use Rattle.compiler.specs.Conditions.{IsKnown, IsFit}
 use Rattle.compiler.specs.Programs.{disabling_atom, IsSlotOf, IsProgramOf}
@@ -44,6 +45,7 @@ use Rattle.compiler.specs.Readings.{IsReading, slots_over, counters_read}
 use Rattle.compiler.specs.Faults.{AreCounted}
 use Rattle.compiler.specs.Parts.{slot_at, width_at, no_limits, AreParts, AreModest, with_limits, declared_from}
 use Rattle.compiler.proofs.ListLaws.{all-more}
+use Rattle.compiler.proofs.LedLaws.{led-formed, led-long}
 use Rattle.compiler.proofs.Frames as frames
 use Rattle.compiler.proofs.Places.{places-long, all-held, held-widths}
 use Rattle.compiler.proofs.Known as known
@@ -148,6 +150,7 @@ module _ (suite : Suite) (a : Assertion) (fit : IsFit suite a) (signals counters
         consequent_listed = fit.placed.consequent;
         disabling_listed = fit.placed.disabling;
         fills = fit.proper.filled;
+        led = fit.proper.led;
       }
 
   -- what the sample code asks
@@ -171,14 +174,17 @@ module _ (suite : Suite) (a : Assertion) (fit : IsFit suite a) (signals counters
 
   module _ (p : ProgramData) (parts : AreParts suite a signals counters p)
       (counted : AreCounted suite a signals counters) where
-    section-of : (number : ℕ) (s : SectionData) (w : Written Boolean) → s ≡ section_for atom_of One w
-        → EachBoolean (IsListed (length a.booleans.items)) w →
-        IsSection number p.header.atoms s
-    section-of number s w is listed =
+    section-of : (number : ℕ) (s made : SectionData) → s ≡ made → IsSection number (length a.booleans.items) made
+        → IsSection number p.header.atoms s
+    section-of number s made is formed =
         subst (λ n. IsSection number n s) (sym parts.atoms)
-        (subst (λ x. IsSection number (length a.booleans.items) x) (sym is)
-        (law-section_is_well_formed number (length a.booleans.items) atom_of One w
-        (λ b o. occurs-there (length a.booleans.items) w b listed o)))
+        (subst (λ x. IsSection number (length a.booleans.items) x) (sym is) formed)
+
+    side-formed : (number : ℕ) (w : Written Boolean) → EachBoolean (IsListed (length a.booleans.items)) w
+        → IsSection number (length a.booleans.items) (section_for atom_of One w)
+    side-formed number w listed =
+        law-section_is_well_formed number (length a.booleans.items) atom_of One w
+        (λ b o. occurs-there (length a.booleans.items) w b listed o)
 
     pub formed : IsWellFormed p
     formed =
@@ -191,15 +197,18 @@ module _ (suite : Suite) (a : Assertion) (fit : IsFit suite a) (signals counters
           table = typed.table;
           sample = typed.typed;
           short = typed.short (omega (arith, bounded.need));
-          antecedent = section-of 2 p.antecedent (written_form a.antecedent) parts.antecedent fit.placed.antecedent;
-          consequent = section-of 3 p.consequent (written_form a.consequent) parts.consequent fit.placed.consequent;
+          antecedent =
+              section-of 2 p.antecedent (led_section a.first atom_of One (written_form a.antecedent)) parts.antecedent
+              (led-formed a.first (length a.booleans.items) (written_form a.antecedent)
+              (side-formed 2 (written_form a.antecedent) fit.placed.antecedent));
+          consequent =
+              section-of 3 p.consequent (section_for atom_of One (written_form a.consequent)) parts.consequent
+              (side-formed 3 (written_form a.consequent) fit.placed.consequent);
         }
 
-    few-blocks : (s : SectionData) (w : Written Boolean) → s ≡ section_for atom_of One w → IsOrdered w → weight w ≤ 127
-        → length s.blocks ≤ 127
-    few-blocks s w is ordered bound =
-        let long : length s.blocks ≡ length (section_for atom_of One w).blocks = ap (λ x. length (x.blocks)) is in
-        omega (arith, long, law-section_is_small atom_of One w ordered, bound)
+    few-blocks : (s : SectionData) (w : Written Boolean) → length s.blocks ≡ length (section_for atom_of One w).blocks
+        → IsOrdered w → weight w ≤ 127 → length s.blocks ≤ 127
+    few-blocks s w long ordered bound = omega (arith, long, law-section_is_small atom_of One w ordered, bound)
 
     few-slots : length (frame_of p).slots ≤ 256
     few-slots =
@@ -227,12 +236,14 @@ module _ (suite : Suite) (a : Assertion) (fit : IsFit suite a) (signals counters
           slots = few-slots;
           sample = parts.short_sample;
           antecedent_positions =
-              few-blocks p.antecedent (written_form a.antecedent) parts.antecedent a.antecedent_ordered
-              a.antecedent_bound;
+              few-blocks p.antecedent (written_form a.antecedent)
+              (ap (λ (s : SectionData). length s.blocks) parts.antecedent
+              ∙ led-long a.first (written_form a.antecedent))
+              a.antecedent_ordered a.antecedent_bound;
           antecedent_code = parts.short_antecedent;
           consequent_positions =
-              few-blocks p.consequent (written_form a.consequent) parts.consequent a.consequent_ordered
-              a.consequent_bound;
+              few-blocks p.consequent (written_form a.consequent)
+              (ap (λ (s : SectionData). length s.blocks) parts.consequent) a.consequent_ordered a.consequent_bound;
           consequent_code = parts.short_consequent;
         }
 

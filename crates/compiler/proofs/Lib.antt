@@ -3,6 +3,7 @@ pub mod Frames
 pub mod Names
 pub mod Places
 pub mod Known
+pub mod LedLaws
 pub mod Formed
 pub mod Fits
 pub mod Refusals

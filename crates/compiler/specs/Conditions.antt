@@ -1,5 +1,5 @@
 -- What an assertion keeps to that is of a suite which the type checker made of a text.
-use Rattle.std.specs.Prelude.{◌≡◌, ℕ, ◌≤◌, IsTrue, Some, length, slice_get}
+use Rattle.std.specs.Prelude.{◌≡◌, ℕ, ◌≤◌, true, IsTrue, Some, length, slice_get}
 use Rattle.std.specs.Prelude.{string_bytes}
 use Rattle.std.specs.List.{AllByRecursion}
 use Rattle.expressions.specs.declared.name.Origin.{Origin}
@@ -73,10 +73,12 @@ pub record IsPlaced (suite : Suite) (a : Assertion) : Type 0 where
       EachBoolean (IsListed (length a.booleans.items)) (written_form a.consequent)
   pub disabling : IsListedOption (length a.booleans.items) a.disabling
 
--- Its name is a word, and its consequent takes at least a tick.
+-- Its name is a word, and its consequent takes at least a tick; so does its antecedent, where the
+-- first match alone counts.
 pub record IsProper (a : Assertion) : Type 0 where
   pub name : IsTrue (is_word (string_bytes a.name))
   pub filled : AdmitsEmpty (shape a.consequent) → ⊥
+  pub led : a.first ≡ true → AdmitsEmpty (shape a.antecedent) → ⊥
 
 -- The assertion is of the suite.
 pub record IsFit (suite : Suite) (a : Assertion) : Type 0 where

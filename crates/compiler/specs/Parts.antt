@@ -13,7 +13,7 @@ use Rattle.bytecode.specs.Values.{ProgramData, SlotData}
 use Rattle.inference.specs.Sections.{size_of}
 use Rattle.verifier.specs.declared.least.LeastLimits.{LeastLimits}
 use Rattle.assertion_reads.specs.Marks.{places_from}
-use Rattle.positions.specs.Laws.{section_for}
+use Rattle.positions.specs.Laws.{section_for, led_section}
 use Rattle.positions.specs.Sequences.{atom_of, largest}
 use Rattle.positions.specs.Lengths.{HasLongSection}
 use Rattle.compiler.specs.Programs.{disabling_atom}
@@ -54,7 +54,7 @@ pub record AreParts (suite : Suite) (a : Assertion) (signals counters : List Boo
   pub signals_are : p.signals ≡ map (slot_at suite.names.items) (places_from 0 signals)
   pub counters_are : p.counters ≡ map (width_at suite.counters.items) (places_from 0 counters)
   pub sample : p.sample ≡ code_over suite a signals counters
-  pub antecedent : p.antecedent ≡ section_for atom_of One (written_form a.antecedent)
+  pub antecedent : p.antecedent ≡ led_section a.first atom_of One (written_form a.antecedent)
   pub consequent : p.consequent ≡ section_for atom_of One (written_form a.consequent)
   pub short_sample : length p.sample ≤ 4096
   pub short_antecedent : size_of p.antecedent.blocks ≤ 4096

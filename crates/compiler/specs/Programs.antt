@@ -1,5 +1,5 @@
 -- What a program of an assertion is.
-use Rattle.std.specs.Prelude.{◌≡◌, ℕ, ◌+◌, ◌≤◌, List, length, map, Option, Some, None}
+use Rattle.std.specs.Prelude.{◌≡◌, ℕ, ◌+◌, ◌≤◌, true, List, length, map, Option, Some, None}
 use Rattle.std.specs.Prelude.{slice_get, string_bytes}
 use Rattle.std.specs.List.{AllByRecursion, AllZip}
 use Rattle.expressions.specs.declared.name.Origin.TheVariants.{Signal, Counter}
@@ -21,7 +21,7 @@ use Rattle.expression_code.specs.Codes.{Slots}
 use Rattle.expression_code.specs.Samples.{Held, sample_code}
 use Rattle.expression_code.specs.Laws.{Each, OfName, program_terms}
 use Rattle.positions.specs.Sequences.{atom_of}
-use Rattle.positions.specs.Laws.{section_for}
+use Rattle.positions.specs.Laws.{section_for, led_section}
 
 -- What a program holds of a suite: the places of signals, and counters, in the order of its slots.
 pub record Layout : Type 0 where
@@ -96,7 +96,7 @@ pub record IsProgramOf (suite : Suite) (a : Assertion) (p : ProgramData) : Type 
   pub laid : IsLaidOut layout at
   pub sample : p.sample ≡ sample_code at (map term_of booleans) layout.counters
   -- its sections
-  pub antecedent : p.antecedent ≡ section_for atom_of One (written_form a.antecedent)
+  pub antecedent : p.antecedent ≡ led_section a.first atom_of One (written_form a.antecedent)
   pub consequent : p.consequent ≡ section_for atom_of One (written_form a.consequent)
   pub disable : p.header.disable ≡ disabling_atom a.disabling
   -- what is asked of the assertion
@@ -106,3 +106,4 @@ pub record IsProgramOf (suite : Suite) (a : Assertion) (p : ProgramData) : Type 
       EachBoolean (IsListed (length a.booleans.items)) (written_form a.consequent)
   pub disabling_listed : IsListedOption (length a.booleans.items) a.disabling
   pub fills : AdmitsEmpty (shape a.consequent) → ⊥
+  pub led : a.first ≡ true → AdmitsEmpty (shape a.antecedent) → ⊥

@@ -7,7 +7,7 @@ ghost use Rattle.assertions.specs.Shapes.{written_form};
 ghost use Rattle.assertions.specs.Listed.{EachBoolean, IsListed, IsListedOption};
 ghost use Rattle.assertion_reads.specs.Marks.{places_from, slots_from};
 ghost use Rattle.positions.specs.Sequences.{atom_of, largest};
-ghost use Rattle.positions.specs.Laws.{section_for};
+ghost use Rattle.positions.specs.Laws.{section_for, led_section};
 ghost use Rattle.compiler.specs.Programs.{disabling_atom};
 ghost use Rattle.bytecode.specs.Programs.{data_of};
 ghost use Rattle.bytecode.specs.Views.{section_data};
@@ -25,7 +25,7 @@ use assertion_reads::slots_of;
 use assertions::{Assertion, Boolean, Sequence, Suite};
 use bytecode::{Limits, Program, SampleInstr, Section};
 use expression_code::{LengthFault, SlotTable, sample_code};
-use positions::{SectionFault, positions_of};
+use positions::{SectionFault, accepting_first, positions_of};
 use std::alloc::{AllocError, Global};
 
 /// The slots of the names that are read.
@@ -98,6 +98,24 @@ fn side_of(alloc: Global, side: &Sequence) -> Result<Section, CompileFault>
     }
 }
 
+/// The section that follows the antecedent, each match of it or the first one alone.
+fn antecedent_of(alloc: Global, assertion: &Assertion) -> Result<Section, CompileFault>
+    requires listed { EachBoolean (IsListed 127) (written_form assertion.now.antecedent) }
+    ensures made { IfOk result (λ s. section_data s
+        ≡ led_section assertion.now.first atom_of One (written_form assertion.now.antecedent)) }
+    ensures short { IfOk result (λ s. size_of (section_data s).blocks ≤ 4096) }
+    ensures light { IfOk result (λ s.
+        largest (written_form assertion.now.antecedent) ≤ 65535) }
+    ensures fault { IfErr result (IsSideFault assertion.now.antecedent) }
+{
+    let section = side_of(alloc, &assertion.antecedent)?;
+    if assertion.first {
+        Ok(accepting_first(alloc, &section)?)
+    } else {
+        Ok(section)
+    }
+}
+
 /// The atom of the disabling boolean, if there is one.
 fn disabling_atom(boolean: Option<Boolean>) -> Option<u8>
     requires { IsListedOption 127 boolean }
@@ -140,7 +158,7 @@ pub(crate) fn program_of(
         reading.now.signals.items reading.now.counters.items) }
 {
     let sample = code_of(alloc, assertion, suite, reading)?;
-    let antecedent = side_of(alloc, &assertion.antecedent)?;
+    let antecedent = antecedent_of(alloc, assertion)?;
     let consequent = side_of(alloc, &assertion.consequent)?;
     Ok(Program {
         limits: undeclared_limits(),

@@ -14,7 +14,7 @@ use Rattle.grammar.specs.Marks.{mark, next_precedence}
 use Rattle.grammar.specs.Trees.{Tree, PropertyForm, CounterForm, DeclarationForm, AssertionForm, ItemForm, counter}
 use Rattle.grammar.specs.Trees.{declaration, assertion}
 use Rattle.grammar.specs.Expressions.{IsPath, Spells}
-use Rattle.grammar.specs.Sequences.{IsProperty, is_plain, is_implication, bracketed}
+use Rattle.grammar.specs.Sequences.{IsProperty, is_plain, is_implication, is_first, bracketed}
 use Rattle.grammar.specs.Files.{in_one, in_two, IsClear, no_clear, clear, IsClause, no_clause, clause, SpellsCounter}
 use Rattle.grammar.specs.Files.{is_counter, IsClosing, no_closing, closing, IsEnding, ending, with_semicolon}
 use Rattle.grammar.specs.Files.{SpellsDeclaration, is_declaration, is_verb, IsDisable, no_disable, disable, IsLabel}
@@ -33,7 +33,7 @@ use Rattle.grammar.proofs.ReaderLaws.{optional-is, many-none, many-more, precede
 use Rattle.grammar.proofs.ReaderLaws.{precedence-Semicolon, precedence-EndSequence}
 use Rattle.grammar.proofs.Complete.{path-read, path-shorter, spells-read, spells-shorter}
 use Rattle.grammar.proofs.SequencesComplete.{sequence-shorter}
-use Rattle.grammar.proofs.PropertyLaws.{whole-read, property-read}
+use Rattle.grammar.proofs.PropertyLaws.{whole-read, property-read, unled-other}
 
 expression-read : {d : ℕ} {e : Tree} {ts rest : List Token} → Spells d e ts rest → 10 < next_precedence rest
     → expression d ts ≡ Some (e, rest)
@@ -186,6 +186,7 @@ disable-none : (d : ℕ) (t : Token) (ts : List Token) → terminal t ≡ Disabl
 unfolding property property_with whole whole_with during_with body_with expression prefixed_with mark
 disable-none d t ts h =
     rw (
+      unled-other t ts (λ e. absurd cc),
       expect-not OpenRound t ts (λ e. absurd cc),
       expect-not Delay t ts (λ e. absurd cc),
       expect-not OpenRound t ts (λ e. absurd cc),
@@ -383,6 +384,7 @@ label-shorter (label n k) = omega arith
 property-shorter : {d : ℕ} {p : PropertyForm} {ts rest : List Token} → IsProperty d p ts rest → length rest < length ts
 property-shorter (is_plain w) = sequence-shorter w
 property-shorter (is_implication k v w) = omega (arith, sequence-shorter v, sequence-shorter w)
+property-shorter (is_first is o v r k w) = omega (arith, sequence-shorter v, sequence-shorter w)
 property-shorter (bracketed o c w) = omega (arith, property-shorter w)
 
 item-shorter : {i : ItemForm} {ts rest : List Token} → SpellsItem i ts rest → length rest < length ts

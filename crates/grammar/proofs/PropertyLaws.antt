@@ -1,27 +1,33 @@
 -- Properties are read as what spells them, both ways.
-use Rattle.std.proofs.Common.{◌≡◌, ℕ, zero, suc, ◌<◌, List, [], ◌∷◌, Option, Some, None, refl, sym, ap, ◌∙◌, subst}
-use Rattle.std.proofs.Common.{arith}
+use Rattle.std.proofs.Common.{◌≡◌, ℕ, zero, suc, ◌<◌, true, List, [], ◌∷◌, Option, Some, None, refl, sym, ap, ◌∙◌}
+use Rattle.std.proofs.Common.{subst, arith}
 use Rattle.lexer.specs.declared.token.Token.{Token}
 use Rattle.lexer.specs.declared.token.Kind.{Kind}
 use Rattle.grammar.specs.declared.operator.Implication.{Implication}
 use Rattle.grammar.specs.declared.terminal.Terminal.{Terminal}
 use Rattle.grammar.specs.declared.terminal.Terminal.TheVariants.{OpenRound, CloseRound, Delay, Overlapped, Following}
-use Rattle.grammar.specs.Terminals.{terminal}
-use Rattle.grammar.specs.Marks.{precedence_of_terminal, precedence, next_precedence}
+use Rattle.grammar.specs.declared.terminal.Terminal.TheVariants.{ForeignWord}
+use Rattle.grammar.specs.Terminals.{terminal, is, is_first_match}
+use Rattle.grammar.specs.Marks.{mark, precedence_of_terminal, precedence, next_precedence}
 use Rattle.grammar.specs.Operators.{implication_of_terminal, implication_of}
 use Rattle.grammar.specs.Trees.{Tree, SequenceForm, boolean, repeated, late, delayed, throughout, joined, PropertyForm}
 use Rattle.grammar.specs.Trees.{plain, implication}
 use Rattle.grammar.specs.Sequences.{IsBody, is_boolean, in_brackets, is_once, is_prompt, is_head, is_cat}
 use Rattle.grammar.specs.Sequences.{is_intersection, is_during}
-use Rattle.grammar.specs.Sequences.{IsSequence, is_conjunction, IsProperty, is_plain, is_implication, bracketed}
+use Rattle.grammar.specs.Sequences.{IsSequence, is_conjunction, IsProperty, is_plain, is_implication, is_first}
+use Rattle.grammar.specs.Sequences.{bracketed}
 use Rattle.grammar.specs.Expressions as expressions
 use Rattle.grammar.specs.Expressions.{is_operand, is_tighter}
-use Rattle.grammar.specs.Readers.{◌>>=◌, expect, pick}
+use Rattle.grammar.specs.Readers.{◌>>=◌, lead, expect, pick}
+use Rattle.grammar.specs.ReadExpressions.{prefixed_with, expression}
 use Rattle.grammar.specs.ReadSequences.{regroup, body_with, during_behind, during_with, sides_behind, whole_with}
 use Rattle.grammar.specs.ReadSequences.{sequences, sequence_behind, whole, implication_from, implication_behind}
-use Rattle.grammar.specs.ReadSequences.{regroup_property, property_by, property_with, properties, property}
+use Rattle.grammar.specs.ReadSequences.{regroup_property, property_by, property_from, property_with, properties}
+use Rattle.grammar.specs.ReadSequences.{property, first_behind}
 use Rattle.grammar.proofs.ReaderLaws.{Reads, bind-some, bind-then, pick-nil, pick-no, pick-is, pick-some, expect-is}
-use Rattle.grammar.proofs.ReaderLaws.{expect-not, expect-some, precedence-CloseRound}
+use Rattle.grammar.proofs.ReaderLaws.{expect-not, expect-some, lead-true, lead-false, lead-some, precedence-CloseRound}
+use Rattle.grammar.proofs.TerminalLaws.{is-true}
+use Rattle.std.proofs.lemmas.Bool.{and_parts, false_from_ne_true}
 use Rattle.grammar.proofs.Sound.{opening-mark}
 use Rattle.grammar.proofs.SequencesComplete.{body, during, sequence-none, regroup-none, sequence-read}
 use Rattle.grammar.proofs.SequencesSound.{sequence-is_boolean, regroup-sound, behind-sound, sides-sound, is_sound_below}
@@ -53,7 +59,7 @@ implication-none d s ts h = rw (no_sign ts h) refl
 
 implication-some : (d : ℕ) (i : Implication) (a c : SequenceForm) (t : Token) (us rest : List Token)
     → implication_of t ≡ Some i → whole d us ≡ Some (c, rest) → implication_behind d a (t ∷ us)
-    ≡ Some (implication a i c, rest)
+    ≡ Some (implication None a i c, rest)
 unfolding implication_behind
 implication-some d i a c t us rest h k = rw (pick-is implication_of i t us h, k) refl
 
@@ -111,6 +117,34 @@ grouped d t ts s rest o h =
           ∙ a_rest;
     }))))
 
+-- no sequence begins with the word of a first match
+foreign : (t : Token) → is_first_match t ≡ true → terminal t ≡ ForeignWord
+unfolding is_first_match
+foreign t h = is-true ForeignWord t (and_parts (is ForeignWord t) _ h).0
+
+foreign-none : (d : ℕ) (t : Token) (ts : List Token) → terminal t ≡ ForeignWord → whole d (t ∷ ts) ≡ None
+unfolding whole whole_with during_with body_with expression prefixed_with mark
+foreign-none d t ts h =
+    rw (expect-not Delay t ts (λ e. absurd cc), expect-not OpenRound t ts (λ e. absurd cc), h) refl
+
+unled_by : (d : ℕ) (ts : List Token) (p : SequenceForm × List Token) → whole d ts ≡ Some p
+    → (o : Option (Token × List Token)) → lead is_first_match ts ≡ o → lead is_first_match ts ≡ None
+unled_by d ts p h None e = e
+unled_by d ts p h (Some q) e =
+    let x = lead-some is_first_match ts q e in
+    let none : whole d ts ≡ None = ap (whole d) x.parts ∙ foreign-none d q.0 q.1 (foreign q.0 x.passes) in
+    absurd cc
+
+unled : (d : ℕ) (ts : List Token) (p : SequenceForm × List Token) → whole d ts ≡ Some p → lead is_first_match ts ≡ None
+unled d ts p h = unled_by d ts p h (lead is_first_match ts) refl
+
+-- nor does anything else
+pub unled-other : (t : Token) (ts : List Token) → (terminal t ≡ ForeignWord → ⊥) → lead is_first_match (t ∷ ts) ≡ None
+unled-other t ts other = lead-false is_first_match t ts (false_from_ne_true _ (λ h. other (foreign t h)))
+
+unled-open : (t : Token) (ts : List Token) → terminal t ≡ OpenRound → lead is_first_match (t ∷ ts) ≡ None
+unled-open t ts o = unled-other t ts (λ e. absurd cc)
+
 abbrev GoesOn : ℕ → Type 0
 GoesOn d =
     (ts : List Token) (s : SequenceForm) (rest : List Token) → whole d ts ≡ Some (s, rest)
@@ -131,12 +165,13 @@ inner-property d ts = refl
 property-plain : (d : ℕ) (ts : List Token) (s : SequenceForm) (rest : List Token) → expect OpenRound ts ≡ None
     → whole d ts ≡ Some (s, rest) → property d ts ≡ implication_behind d s rest
 unfolding property property_with
-property-plain d ts s rest e h = rw (e, h) refl
+property-plain d ts s rest e h = rw (unled d ts (s, rest) h, e, h) refl
 
 property-opens : (d : ℕ) (t c : Token) (ts vs : List Token) (p : PropertyForm) → terminal t ≡ OpenRound
     → properties d ts ≡ Some (p, c ∷ vs) → terminal c ≡ CloseRound → property d (t ∷ ts) ≡ regroup_property d p vs
 unfolding property property_with
-property-opens d t c ts vs p o h k = rw (expect-is OpenRound t ts o, h, expect-is CloseRound c vs k) refl
+property-opens d t c ts vs p o h k =
+    rw (unled-open t ts o, expect-is OpenRound t ts o, h, expect-is CloseRound c vs k) refl
 
 regroup-plain : (d : ℕ) (x : SequenceForm) (vs : List Token) (y : SequenceForm) (ws : List Token) (z : SequenceForm)
     (us : List Token) → regroup d x vs ≡ Some (y, ws) → sequence_behind d y ws ≡ Some (z, us)
@@ -185,7 +220,23 @@ unfolding regroup_property
 regroup-stays d (plain s) ts h =
     rw (regroup-none d s ts (omega arith), sequence-none d s ts (omega arith))
     (implication-none d s ts (λ e. omega arith))
-regroup-stays d (implication a i c) ts h = refl
+regroup-stays d (implication w a i c) ts h = refl
+
+first-read : (d : ℕ) (word left right t : Token) (i : Implication) (a c : SequenceForm) (ts us rest : List Token)
+    → is_first_match word ≡ true → terminal left ≡ OpenRound
+    → (sequences (suc d)).whole ts ≡ Some (a, right ∷ t ∷ us) → terminal right ≡ CloseRound
+    → implication_of t ≡ Some i → whole (suc d) us ≡ Some (c, rest)
+    → property (suc d) (word ∷ left ∷ ts) ≡ Some (implication (Some word) a i c, rest)
+unfolding property property_with first_behind
+first-read d word left right t i a c ts us rest is o h r k w =
+    rw (
+      lead-true is_first_match word (left ∷ ts) is,
+      expect-is OpenRound left ts o,
+      h,
+      expect-is CloseRound right (t ∷ us) r,
+      pick-is implication_of i t us k,
+      w,
+    ) refl
 
 pub property-read : {d : ℕ} {p : PropertyForm} {ts rest : List Token} → IsProperty d p ts rest
     → 17 < next_precedence rest → property d ts ≡ Some (p, rest)
@@ -194,6 +245,12 @@ property-read (is_plain {d = d} {s = s} {ts = ts} {rest = rest} w) le =
 property-read (is_implication {d = d} {t = t} {i = i} {a = a} {c = c} {ts = ts} {us = us} {rest = rest} k v w) le =
     goes_on d ts a (t ∷ us) (whole-read v (omega (arith, implication-precedence t i k)))
     ∙ implication-some d i a c t us rest k (whole-read w (omega arith))
+property-read
+    (is_first {d = d} {word = word} {left = left} {right = right} {t = t} {i = i} {a = a} {c = c} {ts = ts} {us = us}
+    {rest = rest} is o v r k w) le =
+    first-read d word left right t i a c ts us rest is o
+    (inner-whole d ts ∙ whole-read v (omega (arith, precedence-CloseRound right r))) r k
+    (whole-read w (omega arith))
 property-read (bracketed {d = d} {left = left} {right = right} {p = p} {ts = ts} {rest = rest} o c w) le =
     property-opens (suc d) left right ts rest p o
     (inner-property d ts ∙ property-read w (omega (arith, precedence-CloseRound right c))) c
@@ -238,8 +295,8 @@ implication_by-sound d s ts us p w None l h =
     let same : (plain s, us) ≡ p = cc (h) in subst (λ (r : PropertyForm × List Token). IsProperty d r.0 ts r.1) same
     (is_plain w)
 implication_by-sound d s ts us p w (Some q) l h =
-    let a = bind-some (whole d q.1) (λ (p : SequenceForm × List Token). Some (implication s q.0 p.0, p.1)) p h in
-    let same : (implication s q.0 a.0.0, a.0.1) ≡ p = cc (a.2) in
+    let a = bind-some (whole d q.1) (λ (p : SequenceForm × List Token). Some (implication None s q.0 p.0, p.1)) p h in
+    let same : (implication None s q.0 a.0.0, a.0.1) ≡ p = cc (a.2) in
     let x = pick-some implication_of us q l in
     subst (λ (r : PropertyForm × List Token). IsProperty d r.0 ts r.1) same
     (is_implication x.picked (subst (λ (vs : List Token). IsSequence d s ts vs) x.parts w)
@@ -273,8 +330,8 @@ regroup_property-sound d left right (plain s) ts vs p o c w h =
     let body_is = regroup-sound d left right s ts vs a.0 o c (property-is_plain w) a.1 in
     implication-sound (suc d) b.0.0 (left ∷ ts) b.0.1 p
     (sequence_behind-sound (suc d) a.0.0 (left ∷ ts) a.0.1 b.0 body_is b.1) b.2
-regroup_property-sound d left right (implication a i c') ts vs p o c w h =
-    let same : (implication a i c', vs) ≡ p =
+regroup_property-sound d left right (implication word a i c') ts vs p o c w h =
+    let same : (implication word a i c', vs) ≡ p =
     cc (h) in subst (λ (r : PropertyForm × List Token). IsProperty (suc d) r.0 (left ∷ ts) r.1) same
     (bracketed o c w)
 
@@ -300,9 +357,54 @@ property_by-sound d inner ts p (Some q) l h =
     subst (λ (us : List Token). IsProperty d p.0 us p.1) (sym x.parts)
     (inner q.1 a.0 a.1 q.0 b.0.0 p b.0.1 x.marked k.marked k.parts b.2)
 
+-- what stood behind the word, step by step
+first_at : (d : ℕ) (word left right t : Token) (i : Implication) (a c : SequenceForm) (ts rs vs us ws rest : List Token)
+    → is_first_match word ≡ true → ts ≡ left ∷ rs → terminal left ≡ OpenRound
+    → (sequences d).whole rs ≡ Some (a, vs) → vs ≡ right ∷ us → terminal right ≡ CloseRound → us ≡ t ∷ ws
+    → implication_of t ≡ Some i → whole d ws ≡ Some (c, rest)
+    → IsProperty d (implication (Some word) a i c) (word ∷ ts) rest
+first_at zero word left right t i a c ts rs vs us ws rest is left_is o h right_is r t_is k w =
+    absurd (no_inside rs (a, vs) h)
+first_at (suc d) word left right t i a c ts rs vs us ws rest is left_is o h right_is r t_is k w =
+    let inner : IsSequence d a rs vs = whole-sound d rs (a, vs) (sym (inner-whole d rs) ∙ h) in
+    let parts : vs ≡ right ∷ t ∷ ws = right_is ∙ ap (λ (xs : List Token). right ∷ xs) t_is in
+    subst (λ (xs : List Token). IsProperty (suc d) (implication (Some word) a i c) (word ∷ xs) rest) (sym left_is)
+    (is_first is o (subst (λ (xs : List Token). IsSequence d a rs xs) parts inner) r k
+    (whole-sound (suc d) ws (c, rest) w))
+
+first-sound : (d : ℕ) (word : Token) (ts : List Token) (p : PropertyForm × List Token) → is_first_match word ≡ true
+    → first_behind d word ts ≡ Some p → IsProperty d p.0 (word ∷ ts) p.1
+unfolding first_behind
+first-sound d word ts p is h =
+    bind-then (expect OpenRound ts) _ p h
+    (λ o o_is o_rest.
+    bind-then ((sequences d).whole o.1) _ p o_rest
+    (λ a a_is a_rest.
+    bind-then (expect CloseRound a.1) _ p a_rest
+    (λ r r_is r_rest.
+    bind-then (pick implication_of r.1) _ p r_rest
+    (λ i i_is i_rest.
+    bind-then (whole d i.1) _ p i_rest
+    (λ c c_is c_rest.
+    let x = expect-some OpenRound ts o o_is in
+    let y = expect-some CloseRound a.1 r r_is in
+    let z = pick-some implication_of r.1 i i_is in
+    let same : (implication (Some word) a.0 i.0 c.0, c.1) ≡ p = cc (c_rest) in
+    subst (λ (q : PropertyForm × List Token). IsProperty d q.0 (word ∷ ts) q.1) same
+    (first_at d word o.0 r.0 z.token i.0 a.0 c.0 ts o.1 a.1 r.1 i.1 c.1 is x.parts x.marked a_is y.parts y.marked
+    z.parts z.picked c_is))))))
+
+property_from-sound : (d : ℕ) → IsSoundInside d
+    → (ts : List Token) (p : PropertyForm × List Token) (o : Option (Token × List Token)) → lead is_first_match ts ≡ o
+    → property_from d (properties d) o ts ≡ Some p → IsProperty d p.0 ts p.1
+property_from-sound d inner ts p None l h = property_by-sound d inner ts p (expect OpenRound ts) refl h
+property_from-sound d inner ts p (Some q) l h =
+    let x = lead-some is_first_match ts q l in
+    subst (λ (us : List Token). IsProperty d p.0 us p.1) (sym x.parts) (first-sound d q.0 q.1 p x.passes h)
+
 property_with-sound : (d : ℕ) → IsSoundInside d → Reads (property d) (λ p ts rest. IsProperty d p ts rest)
 unfolding property property_with
-property_with-sound d inner ts p h = property_by-sound d inner ts p (expect OpenRound ts) refl h
+property_with-sound d inner ts p h = property_from-sound d inner ts p (lead is_first_match ts) refl h
 
 inside-zero : IsSoundInside zero
 unfolding properties

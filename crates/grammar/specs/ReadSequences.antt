@@ -9,14 +9,14 @@ use Rattle.grammar.specs.declared.terminal.Terminal.TheVariants.{OpenRound, Clos
 use Rattle.grammar.specs.declared.terminal.Terminal.TheVariants.{OpenRepeat, CloseSquare, Colon}
 use Rattle.grammar.specs.declared.terminal.Terminal.TheVariants.{Delay, Throughout, Intersect, And}
 use Rattle.grammar.specs.declared.terminal.Terminal.TheVariants.{Or}
-use Rattle.grammar.specs.Terminals.{is}
+use Rattle.grammar.specs.Terminals.{is, is_first_match}
 use Rattle.grammar.specs.Bounds.{bound_within}
 use Rattle.grammar.specs.Operators.{implication_of}
 use Rattle.grammar.specs.Trees.{Tree, SequenceForm, boolean, repeated, late, delayed, throughout}
 use Rattle.grammar.specs.Trees.{joined, Steps, no_step, step, Others, no_other, other}
 use Rattle.grammar.specs.Trees.{PropertyForm, plain, implication}
 use Rattle.grammar.specs.Sequences.{bound}
-use Rattle.grammar.specs.Readers.{◌>>=◌, Reader, refuse, expect, pick, optional, each}
+use Rattle.grammar.specs.Readers.{◌>>=◌, Reader, refuse, lead, expect, pick, optional, each}
 use Rattle.grammar.specs.ReadExpressions.{expression, finish}
 
 -- behind "[*": NUM [":" NUM] "]"
@@ -187,7 +187,7 @@ sequence_behind d s ts =
 abbrev pub implication_from : ℕ → Option (Implication × List Token) → SequenceForm
     → Reader PropertyForm
 implication_from d None s ts = Some (plain s, ts)
-implication_from d (Some i) s ts = whole d i.1 >>= λ p. Some (implication s i.0 p.0, p.1)
+implication_from d (Some i) s ts = whole d i.1 >>= λ p. Some (implication None s i.0 p.0, p.1)
 
 -- behind a seq: an implication and its right side, if one stands there
 unfoldable pub implication_behind : ℕ → SequenceForm → Reader PropertyForm
@@ -197,16 +197,28 @@ implication_behind d s ts = implication_from d (pick implication_of ts) s ts
 unfoldable pub regroup_property : ℕ → PropertyForm → Reader PropertyForm
 regroup_property d (plain s) ts =
     regroup d s ts >>= λ p. sequence_behind d p.0 p.1 >>= λ q. implication_behind d q.0 q.1
-regroup_property d (implication a i c) ts = Some (implication a i c, ts)
+regroup_property d (implication w a i c) ts = Some (implication w a i c, ts)
 
 abbrev pub property_by : ℕ → Reader PropertyForm → Option (Token × List Token) → Reader PropertyForm
 property_by d inner None ts = whole d ts >>= λ p. implication_behind d p.0 p.1
 property_by d inner (Some o) ts =
     inner o.1 >>= λ p. expect CloseRound p.1 >>= λ r. regroup_property d p.0 r.1
 
+-- behind "first_match": "(" seq ")", an implication and its right side
+unfoldable pub first_behind : ℕ → Token → Reader PropertyForm
+first_behind d word ts =
+    expect OpenRound ts >>= λ o. (sequences d).whole o.1 >>= λ p. expect CloseRound p.1
+    >>= λ r. pick implication_of r.1
+    >>= λ i. whole d i.1 >>= λ q. Some (implication (Some word) p.0 i.0 q.0, q.1)
+
+abbrev pub property_from : ℕ → Reader PropertyForm → Option (Token × List Token)
+    → Reader PropertyForm
+property_from d inner None ts = property_by d inner (expect OpenRound ts) ts
+property_from d inner (Some w) ts = first_behind d w.0 w.1
+
 -- prop, where the property in brackets is read by the reader
 unfoldable pub property_with : ℕ → Reader PropertyForm → Reader PropertyForm
-property_with d inner ts = property_by d inner (expect OpenRound ts) ts
+property_with d inner ts = property_from d inner (lead is_first_match ts) ts
 
 -- prop, where so many brackets may open
 unfoldable pub properties : ℕ → Reader PropertyForm

@@ -1,6 +1,6 @@
 -- The grammar of sequences and properties, rule by rule (IEEE 1800-2017, 16.7 to 16.12 and
 -- annex F).
-use Rattle.std.specs.Prelude.{◌≡◌, ℕ, suc, List, ◌∷◌, Option, Some, None}
+use Rattle.std.specs.Prelude.{◌≡◌, ℕ, suc, true, List, ◌∷◌, Option, Some, None}
 use Rattle.lexer.specs.declared.token.Token.{Token}
 use Rattle.grammar.specs.declared.bound.Bound.{Bound}
 use Rattle.grammar.specs.declared.bound.Range.{Range}
@@ -10,7 +10,7 @@ use Rattle.grammar.specs.declared.terminal.Terminal.TheVariants.{OpenRound, Clos
 use Rattle.grammar.specs.declared.terminal.Terminal.TheVariants.{OpenRepeat, CloseSquare, Colon}
 use Rattle.grammar.specs.declared.terminal.Terminal.TheVariants.{Delay, Throughout, Intersect, And}
 use Rattle.grammar.specs.declared.terminal.Terminal.TheVariants.{Or}
-use Rattle.grammar.specs.Terminals.{terminal}
+use Rattle.grammar.specs.Terminals.{terminal, is_first_match}
 use Rattle.grammar.specs.Bounds.{bound_within}
 use Rattle.grammar.specs.Operators.{implication_of}
 use Rattle.grammar.specs.Trees.{Tree, SequenceForm, boolean, repeated, late, delayed, throughout}
@@ -146,13 +146,20 @@ mutual
         → IsSequence d (joined junctions.Or s (other v more)) ts rest
 
 -- prop = "(" prop ")" | seq | seq "|->" seq | seq "|=>" seq
+--        | "first_match" "(" seq ")" ("|->" | "|=>") seq
 pub data IsProperty : ℕ → PropertyForm → List Token → List Token → Type 0 where
   is_plain : {d : ℕ} {s : SequenceForm} {ts rest : List Token}
       → IsSequence d s ts rest → IsProperty d (plain s) ts rest
   is_implication : {d : ℕ} {t : Token} {i : Implication} {a c : SequenceForm}
       {ts us rest : List Token}
       → implication_of t ≡ Some i → IsSequence d a ts (t ∷ us) → IsSequence d c us rest
-      → IsProperty d (implication a i c) ts rest
+      → IsProperty d (implication None a i c) ts rest
+  is_first : {d : ℕ} {word left right t : Token} {i : Implication} {a c : SequenceForm}
+      {ts us rest : List Token}
+      → is_first_match word ≡ true → terminal left ≡ OpenRound
+      → IsSequence d a ts (right ∷ t ∷ us) → terminal right ≡ CloseRound
+      → implication_of t ≡ Some i → IsSequence (suc d) c us rest
+      → IsProperty (suc d) (implication (Some word) a i c) (word ∷ left ∷ ts) rest
   bracketed : {d : ℕ} {left right : Token} {p : PropertyForm} {ts rest : List Token}
       → terminal left ≡ OpenRound → terminal right ≡ CloseRound
       → IsProperty d p ts (right ∷ rest) → IsProperty (suc d) p (left ∷ ts) rest

@@ -1,5 +1,5 @@
 -- What a token is to the grammar.
-use Rattle.std.specs.Prelude.{ℕ, List, [], ◌∷◌, Bool, true, false, ◌==◌, codes}
+use Rattle.std.specs.Prelude.{ℕ, List, [], ◌∷◌, Bool, true, false, ◌&&◌, ◌==◌, codes}
 use Rattle.std.specs.Prelude.{if◌then◌else◌}
 use Rattle.std.specs.List.{list_any}
 use Rattle.std.specs.Str.{bytes_eq}
@@ -24,8 +24,9 @@ use Rattle.grammar.specs.declared.terminal.Terminal.TheVariants.{Colon, AtSign, 
 use Rattle.grammar.specs.declared.terminal.Terminal.TheVariants.{Overlapped, Following}
 use Rattle.grammar.specs.declared.terminal.Terminal.TheVariants.{ForeignSymbol, Operator, End}
 
--- Words of constructs that the profile leaves out. (`property` where an item begins, and `iff`
--- other than behind `disable`, are left out too.)
+-- Words of constructs that the profile leaves out. (`first_match` is left out but round an
+-- antecedent; `property` where an item begins, and `iff` other than behind `disable`, are left out
+-- too.)
 unfoldable pub foreign_words : List (List ℕ)
 foreign_words =
     codes "within" ∷ codes "first_match" ∷ codes "strong" ∷ codes "weak"
@@ -183,3 +184,7 @@ terminal_number Intersect = 45
 -- whether the token is the terminal
 unfoldable pub is : Terminal → Token → Bool
 is wanted t = terminal_number wanted == terminal_number (terminal t)
+
+-- the word round an antecedent, of which only the first match counts
+unfoldable pub is_first_match : Token → Bool
+is_first_match t = is ForeignWord t && bytes_eq t.text.now (codes "first_match")

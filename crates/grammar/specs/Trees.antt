@@ -55,10 +55,11 @@ mutual
     no_other : Others
     other : SequenceForm → Others → Others
 
--- A sequence alone, or an implication.
+-- A sequence alone, or an implication, with the word "first_match" where it stands round the
+-- antecedent.
 pub data PropertyForm : Type 0 where
   plain : SequenceForm → PropertyForm
-  implication : SequenceForm → Implication → SequenceForm → PropertyForm
+  implication : Option Token → SequenceForm → Implication → SequenceForm → PropertyForm
 
 pub record CounterForm : Type 0 where
   pub name : Token

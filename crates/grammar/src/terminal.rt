@@ -8,6 +8,7 @@ ghost use Rattle.grammar.specs.declared.terminal.Terminal.{Terminal};
 ghost use Rattle.grammar.specs.Terminals.{is_foreign, foreign_word};
 ghost use Rattle.grammar.specs.Terminals.{word_terminal, system_terminal};
 ghost use Rattle.grammar.specs.Terminals.{symbol_terminal, terminal, is, is_name, is_word};
+ghost use Rattle.grammar.specs.Terminals.{is_first_match};
 
 use lexer::{Kind, Symbol, Token};
 
@@ -67,7 +68,7 @@ pub enum Terminal {
     End,
 }
 
-/// Words of constructs that the profile leaves out.
+/// Words of constructs that the profile leaves out, `first_match` but round an antecedent.
 const FOREIGN_WORDS: [&str; 28] = [
     "within",
     "first_match",
@@ -235,6 +236,14 @@ pub fn is(wanted: Terminal, token: Token) -> bool
     ensures { result ≡ is wanted token.entry }
 {
     wanted == terminal_of(token)
+}
+
+/// Whether the token is the word `first_match`, as round an antecedent.
+#[tactic(auto, unfolding(crate::specs::Terminals::is_first_match))]
+pub fn is_first_match(token: Token) -> bool
+    ensures { result ≡ is_first_match token.entry }
+{
+    is(Terminal::ForeignWord, token) && token.text == "first_match"
 }
 
 /// Whether the token may be a NAME.

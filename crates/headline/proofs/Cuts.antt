@@ -33,7 +33,7 @@ use Rattle.bytecode.specs.Values.{ProgramData}
 use Rattle.verifier.specs.Programs.{IsAccepted}
 use Rattle.assertions.specs.declared.sequence.Boolean.{Boolean}
 use Rattle.assertions.specs.Segments.{Seq}
-use Rattle.assertions.specs.Attempts.{verdict}
+use Rattle.assertions.specs.Attempts.{Antecedent, verdict}
 use Rattle.checked_machine.specs.Outcomes.{Ran, done, and_then}
 use Rattle.checked_machine.specs.Machine.{State, Outcome, opening, clocks}
 use Rattle.checked_machine.specs.Runs.{behind, run_from}
@@ -96,7 +96,7 @@ open-same v w n same =
     (λ c low high on. refl)
 
 module _ (p : ProgramData) (rows : List (List ℕ)) (counters : ℕ → List ℕ) (atoms : ℕ → List Bool)
-    (value : Boolean → ℕ → Bool) (r s : Seq Boolean) (accepted : IsAccepted p)
+    (value : Boolean → ℕ → Bool) (r : Antecedent Boolean) (s : Seq Boolean) (accepted : IsAccepted p)
     (samples : SamplesAs p (row_of rows) counters atoms (length rows))
     (watches : Watches p atoms value r s) (fills : Fills value s) where
   abbrev v : ℕ → ℕ → Verdict

@@ -31,6 +31,7 @@ use Rattle.assertions.specs.declared.assertion.Assertion.{Assertion}
 use Rattle.assertions.specs.declared.suite.Suite.{Suite}
 use Rattle.assertions.specs.Attempts.{IsVerdict, verdict}
 use Rattle.assertions.specs.Shapes.{shape}
+use Rattle.assertions.specs.Verdicts.{antecedent_of}
 use Rattle.assertions.proofs.Verdicts.{IsVerdict-only}
 use Rattle.bytecode.specs.Values.{ProgramData, SlotData}
 use Rattle.verifier.specs.Programs.{IsAccepted}
@@ -86,23 +87,23 @@ module _ (suite : Suite) (a : Assertion) (p : ProgramData) (of : IsProgramOf sui
   -- the verdict that is computed
   abbrev meant : ℕ → Verdict
   meant =
-      verdict value (monitor_of p atoms).off (shape a.antecedent) (shape a.consequent) (length own)
+      verdict value (monitor_of p atoms).off (antecedent_of a) (shape a.consequent) (length own)
 
   same : (c : ℕ) → c < length own → meant c ≡ verdict_at c
   same c below =
-      IsVerdict-only Boolean value (monitor_of p atoms).off (shape a.antecedent)
+      IsVerdict-only Boolean value (monitor_of p atoms).off (antecedent_of a)
       (shape a.consequent) (length own) c (verdict_at c)
-      (subst (λ n. IsVerdict value (monitor_of p atoms).off (shape a.antecedent)
+      (subst (λ n. IsVerdict value (monitor_of p atoms).off (antecedent_of a)
       (shape a.consequent) n c (verdict_at c)) long
       (subst (λ (off : ℕ → Bool).
-      IsVerdict value off (shape a.antecedent) (shape a.consequent) (length rows) c
+      IsVerdict value off (antecedent_of a) (shape a.consequent) (length rows) c
       (verdict_at c)) (decides.same-off suite a p of rows fit)
       (are c (omega (arith, below, long)))))
 
   pub batch-is : (x y : ℕ) → x ≤ y → y ≤ length rows
       → batch_of p own x y ≡ fallen_between verdict_at (length rows) x y
   batch-is x y le within =
-      cuts.batch-falls p own (made.counters suite a p of rows fit) atoms value (shape a.antecedent)
+      cuts.batch-falls p own (made.counters suite a p of rows fit) atoms value (antecedent_of a)
       (shape a.consequent) accepted samples
       (decides.watches suite a p of rows fit) (decides.fills suite a p of rows fit) x y le
       (omega (arith, within, long))
@@ -113,7 +114,7 @@ module _ (suite : Suite) (a : Assertion) (p : ProgramData) (of : IsProgramOf sui
       → clocks p (opening p) (take n own) ≡ done last 0
       → starts_of last.standing.attempts ≡ open_starts verdict_at (length rows)
   live-is n last is h =
-      cuts.open-live p own (made.counters suite a p of rows fit) atoms value (shape a.antecedent)
+      cuts.open-live p own (made.counters suite a p of rows fit) atoms value (antecedent_of a)
       (shape a.consequent) accepted samples
       (decides.watches suite a p of rows fit) (decides.fills suite a p of rows fit) n last
       (is ∙ long) h

@@ -1,11 +1,12 @@
 -- The scan of a block.
 use Rattle.std.proofs.Common.{◌≡◌, ℕ, ◌+◌, ◌<◌, ◌≤◌, Bool, true, false, cond, List, [], ◌∷◌, length}
 use Rattle.std.proofs.Common.{get_or, Some, None, refl, sym, ap, subst, arith}
-use Rattle.std.specs.Prelude.{slice_get, nat_lt}
+use Rattle.std.specs.Prelude.{◌==◌, slice_get, nat_lt}
 use Rattle.bytecode.specs.declared.block_instr.BlockInstr.{BlockInstr}
 use Rattle.bytecode.specs.declared.block_instr.BlockInstr.TheVariants.{Unless, Enter, Accept, Stop}
+use Rattle.bytecode.specs.declared.block_instr.BlockInstr.TheVariants.{AcceptFirst}
 use Rattle.inference.specs.declared.refusal.Refusal.{Refusal}
-use Rattle.inference.specs.declared.refusal.Refusal.TheVariants.{SlotRange, Cycle}
+use Rattle.inference.specs.declared.refusal.Refusal.TheVariants.{SlotRange, Cycle, AcceptKind}
 use Rattle.inference.specs.Rules.{block_rules}
 use Rattle.bytecode.specs.Instructions.{block_flow}
 use Rattle.inference.specs.Inference.{Message, sends, jump_faults, end_faults, faults_at, left_by}
@@ -17,11 +18,15 @@ use Rattle.inference.proofs.OrderLaws.{Rises, NamesRise}
 use Rattle.inference.proofs.ScanLaws.{head_of, start, step, refused_at, stop}
 use Rattle.inference.proofs.TypingLaws.{faults_parts}
 
-one_name : (b : Bool) (pc : ℕ) → Rises 8 16 (cond b [] (SlotRange pc ∷ []))
+one_name : (b : Bool) (pc : ℕ) → Rises 8 17 (cond b [] (SlotRange pc ∷ []))
 one_name true pc = omega arith
 one_name false pc = (omega arith, refl, omega arith)
 
-two_names : (b d : Bool) (p pc : ℕ) → Rises 8 16 (cond b (cond d [] (Cycle p ∷ [])) (SlotRange pc ∷ []))
+kind_name : (b : Bool) (pc : ℕ) → Rises 8 17 (cond b [] (AcceptKind pc ∷ []))
+kind_name true pc = omega arith
+kind_name false pc = (omega arith, refl, omega arith)
+
+two_names : (b d : Bool) (p pc : ℕ) → Rises 8 17 (cond b (cond d [] (Cycle p ∷ [])) (SlotRange pc ∷ []))
 two_names true true p pc = omega arith
 two_names true false p pc = (omega arith, refl, omega arith)
 two_names false d p pc = (omega arith, refl, omega arith)
@@ -31,6 +36,7 @@ block_rise section atoms positions p pc (Unless atom target) = one_name (nat_lt 
 block_rise section atoms positions p pc (Enter q) = two_names (nat_lt q positions) (nat_lt p q) p pc
 block_rise section atoms positions p pc Accept = omega arith
 block_rise section atoms positions p pc Stop = omega arith
+block_rise section atoms positions p pc AcceptFirst = kind_name (section == 2) pc
 
 pub none_first : (rs : List Refusal) → None ≡ first_of rs → rs ≡ []
 none_first [] h = refl

@@ -96,15 +96,15 @@ end_rises end pc (Branches target) = if_one ((pc + 1) == end) NoHalt 7 8 (omega 
 
 -- what the names of a kind of instruction must keep to
 abbrev pub NamesRise : {I : Type 0} → Rules I → Type 0
-NamesRise {I} r = (pc : ℕ) (i : I) → Rises 8 16 (r.names pc i)
+NamesRise {I} r = (pc : ℕ) (i : I) → Rises 8 17 (r.names pc i)
 
 pub faults_rise : {I : Type 0} (r : Rules I) → NamesRise r → (end pc : ℕ) (i : I) (a : ArrivalData)
-    → Rises 0 16 (faults_at r end pc i a)
+    → Rises 0 17 (faults_at r end pc i a)
 faults_rise r rise end pc i a =
-    rises_join 0 3 16 (operand_faults r pc i a) _ (operand_rises r pc i a)
-    (rises_join 3 5 16 (jump_faults end pc (r.flow i)) _ (jump_rises end pc (r.flow i))
-    (rises_join 5 7 16 (arrival_faults pc a) _ (arrival_rises pc a)
-    (rises_join 7 8 16 (end_faults end pc (r.flow i)) (r.names pc i) (end_rises end pc (r.flow i)) (rise pc i))))
+    rises_join 0 3 17 (operand_faults r pc i a) _ (operand_rises r pc i a)
+    (rises_join 3 5 17 (jump_faults end pc (r.flow i)) _ (jump_rises end pc (r.flow i))
+    (rises_join 5 7 17 (arrival_faults pc a) _ (arrival_rises pc a)
+    (rises_join 7 8 17 (end_faults end pc (r.flow i)) (r.names pc i) (end_rises end pc (r.flow i)) (rise pc i))))
 
 above : (x : Refusal) (low high : ℕ) (rs : List Refusal) → Rises low high rs → IsIn x rs → (low < number_of x)
     × (part_of x ≡ 0)
@@ -138,7 +138,7 @@ stands_from r end pc (i ∷ is) ms y h =
     ]
 
 -- the first of those at one place, before all that stand later in the section
-pub first_here : (section pc : ℕ) (e : Refusal) (rest : List Refusal) (later : List Found) → Rises 0 16 (e ∷ rest)
+pub first_here : (section pc : ℕ) (e : Refusal) (rest : List Refusal) (later : List Found) → Rises 0 17 (e ∷ rest)
     → ((y : Found) → IsIn y later → Stands section (pc + 1) y) →
     IsFirst (found section pc e) (map (found section pc) (e ∷ rest) ++ later)
 first_here section pc e rest later rises after =
@@ -150,7 +150,7 @@ first_here section pc e rest later rises after =
     at_place : (x : Refusal) → IsIn x (e ∷ rest)
         → IsUpTo (place_of (found section pc e)) (place_of (found section pc x))
     at_place x (inl same) = inr (refl, inr (refl, inr (ap number_of (sym same), inr (ap part_of (sym same), tt))))
-    at_place x (inr i) = inr (refl, inr (refl, inl ((above x (number_of e) 16 rest rises.2 i).0)))
+    at_place x (inr i) = inr (refl, inr (refl, inl ((above x (number_of e) 17 rest rises.2 i).0)))
 
     by_part : (y : Found) → IsIn y (map (found section pc) (e ∷ rest)) ⊎ IsIn y later
         → IsUpTo (place_of (found section pc e)) (place_of y)

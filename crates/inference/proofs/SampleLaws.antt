@@ -5,7 +5,7 @@ use Rattle.bytecode.specs.Instructions.{FrameData, is_there}
 use Rattle.inference.specs.Rules.{sample_rules}
 use Rattle.inference.proofs.OrderLaws.{Rises, NamesRise}
 
-named : (b : Bool) (pc : ℕ) → Rises 8 16 (cond b [] (SlotRange pc ∷ []))
+named : (b : Bool) (pc : ℕ) → Rises 8 17 (cond b [] (SlotRange pc ∷ []))
 named true pc = omega arith
 named false pc = (omega arith, refl, omega arith)
 

@@ -120,8 +120,8 @@ module _ {I : Type 0} (r : Rules I) (base : ℕ) (instrs : List I) (Holds : List
       later : List Found
       later = faults_from r end (pc + 1) (drop (k + 1) instrs) (told r end pc i read.sent)
 
-      rises : Rises 0 16 (e ∷ h.0)
-      rises = subst (Rises 0 16) h.1 (faults_rise r rise end pc i a)
+      rises : Rises 0 17 (e ∷ h.0)
+      rises = subst (Rises 0 17) h.1 (faults_rise r rise end pc i a)
 
       all_is : map (found r.section pc) (e ∷ h.0) ++ later ≡ code_faults r base instrs
       all_is =

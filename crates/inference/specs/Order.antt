@@ -10,7 +10,7 @@ use Rattle.inference.specs.declared.refusal.Refusal.TheVariants.{JoinMismatch, U
 use Rattle.inference.specs.declared.refusal.Refusal.TheVariants.{SlotRange, HistoryTooShort}
 use Rattle.inference.specs.declared.refusal.Refusal.TheVariants.{StackTooShort, Cycle, PoolTooSmall}
 use Rattle.inference.specs.declared.refusal.Refusal.TheVariants.{BudgetTooSmall, LimitTooLarge}
-use Rattle.inference.specs.declared.refusal.Refusal.TheVariants.{Memory}
+use Rattle.inference.specs.declared.refusal.Refusal.TheVariants.{AcceptKind, Memory}
 use Rattle.inference.specs.Inference.{Found}
 
 abbrev pub number_of : Refusal → ℕ
@@ -29,6 +29,7 @@ number_of (Cycle position) = 12
 number_of (PoolTooSmall pool least) = 13
 number_of (BudgetTooSmall least) = 14
 number_of (LimitTooLarge field) = 15
+number_of (AcceptKind pc) = 16
 number_of Memory = 0
 
 -- among those of one number: attempts before obligations, fields as in the file

@@ -35,6 +35,7 @@ fn number_of(refusal: Refusal) -> u8
         Refusal::PoolTooSmall(_, _) => 13,
         Refusal::BudgetTooSmall(_) => 14,
         Refusal::LimitTooLarge(_) => 15,
+        Refusal::AcceptKind(_) => 16,
         Refusal::Memory => 0,
     }
 }

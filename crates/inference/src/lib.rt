@@ -8,7 +8,7 @@
 //! ```text
 //! let frame = Frame::of(alloc, &program)?;
 //! let stack = infer(alloc, &frame, program.sample.as_slice())?;
-//! let fault = section_fault(alloc, program.atoms, &program.antecedent)?;
+//! let fault = section_fault(alloc, Side::Antecedent, program.atoms, &program.antecedent)?;
 //! ```
 //!
 //! The definitions: rules of instructions in `specs/Rules.antt`, faults by what arrives in
@@ -29,6 +29,7 @@ mod pool;
 mod refusal;
 mod sample_scan;
 mod section_scan;
+mod side;
 mod stack;
 
 pub use fault::Fault;
@@ -39,3 +40,4 @@ pub use pool::Pool;
 pub use refusal::Refusal;
 pub use sample_scan::infer;
 pub use section_scan::{capped_size, section_fault};
+pub use side::Side;

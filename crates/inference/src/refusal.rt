@@ -51,6 +51,9 @@ pub enum Refusal {
     /// Over the most that there may be.
     #[error("F15 LimitTooLarge {0}")]
     LimitTooLarge(Field),
+    /// It isn't for this section: `AcceptFirst` outside the antecedent.
+    #[error("F16 AcceptKind {0}")]
+    AcceptKind(usize),
     #[error("out of memory")]
     Memory,
 }

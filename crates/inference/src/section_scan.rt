@@ -2,7 +2,7 @@
 
 ghost use Rattle.std.specs.Prelude.{◌≡◌, ◌<◌, ◌≤◌, ◌+◌, ◌^◌, ℕ, List, [], length, map, min, IfOk};
 ghost use Rattle.std.specs.Prelude.{Option, Some, None};
-ghost use Rattle.inference.specs.Rules.{block_names, block_rules};
+ghost use Rattle.inference.specs.Rules.{block_names, block_rules, section_of_side};
 ghost use Rattle.inference.specs.Inference.{Message, sends, jump_faults, end_faults, faults_at};
 ghost use Rattle.inference.specs.Inference.{code_faults, entry};
 ghost use Rattle.inference.specs.Order.{first_of};
@@ -15,18 +15,21 @@ ghost use Rattle.inference.specs.Views.{blocks_of};
 use crate::fault::{Fault, earlier};
 use crate::refusal::Refusal;
 use crate::sample_scan::{end_fault, jump_fault};
+use crate::side::Side;
 use bytecode::{BlockInstr, Flow, Section};
 use std::alloc::{AllocError, Global};
 
 /// The fault of what an instruction names in the block of position `p`.
 fn name_fault(
+    side: Side,
     atoms: u8,
     positions: usize,
     p: usize,
     pc: usize,
     instr: BlockInstr,
 ) -> Option<Refusal>
-    ensures { result ≡ first_of (block_names atoms positions p pc instr) }
+    ensures { result ≡ first_of
+        (block_names (section_of_side side) atoms positions p pc instr) }
 {
     match instr {
         BlockInstr::Unless(atom, _) => {
@@ -47,11 +50,16 @@ fn name_fault(
         }
         BlockInstr::Accept => None,
         BlockInstr::Stop => None,
+        BlockInstr::AcceptFirst => match side {
+            Side::Antecedent => None,
+            Side::Consequent => Some(Refusal::AcceptKind(pc)),
+        },
     }
 }
 
 /// The first fault at an instruction of the block of position `p`.
 fn block_fault(
+    side: Side,
     atoms: u8,
     positions: usize,
     p: usize,
@@ -61,8 +69,8 @@ fn block_fault(
     is_reached: bool,
 ) -> Option<Refusal>
     requires { pc < end }
-    ensures { (section : ℕ) → result ≡ first_of
-        (faults_at (block_rules section atoms positions p) end pc instr (marked is_reached)) }
+    ensures { result ≡ first_of (faults_at
+        (block_rules (section_of_side side) atoms positions p) end pc instr (marked is_reached)) }
 {
     if let Some(refusal) = jump_fault(end, pc, instr.flow()) {
         return Some(refusal);
@@ -73,7 +81,7 @@ fn block_fault(
     if let Some(refusal) = end_fault(end, pc, instr.flow()) {
         return Some(refusal);
     }
-    name_fault(atoms, positions, p, pc, instr)
+    name_fault(side, atoms, positions, p, pc, instr)
 }
 
 /// Marks all successors of an instruction of a block that begins at `base`.
@@ -99,6 +107,7 @@ fn mark_on(marks: &mut [bool], base: usize, k: usize, flow: Flow)
 
 /// The first fault of a block of which the first instruction alone is marked.
 fn scan_marks(
+    side: Side,
     atoms: u8,
     positions: usize,
     p: usize,
@@ -110,15 +119,15 @@ fn scan_marks(
     requires long { length marks.old ≡ length block.now }
     requires fits { base + length block.now < 2 ^ 64 }
     requires entry { Reached base marks.old (entry base) }
-    ensures { (section : ℕ) →
-        IsFirstOf (code_faults (block_rules section atoms positions p) base block.now)
-        (found_in section result) }
+    ensures { IsFirstOf
+        (code_faults (block_rules (section_of_side side) atoms positions p) base block.now)
+        (found_in (section_of_side side) result) }
 {
     let end = base + block.len();
     'block: for k in 0..block.len() {
         let instr = block[k];
         let pc = base + k;
-        match block_fault(atoms, positions, p, end, pc, instr, marks[k]) {
+        match block_fault(side, atoms, positions, p, end, pc, instr, marks[k]) {
             Some(refusal) => return Some(Fault { pc, refusal }),
             None => {}
         }
@@ -130,6 +139,7 @@ fn scan_marks(
 /// The first fault of the block of position `p`, which begins at `base`.
 fn scan_block(
     alloc: Global,
+    side: Side,
     atoms: u8,
     positions: usize,
     p: usize,
@@ -137,9 +147,9 @@ fn scan_block(
     block: &[BlockInstr],
 ) -> Result<Option<Fault>, AllocError>
     requires { base + length block.now < 2 ^ 64 }
-    ensures { IfOk result (λ first. (section : ℕ) →
-        IsFirstOf (code_faults (block_rules section atoms positions p) base block.now)
-        (found_in section first)) }
+    ensures { IfOk result (λ first. IsFirstOf
+        (code_faults (block_rules (section_of_side side) atoms positions p) base block.now)
+        (found_in (section_of_side side) first)) }
 {
     if block.is_empty() {
         return Ok(Some(Fault {
@@ -149,27 +159,31 @@ fn scan_block(
     }
     let mut marks = vec![in alloc; false; block.len()]?;
     marks[0] = true;
-    Ok(scan_marks(atoms, positions, p, base, block, &mut marks))
+    Ok(scan_marks(side, atoms, positions, p, base, block, &mut marks))
 }
 
 /// The first fault of a section.
 pub fn section_fault(
     alloc: Global,
+    side: Side,
     atoms: u8,
     section: &Section,
 ) -> Result<Option<Fault>, AllocError>
     requires few { length section.now.blocks.items ≤ 127 }
     requires size { size_of (section_data section.now).blocks ≤ 4096 }
-    ensures { IfOk result (λ first. (number : ℕ) →
-        IsFirstOf (section_faults number atoms (section_data section.now))
-        (found_in number first)) }
+    ensures { IfOk result (λ first. IsFirstOf
+        (section_faults (section_of_side side) atoms (section_data section.now))
+        (found_in (section_of_side side) first)) }
 {
     let positions = section.blocks.len();
     let mut first = start_fault(section);
     let mut base = 0;
     'each: for p in 0..positions {
         let block = section.blocks[p].as_slice();
-        first = earlier(first, scan_block(alloc, atoms, positions, p, base, block)?);
+        first = earlier(
+            first,
+            scan_block(alloc, side, atoms, positions, p, base, block)?,
+        );
         base += block.len();
     }
     Ok(first)

@@ -11,9 +11,11 @@ use Rattle.assertions.specs.declared.decision.Decision.{Decision}
 use Rattle.assertions.specs.Quantifiers.{some_in, each_in, or_later, first_in, first_true_of, first_true}
 use Rattle.assertions.proofs.Quantifiers.{some_in-same, some_in-cut, each_in-at, each_in-true, first_in-step}
 use Rattle.assertions.specs.Segments.{Seq, sat, is_match, longest}
+use Rattle.assertions.specs.Attempts.{Antecedent, is_match_by, is_leading}
 use Rattle.assertions.specs.Attempts.{has_end, is_failed, all_kept, goes_on, is_possible, is_kept, decision, decided_at}
 use Rattle.assertions.specs.Attempts.{disabled_or, verdict_by}
 use Rattle.assertions.proofs.Segments.{Matches-longest, is_match-Matches}
+use Rattle.assertions.proofs.Attempts.{is_leading-Leads, Leads-Matches}
 use Rattle.signals.specs.declared.verdict.Verdict.TheVariants as outcome
 use Rattle.expressions.specs.declared.expr.Expr.{Expr}
 use Rattle.expressions.specs.Terms.{Samples}
@@ -38,6 +40,37 @@ module _ (B : Type 0) (value : B → ℕ → Bool) (n : ℕ) where
       (λ t. absurd
       (omega (arith, Matches-longest B (sat value n) r start k (is_match-Matches B (sat value n) r start k t)))))
 
+  leading_far : (r : Antecedent B) (from count : ℕ) → longest r.sequence + 1 ≤ count
+      → some_in from count (λ j. is_leading (sat value n) r 0 j)
+      ≡ some_in from (0 + longest r.sequence + 1) (λ j. is_leading (sat value n) r 0 j)
+  leading_far r from count within =
+      some_in-cut from (0 + longest r.sequence + 1) count (λ j. is_leading (sat value n) r 0 j) (omega arith)
+      (λ k above below. false_from_ne_true _ (λ t.
+      let m = Leads-Matches B (sat value n) r 0 k (is_leading-Leads B (sat value n) r 0 k t) in
+      absurd (omega (arith, Matches-longest B (sat value n) r.sequence 0 k m))))
+
+  -- which of the places of a row count
+  and_true : (b : Bool) → (b && true) ≡ b
+  and_true false = refl
+  and_true true = refl
+
+  counted_by : (first : Bool) (r : Seq B) (count : ℕ) (ends : List Bool)
+      → ((j : ℕ) → j < count → marks ends j ≡ is_match (sat value n) r 0 j) → (j : ℕ) → j < count
+      → (marks ends j && (not first || each_in 0 j (λ k. not (marks ends k)))) ≡ is_match_by (sat value n) first r 0 j
+  counted_by false r count ends at j below = and_true (marks ends j) ∙ at j below
+  counted_by true r count ends at j below =
+      ap (λ b. b && each_in 0 j (λ k. not (marks ends k))) (at j below)
+      ∙ ap (λ b. is_match (sat value n) r 0 j && b)
+      (each_in_same 0 j (λ k. not (marks ends k)) (λ k. not (is_match (sat value n) r 0 k))
+      (λ k from less. ap not (at k (omega arith))))
+
+  pub leading : (r : Antecedent B) (count : ℕ) (ends row : List Bool)
+      → IsRow (λ j. marks ends j && (not r.first || each_in 0 j (λ k. not (marks ends k)))) count row
+      → ((j : ℕ) → j < count → marks ends j ≡ is_match (sat value n) r.sequence 0 j) → (j : ℕ) → j < count
+      → marks row j ≡ is_leading (sat value n) r 0 j
+  leading r count ends row is at j below =
+      is.each j below ∙ counted_by r.first r.sequence count ends at j below
+
   -- the row of the first tick
   pub first_row : (r : Seq B) (count : ℕ) (starts ends : List Bool) (table : List (List Bool)) → 0 < count
       → IsRow (λ j. (j == 0) && true) count starts → IsRelation (is_match (sat value n) r) starts table
@@ -49,16 +82,17 @@ module _ (B : Type 0) (value : B → ℕ → Bool) (n : ℕ) where
         ap (λ (l : List Bool). marks l j) is ∙ rel.each 0 j (start.each 0 some) (omega (arith, start.long)),
   )
 
-  module _ (r s : Seq B) (count room : ℕ) (ends obligations : List Bool) (consequents : List (List Bool))
-      (within : n < count) (at : (j : ℕ) → j < count → marks ends j ≡ is_match (sat value n) r 0 j) where
-    pub goes_on_law : longest r < count → some_in (n + 1) count (marks ends) ≡ goes_on value r n 0
+  module _ (r : Antecedent B) (s : Seq B) (count room : ℕ) (ends obligations : List Bool)
+      (consequents : List (List Bool)) (within : n < count)
+      (at : (j : ℕ) → j < count → marks ends j ≡ is_leading (sat value n) r 0 j) where
+    pub goes_on_law : longest r.sequence < count → some_in (n + 1) count (marks ends) ≡ goes_on value r n 0
     goes_on_law long =
-        some_in-same (n + 1) count (marks ends) (λ j. is_match (sat value n) r 0 j) (λ j from below. at j below)
-        ∙ far_enough r 0 (n + 1) count (omega arith)
+        some_in-same (n + 1) count (marks ends) (λ j. is_leading (sat value n) r 0 j) (λ j from below. at j below)
+        ∙ leading_far r (n + 1) count (omega arith)
 
     pub has_end_law : some_in 0 n (λ e. marks ends (e + 1)) ≡ has_end value r n 0
     has_end_law =
-        some_in-same 0 n (λ e. marks ends (e + 1)) (λ e. is_match (sat value n) r 0 (e + 1))
+        some_in-same 0 n (λ e. marks ends (e + 1)) (λ e. is_leading (sat value n) r 0 (e + 1))
         (λ e from below. at (e + 1) (omega arith))
 
     module _ (wide : n + longest s < room)
@@ -85,7 +119,7 @@ module _ (B : Type 0) (value : B → ℕ → Bool) (n : ℕ) where
           ≡ is_failed value r s n 0
       failed_law =
           some_in-same 0 n (λ e. marks ends (e + 1) && not (some_in e room (links consequents e)))
-          (λ e. is_match (sat value n) r 0 (e + 1) && not (is_possible value s n e))
+          (λ e. is_leading (sat value n) r 0 (e + 1) && not (is_possible value s n e))
           (λ e from below. failed_at e below (marks ends (e + 1)) refl
           ∙ ap (λ b. b && not (is_possible value s n e)) (at (e + 1) (omega arith)))
 
@@ -101,7 +135,7 @@ module _ (B : Type 0) (value : B → ℕ → Bool) (n : ℕ) where
           ≡ all_kept value r s n 0
       kept_law =
           each_in_same 0 n (λ e. not (marks ends (e + 1)) || some_in e (n + 1) (links consequents e))
-          (λ e. not (is_match (sat value n) r 0 (e + 1)) || is_kept value s n e)
+          (λ e. not (is_leading (sat value n) r 0 (e + 1)) || is_kept value s n e)
           (λ e from below. kept_at e below (marks ends (e + 1)) refl
           ∙ ap (λ b. not b || is_kept value s n e) (at (e + 1) (omega arith)))
 
@@ -181,7 +215,8 @@ found_later find start below end lt so_far is =
     sym (first_in-step below end find lt ∙ ap (λ o. or_later below o (first_in (below + 1) end find)) is) ∙ so_far
 
 -- what the values that were seen decide is decided by the tick after them
-pub seen_decides : (value : Boolean → ℕ → Bool) (r s : Seq Boolean) (start below : ℕ) (values : List (List Bool))
+pub seen_decides : (value : Boolean → ℕ → Bool) (r : Antecedent Boolean) (s : Seq Boolean) (start below : ℕ)
+    (values : List (List Bool))
     (o : Option Decision) → HasSeen value start values → start + length values ≡ below
     → o ≡ decision (value_at values) r s (length values) 0 → decision value r s below start ≡ o
 seen_decides value r s start below values o h e is =

@@ -1,6 +1,7 @@
 -- Rows and tables that grow by one.
 use Rattle.std.proofs.Common.{◌≡◌, inl, inr, ℕ, zero, suc, ◌+◌, ◌<◌, ◌≤◌, Bool, true, false, ◌&&◌, ◌||◌, List, [], ◌∷◌}
-use Rattle.std.proofs.Common.{◌++◌, length, get_or, refl, sym, subst, ap, ◌∙◌, arith, length-append, nat_le, max, ◌-◌}
+use Rattle.std.proofs.Common.{not, ◌++◌, length, get_or, refl, sym, subst, ap, ◌∙◌, arith, length-append, nat_le, max}
+use Rattle.std.proofs.Common.{◌-◌}
 use Rattle.std.specs.Prelude.{IsTrue, ◌==◌}
 use Rattle.std.proofs.Math.ListN.{get_or-append}
 use Rattle.std.proofs.lemmas.Bool.{cases_lt, both_ways, le-leb, leb-true, false_from_ne_true, and_parts}
@@ -100,6 +101,16 @@ pub rows_all : (test : ℕ → ℕ → Bool) (starts : List Bool) (place : ℕ) 
     → IsRowsOf test starts place rows → place ≡ length starts → IsRelation test starts rows
 rows_all test starts place rows h whole =
     record { each = λ i j marked inside. h.each i j (omega (arith, marked_within starts i marked)) marked inside }
+
+-- whether a place counts where the first mark alone may do so: one place more
+pub counts_on : (ends : List Bool) (place : ℕ) (first counts here after : Bool)
+    → counts ≡ (not first || each_in 0 place (λ k. not (marks ends k))) → here ≡ marks ends place
+    → after ≡ (counts && not (first && here)) → after ≡ (not first || each_in 0 (place + 1) (λ k. not (marks ends k)))
+counts_on ends place false counts here after h at is = is ∙ ap (λ b. b && not (false && here)) h
+counts_on ends place true counts here after h at is =
+    is ∙ ap (λ b. b && not (true && here)) h
+    ∙ ap (λ b. each_in 0 place (λ k. not (marks ends k)) && not b) at
+    ∙ sym (each_in-snoc 0 place (λ k. not (marks ends k)) (omega arith))
 
 -- places up to which something holds from a first place on
 pub holds_on : (p : ℕ → Bool) (first place : ℕ) (going after : Bool) → going ≡ each_in first place p

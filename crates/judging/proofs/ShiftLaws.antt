@@ -1,5 +1,6 @@
 -- What is decided doesn't depend on where the attempt lies.
-use Rattle.std.proofs.Common.{◌≡◌, inl, inr, ℕ, zero, suc, ◌+◌, ◌-◌, ◌<◌, ◌≤◌, Bool, Option, Some, None, refl, sym}
+use Rattle.std.proofs.Common.{◌≡◌, inl, inr, ℕ, zero, suc, ◌+◌, ◌-◌, ◌<◌, ◌≤◌, Bool, true, false, Option, Some}
+use Rattle.std.proofs.Common.{None, refl, sym}
 use Rattle.std.proofs.Common.{subst, ◌∙◌, arith, nat_le}
 use Rattle.std.specs.Prelude.{IsTrue}
 use Rattle.std.proofs.lemmas.Bool.{or_cases, or_left, or_right, cases_lt, le-leb, leb-true}
@@ -7,7 +8,7 @@ use Rattle.assertions.specs.declared.decision.Decision.{Decision}
 use Rattle.assertions.specs.declared.decision.Decision.TheVariants.{Held, Vacuously, Failed}
 use Rattle.assertions.specs.Segments.{Seq, one, none, chop, fuse, either, both, meet, during, times, Chain, sat}
 use Rattle.assertions.specs.Segments.{Matches}
-use Rattle.assertions.specs.Attempts.{IsEnd, IsDecided, decision}
+use Rattle.assertions.specs.Attempts.{Antecedent, MatchesBy, Leads, IsEnd, IsDecided, decision}
 use Rattle.assertions.proofs.Segments.{Matches-forward, Chain-forward}
 use Rattle.assertions.proofs.Attempts.{decision-IsDecided, IsDecided-decision}
 
@@ -138,20 +139,47 @@ module _ (B : Type 0) (value here : B → ℕ → Bool) (c n : ℕ) (same : (b :
   forward : (r : Seq B) (i j : ℕ) → Matches (sat value (c + n)) r i j → i ≤ j
   forward = Matches-forward B (sat value (c + n))
 
-  end_down : (r : Seq B) (e : ℕ) → IsEnd value r (c + n) c e → IsEnd here r n 0 (e - c)
-  end_down r e h =
-      (omega arith, omega (arith, h.0, h.1), lower r c (e + 1) 0 (e - c + 1) (omega arith) (omega (arith, h.0)) h.2)
+  lower_by : (first : Bool) (r : Seq B) (i j k l : ℕ) → i ≡ c + k → j ≡ c + l
+      → MatchesBy (sat value (c + n)) first r i j
+      → MatchesBy (sat here n) first r k l
+  lower_by false r i j k l start end h = lower r i j k l start end h
+  lower_by true r i j k l start end h =
+      (lower r i j k l start end h.0, λ m below x. h.1 (c + m) (omega arith) (raise r i (c + m) k m start refl x))
 
-  end_up : (r : Seq B) (e : ℕ) → IsEnd here r n 0 e → IsEnd value r (c + n) c (c + e)
-  end_up r e h = (omega arith, omega (arith, h.1), raise r c (c + e + 1) 0 (e + 1) (omega arith) (omega arith) h.2)
+  raise_by : (first : Bool) (r : Seq B) (i j k l : ℕ) → i ≡ c + k → j ≡ c + l → MatchesBy (sat here n) first r k l
+      → MatchesBy (sat value (c + n)) first r i j
+  raise_by false r i j k l start end h = raise r i j k l start end h
+  raise_by true r i j k l start end h = (
+    raise r i j k l start end h.0,
+    λ m below x.
+        let from : i ≤ m = forward r i m x in
+        h.1 (m - c) (omega arith) (lower r i m k (m - c) start (omega arith) x),
+  )
+
+  -- the same of an antecedent
+  lower_led : (r : Antecedent B) (i j k l : ℕ) → i ≡ c + k → j ≡ c + l → Leads (sat value (c + n)) r i j
+      → Leads (sat here n) r k l
+  lower_led r = lower_by r.first r.sequence
+
+  raise_led : (r : Antecedent B) (i j k l : ℕ) → i ≡ c + k → j ≡ c + l → Leads (sat here n) r k l
+      → Leads (sat value (c + n)) r i j
+  raise_led r = raise_by r.first r.sequence
+
+  end_down : (r : Antecedent B) (e : ℕ) → IsEnd value r (c + n) c e → IsEnd here r n 0 (e - c)
+  end_down r e h =
+      (omega arith, omega (arith, h.0, h.1), lower_led r c (e + 1) 0 (e - c + 1) (omega arith) (omega (arith, h.0)) h.2)
+
+  end_up : (r : Antecedent B) (e : ℕ) → IsEnd here r n 0 e → IsEnd value r (c + n) c (c + e)
+  end_up r e h = (omega arith, omega (arith, h.1), raise_led r c (c + e + 1) 0 (e + 1) (omega arith) (omega arith) h.2)
 
   -- an end lies where it does beside the first tick
-  end_at : (r : Seq B) (e : ℕ) → c ≤ e → IsEnd here r n 0 (e - c) → IsEnd value r (c + n) c e
+  end_at : (r : Antecedent B) (e : ℕ) → c ≤ e → IsEnd here r n 0 (e - c) → IsEnd value r (c + n) c e
   end_at r e from h =
       let same_end : c + (e - c) ≡ e = omega arith in subst (λ k. IsEnd value r (c + n) c k) same_end
       (end_up r (e - c) h)
 
-  decided_down : (r s : Seq B) (d : Decision) → IsDecided value r s (c + n) c d → IsDecided here r s n 0 d
+  decided_down : (r : Antecedent B) (s : Seq B) (d : Decision) → IsDecided value r s (c + n) c d
+      → IsDecided here r s n 0 d
   decided_down r s Failed h =
       let from : c ≤ h.0 = h.1.0 in
       (h.0 - c, end_down r h.0 h.1, λ j m. h.2 (c + j) (raise s h.0 (c + j) (h.0 - c) j (omega arith) refl m))
@@ -161,14 +189,15 @@ module _ (B : Type 0) (value here : B → ℕ → Bool) (c n : ℕ) (same : (b :
         let kept = h.1 (c + e) (end_up r e end) in
         let from : c + e ≤ kept.0 = forward s (c + e) kept.0 kept.2 in
         (kept.0 - c, omega (arith, kept.1), lower s (c + e) kept.0 e (kept.0 - c) refl (omega arith) kept.2),
-    λ j above m. h.2 (c + j) (omega arith) (raise r c (c + j) 0 j (omega arith) refl m),
+    λ j above m. h.2 (c + j) (omega arith) (raise_led r c (c + j) 0 j (omega arith) refl m),
   )
   decided_down r s Vacuously h = (
     λ e end. h.0 (c + e) (end_up r e end),
-    λ j above m. h.1 (c + j) (omega arith) (raise r c (c + j) 0 j (omega arith) refl m),
+    λ j above m. h.1 (c + j) (omega arith) (raise_led r c (c + j) 0 j (omega arith) refl m),
   )
 
-  decided_up : (r s : Seq B) (d : Decision) → IsDecided here r s n 0 d → IsDecided value r s (c + n) c d
+  decided_up : (r : Antecedent B) (s : Seq B) (d : Decision) → IsDecided here r s n 0 d
+      → IsDecided value r s (c + n) c d
   decided_up r s Failed h = (
     c + h.0,
     end_up r h.0 h.1,
@@ -180,15 +209,15 @@ module _ (B : Type 0) (value here : B → ℕ → Bool) (c n : ℕ) (same : (b :
         let from : c ≤ e = end.0 in
         let kept = h.1 (e - c) (end_down r e end) in
         (c + kept.0, omega (arith, kept.1), raise s e (c + kept.0) (e - c) kept.0 (omega arith) refl kept.2),
-    λ j above m. h.2 (j - c) (omega arith) (lower r c j 0 (j - c) (omega arith) (omega arith) m),
+    λ j above m. h.2 (j - c) (omega arith) (lower_led r c j 0 (j - c) (omega arith) (omega arith) m),
   )
   decided_up r s Vacuously h = (
     λ e end. h.0 (e - c) (end_down r e end),
-    λ j above m. h.1 (j - c) (omega arith) (lower r c j 0 (j - c) (omega arith) (omega arith) m),
+    λ j above m. h.1 (j - c) (omega arith) (lower_led r c j 0 (j - c) (omega arith) (omega arith) m),
   )
 
   -- by the values that were seen
-  pub decision_seen : (r s : Seq B) → decision value r s (c + n) c ≡ decision here r s n 0
+  pub decision_seen : (r : Antecedent B) (s : Seq B) → decision value r s (c + n) c ≡ decision here r s n 0
   decision_seen r s = same_option _ _
       (λ d e. IsDecided-decision B here r s n 0 d (decided_down r s d (decision-IsDecided B value r s (c + n) c d e)))
       (λ d e. IsDecided-decision B value r s (c + n) c d (decided_up r s d (decision-IsDecided B here r s n 0 d e)))

@@ -8,6 +8,7 @@ use Rattle.assertions.specs.declared.sequence.Boolean.{Boolean}
 use Rattle.assertions.specs.declared.suite.Suite.{Suite}
 use Rattle.assertions.specs.Attempts.{decision}
 use Rattle.assertions.specs.Shapes.{shape, value_in}
+use Rattle.assertions.specs.Verdicts.{antecedent_of}
 use Rattle.judging.specs.Tables.{value_at}
 
 -- which of an assertion's booleans are true at a tick of the rows
@@ -17,9 +18,9 @@ value_over suite rows a = value_in suite.booleans.items a.booleans.items (sample
 -- how the attempt that begins at a tick is decided where the ticks below n were seen
 abbrev pub decision_over : Suite → Rows → Assertion → ℕ → ℕ → Option Decision
 decision_over suite rows a start n =
-    decision (value_over suite rows a) (shape a.antecedent) (shape a.consequent) n start
+    decision (value_over suite rows a) (antecedent_of a) (shape a.consequent) n start
 
 -- how an attempt is decided by the rows of values that it has seen
 abbrev pub decision_from : List (List Bool) → Assertion → Option Decision
 decision_from values a =
-    decision (value_at values) (shape a.antecedent) (shape a.consequent) (length values) 0
+    decision (value_at values) (antecedent_of a) (shape a.consequent) (length values) 0

@@ -9,7 +9,7 @@ ghost use Rattle.judging.specs.Courses.{decision_from};
 
 use crate::ends::ends_from;
 use crate::outlook::{obligations_at, outlook_of};
-use crate::row::{only, some_mark};
+use crate::row::{leading_row, only, some_mark};
 use crate::seen::Seen;
 use assertions::{Assertion, Decision, HEAVIEST, Sequence, weight_of};
 use std::alloc::{AllocError, Global};
@@ -55,7 +55,8 @@ pub(crate) fn decision_of(
     let count = most_ticks(&assertion.antecedent).max(below) + 1;
     let start = only(alloc, 0, true, count)?;
     let antecedents = ends_from(alloc, &assertion.antecedent, seen, start.as_slice())?;
-    let ends = antecedents.row(0);
+    let row = leading_row(alloc, antecedents.row(0), assertion.first, count)?;
+    let ends = row.as_slice();
     let goes_on = some_mark(ends, below + 1, count);
     let room = below + most_ticks(&assertion.consequent) + 1;
     let obligations = obligations_at(alloc, ends, below, room)?;

@@ -1,7 +1,7 @@
 //! Rows of marks, each made for one start.
 
 ghost use Rattle.std.specs.Prelude.{◌≡◌, ℕ, ◌+◌, ◌-◌, ◌<◌, ◌≤◌, ◌&&◌, ◌||◌, ◌==◌, ◌^◌, true};
-ghost use Rattle.std.specs.Prelude.{nat_le, IfOk, length};
+ghost use Rattle.std.specs.Prelude.{nat_le, not, IfOk, length};
 ghost use Rattle.assertions.specs.Quantifiers.{some_in, each_in};
 ghost use Rattle.judging.specs.Tables.{marks, links, held_at, IsRow};
 
@@ -144,6 +144,26 @@ pub(crate) fn merged_row(
     let mut row = Vec::with_capacity(alloc, count)?;
     for place in 0..count {
         row.push(is_marked(one, place) || is_marked(other, place))?;
+    }
+    Ok(row)
+}
+
+/// The places of the row, or the first of them alone.
+pub(crate) fn leading_row(
+    alloc: Global,
+    ends: &[bool],
+    first: bool,
+    count: usize,
+) -> Result<Vec<bool>, AllocError>
+    ensures { IfOk result (λ row. IsRow (λ j. marks ends.now j
+        && (not first || each_in 0 j (λ k. not (marks ends.now k)))) count row.items) }
+{
+    let mut row = Vec::with_capacity(alloc, count)?;
+    let mut counts = true;
+    for place in 0..count {
+        let here = is_marked(ends, place);
+        row.push(here & counts)?;
+        counts &= !(first & here);
     }
     Ok(row)
 }

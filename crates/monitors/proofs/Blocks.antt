@@ -8,10 +8,11 @@ use Rattle.std.proofs.lemmas.Bool.{cases_Bool, le-ltb}
 use Rattle.std.proofs.lemmas.Option.{get_or_from_slice_get, slice_get_within}
 use Rattle.bytecode.specs.declared.block_instr.BlockInstr.{BlockInstr}
 use Rattle.bytecode.specs.declared.block_instr.BlockInstr.TheVariants.{Unless, Enter, Accept, Stop}
+use Rattle.bytecode.specs.declared.block_instr.BlockInstr.TheVariants.{AcceptFirst}
 use Rattle.checked_machine.specs.Blocks.{Visit}
 use Rattle.checked_machine.specs.Outcomes.{Ran, done, trapped, and_then, tick}
 use Rattle.bytecode.specs.Values.{SectionData}
-use Rattle.checked_machine.specs.Blocks.{fetch, branch, obey, run, visit_blocks, visit}
+use Rattle.checked_machine.specs.Blocks.{fetch, branch, obey, run, visit_blocks, run_set, visit, ended}
 use Rattle.checked_machine.proofs.Typing.{IsBlock, AreBlocks, IsSection}
 use Rattle.monitors.specs.Effects.{effect, effects, visit_of}
 
@@ -98,12 +99,17 @@ module _ (block : List BlockInstr) (base positions p : ℕ) (atoms : List Bool)
   obey-gives left go makes j v None h = tt
   obey-gives left go makes j v (Some Stop) h = sym (from-here j Stop v h)
   obey-gives left go makes j v (Some Accept) h =
-      next-gives left go makes j v (record { entered = v.entered; accepted = true }) (from-here j Accept v h)
+      next-gives left go makes j v (record { entered = v.entered; accepted = true; first = v.first })
+      (from-here j Accept v h)
+  obey-gives left go makes j v (Some AcceptFirst) h =
+      next-gives left go makes j v (record { entered = v.entered; accepted = true; first = true })
+      (from-here j AcceptFirst v h)
   obey-gives left go makes j v (Some (Enter q)) h =
       elim (cases_Bool (nat_lt q positions)) [
         | inl there ↦
             rw there
-            (next-gives left go makes j v (record { entered = bit_or v.entered (2 ^ q); accepted = v.accepted })
+            (next-gives left go makes j v
+            (record { entered = bit_or v.entered (2 ^ q); accepted = v.accepted; first = v.first })
             (from-here j (Enter q) v h))
         | inr not_there ↦ rw not_there tt
       ]
@@ -147,7 +153,11 @@ visit_blocks-gives atoms positions set p base (b ∷ bs) fine v left =
 -- a visit of a well formed section makes what its blocks make
 pub visit-gives : (s : SectionData) (atoms : List Bool) → IsSection (length atoms) s → (set left : ℕ)
     → Gives (λ x. x ≡ visit_of s atoms set) (visit s atoms set left)
-unfolding visit visit_of
+unfolding visit run_set visit_of
 visit-gives s atoms section set left =
-    visit_blocks-gives atoms (length s.blocks) set 0 0 s.blocks section.blocks
-    (record { entered = 0; accepted = false }) left
+    let v0 : Visit = record { entered = 0; accepted = false; first = false } in
+    Gives-and_then (λ x. x ≡ effects atoms set 0 0 s.blocks v0)
+    (λ x. x ≡ ended (effects atoms set 0 0 s.blocks v0))
+    (visit_blocks (length s.blocks) atoms set s.blocks 0 0 v0 left) (λ v left. done (ended v) left)
+    (visit_blocks-gives atoms (length s.blocks) set 0 0 s.blocks section.blocks v0 left)
+    (λ v left e. ap ended e)

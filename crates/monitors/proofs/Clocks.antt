@@ -16,7 +16,7 @@ use Rattle.assertions.specs.declared.decision.Decision.TheVariants.{Held, Vacuou
 use Rattle.assertions.specs.Quantifiers.{some_in, each_in}
 use Rattle.assertions.proofs.Quantifiers.{some_in-found, some_in-true, each_in-at, each_in-true, each_in-end}
 use Rattle.assertions.specs.Segments.{Seq, sat, Matches}
-use Rattle.assertions.specs.Attempts.{IsEnd, IsKept, IsOver, IsDecided}
+use Rattle.assertions.specs.Attempts.{Antecedent, every, Leads, IsEnd, IsKept, IsOver, IsDecided}
 use Rattle.monitors.specs.Automata.{Automaton, places, accepts, accepted_at, Follows}
 use Rattle.monitors.specs.Monitors.{Monitor, visit_each, some_accepts, with_new, fate_of, fates_of, settle_each}
 use Rattle.monitors.specs.Monitors.{disable_each, settled_with, clock_with, new_attempt, clock_of}
@@ -24,6 +24,7 @@ use Rattle.monitors.specs.Standing.{select, is_open, falls_at, attempt_at, is_aw
 use Rattle.monitors.specs.Standing.{obligation_at, standing_at, falling}
 use Rattle.monitors.proofs.Local.{Matches-seen, Matches-sat}
 use Rattle.monitors.proofs.Facts.{accepted_at-bit, bit-accepted_at, accepted_at-zero, some-accepted_at, IsEnd-accepts}
+use Rattle.monitors.proofs.Facts.{Leads-seen, Leads-sat}
 use Rattle.monitors.proofs.Facts.{accepts-IsEnd, IsOver-places, places-IsOver, IsKept-later, IsBroken-not_kept}
 use Rattle.monitors.proofs.Facts.{IsBroken-places, places-IsBroken, IsKept-accepts, accepts-IsKept, unsettled-IsKept}
 use Rattle.monitors.proofs.Facts.{settled-fate}
@@ -98,8 +99,9 @@ module _ (m : Monitor) where
       let none : n - n ≡ 0 = omega arith in
       ap (λ k. record { tick = n; positions = places m.consequent n k }) none
 
-module _ (B : Type 0) (value : B → ℕ → Bool) (r s : Seq B) (m : Monitor) (fr : Follows value r m.antecedent)
-    (fs : Follows value s m.consequent) (fills : (e : ℕ) → Matches value s e e → ⊥) (verdict : ℕ → ℕ → Verdict)
+module _ (B : Type 0) (value : B → ℕ → Bool) (r : Antecedent B) (s : Seq B) (m : Monitor)
+    (fr : Follows value r m.antecedent) (fs : Follows value (every s) m.consequent)
+    (fills : (e : ℕ) → Matches value s e e → ⊥) (verdict : ℕ → ℕ → Verdict)
     (are : AreVerdicts value m.off r s verdict) (n : ℕ) where
   abbrev running : ℕ → Type 0
   running c = IsRunning B value m.off r s verdict are n c
@@ -254,7 +256,7 @@ module _ (B : Type 0) (value : B → ℕ → Bool) (r s : Seq B) (m : Monitor) (
                 | inr broken ↦
                     absurd
                     (runs.undecided n Failed (omega (arith, end.0)) (omega arith)
-                    (e, (end.0, early, Matches-now e early end), broken))
+                    (e, (end.0, early, Leads-now e early end), broken))
               ]
               | inr late ↦
                   let none : n - e ≡ 0 = omega arith in
@@ -262,10 +264,10 @@ module _ (B : Type 0) (value : B → ℕ → Bool) (r s : Seq B) (m : Monitor) (
             ]
           ]
         where
-          Matches-now : (e : ℕ) → e < n → IsEnd value r (n + 1) c e → Matches (sat value n) r c (e + 1)
-          Matches-now e early end =
-              Matches-sat B value r n c (e + 1)
-              (Matches-seen B value r (n + 1) c (e + 1) (omega (arith, end.1)) end.2)
+          Leads-now : (e : ℕ) → e < n → IsEnd value r (n + 1) c e → Leads (sat value n) r c (e + 1)
+          Leads-now e early end =
+              Leads-sat B value r n c (e + 1) (omega arith)
+              (Leads-seen B value r (n + 1) c (e + 1) (omega (arith, end.1)) end.2)
 
       owed-unkept : (e : ℕ) → e ≤ n → owed e ≡ true → accepts m.consequent e (n - e) ≡ false → IsKept value s (n + 1) e
           → ⊥

@@ -11,7 +11,7 @@ use Rattle.verifier.specs.Limits.{longest_path}
 use Rattle.verifier.specs.Programs.{IsAccepted}
 use Rattle.assertions.specs.declared.sequence.Boolean.{Boolean}
 use Rattle.assertions.specs.Segments.{Seq}
-use Rattle.assertions.specs.Attempts.{verdict, IsVerdict}
+use Rattle.assertions.specs.Attempts.{Antecedent, verdict, IsVerdict}
 use Rattle.checked_machine.specs.Outcomes.{Ran, done, trapped, Meets}
 use Rattle.checked_machine.specs.Clocks.{Attempt, Settled, clock_after}
 use Rattle.checked_machine.specs.Bounds.{IsReached}
@@ -35,7 +35,8 @@ Meets-gives P Q (done a n) p q = (p, q)
 Meets-gives P Q (trapped t) p q = p
 
 -- an attempt that begins after a clock doesn't fall at it
-late : (B : Type 0) (value : B → ℕ → Bool) (off : ℕ → Bool) (r s : Seq B) (end c k : ℕ) → k < c → (v : Verdict)
+late : (B : Type 0) (value : B → ℕ → Bool) (off : ℕ → Bool) (r : Antecedent B) (s : Seq B) (end c k : ℕ) → k < c
+    → (v : Verdict)
     → IsVerdict value off r s end c v → falls_at k v ≡ true → ⊥
 late B value off r s end c k below outcome.Open is h = cc
 late B value off r s end c k below (outcome.Holds t) is h = let e = eqb-true t k h in omega (arith, is.0.above)
@@ -44,7 +45,8 @@ late B value off r s end c k below (outcome.Fails t) is h = let e = eqb-true t k
 late B value off r s end c k below (outcome.Disabled t) (inl is) h = let e = eqb-true t k h in omega (arith, is.3.from)
 late B value off r s end c k below (outcome.Disabled t) (inr is) h = let e = eqb-true t k h in omega (arith, is.1.from)
 
-module _ (p : ProgramData) (atoms : ℕ → List Bool) (value : Boolean → ℕ → Bool) (r s : Seq Boolean)
+module _ (p : ProgramData) (atoms : ℕ → List Bool) (value : Boolean → ℕ → Bool) (r : Antecedent Boolean)
+    (s : Seq Boolean)
     (accepted : IsAccepted p) (watches : Watches p atoms value r s) (fills : Fills value s) where
   abbrev m : Monitor
   m = monitor_of p atoms

@@ -6,8 +6,8 @@ use Rattle.std.specs.Int.{bit_at}
 use Rattle.std.proofs.lemmas.Bool.{both_ways, not-true, and_parts, and_cases, or_cases, or_parts, not-false, cases_Bool}
 use Rattle.std.proofs.lemmas.Bool.{cases_lt, cases_eq, eqb-true}
 use Rattle.std.proofs.lemmas.Nat.Bits.{bit_at_or, bit_at-pow_same, bit_at-pow_other, bit_at-zero, bit_at-lt}
-use Rattle.assertions.specs.Segments.{Seq, Matches}
-use Rattle.assertions.specs.Attempts.{IsEnd, IsKept, IsBroken, IsOver}
+use Rattle.assertions.specs.Segments.{Seq, sat, Matches}
+use Rattle.assertions.specs.Attempts.{Antecedent, every, MatchesBy, Leads, IsEnd, IsKept, IsBroken, IsOver}
 use Rattle.assertions.proofs.Segments.{Matches-forward}
 use Rattle.monitors.specs.Automata.{Automaton, places, accepts, accepted_at, Follows}
 use Rattle.monitors.specs.Standing.{is_unsettled}
@@ -84,17 +84,41 @@ module _ (a : Automaton) where
   some-accepted_at c zero some = absurd (some refl)
   some-accepted_at c (suc k) some = some-more c k (accepts a c k) refl some (some-accepted_at c k)
 
-module _ (B : Type 0) (value : B → ℕ → Bool) (r : Seq B) (a : Automaton) (follows : Follows value r a) where
+-- An antecedent's match that ends by n is one of what was seen, and is one with those ticks seen.
+seen-by : (B : Type 0) (value : B → ℕ → Bool) (first : Bool) (r : Seq B) (n i j : ℕ) → j ≤ n
+    → MatchesBy (sat value n) first r i j → MatchesBy value first r i j
+seen-by B value false r n i j by h = Matches-seen B value r n i j by h
+seen-by B value true r n i j by h =
+    (Matches-seen B value r n i j by h.0, λ k below m. h.1 k below (Matches-sat B value r n i k m))
+
+sat-by : (B : Type 0) (value : B → ℕ → Bool) (first : Bool) (r : Seq B) (n i j : ℕ) → j ≤ n
+    → MatchesBy value first r i j → MatchesBy (sat value n) first r i j
+sat-by B value false r n i j by h = Matches-sat B value r n i j h
+sat-by B value true r n i j by h =
+    (Matches-sat B value r n i j h.0, λ k below m. h.1 k below (Matches-seen B value r n i k (omega arith) m))
+
+pub Leads-seen : (B : Type 0) (value : B → ℕ → Bool) (r : Antecedent B) (n i j : ℕ) → j ≤ n
+    → Leads (sat value n) r i j → Leads value r i j
+Leads-seen B value r n i j by h = seen-by B value r.first r.sequence n i j by h
+
+pub Leads-sat : (B : Type 0) (value : B → ℕ → Bool) (r : Antecedent B) (n i j : ℕ) → j ≤ n
+    → Leads value r i j → Leads (sat value n) r i j
+Leads-sat B value r n i j by h = sat-by B value r.first r.sequence n i j by h
+
+module _ (B : Type 0) (value : B → ℕ → Bool) (r : Antecedent B) (a : Automaton) (follows : Follows value r a) where
   pub IsEnd-accepts : (n c e : ℕ) → IsEnd value r n c e → IsTrue (accepts a c (e - c))
   IsEnd-accepts n c e end =
       let same : e + 1 ≡ c + (e - c) + 1 = omega (arith, end.0) in
       (follows.ends c (e - c)).1
-      (subst (Matches value r c) same (Matches-seen B value r n c (e + 1) (omega (arith, end.1)) end.2))
+      (subst (Leads value r c) same (Leads-seen B value r n c (e + 1) (omega (arith, end.1)) end.2))
 
   pub accepts-IsEnd : (n c e : ℕ) → c ≤ e → e < n → IsTrue (accepts a c (e - c)) → IsEnd value r n c e
   accepts-IsEnd n c e from below h =
-      let same : c + (e - c) + 1 ≡ e + 1 = omega arith in
-      (from, below, Matches-sat B value r n c (e + 1) (subst (Matches value r c) same ((follows.ends c (e - c)).0 h)))
+      let same : c + (e - c) + 1 ≡ e + 1 = omega arith in (
+        from,
+        below,
+        Leads-sat B value r n c (e + 1) (omega arith) (subst (Leads value r c) same ((follows.ends c (e - c)).0 h)),
+      )
 
   pub IsOver-places : (n c : ℕ) → c ≤ n → IsOver value r n c → places a c (n - c) ≡ 0
   IsOver-places n c le over =
@@ -106,6 +130,7 @@ module _ (B : Type 0) (value : B → ℕ → Bool) (r : Seq B) (a : Automaton) (
       let same : c + (n - c) ≡ n = omega arith in
       subst (λ k. IsOver value r k c) same ((follows.over c (n - c)).0 h)
 
+module _ (B : Type 0) (value : B → ℕ → Bool) (r : Seq B) (a : Automaton) (follows : Follows value (every r) a) where
   -- an obligation that is kept stays kept; one that is broken stays broken; none is both
   pub IsKept-later : (m n e : ℕ) → m ≤ n → IsKept value r m e → IsKept value r n e
   IsKept-later m n e le kept = (
@@ -121,12 +146,12 @@ module _ (B : Type 0) (value : B → ℕ → Bool) (r : Seq B) (a : Automaton) (
   IsBroken-not_kept n e broken kept = broken kept.0 kept.2
 
   pub IsBroken-places : (n e : ℕ) → e ≤ n → IsBroken value r n e → places a e (n - e) ≡ 0
-  IsBroken-places n e le broken = IsOver-places n e le (λ j later h. broken j h)
+  IsBroken-places n e le broken = IsOver-places B value (every r) a follows n e le (λ j later h. broken j h)
 
   pub places-IsBroken : (n e : ℕ) → e ≤ n → places a e (n - e) ≡ 0 → (IsKept value r n e → ⊥) → IsBroken value r n e
   places-IsBroken n e le none unkept j h =
       elim (cases_lt n j) [
-        | inl later ↦ places-IsOver n e le none j later h
+        | inl later ↦ places-IsOver B value (every r) a follows n e le none j later h
         | inr by ↦ unkept (j, by, h)
       ]
 

@@ -11,3 +11,4 @@ pub mod Deciding
 pub mod Theorem
 pub mod Histories
 pub mod Rows
+pub mod Firsts

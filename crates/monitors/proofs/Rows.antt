@@ -11,7 +11,7 @@ use Rattle.verifier.specs.Limits.{longest_path}
 use Rattle.verifier.specs.Programs.{IsAccepted}
 use Rattle.assertions.specs.declared.sequence.Boolean.{Boolean}
 use Rattle.assertions.specs.Segments.{Seq}
-use Rattle.assertions.specs.Attempts.{verdict}
+use Rattle.assertions.specs.Attempts.{Antecedent, verdict}
 use Rattle.checked_machine.specs.Outcomes.{Ran, done, trapped, Meets}
 use Rattle.checked_machine.specs.Samples.{Made, nothing_made}
 use Rattle.checked_machine.specs.Clocks.{Settled, clock_after}
@@ -51,7 +51,8 @@ sample-costs p signals counters a k =
     (length-replicate p.header.atoms false) a.sample.some a.sample.begins (omega (arith, (limits-of p a).budget))
 
 module _ (p : ProgramData) (signals counters : ℕ → List ℕ) (atoms : ℕ → List Bool) (value : Boolean → ℕ → Bool)
-    (r s : Seq Boolean) (accepted : IsAccepted p) (watches : Watches p atoms value r s) (fills : Fills value s) where
+    (r : Antecedent Boolean) (s : Seq Boolean) (accepted : IsAccepted p) (watches : Watches p atoms value r s)
+    (fills : Fills value s) where
   abbrev m : Monitor
   m = monitor_of p atoms
 

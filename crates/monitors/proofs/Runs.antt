@@ -8,7 +8,8 @@ use Rattle.checked_machine.specs.Clocks.{Settled}
 use Rattle.assertions.specs.declared.decision.Decision.{Decision}
 use Rattle.assertions.specs.declared.decision.Decision.TheVariants.{Held, Vacuously, Failed}
 use Rattle.assertions.specs.Segments.{Seq, Matches}
-use Rattle.assertions.specs.Attempts.{IsFirstDecided, IsUndecided, IsFirstOff, IsNeverOff, IsVerdict, verdict}
+use Rattle.assertions.specs.Attempts.{Antecedent, every, IsFirstDecided, IsUndecided, IsFirstOff, IsNeverOff}
+use Rattle.assertions.specs.Attempts.{IsVerdict, verdict}
 use Rattle.assertions.proofs.Verdicts.{IsVerdict-verdict, IsVerdict-only}
 use Rattle.monitors.specs.Automata.{Follows}
 use Rattle.monitors.specs.Monitors.{Monitor, clock_of, after, decided_at}
@@ -18,14 +19,14 @@ use Rattle.monitors.proofs.Verdicts.{AreVerdicts, IsRunning, is_open-runs}
 use Rattle.monitors.proofs.Clocks.{clock-goes}
 
 -- the verdicts that are computed are the ones that are stated
-pub computed : (B : Type 0) (value : B → ℕ → Bool) (off : ℕ → Bool) (r s : Seq B)
+pub computed : (B : Type 0) (value : B → ℕ → Bool) (off : ℕ → Bool) (r : Antecedent B) (s : Seq B)
     → AreVerdicts value off r s (verdict value off r s)
 computed B value off r s = record {
   stated = λ n c. IsVerdict-verdict B value off r s n c;
   only = λ n c v. IsVerdict-only B value off r s n c v;
 }
 
-module _ (B : Type 0) (value : B → ℕ → Bool) (off : ℕ → Bool) (r s : Seq B) (v : ℕ → ℕ → Verdict)
+module _ (B : Type 0) (value : B → ℕ → Bool) (off : ℕ → Bool) (r : Antecedent B) (s : Seq B) (v : ℕ → ℕ → Verdict)
     (are : AreVerdicts value off r s v) where
   first-later : (m end c n : ℕ) (d : Decision) → m ≤ end → IsFirstDecided value r s m c n d
       → IsFirstDecided value r s end c n d
@@ -134,8 +135,9 @@ module _ (B : Type 0) (value : B → ℕ → Bool) (off : ℕ → Bool) (r s : S
       falls-closed n (outcome.Fails t) h = refl
       falls-closed n (outcome.Disabled t) h = refl
 
-module _ (B : Type 0) (value : B → ℕ → Bool) (r s : Seq B) (m : Monitor) (fr : Follows value r m.antecedent)
-    (fs : Follows value s m.consequent) (fills : (e : ℕ) → Matches value s e e → ⊥) (v : ℕ → ℕ → Verdict)
+module _ (B : Type 0) (value : B → ℕ → Bool) (r : Antecedent B) (s : Seq B) (m : Monitor)
+    (fr : Follows value r m.antecedent)
+    (fs : Follows value (every s) m.consequent) (fills : (e : ℕ) → Matches value s e e → ⊥) (v : ℕ → ℕ → Verdict)
     (are : AreVerdicts value m.off r s v) where
   -- the state after any clocks stands for the meaning
   pub after-standing : (n : ℕ) → after m n ≡ standing_at m v n

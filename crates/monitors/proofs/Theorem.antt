@@ -7,7 +7,7 @@ use Rattle.bytecode.specs.Values.{ProgramData}
 use Rattle.verifier.specs.Programs.{IsAccepted}
 use Rattle.assertions.specs.declared.sequence.Boolean.{Boolean}
 use Rattle.assertions.specs.Segments.{Seq}
-use Rattle.assertions.specs.Attempts.{verdict}
+use Rattle.assertions.specs.Attempts.{Antecedent, verdict}
 use Rattle.checked_machine.specs.Outcomes.{Meets}
 use Rattle.checked_machine.specs.Clocks.{Settled, none_standing, clock_after}
 use Rattle.checked_machine.specs.Bounds.{IsReached}
@@ -19,7 +19,8 @@ use Rattle.monitors.specs.Laws.{Watches, Fills, fallen, starts_of, IsJudged, IsS
 use Rattle.monitors.proofs.Selections.{map-same}
 use Rattle.monitors.proofs.Deciding.{Goes, clock-decides, falling-fallen, starts-open}
 
-module _ (p : ProgramData) (atoms : ℕ → List Bool) (left : ℕ → ℕ) (value : Boolean → ℕ → Bool) (r s : Seq Boolean)
+module _ (p : ProgramData) (atoms : ℕ → List Bool) (left : ℕ → ℕ) (value : Boolean → ℕ → Bool) (r : Antecedent Boolean)
+    (s : Seq Boolean)
     (accepted : IsAccepted p) (watches : Watches p atoms value r s) (fills : Fills value s) where
   abbrev m : Monitor
   m = monitor_of p atoms

@@ -8,17 +8,18 @@ use Rattle.signals.specs.declared.verdict.Verdict.TheVariants as outcome
 use Rattle.assertions.specs.declared.decision.Decision.{Decision}
 use Rattle.assertions.specs.declared.decision.Decision.TheVariants.{Held, Vacuously, Failed}
 use Rattle.assertions.specs.Segments.{Seq}
-use Rattle.assertions.specs.Attempts.{IsDecided, IsFirstDecided, IsUndecided, IsFirstOff, IsNeverOff, IsVerdict}
-use Rattle.assertions.specs.Attempts.{decided_at}
+use Rattle.assertions.specs.Attempts.{Antecedent, IsDecided, IsFirstDecided, IsUndecided, IsFirstOff}
+use Rattle.assertions.specs.Attempts.{IsNeverOff, IsVerdict, decided_at}
 use Rattle.monitors.specs.Standing.{is_open, falls_at}
 
 -- each verdict is the one that is stated, and there is no other
-pub record AreVerdicts {B : Type 0} (value : B → ℕ → Bool) (off : ℕ → Bool) (r s : Seq B) (verdict : ℕ → ℕ → Verdict) :
+pub record AreVerdicts {B : Type 0} (value : B → ℕ → Bool) (off : ℕ → Bool) (r : Antecedent B) (s : Seq B)
+    (verdict : ℕ → ℕ → Verdict) :
     Type 0 where
   pub stated : (n c : ℕ) → IsVerdict value off r s n c (verdict n c)
   pub only : (n c : ℕ) (v : Verdict) → IsVerdict value off r s n c v → verdict n c ≡ v
 
-module _ (B : Type 0) (value : B → ℕ → Bool) (off : ℕ → Bool) (r s : Seq B) (verdict : ℕ → ℕ → Verdict)
+module _ (B : Type 0) (value : B → ℕ → Bool) (off : ℕ → Bool) (r : Antecedent B) (s : Seq B) (verdict : ℕ → ℕ → Verdict)
     (are : AreVerdicts value off r s verdict) where
   -- neither decided nor disabled so far
   pub record IsRunning (n c : ℕ) : Type 0 where

@@ -5,8 +5,9 @@ use Rattle.std.specs.Prelude.{if◌then◌else◌, List, [], ◌∷◌, length, 
 use Rattle.std.specs.Int.{bit_at}
 use Rattle.bytecode.specs.declared.block_instr.BlockInstr.{BlockInstr}
 use Rattle.bytecode.specs.declared.block_instr.BlockInstr.TheVariants.{Unless, Enter, Accept, Stop}
+use Rattle.bytecode.specs.declared.block_instr.BlockInstr.TheVariants.{AcceptFirst}
 use Rattle.bytecode.specs.Values.{SectionData}
-use Rattle.checked_machine.specs.Blocks.{Visit}
+use Rattle.checked_machine.specs.Blocks.{Visit, ended}
 use Rattle.monitors.specs.Automata.{Automaton}
 
 -- What the instructions from pc on make, the first so many of them jumped over.
@@ -15,10 +16,12 @@ effect atoms skipped pc [] v = v
 effect atoms (suc skipped) pc (i ∷ is) v = effect atoms skipped (pc + 1) is v
 effect atoms zero pc (Stop ∷ is) v = v
 effect atoms zero pc (Accept ∷ is) v =
-    effect atoms zero (pc + 1) is (record { entered = v.entered; accepted = true })
+    effect atoms zero (pc + 1) is (record { entered = v.entered; accepted = true; first = v.first })
+effect atoms zero pc (AcceptFirst ∷ is) v =
+    effect atoms zero (pc + 1) is (record { entered = v.entered; accepted = true; first = true })
 effect atoms zero pc (Enter q ∷ is) v =
     effect atoms zero (pc + 1) is
-    (record { entered = bit_or v.entered (2 ^ q); accepted = v.accepted })
+    (record { entered = bit_or v.entered (2 ^ q); accepted = v.accepted; first = v.first })
 effect atoms zero pc (Unless atom target ∷ is) v =
     effect atoms (if slice_index_or atoms atom true then 0 else target - (pc + 1)) (pc + 1) is v
 
@@ -31,7 +34,9 @@ effects atoms set p base (b ∷ bs) v =
 
 -- what a set of positions does on these atoms
 unfoldable pub visit_of : SectionData → List Bool → ℕ → Visit
-visit_of s atoms set = effects atoms set 0 0 s.blocks (record { entered = 0; accepted = false })
+visit_of s atoms set =
+    ended (effects atoms set 0 0 s.blocks
+    (record { entered = 0; accepted = false; first = false }))
 
 -- a section on the atoms of each tick
 abbrev pub automaton_of : SectionData → (ℕ → List Bool) → Automaton

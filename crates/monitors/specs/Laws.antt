@@ -9,7 +9,7 @@ use Rattle.verifier.specs.Limits.{longest_path}
 use Rattle.verifier.specs.Programs.{IsAccepted}
 use Rattle.assertions.specs.declared.sequence.Boolean.{Boolean}
 use Rattle.assertions.specs.Segments.{Seq, Matches}
-use Rattle.assertions.specs.Attempts.{verdict}
+use Rattle.assertions.specs.Attempts.{Antecedent, every, verdict}
 use Rattle.checked_machine.specs.Outcomes.{Meets}
 use Rattle.checked_machine.specs.Clocks.{Attempt, none_standing}
 use Rattle.checked_machine.specs.Machine.{State, sample_of}
@@ -23,9 +23,9 @@ use Rattle.monitors.specs.History.{row_at, rows_at, held, SamplesAs}
 
 -- On these atoms of each tick the sections follow the antecedent r and the consequent s.
 pub record Watches {B : Type 0} (p : ProgramData) (atoms : ℕ → List Bool) (value : B → ℕ → Bool)
-    (r s : Seq B) : Type 0 where
+    (r : Antecedent B) (s : Seq B) : Type 0 where
   pub antecedent : Follows value r (automaton_of p.antecedent atoms)
-  pub consequent : Follows value s (automaton_of p.consequent atoms)
+  pub consequent : Follows value (every s) (automaton_of p.consequent atoms)
 
 -- no match is empty
 abbrev pub Fills : {B : Type 0} → (B → ℕ → Bool) → Seq B → Type 0
@@ -64,7 +64,7 @@ sampled_at atoms left k = record { atoms = atoms k; left = left k }
 abbrev pub DecidesByMeaning : Type 0
 DecidesByMeaning =
     (p : ProgramData) (atoms : ℕ → List Bool) (left : ℕ → ℕ) (value : Boolean → ℕ → Bool)
-    (r s : Seq Boolean) (count : ℕ) → IsAccepted p →
+    (r : Antecedent Boolean) (s : Seq Boolean) (count : ℕ) → IsAccepted p →
     ((k : ℕ) → k < count → IsSampled p (sampled_at atoms left k)) →
     Watches p atoms value r s → Fills value s →
     Meets (λ run left. IsJudged (verdict value (monitor_of p atoms).off r s count) count run)
@@ -87,7 +87,8 @@ pub record IsJudgedOver (p : ProgramData) (rows : List (List ℕ)) (verdict : �
 abbrev pub RunsByMeaning : Type 0
 RunsByMeaning =
     (p : ProgramData) (signals counters : ℕ → List ℕ) (atoms : ℕ → List Bool)
-    (value : Boolean → ℕ → Bool) (r s : Seq Boolean) (count : ℕ) → IsAccepted p →
+    (value : Boolean → ℕ → Bool) (r : Antecedent Boolean) (s : Seq Boolean) (count : ℕ) →
+    IsAccepted p →
     SamplesAs p signals counters atoms count → Watches p atoms value r s → Fills value s →
     IsJudgedOver p (map signals (range_with_len 0 count))
     (verdict value (monitor_of p atoms).off r s count) count

@@ -5,3 +5,4 @@ pub mod Standing
 pub mod Clocked
 pub mod History
 pub mod Laws
+pub mod Firsts

@@ -1,5 +1,6 @@
 //! Laws of monitors, each a call that does nothing.
 
+ghost use Rattle.monitors.specs.Firsts.{AcceptsFirst};
 ghost use Rattle.monitors.specs.Laws.{DecidesByMeaning, RunsByMeaning, ReadsHeld};
 
 /// Behind their sample code, the clocks of a program whose sections follow an antecedent and a
@@ -16,4 +17,10 @@ pub fn runs_by_meaning()
 /// What sample code reads of the history is what the slots held.
 pub fn reads_held()
     ensures { ReadsHeld }
+{}
+
+/// A section that follows a sequence, with AcceptFirst in place of each Accept, follows its first
+/// matches.
+pub fn accepts_first()
+    ensures { AcceptsFirst }
 {}

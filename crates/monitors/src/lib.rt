@@ -23,4 +23,4 @@
 
 mod laws;
 
-pub use laws::{decides_by_meaning, reads_held, runs_by_meaning};
+pub use laws::{accepts_first, decides_by_meaning, reads_held, runs_by_meaning};

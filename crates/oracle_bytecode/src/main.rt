@@ -2,7 +2,8 @@
 //!
 //! The file `data/cases.txt` has files, one a line in hexadecimal digits. Of each it prints whether
 //! it is a program, or else the fault; of one behind the sign `=` also what the program holds. A
-//! program is written again, by itself and by its copy, and the bytes are to be the same.
+//! program is written again, upgraded, by itself and by its copy; the bytes are to be the same each
+//! time, with the version made 2.
 //!
 //! ```text
 //! 5356414d01000000010001..    program
@@ -14,8 +15,9 @@
 //! `cases.txt` of theirs. With a file's name as its word it prints how long reading and writing
 //! that file took at best (`bench/bytecode`).
 //!
-//! What is answered is said by the contracts of `decode` and `encode` of `program_files`; the
-//! definitions stand in its `specs/Spelling.antt`, and in `bytecode/specs/Values.antt`.
+//! What is answered is said by the contracts of `decode`, `encode` and `upgrade` of
+//! `program_files`; the definitions stand in its `specs/Spelling.antt`, and in
+//! `bytecode/specs/Values.antt`.
 //!
 //! Not promised: that a program is accepted, which is `oracle_verifier`'s.
 #![tactic(auto)]
@@ -24,7 +26,7 @@ ghost use Rattle.std.specs.Prelude.{◌<◌};
 
 use anyhow::{Result, bail};
 use bytecode::Program;
-use program_files::{decode, encode};
+use program_files::{decode, encode, upgrade};
 use std::alloc::Global;
 use std::time::Instant;
 use std::{env, fs};
@@ -61,19 +63,41 @@ fn is_kept(alloc: Global, program: &Program, bytes: &[u8]) -> Result<bool> {
     Ok(is_spelled(alloc, program, bytes)? && is_spelled(alloc, &copied, bytes)?)
 }
 
-/// What the bytes are, with all that a program holds where it is to be listed.
-fn answer(alloc: Global, bytes: &[u8], is_listed: bool) -> Result<String> {
+/// Whether these are the bytes of a file, but for the version, which is 2.
+fn is_in_version_2(upgraded: &[u8], bytes: &[u8]) -> bool {
+    if upgraded.len() != bytes.len() || bytes.len() < 5 {
+        return false;
+    }
+    upgraded[4] == 2 && upgraded[..4] == bytes[..4] && upgraded[5..] == bytes[5..]
+}
+
+/// What the bytes of a program are, which are these when upgraded; with all that it holds where it
+/// is to be listed.
+fn answer_upgraded(
+    alloc: Global,
+    bytes: &[u8],
+    upgraded: &[u8],
+    is_listed: bool,
+) -> Result<String> {
     let program = match decode(alloc, bytes) {
         Ok(program) => program,
         Err(fault) => return Ok(format!(in alloc; "{fault}")?),
     };
-    if !is_kept(alloc, &program, bytes)? {
+    if !is_in_version_2(upgraded, bytes) || !is_kept(alloc, &program, upgraded)? {
         return Ok(String::from_str(alloc, "another spelling")?);
     }
     if is_listed {
         return Ok(format!(in alloc; "{program:?}")?);
     }
     Ok(String::from_str(alloc, "program")?)
+}
+
+/// What the bytes are, with all that a program holds where it is to be listed.
+fn answer(alloc: Global, bytes: &[u8], is_listed: bool) -> Result<String> {
+    match upgrade(alloc, bytes) {
+        Ok(upgraded) => answer_upgraded(alloc, bytes, upgraded.as_slice(), is_listed),
+        Err(fault) => Ok(format!(in alloc; "{fault}")?),
+    }
 }
 
 /// What the file of a line is.

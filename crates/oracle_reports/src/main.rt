@@ -1,6 +1,6 @@
 //! Prints what `check` and `judge` tell of two tables, against answers from outside.
 //!
-//! `data/reports.txt` has 158 small dumps and texts, with reports and faults that were worked out
+//! `data/reports.txt` has 166 small dumps and texts, with reports and faults that were worked out
 //! by hand from the standard. `data/ports.txt` has port files of AXI4 ports, of which sums of the
 //! reports are printed; they must be those of a judge who shares no text with svamon
 //! (`scripts/axi4_judge.py`).

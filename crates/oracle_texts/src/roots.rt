@@ -70,7 +70,7 @@ pub fn last_assertion<'t, 'a>(file: &'t File<'a>) -> Option<&'t AssertionTree<'a
 fn root_of_property<'a>(property: &PropertyTree<'a>) -> (&'a str, usize) {
     match property {
         PropertyTree::Plain(sequence) => root(sequence),
-        PropertyTree::Implication(_, _, consequent) => root(consequent),
+        PropertyTree::Implication(_, _, _, consequent) => root(consequent),
     }
 }
 

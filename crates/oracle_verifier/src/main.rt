@@ -1,8 +1,9 @@
 //! Tells which programs are accepted, and by which limits, against answers from outside.
 //!
-//! Of each file of `data/cases.txt`, one a line in hexadecimal digits, it prints the least limits
-//! and the lives of a program that is accepted, or else the fault. An accepted program and its copy
-//! are to say the same as the file, and `least_limits` the same of it before it is verified.
+//! Of each file of `data/cases.txt`, one a line in hexadecimal digits, which is upgraded first, it
+//! prints the least limits and the lives of a program that is accepted, or else the fault. An
+//! accepted program and its copy are to say the same as the upgraded file, and `least_limits` the
+//! same of it before it is verified.
 //!
 //! ```text
 //! 5356414d01..  accepted history 0 stack 1 attempts 1 obligations 1 budget 14 lives 1 1
@@ -23,7 +24,7 @@ ghost use Rattle.std.specs.Prelude.{◌<◌};
 
 use anyhow::{Result, bail};
 use bytecode::{Limits, Program};
-use program_files::{CodeFault, decode, encode};
+use program_files::{CodeFault, decode, encode, upgrade};
 use std::alloc::Global;
 use std::time::Instant;
 use std::{env, fs};
@@ -108,11 +109,20 @@ fn verdict(alloc: Global, program: Program, bytes: &[u8]) -> Result<String> {
     }
 }
 
-/// What the file of a line is.
+/// What the bytes of a file in version 2 are.
+fn answer_upgraded(alloc: Global, bytes: &[u8]) -> Result<String> {
+    match decode(alloc, bytes) {
+        Ok(program) => verdict(alloc, program, bytes),
+        Err(CodeFault::Memory) => bail!("out of memory"),
+        Err(fault) => Ok(format!(in alloc; "{fault}")?),
+    }
+}
+
+/// What the file of a line is, of either version.
 fn answer(alloc: Global, line: &str) -> Result<String> {
-    let bytes = bytes_of(alloc, line)?;
-    match decode(alloc, bytes.as_slice()) {
-        Ok(program) => verdict(alloc, program, bytes.as_slice()),
+    let file = bytes_of(alloc, line)?;
+    match upgrade(alloc, file.as_slice()) {
+        Ok(bytes) => answer_upgraded(alloc, bytes.as_slice()),
         Err(CodeFault::Memory) => bail!("out of memory"),
         Err(fault) => Ok(format!(in alloc; "{fault}")?),
     }

@@ -1,9 +1,9 @@
 -- What bytes are as a program.
-use Rattle.std.specs.Prelude.{◌≡◌, ℕ, List, IsTrue}
+use Rattle.std.specs.Prelude.{◌≡◌, ℕ, Bool, List, IsTrue}
 use Rattle.program_files.specs.declared.fault.CodeFault.{CodeFault}
 use Rattle.program_files.specs.declared.fault.CodeFault.TheVariants as codes
-use Rattle.bytecode.specs.Values.{ProgramData, fits_program}
-use Rattle.program_files.specs.Spelling.{spelling}
+use Rattle.bytecode.specs.Values.{ProgramData, fits_program_in}
+use Rattle.program_files.specs.Spelling.{spelling_in}
 use Rattle.program_files.specs.Reading.{IsFirstFault}
 use Rattle.inference.specs.declared.refusal.Refusal.{Refusal}
 use Rattle.inference.specs.declared.refusal.Refusal.TheVariants as refusals
@@ -12,10 +12,11 @@ use Rattle.verifier.specs.Programs.{all_faults, IsAccepted}
 use Rattle.outcomes.specs.declared.fault.Fault.{Fault}
 use Rattle.outcomes.specs.declared.fault.Fault.TheVariants.{Code, Refused, Memory}
 
--- The bytes spell this program.
+-- The bytes spell this program, in version 2 or in version 1.
 pub record Spells (bytes : List ℕ) (program : ProgramData) : Type 0 where
-  pub fits : IsTrue (fits_program program)
-  pub spelled : bytes ≡ spelling program
+  pub newer : Bool
+  pub fits : IsTrue (fits_program_in newer program)
+  pub spelled : bytes ≡ spelling_in newer program
 
 -- They spell it, and the verifier accepts it.
 pub record SpellsAccepted (bytes : List ℕ) (program : ProgramData) : Type 0 where

@@ -63,6 +63,7 @@ pub(crate) fn refusal_line(alloc: Global, refusal: Refusal) -> Result<String, Al
         }
         Refusal::BudgetTooSmall(least) => format!(in alloc; "svamon: F14 BudgetTooSmall {least}"),
         Refusal::LimitTooLarge(field) => format!(in alloc; "svamon: F15 LimitTooLarge {field}"),
+        Refusal::AcceptKind(pc) => format!(in alloc; "svamon: F16 AcceptKind {pc}"),
         Refusal::Memory => String::from_str(alloc, "svamon: OutOfMemory"),
     }
 }

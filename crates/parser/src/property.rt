@@ -3,15 +3,17 @@
 ghost use Rattle.std.specs.Prelude.{◌≡◌, ◌<◌, ◌≤◌, ◌+◌, ℕ, length, None, Some};
 ghost use Rattle.std.specs.Prelude.{MatchOption, IfSome, IfOk};
 ghost use Rattle.grammar.specs.Operators.{implication_of};
-ghost use Rattle.grammar.specs.Readers.{pick};
+ghost use Rattle.grammar.specs.Terminals.{is_first_match};
+ghost use Rattle.grammar.specs.Readers.{lead, pick};
 ghost use Rattle.grammar.specs.ReadSequences.{implication_behind, regroup_property, property};
+ghost use Rattle.grammar.specs.ReadSequences.{first_behind};
 ghost use Rattle.parser_expressions.specs.Views.{Gives};
 ghost use Rattle.text_trees.specs.Views.{sequence_of, property_of};
 
 use crate::read::read;
-use grammar::{Implication, Terminal, implication_of};
+use grammar::{Implication, Terminal, implication_of, is_first_match};
 use lexer::Token;
-use parser_expressions::{Read, accept, deeper, expect, first};
+use parser_expressions::{Read, Stop, accept, byte_at, deeper, expect, first};
 use parser_sequences::{finish_sequence, read_sequence, regroup};
 use std::alloc::Global;
 use text_trees::{PropertyTree, SequenceTree};
@@ -49,7 +51,7 @@ fn read_implication<'t, 'a>(
     };
     let (consequent, rest) = read!(read_sequence(alloc, right, depth));
     Ok((
-        PropertyTree::Implication(antecedent, sign, consequent),
+        PropertyTree::Implication(None, antecedent, sign, consequent),
         rest,
     ))
 }
@@ -72,11 +74,62 @@ fn regroup_property<'t, 'a>(
             let (sequence, rest) = read!(finish_sequence(alloc, rest, body, depth));
             read_implication(alloc, rest, sequence, depth)
         }
-        PropertyTree::Implication(antecedent, sign, consequent) => Ok((
-            PropertyTree::Implication(antecedent, sign, consequent),
+        PropertyTree::Implication(word, antecedent, sign, consequent) => Ok((
+            PropertyTree::Implication(word, antecedent, sign, consequent),
             tokens,
         )),
     }
+}
+
+/// The word `first_match`, if it stands first.
+#[tactic(auto, using(crate::proofs::PropertySteps::for_first_word))]
+fn accept_first_match<'t, 'a>(tokens: &'t [Token<'a>]) -> Option<(Token<'a>, &'t [Token<'a>])>
+    ensures word { MatchOption result (lead is_first_match tokens.now
+        ≡ None) (λ r. lead is_first_match tokens.now ≡ Some (r.0, r.1.now)) }
+    ensures shorter { IfSome result (λ r. length r.1.now < length tokens.now) }
+{
+    let Some((token, rest)) = first(tokens) else {
+        return None;
+    };
+    if is_first_match(token) {
+        return Some((token, rest));
+    }
+    None
+}
+
+/// The implication that is to stand first.
+fn expect_implication<'t, 'a>(tokens: &'t [Token<'a>]) -> Read<'t, 'a, Implication>
+    ensures sign { Gives (λ r. (r.0, r.1.now)) result (pick implication_of tokens.now) }
+    ensures shorter { IfOk result (λ r. length r.1.now < length tokens.now) }
+{
+    match accept_implication(tokens) {
+        Some(read) => Ok(read),
+        None => Err(Stop::Expected("an implication", byte_at(tokens))),
+    }
+}
+
+/// The property behind the word `first_match`.
+#[tactic(auto, using(crate::proofs::PropertySteps::for_first))]
+fn read_first_match<'t, 'a>(
+    alloc: Global,
+    word: Token<'a>,
+    tokens: &'t [Token<'a>],
+    depth: usize,
+) -> Read<'t, 'a, PropertyTree<'a>>
+    ensures read { Gives (λ r. (property_of r.0, r.1.now)) result
+        (first_behind depth word.entry tokens.now) }
+    ensures shorter { IfOk result (λ r. length r.1.now ≤ length tokens.now) }
+{
+    let (bracket, inside) = read!(expect(tokens, Terminal::OpenRound));
+    let inner = read!(deeper(depth, bracket));
+    let (antecedent, behind) = read!(read_sequence(alloc, inside, inner));
+    let (_, sign_on) = read!(expect(behind, Terminal::CloseRound));
+    let (sign, right) = read!(expect_implication(sign_on));
+    let (consequent, rest) = read!(read_sequence(alloc, right, depth));
+    Ok((
+        PropertyTree::Implication(Some(word), antecedent, sign, consequent),
+        rest,
+    ))
 }
 
 /// A property.
@@ -89,6 +142,9 @@ pub(crate) fn read_property<'t, 'a>(
     ensures read { Gives (λ r. (property_of r.0, r.1.now)) result (property depth tokens.now) }
     ensures shorter { IfOk result (λ r. length r.1.now ≤ length tokens.now) }
 {
+    if let Some((word, rest)) = accept_first_match(tokens) {
+        return read_first_match(alloc, word, rest, depth);
+    }
     let Some((bracket, inside)) = accept(tokens, Terminal::OpenRound) else {
         let (sequence, rest) = read!(read_sequence(alloc, tokens, depth));
         return read_implication(alloc, rest, sequence, depth);

@@ -7,7 +7,7 @@ use Rattle.std.specs.Int.{bit_at}
 use Rattle.std.proofs.lemmas.Bool.{cases_Bool, cases_eq, and_parts, eqb-true, eq-eqb, both_ways}
 use Rattle.std.proofs.lemmas.Nat.Bits.{bit_at_or, bit_at-pow_same, bit_at-pow_other, bit_at-zero, bit_at-lt}
 use Rattle.bytecode.specs.declared.block_instr.BlockInstr.{BlockInstr}
-use Rattle.checked_machine.specs.Blocks.{Visit}
+use Rattle.checked_machine.specs.Blocks.{Visit, ended}
 use Rattle.positions.specs.Tables.{Edge, SomeOf, Has}
 use Rattle.monitors.specs.Effects.{effect, effects}
 use Rattle.positions.specs.Sections.{edge_size, guards, enter_all, accept_if, edge_code, block_of, blocks_of, rows_of}
@@ -37,22 +37,37 @@ Has-bits (q ∷ qs) p (inr h) = more-bit (bits qs) q p (inr (Has-bits qs p h))
 
 abbrev pub entering : List ℕ → Visit → Visit
 entering [] v = v
-entering (q ∷ qs) v = entering qs (record { entered = bit_or v.entered (2 ^ q); accepted = v.accepted })
+entering (q ∷ qs) v =
+    entering qs (record { entered = bit_or v.entered (2 ^ q); accepted = v.accepted; first = v.first })
 
 abbrev pub accepting : Bool → Visit → Visit
-accepting true v = record { entered = v.entered; accepted = true }
+accepting true v = record { entered = v.entered; accepted = true; first = v.first }
 accepting false v = v
 
 entering-accepted : (qs : List ℕ) (v : Visit) → (entering qs v).accepted ≡ v.accepted
 entering-accepted [] v = refl
 entering-accepted (q ∷ qs) v =
-    entering-accepted qs (record { entered = bit_or v.entered (2 ^ q); accepted = v.accepted })
+    entering-accepted qs (record { entered = bit_or v.entered (2 ^ q); accepted = v.accepted; first = v.first })
+
+entering-first : (qs : List ℕ) (v : Visit) → (entering qs v).first ≡ v.first
+entering-first [] v = refl
+entering-first (q ∷ qs) v =
+    entering-first qs (record { entered = bit_or v.entered (2 ^ q); accepted = v.accepted; first = v.first })
+
+accepting-first : (b : Bool) (v : Visit) → (accepting b v).first ≡ v.first
+accepting-first true v = refl
+accepting-first false v = refl
+
+-- a visit without AcceptFirst ends as it is
+pub ended-same : (v : Visit) → v.first ≡ false → ended v ≡ v
+ended-same v e =
+    ap (λ b. record { entered = if b then 0 else v.entered; accepted = v.accepted; first = v.first }) e
 
 entering-bit : (qs : List ℕ) (v : Visit) (p : ℕ) → bit_at (entering qs v).entered p ≡ 1 → (bit_at v.entered p ≡ 1)
     ⊎ Has qs p
 entering-bit [] v p h = inl h
 entering-bit (q ∷ qs) v p h =
-    elim (entering-bit qs (record { entered = bit_or v.entered (2 ^ q); accepted = v.accepted }) p h) [
+    elim (entering-bit qs (record { entered = bit_or v.entered (2 ^ q); accepted = v.accepted; first = v.first }) p h) [
       | inl x ↦ elim (bit-more v.entered q p x) [ inl same ↦ inr (inl same) | inr was ↦ inl was ]
       | inr x ↦ inr (inr x)
     ]
@@ -62,13 +77,13 @@ bit-entering : (qs : List ℕ) (v : Visit) (p : ℕ) → (bit_at v.entered p ≡
 bit-entering [] v p (inl h) = h
 bit-entering [] v p (inr h) = absurd h
 bit-entering (q ∷ qs) v p (inl h) =
-    bit-entering qs (record { entered = bit_or v.entered (2 ^ q); accepted = v.accepted }) p
+    bit-entering qs (record { entered = bit_or v.entered (2 ^ q); accepted = v.accepted; first = v.first }) p
     (inl (more-bit v.entered q p (inr h)))
 bit-entering (q ∷ qs) v p (inr (inl same)) =
-    bit-entering qs (record { entered = bit_or v.entered (2 ^ q); accepted = v.accepted }) p
+    bit-entering qs (record { entered = bit_or v.entered (2 ^ q); accepted = v.accepted; first = v.first }) p
     (inl (more-bit v.entered q p (inl same)))
 bit-entering (q ∷ qs) v p (inr (inr h)) =
-    bit-entering qs (record { entered = bit_or v.entered (2 ^ q); accepted = v.accepted }) p (inr h)
+    bit-entering qs (record { entered = bit_or v.entered (2 ^ q); accepted = v.accepted; first = v.first }) p (inr h)
 
 module _ (atoms : List Bool) where
   -- the atom is 1
@@ -88,7 +103,7 @@ module _ (atoms : List Bool) where
       → effect atoms zero pc (enter_all qs ++ rest) v ≡ effect atoms zero (pc + length qs) rest (entering qs v)
   enter-effect [] rest pc v = let same : pc ≡ pc + 0 = omega arith in ap (λ n. effect atoms zero n rest v) same
   enter-effect (q ∷ qs) rest pc v =
-      let w : Visit = record { entered = bit_or v.entered (2 ^ q); accepted = v.accepted } in
+      let w : Visit = record { entered = bit_or v.entered (2 ^ q); accepted = v.accepted; first = v.first } in
       let same : pc + 1 + length qs ≡ pc + length (q ∷ qs) = omega arith in
       enter-effect qs rest (pc + 1) w ∙ ap (λ n. effect atoms zero n rest (entering qs w)) same
 
@@ -201,6 +216,29 @@ module _ (atoms : List Bool) where
       ap (λ w. effects atoms set (p + 1) next (blocks_of next (rows_of row (p + 1) count))
       (if bit_at set p == 1 then w else v)) (block-effect (row p) base v)
       ∙ blocks-effects set row (p + 1) next count (if bit_at set p == 1 then made_all (row p) v else v)
+
+  -- none of them is an AcceptFirst
+  made-first : (e : Edge ℕ) (v : Visit) → (made e v).first ≡ v.first
+  made-first e v = elim (cases_Bool (all_now e.wanted)) [
+    | inr off ↦ ap (λ b. (if b then accepting e.accepts (entering e.enters v) else v).first) off
+    | inl on ↦ ap (λ b. (if b then accepting e.accepts (entering e.enters v) else v).first) on
+        ∙ accepting-first e.accepts (entering e.enters v) ∙ entering-first e.enters v
+  ]
+
+  made_all-first : (es : List (Edge ℕ)) (v : Visit) → (made_all es v).first ≡ v.first
+  made_all-first [] v = refl
+  made_all-first (e ∷ es) v = made_all-first es (made e v) ∙ made-first e v
+
+  one-first : (b : Bool) (es : List (Edge ℕ)) (v : Visit) → (if b then made_all es v else v).first ≡ v.first
+  one-first true es v = made_all-first es v
+  one-first false es v = refl
+
+  pub made_by-first : (set : ℕ) (row : ℕ → List (Edge ℕ)) (p count : ℕ) (v : Visit)
+      → (made_by set row p count v).first ≡ v.first
+  made_by-first set row p zero v = refl
+  made_by-first set row p (suc count) v =
+      made_by-first set row (p + 1) count (if bit_at set p == 1 then made_all (row p) v else v)
+      ∙ one-first (bit_at set p == 1) (row p) v
 
   -- the edges of a position that enter q, and those that accept
   abbrev pub EnterNow : List (Edge ℕ) → ℕ → Type 0

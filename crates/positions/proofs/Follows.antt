@@ -5,9 +5,9 @@ use Rattle.std.specs.Prelude.{IsTrue, slice_index_or, nat_le}
 use Rattle.std.specs.Int.{bit_at}
 use Rattle.std.proofs.lemmas.Bool.{cases_lt, and_parts, and_from, or_left, le-leb}
 use Rattle.std.proofs.lemmas.Nat.Bits.{bit_at-zero, bit_at-lt, same_from_bits}
-use Rattle.checked_machine.specs.Blocks.{Visit}
+use Rattle.checked_machine.specs.Blocks.{Visit, ended}
 use Rattle.assertions.specs.Segments.{sat, Matches}
-use Rattle.assertions.specs.Attempts.{IsOver}
+use Rattle.assertions.specs.Attempts.{IsOver, every}
 use Rattle.positions.specs.Plans.{Plan, shape}
 use Rattle.positions.specs.Tables.{Edge, Table, EachOf, Has, Fires, Enters, Accepts, IsRising, Spells}
 use Rattle.positions.proofs.Ticks.{Left-after, Match-At, At-Match, Match-ends, ends-Match}
@@ -17,7 +17,7 @@ use Rattle.positions.proofs.Local.{seen-sat, sat-seen}
 use Rattle.positions.specs.Sections.{section_of, coded, numbered, with_atom, atoms_of, told}
 use Rattle.positions.specs.States.{State, Left}
 use Rattle.positions.proofs.Effects.{bits-Has, Has-bits, all_now, made_by, blocks-effects, EnterNow, AcceptNow, by-bit}
-use Rattle.positions.proofs.Effects.{bit-by, by-accepts, accepts-by}
+use Rattle.positions.proofs.Effects.{bit-by, by-accepts, accepts-by, ended-same, made_by-first}
 use Rattle.positions.proofs.Lists.{SomeOf-each, SomeOf-map, map-SomeOf}
 use Rattle.positions.proofs.Standing.{Stands, Stands-below, Stands-local, Stands-At, At-Stands}
 use Rattle.positions.specs.Living.{lives, is_kept, rank, sifted}
@@ -45,11 +45,13 @@ module _ (B : Type 0) (t : Table B) (rising : IsRising t) (atom : B → Option �
   value b i = told (atom b) (rows i)
 
   abbrev nothing : Visit
-  nothing = record { entered = 0; accepted = false }
+  nothing = record { entered = 0; accepted = false; first = false }
 
   step-made : (i set : ℕ) → a.step i set ≡ made_by (rows i) set prow 0 t.size nothing
   unfolding visit_of
-  step-made i set = blocks-effects (rows i) set prow 0 0 t.size nothing
+  step-made i set =
+      ap ended (blocks-effects (rows i) set prow 0 0 t.size nothing)
+      ∙ ended-same (made_by (rows i) set prow 0 t.size nothing) (made_by-first (rows i) set prow 0 t.size nothing)
 
   now-more : (i : ℕ) (o : Option ℕ) (ns : List ℕ) → all_now (rows i) (with_atom o ns) ≡ true → (told o (rows i) ≡ true)
       × (all_now (rows i) ns ≡ true)
@@ -156,7 +158,7 @@ module _ (B : Type 0) (t : Table B) (up : IsRising t) (atom : B → Option ℕ) 
       (Accepts-sifted B t up seen (spells.number x.0) (c + k)
       (Stands-kept B t up seen c k (spells.number x.0) stands living) on)
 
-  over-forth : (c k : ℕ) → places s c k ≡ 0 → IsOver seen (shape r) (c + k) c
+  over-forth : (c k : ℕ) → places s c k ≡ 0 → IsOver seen (every (shape r)) (c + k) c
   over-forth c k none j past h =
       let holds : B → ℕ → Bool = sat seen (c + k) in
       let x = Match-At B holds r c k j past h in
@@ -171,7 +173,7 @@ module _ (B : Type 0) (t : Table B) (up : IsRising t) (atom : B → Option ℕ) 
       let zeros = ap (λ m. bit_at m n) none in
       omega (arith, bit, zeros, bit_at-zero n)
 
-  over-back : (c k : ℕ) → IsOver seen (shape r) (c + k) c → places s c k ≡ 0
+  over-back : (c k : ℕ) → IsOver seen (every (shape r)) (c + k) c → places s c k ≡ 0
   over-back c k over = set-none (places s c k) (λ q bit.
       let holds : B → ℕ → Bool = sat seen (c + k) in
       let stands =
@@ -185,7 +187,7 @@ module _ (B : Type 0) (t : Table B) (up : IsRising t) (atom : B → Option ℕ) 
       (subst (λ p. IsTrue (lives t p)) (sym y.1) f) in
       over rest.0 (Left-after B holds r y.0 (c + k) rest.0 rest.1) (At-Match B holds r c k rest.0 y.0 y.2 rest.1))
 
-  pub section-follows : Follows seen (shape r) s
+  pub section-follows : Follows seen (every (shape r)) s
   section-follows = record {
     ends = λ c k. (ends-forth c k, ends-back c k);
     over = λ c k. (over-forth c k, over-back c k);

@@ -29,3 +29,4 @@ pub mod SizeLaws
 pub mod SequenceLaws
 pub mod ResultLaws
 pub mod BlockLaws
+pub mod Firsts

@@ -8,6 +8,7 @@ use Rattle.std.proofs.lemmas.Nat.{or_lt, pow_pos}
 use Rattle.std.proofs.lemmas.Bool.{lt-ltb}
 use Rattle.bytecode.specs.declared.block_instr.BlockInstr.{BlockInstr}
 use Rattle.bytecode.specs.declared.block_instr.BlockInstr.TheVariants.{Unless, Enter, Accept, Stop}
+use Rattle.bytecode.specs.declared.block_instr.BlockInstr.TheVariants.{AcceptFirst}
 use Rattle.bytecode.specs.declared.flow.Flow.TheVariants.{Stops}
 use Rattle.bytecode.specs.Instructions.{LeadsTo, block_flow}
 use Rattle.inference.specs.Rules.{block_rules}
@@ -54,6 +55,7 @@ module _ (section atoms positions p end : ℕ) where
   IsGood pc (Unless atom target) = (atom < atoms) × (pc < target) × (target < end)
   IsGood pc (Enter q) = (p < q) × (q < positions) × (pc + 1 < end)
   IsGood pc Accept = pc + 1 < end
+  IsGood pc AcceptFirst = ⊥
   IsGood pc Stop = pc + 1 ≡ end
 
   abbrev pub AreGood : ℕ → List BlockInstr → Type 0
@@ -146,6 +148,7 @@ module _ (section atoms positions p end : ℕ) where
     forward = λ to leads. (omega (arith, leads), omega (arith, leads, good));
     names = refl;
   }
+  good-fine pc AcceptFirst good = absurd good
   good-fine pc Stop good = record {
     after = [];
     rule = refl;
@@ -159,12 +162,14 @@ module _ (section atoms positions p end : ℕ) where
   good-on pc (Unless atom target) good before = inr refl
   good-on pc (Enter q) good before = refl
   good-on pc Accept good before = refl
+  good-on pc AcceptFirst good before = absurd good
   good-on pc Stop good before = absurd (omega (arith, good))
 
   good-last : (pc : ℕ) (i : BlockInstr) → IsGood pc i → pc + 1 ≡ end → block_flow i ≡ Stops
   good-last pc (Unless atom target) good last = absurd (omega (arith, good.1, good.2, last))
   good-last pc (Enter q) good last = absurd (omega (arith, good.2, last))
   good-last pc Accept good last = absurd (omega (arith, good, last))
+  good-last pc AcceptFirst good last = absurd good
   good-last pc Stop good last = refl
 
 some-at : (is : List BlockInstr) (k : ℕ) → k < length is → (i : BlockInstr) × (slice_get is k ≡ Some i)

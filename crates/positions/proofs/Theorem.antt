@@ -5,6 +5,7 @@ use Rattle.std.specs.Prelude.{IsTrue, ◌↔◌, nat_le}
 use Rattle.std.proofs.Math.Nat.{mul-le-mul_right, mul-le-mul_left}
 use Rattle.assertions.specs.declared.sequence.Boolean.{Boolean}
 use Rattle.assertions.specs.Segments.{Seq, one, Chain, Matches, sat}
+use Rattle.assertions.specs.Attempts.{every}
 use Rattle.assertions.specs.Written.{Written, boolean, delay, lead, repeat, or, and, intersect, throughout, one_of}
 use Rattle.assertions.specs.Written.{ticks, after, later, kernel, weight, IsOrdered}
 use Rattle.positions.specs.Plans.{Plan, tick, skip, any, all, pair, under, loop, link, shape, apart, moving}
@@ -26,8 +27,8 @@ use Rattle.positions.proofs.Shapes.{is-section, blocks-length}
 
 -- what follows a sequence follows one that matches the same
 Follows-same : (B : Type 0) (value : B → ℕ → Bool) (r s : Seq B) (a : Automaton)
-    → ((holds : B → ℕ → Bool) (i j : ℕ) → Matches holds r i j ↔ Matches holds s i j) → Follows value s a
-    → Follows value r a
+    → ((holds : B → ℕ → Bool) (i j : ℕ) → Matches holds r i j ↔ Matches holds s i j) → Follows value (every s) a
+    → Follows value (every r) a
 Follows-same B value r s a same follows = record {
   ends = λ c k. (
     λ h. (same value c (c + k + 1)).1 ((follows.ends c k).0 h),
@@ -114,8 +115,8 @@ module _ (B : Type 0) (true_one : B) (h g : B → ℕ → Bool) where
 
 -- only the booleans that occur count
 Follows-told : (B : Type 0) (true_one : B) (w : Written B) (v value : B → ℕ → Bool) (a : Automaton)
-    → ((k : ℕ) (b : B) → Occurs true_one b w → v b k ≡ value b k) → Follows v (kernel true_one w) a
-    → Follows value (kernel true_one w) a
+    → ((k : ℕ) (b : B) → Occurs true_one b w → v b k ≡ value b k) → Follows v (every (kernel true_one w)) a
+    → Follows value (every (kernel true_one w)) a
 Follows-told B true_one w v value a told_so follows =
     let forth : (b : B) → Occurs true_one b w → (k : ℕ) → IsTrue (v b k) → IsTrue (value b k) =
     λ b o k x. sym (told_so k b o) ∙ x in

@@ -1,6 +1,6 @@
 -- What the sections of a sequence are good for.
-use Rattle.std.specs.Prelude.{◌≡◌, ◌⊎◌, Option, Some, None, ℕ, ◌+◌, ◌*◌, ◌<◌, ◌≤◌, Bool, List}
-use Rattle.std.specs.Prelude.{length}
+use Rattle.std.specs.Prelude.{◌≡◌, ◌⊎◌, Option, Some, None, ℕ, ◌+◌, ◌*◌, ◌<◌, ◌≤◌, Bool, true}
+use Rattle.std.specs.Prelude.{false, List, length}
 use Rattle.bytecode.specs.Values.{SectionData}
 use Rattle.inference.specs.Sections.{IsSection, size_of}
 use Rattle.assertions.specs.declared.sequence.Boolean.{Boolean}
@@ -8,6 +8,9 @@ use Rattle.assertions.specs.Written.{Written, boolean, delay, lead, repeat, or, 
 use Rattle.assertions.specs.Written.{throughout, kernel, weight, IsOrdered}
 use Rattle.monitors.specs.Automata.{Follows}
 use Rattle.monitors.specs.Effects.{automaton_of}
+use Rattle.monitors.specs.Firsts.{accepting_first}
+use Rattle.assertions.specs.Segments.{Matches}
+use Rattle.assertions.specs.Attempts.{every, first_match}
 use Rattle.positions.specs.Plans.{plan}
 use Rattle.positions.specs.Tables.{table_of}
 use Rattle.positions.specs.Living.{sifted}
@@ -40,13 +43,18 @@ IsThere atoms (Some n) = n < atoms
 abbrev pub section_for : {B : Type 0} → (B → Option ℕ) → B → Written B → SectionData
 section_for atom true_one w = section_of atom (sifted (table_of (plan true_one w)))
 
+-- the section of an antecedent, of which each match counts or the first one alone
+abbrev pub led_section : {B : Type 0} → Bool → (B → Option ℕ) → B → Written B → SectionData
+led_section false atom true_one w = section_for atom true_one w
+led_section true atom true_one w = accepting_first (section_for atom true_one w)
+
 -- It follows the sequence.
 abbrev pub SectionFollows : Type 0
 SectionFollows =
     (atom : Boolean → Option ℕ) (true_one : Boolean) (rows : ℕ → List Bool)
     (value : Boolean → ℕ → Bool) (w : Written Boolean) →
     IsOrdered w → Tells atom rows value true_one w →
-    Follows value (kernel true_one w) (automaton_of (section_for atom true_one w) rows)
+    Follows value (every (kernel true_one w)) (automaton_of (section_for atom true_one w) rows)
 
 -- It is well formed, as whichever section of a program that has an atom for each boolean.
 abbrev pub SectionIsWellFormed : Type 0
@@ -91,3 +99,24 @@ SectionIsShort =
     IsOrdered w → IsPlain w →
     2 * size_of (section_for atom true_one w).blocks + weight w
     ≤ weight w * weight w + 2 * (weight w * (booleans w + 2))
+
+-- Its section with AcceptFirst in place of Accept follows the first matches, where none is empty.
+abbrev pub SectionFollowsFirst : Type 0
+SectionFollowsFirst =
+    (atom : Boolean → Option ℕ) (true_one : Boolean) (rows : ℕ → List Bool)
+    (value : Boolean → ℕ → Bool) (w : Written Boolean) →
+    IsOrdered w → Tells atom rows value true_one w →
+    ((e : ℕ) → Matches value (kernel true_one w) e e → ⊥) →
+    Follows value (first_match (kernel true_one w))
+    (automaton_of (accepting_first (section_for atom true_one w)) rows)
+
+-- A well formed antecedent stays so with AcceptFirst in place of Accept, and is as long.
+abbrev pub AcceptingFirstIsWellFormed : Type 0
+AcceptingFirstIsWellFormed =
+    (atoms : ℕ) (s : SectionData) → IsSection 2 atoms s → IsSection 2 atoms (accepting_first s)
+
+abbrev pub AcceptingFirstIsAsLong : Type 0
+AcceptingFirstIsAsLong =
+    (s : SectionData) →
+    (length (accepting_first s).blocks ≡ length s.blocks)
+    × (size_of (accepting_first s).blocks ≡ size_of s.blocks)

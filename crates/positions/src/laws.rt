@@ -2,6 +2,8 @@
 
 ghost use Rattle.positions.specs.Laws.{SectionFollows, SectionIsWellFormed};
 ghost use Rattle.positions.specs.Laws.{SectionIsSmall, SectionIsShort};
+ghost use Rattle.positions.specs.Laws.{SectionFollowsFirst, AcceptingFirstIsWellFormed};
+ghost use Rattle.positions.specs.Laws.{AcceptingFirstIsAsLong};
 
 /// The section of a sequence as it is written, over any rows that tell its booleans, accepts
 /// exactly where a match ends, and has no position left exactly where no longer match is possible.
@@ -15,4 +17,12 @@ pub fn section_law()
 pub fn size_law()
     ensures positions { SectionIsSmall }
     ensures instructions { SectionIsShort }
+{}
+
+/// The section of a sequence that accepts first: it follows the first matches, and is well formed
+/// as an antecedent, with as many positions and instructions.
+pub fn first_law()
+    ensures follows { SectionFollowsFirst }
+    ensures well_formed { AcceptingFirstIsWellFormed }
+    ensures long { AcceptingFirstIsAsLong }
 {}

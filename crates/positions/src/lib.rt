@@ -37,6 +37,7 @@ mod edge;
 mod either;
 mod extent;
 mod fault;
+mod first;
 mod laws;
 mod lead;
 mod link;
@@ -52,5 +53,6 @@ mod sift;
 mod table;
 
 pub use fault::SectionFault;
-pub use laws::{section_law, size_law};
+pub use first::accepting_first;
+pub use laws::{first_law, section_law, size_law};
 pub use section::positions_of;

@@ -21,7 +21,7 @@ use Rattle.bytecode.specs.declared.block_instr.BlockInstr.TheVariants as block
 use Rattle.program_files.specs.declared.stop.Stop.{Stop}
 use Rattle.program_files.specs.declared.stop.Stop.TheVariants as stops
 use Rattle.program_files.specs.Opcodes.{sample_opcode, block_opcode}
-use Rattle.bytecode.specs.Values.{in_byte, in_two, is_width, fits_sample, fits_block}
+use Rattle.bytecode.specs.Values.{in_byte, in_two, is_width, fits_sample, fits_block_in}
 use Rattle.program_files.specs.Spelling.{byte, two, sixteen, sample_operands, sample_spelling, block_operands}
 use Rattle.program_files.specs.Spelling.{block_spelling}
 use Rattle.program_files.specs.Reading.{◌>>=◌, Reader, number_at, sixteen_at, byte_at, width_at, join_of, reduce_of}
@@ -383,22 +383,23 @@ sample-codec = record { takes = sample-takes; again = sample-again }
 -- ---- blocks
 
 -- What an instruction of a block is, where it begins with the byte o.
-record IsStep (bytes : List ℕ) (o : ℕ) (i : BlockInstr) (rest : List ℕ) : Type 0 where
+record IsStep (first : Bool) (bytes : List ℕ) (o : ℕ) (i : BlockInstr) (rest : List ℕ) : Type 0 where
   pub taken : Takes bytes (block_operands i) rest
   pub opcode : block_opcode i ≡ o
-  pub fits : fits_block i ≡ true
+  pub fits : fits_block_in first i ≡ true
 
-unless-read : (bytes : List ℕ) (i : BlockInstr) (rest : List ℕ) → IsBytes bytes → unless_at bytes ≡ Ok (i, rest)
-    → IsStep bytes 0x40 i rest
+unless-read : (first : Bool) (bytes : List ℕ) (i : BlockInstr) (rest : List ℕ) → IsBytes bytes → unless_at bytes
+    ≡ Ok (i, rest)
+    → IsStep first bytes 0x40 i rest
 unfolding unless_at
-unless-read bytes i rest fits e =
+unless-read first bytes i rest fits e =
     let a =
     bind_ok (byte_at bytes)
     (λ atom. number_at w16 atom.1 >>= λ target. Ok (block.Unless atom.0 target.0, target.1)) (i, rest) e in
     let b = bind_ok (number_at w16 a.0.1) (λ target. Ok (block.Unless a.0.0 target.0, target.1)) (i, rest) a.2 in
     let s = byte-codec.takes bytes a.0.0 a.0.1 fits a.1 in
     let t = two-codec.takes a.0.1 b.0.0 b.0.1 s.0.rest_fits b.1 in
-    subst (λ (p : BlockInstr × List ℕ). IsStep bytes 0x40 p.0 p.1)
+    subst (λ (p : BlockInstr × List ℕ). IsStep first bytes 0x40 p.0 p.1)
     (ok_is (block.Unless a.0.0 b.0.0, b.0.1) (i, rest) b.2)
     (record {
       taken = Takes-then bytes (byte a.0.0) a.0.1 (two b.0.0) b.0.1 s.0 t.0;
@@ -406,13 +407,15 @@ unless-read bytes i rest fits e =
       fits = and_from (in_byte a.0.0) (in_two b.0.0) s.1 t.1;
     })
 
-enter-read : (bytes : List ℕ) (i : BlockInstr) (rest : List ℕ) → IsBytes bytes → enter_at bytes ≡ Ok (i, rest)
-    → IsStep bytes 0x41 i rest
+enter-read : (first : Bool) (bytes : List ℕ) (i : BlockInstr) (rest : List ℕ) → IsBytes bytes → enter_at bytes
+    ≡ Ok (i, rest)
+    → IsStep first bytes 0x41 i rest
 unfolding enter_at
-enter-read bytes i rest fits e =
+enter-read first bytes i rest fits e =
     let a = bind_ok (byte_at bytes) (λ position. Ok (block.Enter position.0, position.1)) (i, rest) e in
     let s = byte-codec.takes bytes a.0.0 a.0.1 fits a.1 in
-    subst (λ (p : BlockInstr × List ℕ). IsStep bytes 0x41 p.0 p.1) (ok_is (block.Enter a.0.0, a.0.1) (i, rest) a.2)
+    subst (λ (p : BlockInstr × List ℕ). IsStep first bytes 0x41 p.0 p.1)
+    (ok_is (block.Enter a.0.0, a.0.1) (i, rest) a.2)
     (record { taken = s.0; opcode = refl; fits = s.1 })
 
 abbrev found : BlockInstr → List ℕ → Result (BlockInstr × List ℕ) Stop
@@ -421,68 +424,92 @@ found i bytes = Ok (i, bytes)
 abbrev stopped : Stop → Result (BlockInstr × List ℕ) Stop
 stopped d = Err d
 
-lone-step : (bytes : List ℕ) (o : ℕ) (j i : BlockInstr) (rest : List ℕ) → IsBytes bytes → block_opcode j ≡ o
-    → block_operands j ≡ [] → fits_block j ≡ true → found j bytes ≡ Ok (i, rest) → IsStep bytes o i rest
-lone-step bytes o j i rest are opcode empty fits e =
-    subst (λ (p : BlockInstr × List ℕ). IsStep bytes o p.0 p.1) (ok_is (j, bytes) (i, rest) e)
+lone-step : (first : Bool) (bytes : List ℕ) (o : ℕ) (j i : BlockInstr) (rest : List ℕ) → IsBytes bytes → block_opcode j
+    ≡ o
+    → block_operands j ≡ [] → fits_block_in first j ≡ true → found j bytes ≡ Ok (i, rest) → IsStep first bytes o i rest
+lone-step first bytes o j i rest are opcode empty fits e =
+    subst (λ (p : BlockInstr × List ℕ). IsStep first bytes o p.0 p.1) (ok_is (j, bytes) (i, rest) e)
     (record {
       taken = subst (λ (t : List ℕ). Takes bytes t bytes) (sym empty) (record { parts = refl; rest_fits = are });
       opcode = opcode;
       fits = fits;
     })
 
-no_step : (bytes : List ℕ) (o : ℕ) (d : Stop) (i : BlockInstr) (rest : List ℕ) → stopped d ≡ Ok (i, rest)
-    → IsStep bytes o i rest
-no_step bytes o d i rest e = absurd cc
+no_step : (first : Bool) (bytes : List ℕ) (o : ℕ) (d : Stop) (i : BlockInstr) (rest : List ℕ) → stopped d ≡ Ok (i, rest)
+    → IsStep first bytes o i rest
+no_step first bytes o d i rest e = absurd cc
 
-step_as : (bytes : List ℕ) (o code : ℕ) (i : BlockInstr) (rest : List ℕ) → eqb o code ≡ true → IsStep bytes code i rest
-    → IsStep bytes o i rest
-step_as bytes o code i rest e h = subst (λ (n : ℕ). IsStep bytes n i rest) (sym (eqb-true o code e)) h
+step_as : (first : Bool) (bytes : List ℕ) (o code : ℕ) (i : BlockInstr) (rest : List ℕ) → eqb o code ≡ true
+    → IsStep first bytes code i rest
+    → IsStep first bytes o i rest
+step_as first bytes o code i rest e h = subst (λ (n : ℕ). IsStep first bytes n i rest) (sym (eqb-true o code e)) h
 
-step-by : (bytes : List ℕ) (o : ℕ) (d : Stop) (i : BlockInstr) (rest : List ℕ) → IsBytes bytes
+first-step : (first : Bool) (bytes : List ℕ) (d : Stop) (i : BlockInstr) (rest : List ℕ) → IsBytes bytes
+    → (if first then found block.AcceptFirst bytes else stopped d) ≡ Ok (i, rest) → IsStep first bytes 0x44 i rest
+first-step true bytes d i rest fits e = lone-step true bytes 0x44 block.AcceptFirst i rest fits refl refl refl e
+first-step false bytes d i rest fits e = absurd cc
+
+step-by : (first : Bool) (bytes : List ℕ) (o : ℕ) (d : Stop) (i : BlockInstr) (rest : List ℕ) → IsBytes bytes
     → (if eqb o 0x40 then unless_at bytes else
     (if eqb o 0x41 then enter_at bytes else
     (if eqb o 0x42 then found block.Accept bytes else
-    (if eqb o 0x43 then found block.Stop bytes else stopped d)))) ≡ Ok (i, rest) → IsStep bytes o i rest
-step-by bytes o d i rest fits e =
+    (if eqb o 0x43 then found block.Stop bytes else
+    (if eqb o 0x44 then (if first then found block.AcceptFirst bytes else stopped d) else stopped d))))) ≡ Ok (i, rest)
+    → IsStep first bytes o i rest
+step-by first bytes o d i rest fits e =
     branch (eqb o 0x40) (unless_at bytes)
     (if eqb o 0x41 then enter_at bytes else
-    (if eqb o 0x42 then found block.Accept bytes else (if eqb o 0x43 then found block.Stop bytes else stopped d)))
-    (i, rest) (IsStep bytes o i rest)
-    (λ h r. step_as bytes o 0x40 i rest h (unless-read bytes i rest fits r))
+    (if eqb o 0x42 then found block.Accept bytes else (if eqb o 0x43 then found block.Stop bytes else
+    (if eqb o 0x44 then (if first then found block.AcceptFirst bytes else stopped d) else stopped d))))
+    (i, rest) (IsStep first bytes o i rest)
+    (λ h r. step_as first bytes o 0x40 i rest h (unless-read first bytes i rest fits r))
     (λ n0 e0. branch (eqb o 0x41) (enter_at bytes)
-    (if eqb o 0x42 then found block.Accept bytes else (if eqb o 0x43 then found block.Stop bytes else stopped d))
-    (i, rest) (IsStep bytes o i rest)
-    (λ h r. step_as bytes o 0x41 i rest h (enter-read bytes i rest fits r))
-    (λ n1 e1. branch (eqb o 0x42) (found block.Accept bytes) (if eqb o 0x43 then found block.Stop bytes else stopped d)
-    (i, rest) (IsStep bytes o i rest)
-    (λ h r. step_as bytes o 0x42 i rest h (lone-step bytes 0x42 block.Accept i rest fits refl refl refl r))
-    (λ n2 e2. branch (eqb o 0x43) (found block.Stop bytes) (stopped d) (i, rest) (IsStep bytes o i rest)
-    (λ h r. step_as bytes o 0x43 i rest h (lone-step bytes 0x43 block.Stop i rest fits refl refl refl r))
-    (λ n3 e3. no_step bytes o d i rest e3) e2) e1) e0) e
+    (if eqb o 0x42 then found block.Accept bytes else (if eqb o 0x43 then found block.Stop bytes else
+    (if eqb o 0x44 then (if first then found block.AcceptFirst bytes else stopped d) else stopped d)))
+    (i, rest) (IsStep first bytes o i rest)
+    (λ h r. step_as first bytes o 0x41 i rest h (enter-read first bytes i rest fits r))
+    (λ n1 e1. branch (eqb o 0x42) (found block.Accept bytes)
+    (if eqb o 0x43 then found block.Stop bytes else
+    (if eqb o 0x44 then (if first then found block.AcceptFirst bytes else stopped d) else stopped d))
+    (i, rest) (IsStep first bytes o i rest)
+    (λ h r. step_as first bytes o 0x42 i rest h (lone-step first bytes 0x42 block.Accept i rest fits refl refl refl r))
+    (λ n2 e2. branch (eqb o 0x43) (found block.Stop bytes)
+    (if eqb o 0x44 then (if first then found block.AcceptFirst bytes else stopped d) else stopped d) (i, rest)
+    (IsStep first bytes o i rest)
+    (λ h r. step_as first bytes o 0x43 i rest h (lone-step first bytes 0x43 block.Stop i rest fits refl refl refl r))
+    (λ n3 e3. branch (eqb o 0x44) (if first then found block.AcceptFirst bytes else stopped d) (stopped d) (i, rest)
+    (IsStep first bytes o i rest)
+    (λ h r. step_as first bytes o 0x44 i rest h (first-step first bytes d i rest fits r))
+    (λ n4 e4. no_step first bytes o d i rest e4) e3) e2) e1) e0) e
 
-step-takes : (bytes : List ℕ) (i : BlockInstr) (rest : List ℕ) → IsBytes bytes → step_at bytes ≡ Ok (i, rest)
-    → Takes bytes (block_spelling i) rest × (fits_block i ≡ true)
+step-takes : (first : Bool) (bytes : List ℕ) (i : BlockInstr) (rest : List ℕ) → IsBytes bytes → step_at first bytes
+    ≡ Ok (i, rest)
+    → Takes bytes (block_spelling i) rest × (fits_block_in first i ≡ true)
 unfolding step_at
-step-takes bytes i rest fits e =
+step-takes first bytes i rest fits e =
     let a =
     bind_ok (byte_at bytes)
     (λ o. if eqb o.0 0x40 then unless_at o.1 else
     (if eqb o.0 0x41 then enter_at o.1 else
     (if eqb o.0 0x42 then found block.Accept o.1 else
-    (if eqb o.0 0x43 then found block.Stop o.1 else stopped (stops.Opcode (length bytes)))))) (i, rest) e in
+    (if eqb o.0 0x43 then found block.Stop o.1 else
+    (if eqb o.0 0x44 then (if first then found block.AcceptFirst o.1 else stopped (stops.Opcode (length bytes))) else
+    stopped (stops.Opcode (length bytes))))))) (i, rest) e in
     let s = byte-codec.takes bytes a.0.0 a.0.1 fits a.1 in
-    let r = step-by a.0.1 a.0.0 (stops.Opcode (length bytes)) i rest s.0.rest_fits a.2 in
+    let r = step-by first a.0.1 a.0.0 (stops.Opcode (length bytes)) i rest s.0.rest_fits a.2 in
     let both = Takes-then bytes (byte a.0.0) a.0.1 (block_operands i) rest s.0 r.taken in
     (subst (λ (o : ℕ). Takes bytes (byte o ++ block_operands i) rest) (sym r.opcode) both, r.fits)
 
-step-again : (i : BlockInstr) (rest : List ℕ) → fits_block i ≡ true → step_at (block_spelling i ++ rest) ≡ Ok (i, rest)
+step-again : (first : Bool) (i : BlockInstr) (rest : List ℕ) → fits_block_in first i ≡ true
+    → step_at first (block_spelling i ++ rest) ≡ Ok (i, rest)
 unfolding step_at byte_at unless_at enter_at
-step-again (block.Unless atom target) rest fits =
+step-again first (block.Unless atom target) rest fits =
     rw (two-codec.again target rest (and_parts (in_byte atom) (in_two target) fits).1) refl
-step-again (block.Enter position) rest fits = refl
-step-again block.Accept rest fits = refl
-step-again block.Stop rest fits = refl
+step-again first (block.Enter position) rest fits = refl
+step-again first block.Accept rest fits = refl
+step-again first block.Stop rest fits = refl
+step-again true block.AcceptFirst rest fits = refl
+step-again false block.AcceptFirst rest fits = absurd cc
 
-pub step-codec : IsCodec fits_block block_spelling step_at
-step-codec = record { takes = step-takes; again = step-again }
+pub step-codec : (first : Bool) → IsCodec (fits_block_in first) block_spelling (step_at first)
+step-codec first = record { takes = step-takes first; again = step-again first }

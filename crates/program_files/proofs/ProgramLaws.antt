@@ -1,24 +1,27 @@
 -- Programs: what is read is spelled so, and what is spelled is read.
 use Rattle.std.proofs.Common.{◌≡◌, ℕ, Bool, true, false, ◌&&◌, eqb, List, [], ◌++◌, length, Option, Some, None, Result}
-use Rattle.std.proofs.Common.{Ok, Err, refl, sym, ap, subst, ◌∙◌, append_assoc, arith}
+use Rattle.std.proofs.Common.{Ok, Err, refl, sym, ap, subst, ◌∙◌, append_assoc, arith, ◌∷◌, get_or}
 use Rattle.std.specs.Prelude.{if◌then◌else◌}
 use Rattle.std.specs.Int.{w16, w32}
 use Rattle.std.specs.List.{flat_map, list_all}
 use Rattle.std.proofs.lemmas.Bool.{ltb-true, lt-ltb, and_parts, and_from, eqb-true, eqb-false, ne_eqb}
 use Rattle.std.proofs.lemmas.List.{append-nil, nil_from_length}
 use Rattle.bytecode.specs.declared.limits.Limits.{Limits}
+use Rattle.bytecode.specs.declared.block_instr.BlockInstr.{BlockInstr}
+use Rattle.bytecode.specs.declared.block_instr.BlockInstr.TheVariants as block
 use Rattle.bytecode.specs.declared.sample_instr.SampleInstr.{SampleInstr}
 use Rattle.program_files.specs.declared.fault.CodeFault.TheVariants as faults
 use Rattle.program_files.specs.declared.stop.Stop.{Stop}
 use Rattle.program_files.specs.declared.stop.Stop.TheVariants as stops
 use Rattle.bytecode.specs.Texts.{is_word, is_path}
 use Rattle.bytecode.specs.Values.{SlotData, SectionData, HeaderData, ProgramData, in_byte, in_two, in_four, is_width}
-use Rattle.bytecode.specs.Values.{fits_sample, fits_block, fits_list, fits_text, fits_slot, fits_section, fits_limits}
-use Rattle.bytecode.specs.Values.{fits_disable, fits_header, fits_program}
+use Rattle.bytecode.specs.Values.{fits_sample, fits_block_in, fits_list, fits_text, fits_slot, fits_section_in}
+use Rattle.bytecode.specs.Values.{fits_limits}
+use Rattle.bytecode.specs.Values.{fits_disable, fits_header, fits_program_in}
 use Rattle.program_files.specs.Spelling.{byte, two, four, sixteen, counted_spelling, text_spelling, sample_spelling}
 use Rattle.program_files.specs.Spelling.{block_spelling, slot_spelling, section_spelling, limits_spelling}
 use Rattle.program_files.specs.Spelling.{disable_spelling}
-use Rattle.program_files.specs.Spelling.{head_spelling, header_spelling, spelling}
+use Rattle.program_files.specs.Spelling.{version_of, head_spelling_in, header_spelling, spelling_in, IsSpelled}
 use Rattle.program_files.specs.Reading.{◌>>=◌, Fails, fault_of, number_at, sixteen_at, byte_at, width_at, text_at}
 use Rattle.program_files.specs.Reading.{many_at}
 use Rattle.program_files.specs.Reading.{counted_at, sample_at, step_at, slot_at, section_at, head_at, limits_at}
@@ -167,26 +170,29 @@ limits-codec = record { takes = limits-takes; again = limits-again }
 
 -- ---- sections
 
-steps-codec : IsCodec (fits_list fits_block) (counted_spelling block_spelling) (counted_at step_at)
-steps-codec = counted-codec fits_block block_spelling step_at step-codec
+steps-codec : (first : Bool)
+    → IsCodec (fits_list (fits_block_in first)) (counted_spelling block_spelling) (counted_at (step_at first))
+steps-codec first = counted-codec (fits_block_in first) block_spelling (step_at first) (step-codec first)
 
-section-takes : (bytes : List ℕ) (x : SectionData) (rest : List ℕ) → IsBytes bytes → section_at bytes ≡ Ok (x, rest)
-    → Takes bytes (section_spelling x) rest × (fits_section x ≡ true)
+section-takes : (first : Bool) (bytes : List ℕ) (x : SectionData) (rest : List ℕ) → IsBytes bytes
+    → section_at first bytes ≡ Ok (x, rest)
+    → Takes bytes (section_spelling x) rest × (fits_section_in first x ≡ true)
 unfolding section_at
-section-takes bytes x rest fits e =
+section-takes first bytes x rest fits e =
     let a =
-    bind_ok (sixteen_at bytes) (λ start. byte_at start.1 >>= λ n. many_at (counted_at step_at) n.0 n.1
+    bind_ok (sixteen_at bytes) (λ start. byte_at start.1 >>= λ n. many_at (counted_at (step_at first)) n.0 n.1
     >>= λ blocks. Ok (record { start = start.0; blocks = blocks.0 }, blocks.1)) (x, rest) e in
     let b =
-    bind_ok (byte_at a.0.1) (λ n. many_at (counted_at step_at) n.0 n.1
+    bind_ok (byte_at a.0.1) (λ n. many_at (counted_at (step_at first)) n.0 n.1
     >>= λ blocks. Ok (record { start = a.0.0; blocks = blocks.0 }, blocks.1)) (x, rest) a.2 in
     let c =
-    bind_ok (many_at (counted_at step_at) b.0.0 b.0.1)
+    bind_ok (many_at (counted_at (step_at first)) b.0.0 b.0.1)
     (λ blocks. Ok (record { start = a.0.0; blocks = blocks.0 }, blocks.1)) (x, rest) b.2 in
     let s = sixteen-codec.takes bytes a.0.0 a.0.1 fits a.1 in
     let t = byte-codec.takes a.0.1 b.0.0 b.0.1 s.0.rest_fits b.1 in
     let u =
-    many-takes (fits_list fits_block) (counted_spelling block_spelling) (counted_at step_at) steps-codec b.0.0
+    many-takes (fits_list (fits_block_in first)) (counted_spelling block_spelling) (counted_at (step_at first))
+    (steps-codec first) b.0.0
     b.0.1 c.0.0 c.0.1 t.0.rest_fits c.1 in
     let behind = Takes-then a.0.1 (byte b.0.0) b.0.1 (flat_map (counted_spelling block_spelling) c.0.0) c.0.1 t.0 u.0 in
     let counted : Takes a.0.1 (byte (length c.0.0) ++ flat_map (counted_spelling block_spelling) c.0.0) c.0.1 =
@@ -196,72 +202,99 @@ section-takes bytes x rest fits e =
     Takes-then bytes (sixteen a.0.0) a.0.1
     (byte (length c.0.0) ++ flat_map (counted_spelling block_spelling) c.0.0) c.0.1 s.0 counted in
     let few : in_byte (length c.0.0) ≡ true = subst (λ (k : ℕ). in_byte k ≡ true) (sym u.1) t.1 in
-    subst (λ (p : SectionData × List ℕ). Takes bytes (section_spelling p.0) p.1 × (fits_section p.0 ≡ true))
+    subst (λ (p : SectionData × List ℕ). Takes bytes (section_spelling p.0) p.1 × (fits_section_in first p.0 ≡ true))
     (ok_is (record { start = a.0.0; blocks = c.0.0 }, c.0.1) (x, rest) c.2) (
       whole,
       and_from (in_sixteen a.0.0) (in_byte (length c.0.0)
-          && list_all (fits_list fits_block) c.0.0) s.1
-          (and_from (in_byte (length c.0.0)) (list_all (fits_list fits_block) c.0.0) few u.2),
+          && list_all (fits_list (fits_block_in first)) c.0.0) s.1
+          (and_from (in_byte (length c.0.0)) (list_all (fits_list (fits_block_in first)) c.0.0) few u.2),
     )
 
-section-again : (x : SectionData) (rest : List ℕ) → fits_section x ≡ true → section_at (section_spelling x ++ rest)
+section-again : (first : Bool) (x : SectionData) (rest : List ℕ) → fits_section_in first x ≡ true
+    → section_at first (section_spelling x ++ rest)
     ≡ Ok (x, rest)
 unfolding section_at
-section-again x rest fits =
+section-again first x rest fits =
     let a =
-    and_parts (in_sixteen x.start) (in_byte (length x.blocks) && list_all (fits_list fits_block) x.blocks) fits in
-    let b = and_parts (in_byte (length x.blocks)) (list_all (fits_list fits_block) x.blocks) a.1 in
+    and_parts (in_sixteen x.start) (in_byte (length x.blocks) && list_all (fits_list (fits_block_in first)) x.blocks)
+    fits in
+    let b = and_parts (in_byte (length x.blocks)) (list_all (fits_list (fits_block_in first)) x.blocks) a.1 in
     let more = flat_map (counted_spelling block_spelling) x.blocks in
     let regrouped : section_spelling x ++ rest ≡ sixteen x.start ++ (byte (length x.blocks) ++ (more ++ rest)) =
     append_assoc (sixteen x.start) (byte (length x.blocks) ++ more) rest in
-    ap section_at regrouped
+    ap (section_at first) regrouped
     ∙ rw (
       sixteen-codec.again x.start (byte (length x.blocks) ++ (more ++ rest)) a.0,
       byte-codec.again (length x.blocks) (more ++ rest) b.0,
-      many-again (fits_list fits_block)
-          (counted_spelling block_spelling) (counted_at step_at) steps-codec x.blocks rest b.1,
+      many-again (fits_list (fits_block_in first))
+          (counted_spelling block_spelling) (counted_at (step_at first)) (steps-codec first) x.blocks rest b.1,
     ) refl
 
-pub section-codec : IsCodec fits_section section_spelling section_at
-section-codec = record { takes = section-takes; again = section-again }
+pub section-codec : (first : Bool) → IsCodec (fits_section_in first) section_spelling (section_at first)
+section-codec first = record { takes = section-takes first; again = section-again first }
 
 -- ---- the head
 
-version-ok : (o : ℕ) (bytes rest : List ℕ) → (if eqb o 1 then Ok bytes else Err stops.Version) ≡ Ok rest → (o ≡ 1)
-    × (bytes ≡ rest)
-version-ok o bytes rest e =
-    let g = test_ok (eqb o 1) stops.Version bytes rest e in
-    (eqb-true o 1 g.0, g.1)
+abbrev head_of : Bool → List ℕ → Result (Bool × List ℕ) Stop
+head_of first rest = Ok (first, rest)
 
-head-takes : (bytes rest : List ℕ) → IsBytes bytes → head_at bytes ≡ Ok rest → Takes bytes head_spelling rest
+version-ok : (o : ℕ) (bytes rest : List ℕ) (first : Bool)
+    → (if eqb o 2 then head_of true bytes else (if eqb o 1 then head_of false bytes else Err stops.Version))
+    ≡ head_of first rest → (o ≡ version_of first) × (bytes ≡ rest)
+version-ok o bytes rest first e = by (eqb o 2) (eqb o 1) refl refl e
+  where
+    by : (two one : Bool) → eqb o 2 ≡ two → eqb o 1 ≡ one
+        → (if two then head_of true bytes else (if one then head_of false bytes else Err stops.Version))
+        ≡ head_of first rest
+        → (o ≡ version_of first) × (bytes ≡ rest)
+    by true one is_two is_one e =
+        let same = ok_is (true, bytes) (first, rest) e in (
+          eqb-true o 2 is_two ∙ ap (λ (p : Bool × List ℕ). version_of p.0) same,
+          ap (λ (p : Bool × List ℕ). p.1) same,
+        )
+    by false true is_two is_one e =
+        let same = ok_is (false, bytes) (first, rest) e in (
+          eqb-true o 1 is_one ∙ ap (λ (p : Bool × List ℕ). version_of p.0) same,
+          ap (λ (p : Bool × List ℕ). p.1) same,
+        )
+    by false false is_two is_one e = absurd cc
+
+head-takes : (first : Bool) (bytes rest : List ℕ) → IsBytes bytes → head_at bytes ≡ Ok (first, rest)
+    → Takes bytes (head_spelling_in first) rest
 unfolding head_at
-head-takes bytes rest fits e =
+head-takes first bytes rest fits e =
     let a =
     bind_ok (number_at w32 bytes)
     (λ magic. if eqb magic.0 0x5356414d then
-    (byte_at magic.1 >>= λ version. if eqb version.0 1 then Ok version.1 else Err stops.Version) else Err
-    stops.Magic) rest e in
+    (byte_at magic.1 >>= λ version. if eqb version.0 2 then Ok (true, version.1) else
+    (if eqb version.0 1 then Ok (false, version.1) else Err stops.Version)) else Err
+    stops.Magic) (first, rest) e in
     let g =
     magic-ok (eqb a.0.0 0x5356414d)
-    (byte_at a.0.1 >>= λ version. if eqb version.0 1 then Ok version.1 else Err stops.Version) rest a.2 in
-    let b = bind_ok (byte_at a.0.1) (λ version. if eqb version.0 1 then Ok version.1 else Err stops.Version) rest g.1 in
-    let v = version-ok b.0.0 b.0.1 rest b.2 in
+    (byte_at a.0.1 >>= λ version. if eqb version.0 2 then Ok (true, version.1) else
+    (if eqb version.0 1 then Ok (false, version.1) else Err stops.Version)) (first, rest) a.2 in
+    let b =
+    bind_ok (byte_at a.0.1)
+    (λ version. if eqb version.0 2 then Ok (true, version.1) else
+    (if eqb version.0 1 then Ok (false, version.1) else Err stops.Version)) (first, rest) g.1 in
+    let v = version-ok b.0.0 b.0.1 rest first b.2 in
     let s = four-codec.takes bytes a.0.0 a.0.1 fits a.1 in
     let t = byte-codec.takes a.0.1 b.0.0 b.0.1 s.0.rest_fits b.1 in
     let both = Takes-then bytes (four a.0.0) a.0.1 (byte b.0.0) b.0.1 s.0 t.0 in
-    let named : Takes bytes (four 0x5356414d ++ byte 1) b.0.1 =
-    subst (λ (m : ℕ). Takes bytes (four m ++ byte 1) b.0.1) (eqb-true a.0.0 0x5356414d g.0)
+    let named : Takes bytes (four 0x5356414d ++ byte (version_of first)) b.0.1 =
+    subst (λ (m : ℕ). Takes bytes (four m ++ byte (version_of first)) b.0.1) (eqb-true a.0.0 0x5356414d g.0)
     (subst (λ (o : ℕ). Takes bytes (four a.0.0 ++ byte o) b.0.1) v.0 both) in
-    subst (λ (r : List ℕ). Takes bytes head_spelling r) v.1 named
+    subst (λ (r : List ℕ). Takes bytes (head_spelling_in first) r) v.1 named
   where
-    magic-ok : (b : Bool) (r : Result (List ℕ) Stop) (y : List ℕ) → (if b then r else Err stops.Magic) ≡ Ok y
-        → (b ≡ true) × (r ≡ Ok y)
+    magic-ok : (b : Bool) (r : Result (Bool × List ℕ) Stop) (y : Bool × List ℕ)
+        → (if b then r else Err stops.Magic) ≡ Ok y → (b ≡ true) × (r ≡ Ok y)
     magic-ok true r y e = (refl, e)
     magic-ok false r y e = absurd cc
 
-head-again : (rest : List ℕ) → head_at (head_spelling ++ rest) ≡ Ok rest
+head-again : (first : Bool) (rest : List ℕ) → head_at (head_spelling_in first ++ rest) ≡ Ok (first, rest)
 unfolding head_at byte_at
-head-again rest = rw (four-codec.again 0x5356414d (byte 1 ++ rest) refl) refl
+head-again true rest = rw (four-codec.again 0x5356414d (byte 2 ++ rest) refl) refl
+head-again false rest = rw (four-codec.again 0x5356414d (byte 1 ++ rest) refl) refl
 
 -- ---- the disabling atom
 
@@ -443,13 +476,14 @@ module _ (header : HeaderData) (signals : List SlotData) (counters : List ℕ) (
         consequent = consequent;
       }
 
-  made-taken : (bytes h a b c d e f : List ℕ) → Takes bytes head_spelling h → Takes h (header_spelling header) a
+  made-taken : (first : Bool) (bytes h a b c d e f : List ℕ) → Takes bytes (head_spelling_in first) h
+      → Takes h (header_spelling header) a
       → Takes a (counted_spelling slot_spelling signals) b → Takes b (counted_spelling byte counters) c
       → Takes c (counted_spelling sample_spelling sample) d → Takes d (section_spelling antecedent) e
-      → Takes e (section_spelling consequent) f → Takes bytes (spelling made) f
+      → Takes e (section_spelling consequent) f → Takes bytes (spelling_in first made) f
   unfolding made
-  made-taken bytes h a b c d e f start p q r t k m =
-      Takes-then bytes head_spelling h
+  made-taken first bytes h a b c d e f start p q r t k m =
+      Takes-then bytes (head_spelling_in first) h
       (header_spelling header ++ counted_spelling slot_spelling signals ++ counted_spelling byte counters
       ++ counted_spelling sample_spelling sample ++ section_spelling antecedent ++ section_spelling consequent) f
       start
@@ -457,38 +491,41 @@ module _ (header : HeaderData) (signals : List SlotData) (counters : List ℕ) (
       (counted_spelling byte counters) (counted_spelling sample_spelling sample) (section_spelling antecedent)
       (section_spelling consequent) p q r t k m)
 
-  made-fits : fits_header header ≡ true → fits_list fits_slot signals ≡ true → fits_list is_width counters ≡ true
-      → fits_list fits_sample sample ≡ true → fits_section antecedent ≡ true → fits_section consequent ≡ true
-      → fits_program made ≡ true
+  made-fits : (first : Bool) → fits_header header ≡ true → fits_list fits_slot signals ≡ true
+      → fits_list is_width counters ≡ true
+      → fits_list fits_sample sample ≡ true → fits_section_in first antecedent ≡ true
+      → fits_section_in first consequent ≡ true
+      → fits_program_in first made ≡ true
   unfolding made
-  made-fits p q r t k m =
+  made-fits first p q r t k m =
       and_from (fits_header header)
       (fits_list fits_slot signals
       && (fits_list is_width counters
-      && (fits_list fits_sample sample && (fits_section antecedent && fits_section consequent)))) p
+      && (fits_list fits_sample sample && (fits_section_in first antecedent && fits_section_in first consequent)))) p
       (and_from (fits_list fits_slot signals)
       (fits_list is_width counters
-      && (fits_list fits_sample sample && (fits_section antecedent && fits_section consequent))) q
+      && (fits_list fits_sample sample && (fits_section_in first antecedent && fits_section_in first consequent))) q
       (and_from (fits_list is_width counters)
-      (fits_list fits_sample sample && (fits_section antecedent && fits_section consequent)) r
-      (and_from (fits_list fits_sample sample) (fits_section antecedent && fits_section consequent) t
-      (and_from (fits_section antecedent) (fits_section consequent) k m))))
+      (fits_list fits_sample sample && (fits_section_in first antecedent && fits_section_in first consequent)) r
+      (and_from (fits_list fits_sample sample) (fits_section_in first antecedent && fits_section_in first consequent) t
+      (and_from (fits_section_in first antecedent) (fits_section_in first consequent) k m))))
 
 abbrev ok_program : ProgramData → List ℕ → Result (ProgramData × List ℕ) Stop
 ok_program x rest = Ok (x, rest)
 
-record Rest5 (header : HeaderData) (signals : List SlotData) (counters : List ℕ) (sample : List SampleInstr)
+record Rest5 (first : Bool) (header : HeaderData) (signals : List SlotData) (counters : List ℕ)
+    (sample : List SampleInstr)
     (antecedent : SectionData) (bytes : List ℕ) (x : ProgramData) (rest : List ℕ) : Type 0 where
   pub consequent' : SectionData
   pub after5 : List ℕ
   pub taken5 : Takes bytes (section_spelling consequent') after5
-  pub fits5 : fits_section consequent' ≡ true
+  pub fits5 : fits_section_in first consequent' ≡ true
   pub is : x ≡ made header signals counters sample antecedent consequent'
   pub left : after5 ≡ rest
 
-rest5 : (header : HeaderData) (signals : List SlotData) (counters : List ℕ) (sample : List SampleInstr)
+rest5 : (first : Bool) (header : HeaderData) (signals : List SlotData) (counters : List ℕ) (sample : List SampleInstr)
     (antecedent : SectionData) (bytes : List ℕ) (x : ProgramData) (rest : List ℕ) → IsBytes bytes
-    → (section_at bytes
+    → (section_at first bytes
     >>= λ n_consequent. ok_program
     (record {
       header = header;
@@ -498,11 +535,11 @@ rest5 : (header : HeaderData) (signals : List SlotData) (counters : List ℕ) (s
       antecedent = antecedent;
       consequent = n_consequent.0;
     }) n_consequent.1) ≡ Ok (x, rest)
-    → Rest5 header signals counters sample antecedent bytes x rest
+    → Rest5 first header signals counters sample antecedent bytes x rest
 unfolding made
-rest5 header signals counters sample antecedent bytes x rest fits e =
+rest5 first header signals counters sample antecedent bytes x rest fits e =
     let b =
-    bind_ok (section_at bytes)
+    bind_ok (section_at first bytes)
     (λ n_consequent. ok_program
     (record {
       header = header;
@@ -512,7 +549,7 @@ rest5 header signals counters sample antecedent bytes x rest fits e =
       antecedent = antecedent;
       consequent = n_consequent.0;
     }) n_consequent.1) (x, rest) e in
-    let s = section-codec.takes bytes b.0.0 b.0.1 fits b.1 in
+    let s = (section-codec first).takes bytes b.0.0 b.0.1 fits b.1 in
     let same =
     ok_is (
       record {
@@ -534,22 +571,24 @@ rest5 header signals counters sample antecedent bytes x rest fits e =
       left = ap (λ (p : ProgramData × List ℕ). p.1) same;
     }
 
-record Rest4 (header : HeaderData) (signals : List SlotData) (counters : List ℕ) (sample : List SampleInstr)
+record Rest4 (first : Bool) (header : HeaderData) (signals : List SlotData) (counters : List ℕ)
+    (sample : List SampleInstr)
     (bytes : List ℕ) (x : ProgramData) (rest : List ℕ) : Type 0 where
   pub antecedent' : SectionData
   pub after4 : List ℕ
   pub taken4 : Takes bytes (section_spelling antecedent') after4
-  pub fits4 : fits_section antecedent' ≡ true
+  pub fits4 : fits_section_in first antecedent' ≡ true
   pub consequent' : SectionData
   pub after5 : List ℕ
   pub taken5 : Takes after4 (section_spelling consequent') after5
-  pub fits5 : fits_section consequent' ≡ true
+  pub fits5 : fits_section_in first consequent' ≡ true
   pub is : x ≡ made header signals counters sample antecedent' consequent'
   pub left : after5 ≡ rest
 
-rest4 : (header : HeaderData) (signals : List SlotData) (counters : List ℕ) (sample : List SampleInstr) (bytes : List ℕ)
+rest4 : (first : Bool) (header : HeaderData) (signals : List SlotData) (counters : List ℕ) (sample : List SampleInstr)
+    (bytes : List ℕ)
     (x : ProgramData) (rest : List ℕ) → IsBytes bytes
-    → (section_at bytes >>= λ n_antecedent. section_at n_antecedent.1
+    → (section_at first bytes >>= λ n_antecedent. section_at first n_antecedent.1
     >>= λ n_consequent. ok_program
     (record {
       header = header;
@@ -558,11 +597,11 @@ rest4 : (header : HeaderData) (signals : List SlotData) (counters : List ℕ) (s
       sample = sample;
       antecedent = n_antecedent.0;
       consequent = n_consequent.0;
-    }) n_consequent.1) ≡ Ok (x, rest) → Rest4 header signals counters sample bytes x rest
+    }) n_consequent.1) ≡ Ok (x, rest) → Rest4 first header signals counters sample bytes x rest
 unfolding made
-rest4 header signals counters sample bytes x rest fits e =
+rest4 first header signals counters sample bytes x rest fits e =
     let b =
-    bind_ok (section_at bytes) (λ n_antecedent. section_at n_antecedent.1
+    bind_ok (section_at first bytes) (λ n_antecedent. section_at first n_antecedent.1
     >>= λ n_consequent. ok_program
     (record {
       header = header;
@@ -572,8 +611,8 @@ rest4 header signals counters sample bytes x rest fits e =
       antecedent = n_antecedent.0;
       consequent = n_consequent.0;
     }) n_consequent.1) (x, rest) e in
-    let s = section-codec.takes bytes b.0.0 b.0.1 fits b.1 in
-    let m = rest5 header signals counters sample b.0.0 b.0.1 x rest s.0.rest_fits b.2 in
+    let s = (section-codec first).takes bytes b.0.0 b.0.1 fits b.1 in
+    let m = rest5 first header signals counters sample b.0.0 b.0.1 x rest s.0.rest_fits b.2 in
     record {
       antecedent' = b.0.0;
       after4 = b.0.1;
@@ -587,7 +626,8 @@ rest4 header signals counters sample bytes x rest fits e =
       left = m.left;
     }
 
-record Rest3 (header : HeaderData) (signals : List SlotData) (counters : List ℕ) (bytes : List ℕ) (x : ProgramData)
+record Rest3 (first : Bool) (header : HeaderData) (signals : List SlotData) (counters : List ℕ) (bytes : List ℕ)
+    (x : ProgramData)
     (rest : List ℕ) : Type 0 where
   pub sample' : List SampleInstr
   pub after3 : List ℕ
@@ -596,17 +636,19 @@ record Rest3 (header : HeaderData) (signals : List SlotData) (counters : List �
   pub antecedent' : SectionData
   pub after4 : List ℕ
   pub taken4 : Takes after3 (section_spelling antecedent') after4
-  pub fits4 : fits_section antecedent' ≡ true
+  pub fits4 : fits_section_in first antecedent' ≡ true
   pub consequent' : SectionData
   pub after5 : List ℕ
   pub taken5 : Takes after4 (section_spelling consequent') after5
-  pub fits5 : fits_section consequent' ≡ true
+  pub fits5 : fits_section_in first consequent' ≡ true
   pub is : x ≡ made header signals counters sample' antecedent' consequent'
   pub left : after5 ≡ rest
 
-rest3 : (header : HeaderData) (signals : List SlotData) (counters : List ℕ) (bytes : List ℕ) (x : ProgramData)
+rest3 : (first : Bool) (header : HeaderData) (signals : List SlotData) (counters : List ℕ) (bytes : List ℕ)
+    (x : ProgramData)
     (rest : List ℕ) → IsBytes bytes
-    → (counted_at sample_at bytes >>= λ n_sample. section_at n_sample.1 >>= λ n_antecedent. section_at n_antecedent.1
+    → (counted_at sample_at bytes >>= λ n_sample. section_at first n_sample.1
+    >>= λ n_antecedent. section_at first n_antecedent.1
     >>= λ n_consequent. ok_program
     (record {
       header = header;
@@ -615,12 +657,12 @@ rest3 : (header : HeaderData) (signals : List SlotData) (counters : List ℕ) (b
       sample = n_sample.0;
       antecedent = n_antecedent.0;
       consequent = n_consequent.0;
-    }) n_consequent.1) ≡ Ok (x, rest) → Rest3 header signals counters bytes x rest
+    }) n_consequent.1) ≡ Ok (x, rest) → Rest3 first header signals counters bytes x rest
 unfolding made
-rest3 header signals counters bytes x rest fits e =
+rest3 first header signals counters bytes x rest fits e =
     let b =
-    bind_ok (counted_at sample_at bytes) (λ n_sample. section_at n_sample.1
-    >>= λ n_antecedent. section_at n_antecedent.1
+    bind_ok (counted_at sample_at bytes) (λ n_sample. section_at first n_sample.1
+    >>= λ n_antecedent. section_at first n_antecedent.1
     >>= λ n_consequent. ok_program
     (record {
       header = header;
@@ -631,7 +673,7 @@ rest3 header signals counters bytes x rest fits e =
       consequent = n_consequent.0;
     }) n_consequent.1) (x, rest) e in
     let s = samples-codec.takes bytes b.0.0 b.0.1 fits b.1 in
-    let m = rest4 header signals counters b.0.0 b.0.1 x rest s.0.rest_fits b.2 in
+    let m = rest4 first header signals counters b.0.0 b.0.1 x rest s.0.rest_fits b.2 in
     record {
       sample' = b.0.0;
       after3 = b.0.1;
@@ -650,7 +692,8 @@ rest3 header signals counters bytes x rest fits e =
       left = m.left;
     }
 
-record Rest2 (header : HeaderData) (signals : List SlotData) (bytes : List ℕ) (x : ProgramData) (rest : List ℕ) : Type 0
+record Rest2 (first : Bool) (header : HeaderData) (signals : List SlotData) (bytes : List ℕ) (x : ProgramData)
+    (rest : List ℕ) : Type 0
   where
     pub counters' : List ℕ
     pub after2 : List ℕ
@@ -663,18 +706,19 @@ record Rest2 (header : HeaderData) (signals : List SlotData) (bytes : List ℕ) 
     pub antecedent' : SectionData
     pub after4 : List ℕ
     pub taken4 : Takes after3 (section_spelling antecedent') after4
-    pub fits4 : fits_section antecedent' ≡ true
+    pub fits4 : fits_section_in first antecedent' ≡ true
     pub consequent' : SectionData
     pub after5 : List ℕ
     pub taken5 : Takes after4 (section_spelling consequent') after5
-    pub fits5 : fits_section consequent' ≡ true
+    pub fits5 : fits_section_in first consequent' ≡ true
     pub is : x ≡ made header signals counters' sample' antecedent' consequent'
     pub left : after5 ≡ rest
 
-rest2 : (header : HeaderData) (signals : List SlotData) (bytes : List ℕ) (x : ProgramData) (rest : List ℕ)
+rest2 : (first : Bool) (header : HeaderData) (signals : List SlotData) (bytes : List ℕ) (x : ProgramData)
+    (rest : List ℕ)
     → IsBytes bytes
     → (counted_at width_at bytes >>= λ n_counters. counted_at sample_at n_counters.1
-    >>= λ n_sample. section_at n_sample.1 >>= λ n_antecedent. section_at n_antecedent.1
+    >>= λ n_sample. section_at first n_sample.1 >>= λ n_antecedent. section_at first n_antecedent.1
     >>= λ n_consequent. ok_program
     (record {
       header = header;
@@ -683,12 +727,12 @@ rest2 : (header : HeaderData) (signals : List SlotData) (bytes : List ℕ) (x : 
       sample = n_sample.0;
       antecedent = n_antecedent.0;
       consequent = n_consequent.0;
-    }) n_consequent.1) ≡ Ok (x, rest) → Rest2 header signals bytes x rest
+    }) n_consequent.1) ≡ Ok (x, rest) → Rest2 first header signals bytes x rest
 unfolding made
-rest2 header signals bytes x rest fits e =
+rest2 first header signals bytes x rest fits e =
     let b =
     bind_ok (counted_at width_at bytes) (λ n_counters. counted_at sample_at n_counters.1
-    >>= λ n_sample. section_at n_sample.1 >>= λ n_antecedent. section_at n_antecedent.1
+    >>= λ n_sample. section_at first n_sample.1 >>= λ n_antecedent. section_at first n_antecedent.1
     >>= λ n_consequent. ok_program
     (record {
       header = header;
@@ -699,7 +743,7 @@ rest2 header signals bytes x rest fits e =
       consequent = n_consequent.0;
     }) n_consequent.1) (x, rest) e in
     let s = widths-codec.takes bytes b.0.0 b.0.1 fits b.1 in
-    let m = rest3 header signals b.0.0 b.0.1 x rest s.0.rest_fits b.2 in
+    let m = rest3 first header signals b.0.0 b.0.1 x rest s.0.rest_fits b.2 in
     record {
       counters' = b.0.0;
       after2 = b.0.1;
@@ -723,7 +767,7 @@ rest2 header signals bytes x rest fits e =
           m.left;
     }
 
-record Rest1 (header : HeaderData) (bytes : List ℕ) (x : ProgramData) (rest : List ℕ) : Type 0 where
+record Rest1 (first : Bool) (header : HeaderData) (bytes : List ℕ) (x : ProgramData) (rest : List ℕ) : Type 0 where
   pub signals' : List SlotData
   pub after1 : List ℕ
   pub taken1 : Takes bytes (counted_spelling slot_spelling signals') after1
@@ -739,18 +783,18 @@ record Rest1 (header : HeaderData) (bytes : List ℕ) (x : ProgramData) (rest : 
   pub antecedent' : SectionData
   pub after4 : List ℕ
   pub taken4 : Takes after3 (section_spelling antecedent') after4
-  pub fits4 : fits_section antecedent' ≡ true
+  pub fits4 : fits_section_in first antecedent' ≡ true
   pub consequent' : SectionData
   pub after5 : List ℕ
   pub taken5 : Takes after4 (section_spelling consequent') after5
-  pub fits5 : fits_section consequent' ≡ true
+  pub fits5 : fits_section_in first consequent' ≡ true
   pub is : x ≡ made header signals' counters' sample' antecedent' consequent'
   pub left : after5 ≡ rest
 
-rest1 : (header : HeaderData) (bytes : List ℕ) (x : ProgramData) (rest : List ℕ) → IsBytes bytes
+rest1 : (first : Bool) (header : HeaderData) (bytes : List ℕ) (x : ProgramData) (rest : List ℕ) → IsBytes bytes
     → (counted_at slot_at bytes >>= λ n_signals. counted_at width_at n_signals.1
-    >>= λ n_counters. counted_at sample_at n_counters.1 >>= λ n_sample. section_at n_sample.1
-    >>= λ n_antecedent. section_at n_antecedent.1
+    >>= λ n_counters. counted_at sample_at n_counters.1 >>= λ n_sample. section_at first n_sample.1
+    >>= λ n_antecedent. section_at first n_antecedent.1
     >>= λ n_consequent. ok_program
     (record {
       header = header;
@@ -760,13 +804,13 @@ rest1 : (header : HeaderData) (bytes : List ℕ) (x : ProgramData) (rest : List 
       antecedent = n_antecedent.0;
       consequent = n_consequent.0;
     }) n_consequent.1) ≡ Ok (x, rest)
-    → Rest1 header bytes x rest
+    → Rest1 first header bytes x rest
 unfolding made
-rest1 header bytes x rest fits e =
+rest1 first header bytes x rest fits e =
     let b =
     bind_ok (counted_at slot_at bytes) (λ n_signals. counted_at width_at n_signals.1
-    >>= λ n_counters. counted_at sample_at n_counters.1 >>= λ n_sample. section_at n_sample.1
-    >>= λ n_antecedent. section_at n_antecedent.1
+    >>= λ n_counters. counted_at sample_at n_counters.1 >>= λ n_sample. section_at first n_sample.1
+    >>= λ n_antecedent. section_at first n_antecedent.1
     >>= λ n_consequent. ok_program
     (record {
       header = header;
@@ -777,7 +821,7 @@ rest1 header bytes x rest fits e =
       consequent = n_consequent.0;
     }) n_consequent.1) (x, rest) e in
     let s = slots-codec.takes bytes b.0.0 b.0.1 fits b.1 in
-    let m = rest2 header b.0.0 b.0.1 x rest s.0.rest_fits b.2 in
+    let m = rest2 first header b.0.0 b.0.1 x rest s.0.rest_fits b.2 in
     record {
       signals' = b.0.0;
       after1 = b.0.1;
@@ -805,7 +849,7 @@ rest1 header bytes x rest fits e =
       left = m.left;
     }
 
-record Rest0 (bytes : List ℕ) (x : ProgramData) (rest : List ℕ) : Type 0 where
+record Rest0 (first : Bool) (bytes : List ℕ) (x : ProgramData) (rest : List ℕ) : Type 0 where
   pub header' : HeaderData
   pub after0 : List ℕ
   pub taken0 : Takes bytes (header_spelling header') after0
@@ -825,18 +869,18 @@ record Rest0 (bytes : List ℕ) (x : ProgramData) (rest : List ℕ) : Type 0 whe
   pub antecedent' : SectionData
   pub after4 : List ℕ
   pub taken4 : Takes after3 (section_spelling antecedent') after4
-  pub fits4 : fits_section antecedent' ≡ true
+  pub fits4 : fits_section_in first antecedent' ≡ true
   pub consequent' : SectionData
   pub after5 : List ℕ
   pub taken5 : Takes after4 (section_spelling consequent') after5
-  pub fits5 : fits_section consequent' ≡ true
+  pub fits5 : fits_section_in first consequent' ≡ true
   pub is : x ≡ made header' signals' counters' sample' antecedent' consequent'
   pub left : after5 ≡ rest
 
-rest0 : (bytes : List ℕ) (x : ProgramData) (rest : List ℕ) → IsBytes bytes
+rest0 : (first : Bool) (bytes : List ℕ) (x : ProgramData) (rest : List ℕ) → IsBytes bytes
     → (header_at bytes >>= λ n_header. counted_at slot_at n_header.1 >>= λ n_signals. counted_at width_at n_signals.1
-    >>= λ n_counters. counted_at sample_at n_counters.1 >>= λ n_sample. section_at n_sample.1
-    >>= λ n_antecedent. section_at n_antecedent.1
+    >>= λ n_counters. counted_at sample_at n_counters.1 >>= λ n_sample. section_at first n_sample.1
+    >>= λ n_antecedent. section_at first n_antecedent.1
     >>= λ n_consequent. ok_program
     (record {
       header = n_header.0;
@@ -845,13 +889,13 @@ rest0 : (bytes : List ℕ) (x : ProgramData) (rest : List ℕ) → IsBytes bytes
       sample = n_sample.0;
       antecedent = n_antecedent.0;
       consequent = n_consequent.0;
-    }) n_consequent.1) ≡ Ok (x, rest) → Rest0 bytes x rest
+    }) n_consequent.1) ≡ Ok (x, rest) → Rest0 first bytes x rest
 unfolding made
-rest0 bytes x rest fits e =
+rest0 first bytes x rest fits e =
     let b =
     bind_ok (header_at bytes) (λ n_header. counted_at slot_at n_header.1
     >>= λ n_signals. counted_at width_at n_signals.1 >>= λ n_counters. counted_at sample_at n_counters.1
-    >>= λ n_sample. section_at n_sample.1 >>= λ n_antecedent. section_at n_antecedent.1
+    >>= λ n_sample. section_at first n_sample.1 >>= λ n_antecedent. section_at first n_antecedent.1
     >>= λ n_consequent. ok_program
     (record {
       header = n_header.0;
@@ -862,7 +906,7 @@ rest0 bytes x rest fits e =
       consequent = n_consequent.0;
     }) n_consequent.1) (x, rest) e in
     let s = header-codec.takes bytes b.0.0 b.0.1 fits b.1 in
-    let m = rest1 b.0.0 b.0.1 x rest s.0.rest_fits b.2 in
+    let m = rest1 first b.0.0 b.0.1 x rest s.0.rest_fits b.2 in
     record {
       header' = b.0.0;
       after0 = b.0.1;
@@ -896,13 +940,13 @@ rest0 bytes x rest fits e =
     }
 
 program-takes : (bytes : List ℕ) (x : ProgramData) (rest : List ℕ) → IsBytes bytes → program_at bytes ≡ Ok (x, rest)
-    → Takes bytes (spelling x) rest × (fits_program x ≡ true)
+    → (first : Bool) × Takes bytes (spelling_in first x) rest × (fits_program_in first x ≡ true)
 unfolding program_at
 program-takes bytes x rest fits e =
     let h =
-    bind_ok (head_at bytes) (λ a. header_at a >>= λ header. counted_at slot_at header.1
+    bind_ok (head_at bytes) (λ a. header_at a.1 >>= λ header. counted_at slot_at header.1
     >>= λ signals. counted_at width_at signals.1 >>= λ counters. counted_at sample_at counters.1
-    >>= λ sample. section_at sample.1 >>= λ antecedent. section_at antecedent.1
+    >>= λ sample. section_at a.0 sample.1 >>= λ antecedent. section_at a.0 antecedent.1
     >>= λ consequent.
     Ok (
       record {
@@ -915,26 +959,30 @@ program-takes bytes x rest fits e =
       },
       consequent.1,
     )) (x, rest) e in
-    let th = head-takes bytes h.0 fits h.1 in
-    let m = rest0 h.0 x rest th.rest_fits h.2 in
-    let taken : Takes bytes (spelling (made m.header' m.signals' m.counters' m.sample' m.antecedent' m.consequent'))
+    let th = head-takes h.0.0 bytes h.0.1 fits h.1 in
+    let m = rest0 h.0.0 h.0.1 x rest th.rest_fits h.2 in
+    let taken : Takes bytes
+    (spelling_in h.0.0 (made m.header' m.signals' m.counters' m.sample' m.antecedent' m.consequent'))
     rest =
     subst (λ (r : List ℕ). Takes bytes
-    (spelling (made m.header' m.signals' m.counters' m.sample' m.antecedent' m.consequent')) r) m.left
-    (made-taken m.header' m.signals' m.counters' m.sample' m.antecedent' m.consequent' bytes h.0 m.after0 m.after1
+    (spelling_in h.0.0 (made m.header' m.signals' m.counters' m.sample' m.antecedent' m.consequent')) r) m.left
+    (made-taken m.header' m.signals' m.counters' m.sample' m.antecedent' m.consequent' h.0.0 bytes h.0.1 m.after0
+    m.after1
     m.after2 m.after3 m.after4 m.after5 th m.taken0 m.taken1 m.taken2 m.taken3 m.taken4 m.taken5) in (
-      subst (λ (y : ProgramData). Takes bytes (spelling y) rest) (sym m.is) taken,
-      subst (λ (y : ProgramData). fits_program y ≡ true) (sym m.is)
-          (made-fits m.header' m.signals' m.counters' m.sample' m.antecedent' m.consequent' m.fits0 m.fits1 m.fits2
+      h.0.0,
+      subst (λ (y : ProgramData). Takes bytes (spelling_in h.0.0 y) rest) (sym m.is) taken,
+      subst (λ (y : ProgramData). fits_program_in h.0.0 y ≡ true) (sym m.is)
+          (made-fits m.header' m.signals' m.counters' m.sample' m.antecedent' m.consequent' h.0.0 m.fits0 m.fits1
+          m.fits2
           m.fits3 m.fits4 m.fits5),
     )
 
 right_before : (a b c d e f g : List ℕ) → (a ++ b ++ c ++ d ++ e ++ f) ++ g ≡ a ++ (b ++ (c ++ (d ++ (e ++ (f ++ g)))))
 right_before a b c d e f g = append_assoc (a ++ b ++ c ++ d ++ e) f g ∙ right_grouped a b c d e (f ++ g)
 
-again5 : (header : HeaderData) (signals : List SlotData) (counters : List ℕ) (sample : List SampleInstr)
-    (antecedent : SectionData) (consequent : SectionData) (rest : List ℕ) → fits_section consequent ≡ true
-    → (section_at (section_spelling consequent ++ rest)
+again5 : (first : Bool) (header : HeaderData) (signals : List SlotData) (counters : List ℕ) (sample : List SampleInstr)
+    (antecedent : SectionData) (consequent : SectionData) (rest : List ℕ) → fits_section_in first consequent ≡ true
+    → (section_at first (section_spelling consequent ++ rest)
     >>= λ n_consequent. ok_program
     (record {
       header = header;
@@ -946,7 +994,7 @@ again5 : (header : HeaderData) (signals : List SlotData) (counters : List ℕ) (
     }) n_consequent.1)
     ≡ ok_program (made header signals counters sample antecedent consequent) rest
 unfolding made
-again5 header signals counters sample antecedent consequent rest h5 =
+again5 first header signals counters sample antecedent consequent rest h5 =
     ap (λ (r : Result (SectionData × List ℕ) Stop). r
     >>= λ n_consequent. ok_program
     (record {
@@ -956,13 +1004,13 @@ again5 header signals counters sample antecedent consequent rest h5 =
       sample = sample;
       antecedent = antecedent;
       consequent = n_consequent.0;
-    }) n_consequent.1) (section-codec.again consequent rest h5)
+    }) n_consequent.1) ((section-codec first).again consequent rest h5)
 
-again4 : (header : HeaderData) (signals : List SlotData) (counters : List ℕ) (sample : List SampleInstr)
-    (antecedent : SectionData) (consequent : SectionData) (rest : List ℕ) → fits_section antecedent ≡ true
-    → fits_section consequent ≡ true
-    → (section_at (section_spelling antecedent ++ (section_spelling consequent ++ rest))
-    >>= λ n_antecedent. section_at n_antecedent.1
+again4 : (first : Bool) (header : HeaderData) (signals : List SlotData) (counters : List ℕ) (sample : List SampleInstr)
+    (antecedent : SectionData) (consequent : SectionData) (rest : List ℕ) → fits_section_in first antecedent ≡ true
+    → fits_section_in first consequent ≡ true
+    → (section_at first (section_spelling antecedent ++ (section_spelling consequent ++ rest))
+    >>= λ n_antecedent. section_at first n_antecedent.1
     >>= λ n_consequent. ok_program
     (record {
       header = header;
@@ -974,8 +1022,8 @@ again4 : (header : HeaderData) (signals : List SlotData) (counters : List ℕ) (
     }) n_consequent.1)
     ≡ ok_program (made header signals counters sample antecedent consequent) rest
 unfolding made
-again4 header signals counters sample antecedent consequent rest h4 h5 =
-    ap (λ (r : Result (SectionData × List ℕ) Stop). r >>= λ n_antecedent. section_at n_antecedent.1
+again4 first header signals counters sample antecedent consequent rest h4 h5 =
+    ap (λ (r : Result (SectionData × List ℕ) Stop). r >>= λ n_antecedent. section_at first n_antecedent.1
     >>= λ n_consequent. ok_program
     (record {
       header = header;
@@ -985,16 +1033,17 @@ again4 header signals counters sample antecedent consequent rest h4 h5 =
       antecedent = n_antecedent.0;
       consequent = n_consequent.0;
     }) n_consequent.1)
-    (section-codec.again antecedent (section_spelling consequent ++ rest) h4)
-    ∙ again5 header signals counters sample antecedent consequent rest h5
+    ((section-codec first).again antecedent (section_spelling consequent ++ rest) h4)
+    ∙ again5 first header signals counters sample antecedent consequent rest h5
 
-again3 : (header : HeaderData) (signals : List SlotData) (counters : List ℕ) (sample : List SampleInstr)
+again3 : (first : Bool) (header : HeaderData) (signals : List SlotData) (counters : List ℕ) (sample : List SampleInstr)
     (antecedent : SectionData) (consequent : SectionData) (rest : List ℕ) → fits_list fits_sample sample ≡ true
-    → fits_section antecedent ≡ true → fits_section consequent ≡ true
+    → fits_section_in first antecedent ≡ true → fits_section_in first consequent ≡ true
     → (counted_at sample_at
     (counted_spelling sample_spelling sample
-    ++ (section_spelling antecedent ++ (section_spelling consequent ++ rest))) >>= λ n_sample. section_at n_sample.1
-    >>= λ n_antecedent. section_at n_antecedent.1
+    ++ (section_spelling antecedent ++ (section_spelling consequent ++ rest)))
+    >>= λ n_sample. section_at first n_sample.1
+    >>= λ n_antecedent. section_at first n_antecedent.1
     >>= λ n_consequent. ok_program
     (record {
       header = header;
@@ -1006,9 +1055,9 @@ again3 : (header : HeaderData) (signals : List SlotData) (counters : List ℕ) (
     }) n_consequent.1)
     ≡ ok_program (made header signals counters sample antecedent consequent) rest
 unfolding made
-again3 header signals counters sample antecedent consequent rest h3 h4 h5 =
-    ap (λ (r : Result (List SampleInstr × List ℕ) Stop). r >>= λ n_sample. section_at n_sample.1
-    >>= λ n_antecedent. section_at n_antecedent.1
+again3 first header signals counters sample antecedent consequent rest h3 h4 h5 =
+    ap (λ (r : Result (List SampleInstr × List ℕ) Stop). r >>= λ n_sample. section_at first n_sample.1
+    >>= λ n_antecedent. section_at first n_antecedent.1
     >>= λ n_consequent. ok_program
     (record {
       header = header;
@@ -1019,17 +1068,18 @@ again3 header signals counters sample antecedent consequent rest h3 h4 h5 =
       consequent = n_consequent.0;
     }) n_consequent.1)
     (samples-codec.again sample (section_spelling antecedent ++ (section_spelling consequent ++ rest)) h3)
-    ∙ again4 header signals counters sample antecedent consequent rest h4 h5
+    ∙ again4 first header signals counters sample antecedent consequent rest h4 h5
 
-again2 : (header : HeaderData) (signals : List SlotData) (counters : List ℕ) (sample : List SampleInstr)
+again2 : (first : Bool) (header : HeaderData) (signals : List SlotData) (counters : List ℕ) (sample : List SampleInstr)
     (antecedent : SectionData) (consequent : SectionData) (rest : List ℕ) → fits_list is_width counters ≡ true
-    → fits_list fits_sample sample ≡ true → fits_section antecedent ≡ true → fits_section consequent ≡ true
+    → fits_list fits_sample sample ≡ true → fits_section_in first antecedent ≡ true → fits_section_in first consequent
+    ≡ true
     → (counted_at width_at
     (counted_spelling byte counters
     ++ (counted_spelling sample_spelling sample
     ++ (section_spelling antecedent ++ (section_spelling consequent ++ rest))))
-    >>= λ n_counters. counted_at sample_at n_counters.1 >>= λ n_sample. section_at n_sample.1
-    >>= λ n_antecedent. section_at n_antecedent.1
+    >>= λ n_counters. counted_at sample_at n_counters.1 >>= λ n_sample. section_at first n_sample.1
+    >>= λ n_antecedent. section_at first n_antecedent.1
     >>= λ n_consequent. ok_program
     (record {
       header = header;
@@ -1041,9 +1091,9 @@ again2 : (header : HeaderData) (signals : List SlotData) (counters : List ℕ) (
     }) n_consequent.1)
     ≡ ok_program (made header signals counters sample antecedent consequent) rest
 unfolding made
-again2 header signals counters sample antecedent consequent rest h2 h3 h4 h5 =
+again2 first header signals counters sample antecedent consequent rest h2 h3 h4 h5 =
     ap (λ (r : Result (List ℕ × List ℕ) Stop). r >>= λ n_counters. counted_at sample_at n_counters.1
-    >>= λ n_sample. section_at n_sample.1 >>= λ n_antecedent. section_at n_antecedent.1
+    >>= λ n_sample. section_at first n_sample.1 >>= λ n_antecedent. section_at first n_antecedent.1
     >>= λ n_consequent. ok_program
     (record {
       header = header;
@@ -1056,19 +1106,19 @@ again2 header signals counters sample antecedent consequent rest h2 h3 h4 h5 =
     (widths-codec.again counters
     (counted_spelling sample_spelling sample
     ++ (section_spelling antecedent ++ (section_spelling consequent ++ rest))) h2)
-    ∙ again3 header signals counters sample antecedent consequent rest h3 h4 h5
+    ∙ again3 first header signals counters sample antecedent consequent rest h3 h4 h5
 
-again1 : (header : HeaderData) (signals : List SlotData) (counters : List ℕ) (sample : List SampleInstr)
+again1 : (first : Bool) (header : HeaderData) (signals : List SlotData) (counters : List ℕ) (sample : List SampleInstr)
     (antecedent : SectionData) (consequent : SectionData) (rest : List ℕ) → fits_list fits_slot signals ≡ true
-    → fits_list is_width counters ≡ true → fits_list fits_sample sample ≡ true → fits_section antecedent ≡ true
-    → fits_section consequent ≡ true
+    → fits_list is_width counters ≡ true → fits_list fits_sample sample ≡ true → fits_section_in first antecedent ≡ true
+    → fits_section_in first consequent ≡ true
     → (counted_at slot_at
     (counted_spelling slot_spelling signals
     ++ (counted_spelling byte counters
     ++ (counted_spelling sample_spelling sample
     ++ (section_spelling antecedent ++ (section_spelling consequent ++ rest)))))
     >>= λ n_signals. counted_at width_at n_signals.1 >>= λ n_counters. counted_at sample_at n_counters.1
-    >>= λ n_sample. section_at n_sample.1 >>= λ n_antecedent. section_at n_antecedent.1
+    >>= λ n_sample. section_at first n_sample.1 >>= λ n_antecedent. section_at first n_antecedent.1
     >>= λ n_consequent. ok_program
     (record {
       header = header;
@@ -1080,10 +1130,10 @@ again1 : (header : HeaderData) (signals : List SlotData) (counters : List ℕ) (
     }) n_consequent.1)
     ≡ ok_program (made header signals counters sample antecedent consequent) rest
 unfolding made
-again1 header signals counters sample antecedent consequent rest h1 h2 h3 h4 h5 =
+again1 first header signals counters sample antecedent consequent rest h1 h2 h3 h4 h5 =
     ap (λ (r : Result (List SlotData × List ℕ) Stop). r >>= λ n_signals. counted_at width_at n_signals.1
-    >>= λ n_counters. counted_at sample_at n_counters.1 >>= λ n_sample. section_at n_sample.1
-    >>= λ n_antecedent. section_at n_antecedent.1
+    >>= λ n_counters. counted_at sample_at n_counters.1 >>= λ n_sample. section_at first n_sample.1
+    >>= λ n_antecedent. section_at first n_antecedent.1
     >>= λ n_consequent. ok_program
     (record {
       header = header;
@@ -1097,12 +1147,12 @@ again1 header signals counters sample antecedent consequent rest h1 h2 h3 h4 h5 
     (counted_spelling byte counters
     ++ (counted_spelling sample_spelling sample
     ++ (section_spelling antecedent ++ (section_spelling consequent ++ rest)))) h1)
-    ∙ again2 header signals counters sample antecedent consequent rest h2 h3 h4 h5
+    ∙ again2 first header signals counters sample antecedent consequent rest h2 h3 h4 h5
 
-again0 : (header : HeaderData) (signals : List SlotData) (counters : List ℕ) (sample : List SampleInstr)
+again0 : (first : Bool) (header : HeaderData) (signals : List SlotData) (counters : List ℕ) (sample : List SampleInstr)
     (antecedent : SectionData) (consequent : SectionData) (rest : List ℕ) → fits_header header ≡ true
     → fits_list fits_slot signals ≡ true → fits_list is_width counters ≡ true → fits_list fits_sample sample ≡ true
-    → fits_section antecedent ≡ true → fits_section consequent ≡ true
+    → fits_section_in first antecedent ≡ true → fits_section_in first consequent ≡ true
     → (header_at
     (header_spelling header
     ++ (counted_spelling slot_spelling signals
@@ -1110,8 +1160,8 @@ again0 : (header : HeaderData) (signals : List SlotData) (counters : List ℕ) (
     ++ (counted_spelling sample_spelling sample
     ++ (section_spelling antecedent ++ (section_spelling consequent ++ rest))))))
     >>= λ n_header. counted_at slot_at n_header.1 >>= λ n_signals. counted_at width_at n_signals.1
-    >>= λ n_counters. counted_at sample_at n_counters.1 >>= λ n_sample. section_at n_sample.1
-    >>= λ n_antecedent. section_at n_antecedent.1
+    >>= λ n_counters. counted_at sample_at n_counters.1 >>= λ n_sample. section_at first n_sample.1
+    >>= λ n_antecedent. section_at first n_antecedent.1
     >>= λ n_consequent. ok_program
     (record {
       header = n_header.0;
@@ -1123,10 +1173,10 @@ again0 : (header : HeaderData) (signals : List SlotData) (counters : List ℕ) (
     }) n_consequent.1)
     ≡ ok_program (made header signals counters sample antecedent consequent) rest
 unfolding made
-again0 header signals counters sample antecedent consequent rest h0 h1 h2 h3 h4 h5 =
+again0 first header signals counters sample antecedent consequent rest h0 h1 h2 h3 h4 h5 =
     ap (λ (r : Result (HeaderData × List ℕ) Stop). r >>= λ n_header. counted_at slot_at n_header.1
     >>= λ n_signals. counted_at width_at n_signals.1 >>= λ n_counters. counted_at sample_at n_counters.1
-    >>= λ n_sample. section_at n_sample.1 >>= λ n_antecedent. section_at n_antecedent.1
+    >>= λ n_sample. section_at first n_sample.1 >>= λ n_antecedent. section_at first n_antecedent.1
     >>= λ n_consequent. ok_program
     (record {
       header = n_header.0;
@@ -1141,39 +1191,43 @@ again0 header signals counters sample antecedent consequent rest h0 h1 h2 h3 h4 
     ++ (counted_spelling byte counters
     ++ (counted_spelling sample_spelling sample
     ++ (section_spelling antecedent ++ (section_spelling consequent ++ rest))))) h0)
-    ∙ again1 header signals counters sample antecedent consequent rest h1 h2 h3 h4 h5
+    ∙ again1 first header signals counters sample antecedent consequent rest h1 h2 h3 h4 h5
 
-program-again : (x : ProgramData) (rest : List ℕ) → fits_program x ≡ true → program_at (spelling x ++ rest)
+program-again : (first : Bool) (x : ProgramData) (rest : List ℕ) → fits_program_in first x ≡ true
+    → program_at (spelling_in first x ++ rest)
     ≡ ok_program x rest
 unfolding program_at made
-program-again x rest fits =
+program-again first x rest fits =
     let p0 =
     and_parts (fits_header x.header) (fits_list fits_slot x.signals
     && (fits_list is_width x.counters
-    && (fits_list fits_sample x.sample && (fits_section x.antecedent && fits_section x.consequent)))) fits in
+    && (fits_list fits_sample x.sample && (fits_section_in first x.antecedent && fits_section_in first x.consequent))))
+    fits in
     let p1 =
     and_parts (fits_list fits_slot x.signals) (fits_list is_width x.counters
-    && (fits_list fits_sample x.sample && (fits_section x.antecedent && fits_section x.consequent))) p0.1 in
+    && (fits_list fits_sample x.sample && (fits_section_in first x.antecedent && fits_section_in first x.consequent)))
+    p0.1 in
     let p2 =
     and_parts (fits_list is_width x.counters) (fits_list fits_sample x.sample
-    && (fits_section x.antecedent && fits_section x.consequent)) p1.1 in
-    let p3 = and_parts (fits_list fits_sample x.sample) (fits_section x.antecedent && fits_section x.consequent) p2.1 in
-    let p4 = and_parts (fits_section x.antecedent) (fits_section x.consequent) p3.1 in
-    let texts : spelling x ++ rest
-    ≡ head_spelling
+    && (fits_section_in first x.antecedent && fits_section_in first x.consequent)) p1.1 in
+    let p3 = and_parts (fits_list fits_sample x.sample)
+    (fits_section_in first x.antecedent && fits_section_in first x.consequent) p2.1 in
+    let p4 = and_parts (fits_section_in first x.antecedent) (fits_section_in first x.consequent) p3.1 in
+    let texts : spelling_in first x ++ rest
+    ≡ head_spelling_in first
     ++ (header_spelling x.header
     ++ (counted_spelling slot_spelling x.signals
     ++ (counted_spelling byte x.counters
     ++ (counted_spelling sample_spelling x.sample
     ++ (section_spelling x.antecedent ++ (section_spelling x.consequent ++ rest)))))) =
-    ap (λ (t : List ℕ). head_spelling ++ t)
+    ap (λ (t : List ℕ). head_spelling_in first ++ t)
     (right_before (header_spelling x.header) (counted_spelling slot_spelling x.signals)
     (counted_spelling byte x.counters) (counted_spelling sample_spelling x.sample) (section_spelling x.antecedent)
     (section_spelling x.consequent) rest) in
     ap program_at texts
-    ∙ ap (λ (r : Result (List ℕ) Stop). r >>= λ a. header_at a >>= λ n_header. counted_at slot_at n_header.1
+    ∙ ap (λ (r : Result (Bool × List ℕ) Stop). r >>= λ a. header_at a.1 >>= λ n_header. counted_at slot_at n_header.1
     >>= λ n_signals. counted_at width_at n_signals.1 >>= λ n_counters. counted_at sample_at n_counters.1
-    >>= λ n_sample. section_at n_sample.1 >>= λ n_antecedent. section_at n_antecedent.1
+    >>= λ n_sample. section_at a.0 n_sample.1 >>= λ n_antecedent. section_at a.0 n_antecedent.1
     >>= λ n_consequent. ok_program
     (record {
       header = n_header.0;
@@ -1183,13 +1237,13 @@ program-again x rest fits =
       antecedent = n_antecedent.0;
       consequent = n_consequent.0;
     }) n_consequent.1)
-    (head-again
+    (head-again first
     (header_spelling x.header
     ++ (counted_spelling slot_spelling x.signals
     ++ (counted_spelling byte x.counters
     ++ (counted_spelling sample_spelling x.sample
     ++ (section_spelling x.antecedent ++ (section_spelling x.consequent ++ rest)))))))
-    ∙ again0 x.header x.signals x.counters x.sample x.antecedent x.consequent rest p0.0 p1.0 p2.0 p3.0 p4.0 p4.1
+    ∙ again0 first x.header x.signals x.counters x.sample x.antecedent x.consequent rest p0.0 p1.0 p2.0 p3.0 p4.0 p4.1
 
 -- ---- whole files
 
@@ -1197,7 +1251,7 @@ abbrev ok_whole : ProgramData → Result ProgramData Stop
 ok_whole x = Ok x
 
 pub whole-takes : (bytes : List ℕ) (x : ProgramData) → IsBytes bytes → whole_of bytes ≡ ok_whole x
-    → (bytes ≡ spelling x) × (fits_program x ≡ true)
+    → IsSpelled bytes x
 unfolding whole_of
 whole-takes bytes x fits e =
     let b =
@@ -1206,24 +1260,92 @@ whole-takes bytes x fits e =
     let g = test_ok (eqb (length b.0.1) 0) (stops.Trailing (length b.0.1)) b.0.0 x b.2 in
     let t = program-takes bytes b.0.0 b.0.1 fits b.1 in
     let nothing : b.0.1 ≡ [] = nil_from_length b.0.1 (eqb-true (length b.0.1) 0 g.0) in
-    let whole : bytes ≡ spelling b.0.0 =
-    t.0.parts ∙ ap (λ (r : List ℕ). spelling b.0.0 ++ r) nothing ∙ append-nil (spelling b.0.0) in
-    subst (λ (y : ProgramData). (bytes ≡ spelling y) × (fits_program y ≡ true)) g.1 (whole, t.1)
+    let whole : bytes ≡ spelling_in t.0 b.0.0 =
+    t.1.parts ∙ ap (λ (r : List ℕ). spelling_in t.0 b.0.0 ++ r) nothing ∙ append-nil (spelling_in t.0 b.0.0) in
+    subst (IsSpelled bytes) g.1 (t.0, t.2, whole)
 
-pub whole-again : (x : ProgramData) → fits_program x ≡ true → whole_of (spelling x) ≡ ok_whole x
+pub whole-again : (first : Bool) (x : ProgramData) → fits_program_in first x ≡ true
+    → whole_of (spelling_in first x) ≡ ok_whole x
 unfolding whole_of
-whole-again x fits =
-    let read : program_at (spelling x) ≡ ok_program x [] =
-    ap program_at (sym (append-nil (spelling x))) ∙ program-again x [] fits in
+whole-again first x fits =
+    let read : program_at (spelling_in first x) ≡ ok_program x [] =
+    ap program_at (sym (append-nil (spelling_in first x))) ∙ program-again first x [] fits in
     ap (λ (r : Result (ProgramData × List ℕ) Stop). r
     >>= λ p. if eqb (length p.1) 0 then ok_whole p.0 else Err (stops.Trailing (length p.1))) read
 
--- No spelling begins that of another program, and one bytes spell one program.
-pub one-program : (x y : ProgramData) (a b : List ℕ) → fits_program x ≡ true → fits_program y ≡ true
-    → spelling x ++ a ≡ spelling y ++ b → (x ≡ y) × (a ≡ b)
-one-program x y a b p q e =
-    let same = ok_is (x, a) (y, b) (sym (program-again x a p) ∙ ap program_at e ∙ program-again y b q) in
-    (ap (λ (r : ProgramData × List ℕ). r.0) same, ap (λ (r : ProgramData × List ℕ). r.1) same)
+same-version : (first other : Bool) → version_of first ≡ version_of other → first ≡ other
+same-version true true e = refl
+same-version true false e = absurd (omega (arith, e))
+same-version false true e = absurd (omega (arith, e))
+same-version false false e = refl
+
+-- No spelling begins another, and one bytes spell one program.
+pub one-program : (first other : Bool) (x y : ProgramData) (a b : List ℕ) → fits_program_in first x ≡ true
+    → fits_program_in other y ≡ true → spelling_in first x ++ a ≡ spelling_in other y ++ b
+    → (first ≡ other) × (x ≡ y) × (a ≡ b)
+one-program first other x y a b p q e =
+    let same = ok_is (x, a) (y, b) (sym (program-again first x a p) ∙ ap program_at e ∙ program-again other y b q) in
+    let version : version_of first ≡ version_of other = ap (λ (t : List ℕ). get_or t 4 0) e in (
+      same-version first other version,
+      ap (λ (r : ProgramData × List ℕ). r.0) same,
+      ap (λ (r : ProgramData × List ℕ). r.1) same,
+    )
+
+-- ---- what version 1 can spell, version 2 can
+
+all-more : {A : Type 0} (p q : A → Bool) → ((x : A) → p x ≡ true → q x ≡ true) → (xs : List A)
+    → list_all p xs ≡ true → list_all q xs ≡ true
+all-more p q more [] h = refl
+all-more p q more (x ∷ xs) h =
+    let both = and_parts (p x) (list_all p xs) h in
+    and_from (q x) (list_all q xs) (more x both.0) (all-more p q more xs both.1)
+
+step-more : (first : Bool) (i : BlockInstr) → fits_block_in first i ≡ true → fits_block_in true i ≡ true
+step-more true i h = h
+step-more false (block.Unless atom target) h = h
+step-more false (block.Enter q) h = h
+step-more false block.Accept h = refl
+step-more false block.Stop h = refl
+step-more false block.AcceptFirst h = absurd cc
+
+steps-more : (first : Bool) (b : List BlockInstr) → fits_list (fits_block_in first) b ≡ true
+    → fits_list (fits_block_in true) b ≡ true
+steps-more first b h =
+    let both = and_parts (in_two (length b)) (list_all (fits_block_in first) b) h in
+    and_from (in_two (length b)) (list_all (fits_block_in true) b) both.0
+    (all-more (fits_block_in first) (fits_block_in true) (step-more first) b both.1)
+
+section-more : (first : Bool) (s : SectionData) → fits_section_in first s ≡ true → fits_section_in true s ≡ true
+section-more first s h =
+    let a =
+    and_parts (in_sixteen s.start)
+    (in_byte (length s.blocks) && list_all (fits_list (fits_block_in first)) s.blocks) h in
+    let b = and_parts (in_byte (length s.blocks)) (list_all (fits_list (fits_block_in first)) s.blocks) a.1 in
+    and_from (in_sixteen s.start) (in_byte (length s.blocks) && list_all (fits_list (fits_block_in true)) s.blocks) a.0
+    (and_from (in_byte (length s.blocks)) (list_all (fits_list (fits_block_in true)) s.blocks) b.0
+    (all-more (fits_list (fits_block_in first)) (fits_list (fits_block_in true)) (steps-more first) s.blocks b.1))
+
+pub program-more : (first : Bool) (x : ProgramData) → fits_program_in first x ≡ true → fits_program_in true x ≡ true
+unfolding made
+program-more first x fits =
+    let p0 =
+    and_parts (fits_header x.header) (fits_list fits_slot x.signals
+    && (fits_list is_width x.counters
+    && (fits_list fits_sample x.sample && (fits_section_in first x.antecedent && fits_section_in first x.consequent))))
+    fits in
+    let p1 =
+    and_parts (fits_list fits_slot x.signals) (fits_list is_width x.counters
+    && (fits_list fits_sample x.sample && (fits_section_in first x.antecedent && fits_section_in first x.consequent)))
+    p0.1 in
+    let p2 =
+    and_parts (fits_list is_width x.counters) (fits_list fits_sample x.sample
+    && (fits_section_in first x.antecedent && fits_section_in first x.consequent)) p1.1 in
+    let p3 =
+    and_parts (fits_list fits_sample x.sample)
+    (fits_section_in first x.antecedent && fits_section_in first x.consequent) p2.1 in
+    let p4 = and_parts (fits_section_in first x.antecedent) (fits_section_in first x.consequent) p3.1 in
+    made-fits x.header x.signals x.counters x.sample x.antecedent x.consequent true p0.0 p1.0 p2.0 p3.0
+    (section-more first x.antecedent p4.0) (section-more first x.consequent p4.1)
 
 -- reading that gives a program stopped for want of memory alone
 pub no-fault : (stop : Stop) (total : ℕ) (x : ProgramData) (read : Result ProgramData Stop) → Fails stop read

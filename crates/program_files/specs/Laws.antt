@@ -1,17 +1,22 @@
 -- Laws of spellings.
-use Rattle.std.specs.Prelude.{◌≡◌, ℕ, ◌++◌, List, IsTrue}
-use Rattle.bytecode.specs.Values.{ProgramData, fits_program}
-use Rattle.program_files.specs.Spelling.{spelling}
+use Rattle.std.specs.Prelude.{◌≡◌, ℕ, Bool, true, false, ◌++◌, List, IsTrue}
+use Rattle.bytecode.specs.Values.{ProgramData, fits_program_in}
+use Rattle.program_files.specs.Spelling.{spelling_in}
 
--- No spelling begins that of another program: what stands behind two spellings is the same where
--- the wholes are.
+-- No spelling begins another, of any version: where two wholes are the same, so are the versions,
+-- the programs and what stands behind.
 abbrev pub SpellingsArePrefixFree : Type 0
 SpellingsArePrefixFree =
-    (x y : ProgramData) (a b : List ℕ) → IsTrue (fits_program x) → IsTrue (fits_program y)
-    → spelling x ++ a ≡ spelling y ++ b → (x ≡ y) × (a ≡ b)
+    (first other : Bool) (x y : ProgramData) (a b : List ℕ) → IsTrue (fits_program_in first x)
+    → IsTrue (fits_program_in other y) → spelling_in first x ++ a ≡ spelling_in other y ++ b
+    → (first ≡ other) × (x ≡ y) × (a ≡ b)
 
 -- Two programs with one spelling are equal.
 abbrev pub SpellingsAreOfOneProgram : Type 0
 SpellingsAreOfOneProgram =
-    (x y : ProgramData) → IsTrue (fits_program x) → IsTrue (fits_program y)
-    → spelling x ≡ spelling y → x ≡ y
+    (first other : Bool) (x y : ProgramData) → IsTrue (fits_program_in first x)
+    → IsTrue (fits_program_in other y) → spelling_in first x ≡ spelling_in other y → x ≡ y
+
+-- What version 1 can spell, version 2 can.
+abbrev pub SpellsMore : Type 0
+SpellsMore = (x : ProgramData) → IsTrue (fits_program_in false x) → IsTrue (fits_program_in true x)

@@ -63,3 +63,4 @@ block_opcode (block.Unless atom target) = 0x40
 block_opcode (block.Enter position) = 0x41
 block_opcode block.Accept = 0x42
 block_opcode block.Stop = 0x43
+block_opcode block.AcceptFirst = 0x44

@@ -1,5 +1,6 @@
 -- Reading of a file from the left, field by field, up to the first fault.
-use Rattle.std.specs.Prelude.{◌≡◌, ℕ, zero, suc, ◌+◌, ◌-◌, ◌*◌, ◌^◌, Bool, ◌==◌, nat_lt}
+use Rattle.std.specs.Prelude.{◌≡◌, ℕ, zero, suc, ◌+◌, ◌-◌, ◌*◌, ◌^◌, Bool, true, false, ◌==◌}
+use Rattle.std.specs.Prelude.{nat_lt}
 use Rattle.std.specs.Prelude.{if◌then◌else◌, List, [], ◌∷◌, length, take, drop, Option, Some, None}
 use Rattle.std.specs.Prelude.{Result, Ok, Err}
 use Rattle.std.specs.Int.{Width, w16, w32, w64, byte_len, from_be_bytes}
@@ -181,14 +182,17 @@ unless_at bytes =
 unfoldable pub enter_at : Reader BlockInstr
 enter_at bytes = byte_at bytes >>= λ position. Ok (block.Enter position.0, position.1)
 
-unfoldable pub step_at : Reader BlockInstr
-step_at bytes =
+-- AcceptFirst may be read, or not
+unfoldable pub step_at : Bool → Reader BlockInstr
+step_at first bytes =
     byte_at bytes >>= λ o.
     if o.0 == 0x40 then unless_at o.1
     else (if o.0 == 0x41 then enter_at o.1
     else (if o.0 == 0x42 then Ok (block.Accept, o.1)
     else (if o.0 == 0x43 then Ok (block.Stop, o.1)
-    else Err (stops.Opcode (length bytes)))))
+    else (if o.0 == 0x44
+    then (if first then Ok (block.AcceptFirst, o.1) else Err (stops.Opcode (length bytes)))
+    else Err (stops.Opcode (length bytes))))))
 
 unfoldable pub slot_at : Reader SlotData
 slot_at bytes =
@@ -196,19 +200,21 @@ slot_at bytes =
     text_at is_path w.1 >>= λ p.
     Ok (record { width = w.0; path = p.0 }, p.1)
 
-unfoldable pub section_at : Reader SectionData
-section_at bytes =
+unfoldable pub section_at : Bool → Reader SectionData
+section_at first bytes =
     sixteen_at bytes >>= λ start.
     byte_at start.1 >>= λ n.
-    many_at (counted_at step_at) n.0 n.1 >>= λ blocks.
+    many_at (counted_at (step_at first)) n.0 n.1 >>= λ blocks.
     Ok (record { start = start.0; blocks = blocks.0 }, blocks.1)
 
--- "SVAM", and the version
-unfoldable pub head_at : List ℕ → Result (List ℕ) Stop
+-- "SVAM", and the version: whether AcceptFirst may stand in the blocks
+unfoldable pub head_at : Reader Bool
 head_at bytes =
     number_at w32 bytes >>= λ magic.
     if magic.0 == 0x5356414d
-    then (byte_at magic.1 >>= λ version. if version.0 == 1 then Ok version.1 else Err stops.Version)
+    then (byte_at magic.1 >>= λ version.
+    if version.0 == 2 then Ok (true, version.1)
+    else (if version.0 == 1 then Ok (false, version.1) else Err stops.Version))
     else Err stops.Magic
 
 unfoldable pub limits_at : Reader Limits
@@ -254,12 +260,12 @@ header_at bytes =
 unfoldable pub program_at : Reader ProgramData
 program_at bytes =
     head_at bytes >>= λ a.
-    header_at a >>= λ header.
+    header_at a.1 >>= λ header.
     counted_at slot_at header.1 >>= λ signals.
     counted_at width_at signals.1 >>= λ counters.
     counted_at sample_at counters.1 >>= λ sample.
-    section_at sample.1 >>= λ antecedent.
-    section_at antecedent.1 >>= λ consequent.
+    section_at a.0 sample.1 >>= λ antecedent.
+    section_at a.0 antecedent.1 >>= λ consequent.
     Ok (
       record {
         header = header.0;

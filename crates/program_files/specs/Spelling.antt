@@ -1,6 +1,7 @@
--- The one spelling of a program: the fields of the file in their order, numbers with the highest
--- byte first.
+-- The spellings of a program, one in each version: the fields of the file in their order, numbers
+-- with the highest byte first.
 use Rattle.std.specs.Prelude.{ℕ, ◌/◌, ◌%◌, ◌^◌, List, [], ◌∷◌, ◌++◌, length, Option, Some, None}
+use Rattle.std.specs.Prelude.{◌≡◌, Bool, true, if◌then◌else◌, IsTrue}
 use Rattle.std.specs.List.{flat_map}
 use Rattle.std.specs.Int.{w16, w32, w64, to_be_bytes}
 use Rattle.bytecode.specs.declared.limits.Limits.{Limits}
@@ -10,8 +11,10 @@ use Rattle.bytecode.specs.declared.sample_instr.SampleInstr.TheVariants.{Slice, 
 use Rattle.bytecode.specs.declared.sample_instr.SampleInstr.TheVariants.{SetAtom, Store}
 use Rattle.bytecode.specs.declared.block_instr.BlockInstr.{BlockInstr}
 use Rattle.bytecode.specs.declared.block_instr.BlockInstr.TheVariants.{Unless, Enter, Accept, Stop}
+use Rattle.bytecode.specs.declared.block_instr.BlockInstr.TheVariants.{AcceptFirst}
 use Rattle.program_files.specs.Opcodes.{sample_opcode, block_opcode}
 use Rattle.bytecode.specs.Values.{SlotData, SectionData, HeaderData, ProgramData}
+use Rattle.bytecode.specs.Values.{fits_program_in}
 
 abbrev pub byte : ℕ → List ℕ
 byte n = n ∷ []
@@ -56,6 +59,7 @@ block_operands (Unless atom target) = byte atom ++ two target
 block_operands (Enter position) = byte position
 block_operands Accept = []
 block_operands Stop = []
+block_operands AcceptFirst = []
 
 abbrev pub block_spelling : BlockInstr → List ℕ
 block_spelling i = byte (block_opcode i) ++ block_operands i
@@ -77,9 +81,16 @@ abbrev pub disable_spelling : Option ℕ → ℕ
 disable_spelling None = 255
 disable_spelling (Some atom) = atom
 
+-- the version in which AcceptFirst may stand in a block, and the one in which it may not
+abbrev pub version_of : Bool → ℕ
+version_of first = if first then 2 else 1
+
 -- "SVAM", and the version
+abbrev pub head_spelling_in : Bool → List ℕ
+head_spelling_in first = 0x53 ∷ 0x56 ∷ 0x41 ∷ 0x4d ∷ version_of first ∷ []
+
 abbrev pub head_spelling : List ℕ
-head_spelling = 0x53 ∷ 0x56 ∷ 0x41 ∷ 0x4d ∷ 1 ∷ []
+head_spelling = head_spelling_in true
 
 abbrev pub header_spelling : HeaderData → List ℕ
 header_spelling h =
@@ -91,8 +102,22 @@ abbrev pub front_spelling : HeaderData → List ℕ
 front_spelling h =
     head_spelling ++ limits_spelling h.limits ++ byte (disable_spelling h.disable) ++ byte h.atoms
 
-abbrev pub spelling : ProgramData → List ℕ
-spelling p =
-    head_spelling ++ header_spelling p.header ++ counted_spelling slot_spelling p.signals
+-- in version 2 or in version 1
+abbrev pub spelling_in : Bool → ProgramData → List ℕ
+spelling_in first p =
+    head_spelling_in first ++ header_spelling p.header ++ counted_spelling slot_spelling p.signals
     ++ counted_spelling byte p.counters ++ counted_spelling sample_spelling p.sample
     ++ section_spelling p.antecedent ++ section_spelling p.consequent
+
+-- the one that is written
+abbrev pub spelling : ProgramData → List ℕ
+spelling = spelling_in true
+
+-- The bytes spell it in a version that can.
+abbrev pub IsSpelled : List ℕ → ProgramData → Type 0
+IsSpelled bytes x =
+    (first : Bool) × IsTrue (fits_program_in first x) × (bytes ≡ spelling_in first x)
+
+-- The file is the spelling in version 2 of a program that the bytes spell.
+abbrev pub IsUpgraded : List ℕ → List ℕ → Type 0
+IsUpgraded bytes file = (x : ProgramData) × IsSpelled bytes x × (file ≡ spelling x)

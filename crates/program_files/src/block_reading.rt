@@ -27,10 +27,10 @@ fn enter_at(bytes: &[u8]) -> Field<'_, BlockInstr>
     Ok((BlockInstr::Enter(position), rest))
 }
 
-/// An instruction of a block.
+/// An instruction of a block, among which `AcceptFirst` is or not.
 #[tactic(auto, unfolding(crate::specs::Reading::step_at))]
-pub(crate) fn step_at(bytes: &[u8]) -> Field<'_, BlockInstr>
-    ensures { Gives (λ x. (x.0, x.1.now)) result (step_at bytes.now) }
+pub(crate) fn step_at(first: bool, bytes: &[u8]) -> Field<'_, BlockInstr>
+    ensures { Gives (λ x. (x.0, x.1.now)) result (step_at first bytes.now) }
 {
     let (opcode, rest) = read!(byte_at(bytes));
     match opcode {
@@ -38,6 +38,13 @@ pub(crate) fn step_at(bytes: &[u8]) -> Field<'_, BlockInstr>
         0x41 => enter_at(rest),
         0x42 => Ok((BlockInstr::Accept, rest)),
         0x43 => Ok((BlockInstr::Stop, rest)),
+        0x44 => {
+            if first {
+                Ok((BlockInstr::AcceptFirst, rest))
+            } else {
+                Err(Stop::Opcode(bytes.len()))
+            }
+        }
         _ => Err(Stop::Opcode(bytes.len())),
     }
 }

@@ -23,5 +23,6 @@ pub(crate) fn put_step(out: &mut Vec<u8>, instr: BlockInstr) -> Result<(), Alloc
         }
         BlockInstr::Accept => Ok(out.push(0x42)?),
         BlockInstr::Stop => Ok(out.push(0x43)?),
+        BlockInstr::AcceptFirst => Ok(out.push(0x44)?),
     }
 }

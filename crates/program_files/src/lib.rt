@@ -1,8 +1,10 @@
-//! Files of programs: the one file that spells each.
+//! Files of programs: the one file that spells each in version 2, and in version 1 the one of each
+//! that has no `AcceptFirst`.
 //!
-//! `encode` writes the file of a program, and `decode` reads one, from anywhere: it answers the
-//! program, or the first fault from the left, B1 to B6, with its byte. It takes room for what
-//! it has read, and none for what a count declares.
+//! `encode` writes the file of a program in version 2, and `decode` reads one of either version,
+//! from anywhere: it answers the program, or the first fault from the left, B1 to B6, with its
+//! byte. It takes room for what it has read, and none for what a count declares. `upgrade` writes
+//! what it read in version 2.
 //!
 //! ```text
 //! let bytes = encode(alloc, &program)?;
@@ -33,8 +35,10 @@ mod sample_reading;
 mod sample_writing;
 mod stop;
 mod text;
+mod upgrading;
 
 pub use fault::CodeFault;
 pub use laws::spelling_law;
 pub use program_reading::decode;
 pub use program_writing::encode;
+pub use upgrading::upgrade;

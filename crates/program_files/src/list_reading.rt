@@ -49,13 +49,13 @@ pub(crate) fn counted_samples_at(alloc: Global, bytes: &[u8]) -> Field<'_, Vec<S
 }
 
 /// So many instructions of a block.
-fn steps_at(alloc: Global, count: u16, bytes: &[u8]) -> Field<'_, Vec<BlockInstr>>
-    ensures { Gives (λ x. (x.0.items, x.1.now)) result (many_at step_at count bytes.now) }
+fn steps_at(alloc: Global, first: bool, count: u16, bytes: &[u8]) -> Field<'_, Vec<BlockInstr>>
+    ensures { Gives (λ x. (x.0.items, x.1.now)) result (many_at (step_at first) count bytes.now) }
 {
     let mut found = Vec::new(alloc);
     let mut rest = bytes;
     for _ in 0..count {
-        let (instr, behind) = step_at(rest)?;
+        let (instr, behind) = step_at(first, rest)?;
         found.push(instr)?;
         rest = behind;
     }
@@ -64,11 +64,15 @@ fn steps_at(alloc: Global, count: u16, bytes: &[u8]) -> Field<'_, Vec<BlockInstr
 
 /// A count of two bytes, and as many instructions of a block.
 #[tactic(auto, unfolding(crate::specs::Reading::counted_at))]
-pub(crate) fn counted_steps_at(alloc: Global, bytes: &[u8]) -> Field<'_, Vec<BlockInstr>>
-    ensures { Gives (λ x. (x.0.items, x.1.now)) result (counted_at step_at bytes.now) }
+pub(crate) fn counted_steps_at(
+    alloc: Global,
+    first: bool,
+    bytes: &[u8],
+) -> Field<'_, Vec<BlockInstr>>
+    ensures { Gives (λ x. (x.0.items, x.1.now)) result (counted_at (step_at first) bytes.now) }
 {
     let (count, rest) = read!(two_at(bytes));
-    steps_at(alloc, count, rest)
+    steps_at(alloc, first, count, rest)
 }
 
 /// So many widths.
@@ -120,14 +124,19 @@ pub(crate) fn counted_slots_at(alloc: Global, bytes: &[u8]) -> Field<'_, Vec<Slo
 }
 
 /// So many blocks.
-pub(crate) fn blocks_at(alloc: Global, count: u8, bytes: &[u8]) -> Field<'_, Vec<Vec<BlockInstr>>>
+pub(crate) fn blocks_at(
+    alloc: Global,
+    first: bool,
+    count: u8,
+    bytes: &[u8],
+) -> Field<'_, Vec<Vec<BlockInstr>>>
     ensures { Gives (λ x. (map (λ b. b.items) x.0.items, x.1.now)) result
-        (many_at (counted_at step_at) count bytes.now) }
+        (many_at (counted_at (step_at first)) count bytes.now) }
 {
     let mut found = Vec::new(alloc);
     let mut rest = bytes;
     for _ in 0..count {
-        let (block, behind) = counted_steps_at(alloc, rest)?;
+        let (block, behind) = counted_steps_at(alloc, first, rest)?;
         found.push(block)?;
         rest = behind;
     }

@@ -1,13 +1,13 @@
 //! Programs, read.
 
-ghost use Rattle.std.specs.Prelude.{◌≡◌, ℕ, length, map, string_bytes, IsTrue, IfOk, IfErr};
+ghost use Rattle.std.specs.Prelude.{◌≡◌, ℕ, Bool, length, map, string_bytes, IsTrue, IfOk, IfErr};
 ghost use Rattle.program_files.specs.declared.fault.CodeFault.TheVariants.{Memory};
-ghost use Rattle.bytecode.specs.Values.{ProgramData, fits_program};
+ghost use Rattle.bytecode.specs.Values.{ProgramData, fits_program_in};
 ghost use Rattle.bytecode.specs.Views.{section_data};
 ghost use Rattle.program_files.specs.Views.{header_data, parts_data};
 ghost use Rattle.bytecode.specs.Programs.{data_of};
 ghost use Rattle.program_files.specs.Views.{IsProgramOr};
-ghost use Rattle.program_files.specs.Spelling.{spelling};
+ghost use Rattle.program_files.specs.Spelling.{IsSpelled, spelling_in};
 ghost use Rattle.program_files.specs.Reading.{Gives, head_at, limits_at, section_at, header_at};
 ghost use Rattle.program_files.specs.Reading.{program_at, disable_of, whole_of, fault_of};
 ghost use Rattle.program_files.specs.Reading.{IsFirstFault};
@@ -22,20 +22,23 @@ use crate::text::text_at;
 use bytecode::{Limits, Program, Section};
 use std::alloc::Global;
 
-/// The magic number and the version: the bytes behind them.
+/// The magic number and the version: whether `AcceptFirst` may stand in the blocks.
 #[tactic(auto, unfolding(crate::specs::Reading::head_at))]
-fn head_at(bytes: &[u8]) -> Result<&[u8], Stop>
-    ensures { Gives (λ x. x.now) result (head_at bytes.now) }
+fn head_at(bytes: &[u8]) -> Field<'_, bool>
+    ensures { Gives (λ x. (x.0, x.1.now)) result (head_at bytes.now) }
 {
     let (magic, rest) = read!(four_at(bytes));
     if magic != 0x5356414d {
         return Err(Stop::Magic);
     }
     let (version, rest) = read!(byte_at(rest));
-    if version != 1 {
-        return Err(Stop::Version);
+    if version == 2 {
+        return Ok((true, rest));
     }
-    Ok(rest)
+    if version == 1 {
+        return Ok((false, rest));
+    }
+    Err(Stop::Version)
 }
 
 /// The limits.
@@ -58,14 +61,14 @@ fn limits_at(bytes: &[u8]) -> Field<'_, Limits>
     Ok((limits, rest))
 }
 
-/// A section.
+/// A section, in the blocks of which `AcceptFirst` may stand or not.
 #[tactic(auto, unfolding(crate::specs::Reading::section_at))]
-fn section_at(alloc: Global, bytes: &[u8]) -> Field<'_, Section>
-    ensures { Gives (λ x. (section_data x.0, x.1.now)) result (section_at bytes.now) }
+fn section_at(alloc: Global, first: bool, bytes: &[u8]) -> Field<'_, Section>
+    ensures { Gives (λ x. (section_data x.0, x.1.now)) result (section_at first bytes.now) }
 {
     let (start, rest) = read!(sixteen_at(bytes));
     let (count, rest) = read!(byte_at(rest));
-    let (blocks, rest) = read!(blocks_at(alloc, count, rest));
+    let (blocks, rest) = read!(blocks_at(alloc, first, count, rest));
     Ok((Section { start, blocks }, rest))
 }
 
@@ -101,13 +104,13 @@ fn header_at(alloc: Global, bytes: &[u8]) -> Field<'_, Header>
 fn parts_at(alloc: Global, bytes: &[u8]) -> Field<'_, Parts>
     ensures { Gives (λ x. (parts_data x.0, x.1.now)) result (program_at bytes.now) }
 {
-    let rest = read!(head_at(bytes));
+    let (first, rest) = read!(head_at(bytes));
     let (header, rest) = read!(header_at(alloc, rest));
     let (signals, rest) = read!(counted_slots_at(alloc, rest));
     let (counters, rest) = read!(counted_widths_at(alloc, rest));
     let (sample, rest) = read!(counted_samples_at(alloc, rest));
-    let (antecedent, rest) = read!(section_at(alloc, rest));
-    let (consequent, rest) = read!(section_at(alloc, rest));
+    let (antecedent, rest) = read!(section_at(alloc, first, rest));
+    let (consequent, rest) = read!(section_at(alloc, first, rest));
     let parts = Parts {
         header,
         signals,
@@ -146,15 +149,16 @@ fn fault_of(total: usize, stop: Stop) -> CodeFault
     }
 }
 
-/// The program that the bytes spell, all of them; or the first fault from the left.
+/// The program that the bytes spell, all of them, in version 2 or in version 1; or the first fault
+/// from the left.
 ///
 /// Room is taken as fields are read, and none for what a count declares.
 pub fn decode(alloc: Global, bytes: &[u8]) -> Result<Program, CodeFault>
     // What is read is spelled so.
-    ensures spelled { IfOk result (λ p. bytes.now ≡ spelling (data_of p)) }
+    ensures spelled { IfOk result (λ p. IsSpelled bytes.now (data_of p)) }
     // What is spelled so is read, unless memory runs out.
-    ensures read { (x : ProgramData) → IsTrue (fits_program x) → bytes.now ≡ spelling x
-        → IsProgramOr result x Memory }
+    ensures read { (first : Bool) (x : ProgramData) → IsTrue (fits_program_in first x) →
+        bytes.now ≡ spelling_in first x → IsProgramOr result x Memory }
     // Which fault it is.
     ensures fault { IfErr result (IsFirstFault bytes.now) }
 {

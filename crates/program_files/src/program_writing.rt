@@ -64,7 +64,7 @@ fn put_front(out: &mut Vec<u8>, program: &Program) -> Result<(), AllocError>
     ensures { OnOk result (out.new.items ≡ out.old.items
         ++ front_spelling (data_of program.now).header) }
 {
-    out.extend_from_slice(&[0x53, 0x56, 0x41, 0x4d, 1])?;
+    out.extend_from_slice(&[0x53, 0x56, 0x41, 0x4d, 2])?;
     put_limits(out, program.limits)?;
     out.push(disable_byte(program.disable))?;
     out.push(program.atoms)?;
@@ -82,7 +82,7 @@ fn put_header(out: &mut Vec<u8>, program: &Program) -> Result<(), AllocError>
     Ok(())
 }
 
-/// The one spelling of a program.
+/// The spelling of a program in version 2.
 pub fn encode(alloc: Global, program: &Program) -> Result<Vec<u8>, AllocError>
     ensures { IfOk result (λ bytes. bytes.items ≡ spelling (data_of program.now)) }
 {

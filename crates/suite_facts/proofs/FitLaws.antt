@@ -46,7 +46,7 @@ use Rattle.suite_facts.proofs.PathLaws.{IsPathText, ArePaths, both, IsLabelWord,
 use Rattle.suite_facts.proofs.PathLaws.{file_paths}
 use Rattle.suite_facts.proofs.NameLaws.{DeclaredCounter, declared_counter, means_named}
 use Rattle.suite_facts.proofs.KnownLaws.{spells_each, bodies_each, antecedent_each, consequent_each}
-use Rattle.suite_facts.proofs.EmptyLaws.{never_empty}
+use Rattle.suite_facts.proofs.EmptyLaws.{never_empty, never_led}
 
 -- The columns of a text are paths.
 path_kept : (known : List (List ℕ)) (p : List ℕ) (b : Bool) → ArePaths known → IsPathText p →
@@ -232,6 +232,9 @@ module _
               (label_named n a.label spoken.0.label);
           filled = never_empty s cs suite.booleans.items items bodies before a more m one.consequent
               faultless is read one.reads_consequent one.consequent_meant;
+          led = λ on.
+              never_led s cs suite.booleans.items items bodies before a more m one.antecedent
+              faultless is read one.reads_antecedent one.antecedent_meant (sym one.first ∙ on);
         } in (
           record { sound = sound; placed = placed; proper = proper },
           assertions_fit faultless sound (before ++ a ∷ []) (n + 1) more ms

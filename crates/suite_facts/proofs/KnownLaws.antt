@@ -177,10 +177,10 @@ module _ (P : Boolean → Type 0) where
     pub antecedent_each : (x : PropertyForm) (d : Draft Boolean) → P One → OfProperty Q x →
         ReadsAntecedent s cs bs x d → EachDraft P d
     antecedent_each (plain y) d one q h = moved (drafts.boolean One) d h one
-    antecedent_each (implication a kind c) d one q h =
+    antecedent_each (implication word a kind c) d one q h =
         moved (before_by kind h.0) d h.2 (before_each kind h.0 one (reads_each a h.0 q.0 h.1))
 
     pub consequent_each : (x : PropertyForm) (d : Draft Boolean) → OfProperty Q x →
         ReadsConsequent s cs bs x d → EachDraft P d
     consequent_each (plain y) d q h = reads_each y d q h
-    consequent_each (implication a t c) d q h = reads_each c d q.1 h
+    consequent_each (implication word a t c) d q h = reads_each c d q.1 h

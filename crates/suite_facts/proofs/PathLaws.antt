@@ -24,7 +24,7 @@ use Rattle.grammar.specs.Sequences.{AreMeets, no_meet, one_meet, IsIntersection,
 use Rattle.grammar.specs.Sequences.{AreConjuncts, no_conjunct, one_conjunct, IsConjunction}
 use Rattle.grammar.specs.Sequences.{is_during, is_all, AreAlternatives, no_alternative}
 use Rattle.grammar.specs.Sequences.{one_alternative, IsSequence, is_conjunction, is_either}
-use Rattle.grammar.specs.Sequences.{IsProperty, is_plain, is_implication, bracketed}
+use Rattle.grammar.specs.Sequences.{IsProperty, is_plain, is_implication, is_first, bracketed}
 use Rattle.grammar.specs.Files.{IsClear, no_clear, clear, IsClause, no_clause, clause}
 use Rattle.grammar.specs.Files.{SpellsCounter, is_counter, IsClosing, no_closing, closing}
 use Rattle.grammar.specs.Files.{IsEnding, ending, with_semicolon, SpellsDeclaration, is_declaration}
@@ -277,6 +277,10 @@ module _ (s : Scope) where
   property_paths (is_implication {a = a} {c = c} m x y) h =
       let i = sequence_paths x h in
       let j = sequence_paths y i.1.1 in
+      (both (sequence_signals s a) (sequence_signals s c) i.0 j.0, j.1)
+  property_paths (is_first {a = a} {c = c} w o x r m y) h =
+      let i = sequence_paths x h.1.1 in
+      let j = sequence_paths y i.1.1.1 in
       (both (sequence_signals s a) (sequence_signals s c) i.0 j.0, j.1)
   property_paths (bracketed a b p) h =
       let r = property_paths p h.1 in

@@ -6,6 +6,7 @@
 //! svamon build --vcd top.vcd --sva rules.sva [--axi ports.txt] --name r --out r.svm
 //! svamon run --vcd top.vcd --code r.svm [--workers 4] [--window 1024]
 //! svamon verify r.svm
+//! svamon upgrade r.svm --out r2.svm
 //! svamon rules --axi ports.txt
 //! ```
 //!
@@ -15,8 +16,8 @@
 //!
 //! It opens files (`shell`) and hands over what is in them; what a command answers is said by the
 //! contracts of `cli` (`check_all`, `judge_one`, `build_one`), of `cli_code` (`verify_code`,
-//! `run_code`) and of `axi4_rules` (`port_rules`, `joined_text`), whose definitions stand in their
-//! `specs/`.
+//! `run_code`, `upgrade_code`) and of `axi4_rules` (`port_rules`, `joined_text`), whose definitions
+//! stand in their `specs/`.
 //!
 //! Not promised: what a file holds, that the line of a fault reaches anyone, and that the process
 //! ends with the status: these are tested (`docs/TESTED.md`). `docs/USING.md` goes through the

@@ -1,7 +1,7 @@
 //! The commands, from the words of the command line to the answer.
 
 use cli::{Fault, NoGate, Request, build_one, check_all, judge_one};
-use cli_code::{run_code, verify_code};
+use cli_code::{run_code, upgrade_code, verify_code};
 use shell::{
     open, print_rules, read_assertions, read_bytes, refuse_words, request_of, shown_status,
     words_of, write_bytes,
@@ -125,6 +125,26 @@ fn serve_code<R: Files + Print + Eprint + AllocGlobal>(rt: &R, path: &str) -> u8
     }
 }
 
+/// Makes a file of the program in another file, in version 2 of the bytecode.
+fn upgrade_file<R: Files + AllocGlobal>(
+    rt: &R,
+    path: &str,
+    out: &str,
+) -> Result<(), Fault<'static>> {
+    let bytes = read_bytes(rt, path)?;
+    let upgraded = upgrade_code(rt.alloc(), bytes.as_slice())?;
+    write_bytes(rt, out, upgraded.as_slice())
+}
+
+/// Writes a program anew in version 2 of the bytecode, and answers the status: 0 where the file was
+/// made.
+fn serve_upgrade<R: Files + Eprint + AllocGlobal>(rt: &R, path: &str, out: &str) -> u8 {
+    match upgrade_file(rt, path, out) {
+        Ok(()) => 0,
+        Err(fault) => shown_status(rt, Err(fault)),
+    }
+}
+
 /// Runs a program over a dump by a team; the report goes to standard output.
 fn run_bytes<R: Files + Print + AllocGlobal + Threads + Wait + Sync>(
     rt: &R,
@@ -220,6 +240,7 @@ fn serve<R: Files + Print + Eprint + AllocGlobal + Threads + Wait + Sync>(
             serve_text(rt, vcd.as_str(), sva.as_str(), path_of(axi), None)
         }
         Request::Rules { axi } => serve_rules(rt, axi.as_str()),
+        Request::Upgrade { code, out } => serve_upgrade(rt, code.as_str(), out.as_str()),
     }
 }
 

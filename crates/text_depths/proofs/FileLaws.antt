@@ -12,7 +12,7 @@ use Rattle.grammar.specs.Sequences.{AreMeets, no_meet, one_meet, IsIntersection,
 use Rattle.grammar.specs.Sequences.{AreConjuncts, no_conjunct, one_conjunct, IsConjunction, is_during, is_all}
 use Rattle.grammar.specs.Sequences.{AreAlternatives, no_alternative, one_alternative, IsSequence, is_conjunction}
 use Rattle.grammar.specs.Sequences.{is_either}
-use Rattle.grammar.specs.Sequences.{IsProperty, is_plain, is_implication, bracketed}
+use Rattle.grammar.specs.Sequences.{IsProperty, is_plain, is_implication, is_first, bracketed}
 use Rattle.grammar.specs.Files.{IsClear, no_clear, clear, IsClause, no_clause, clause, is_counter, is_declaration}
 use Rattle.grammar.specs.Files.{IsDisable, no_disable, disable, is_assertion, SpellsItem, a_counter, a_declaration}
 use Rattle.grammar.specs.Files.{an_assertion}
@@ -87,6 +87,7 @@ module _ (P : Tree → Type 0) (each : (d : ℕ) (t : Tree) (ts rest : List Toke
       → OfProperty P p
   of-property (is_plain inner) low = of-sequence inner low
   of-property (is_implication h first second) low = (of-sequence first low, of-sequence second low)
+  of-property (is_first w o first r h second) low = (of-sequence first (omega arith), of-sequence second low)
   of-property (bracketed l r inner) low = of-property inner (omega arith)
 
   of-clear : {t : Option Tree} {ts rest : List Token} → IsClear t ts rest → OfOne P t

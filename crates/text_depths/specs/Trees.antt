@@ -37,7 +37,7 @@ unfoldable mutual
 -- of a property,
 abbrev pub OfProperty : (Tree → Type 0) → PropertyForm → Type 0
 OfProperty P (plain s) = OfSequence P s
-OfProperty P (implication a t c) = OfSequence P a × OfSequence P c
+OfProperty P (implication word a t c) = OfSequence P a × OfSequence P c
 
 -- of a counter's clauses,
 pub record OfCounter (P : Tree → Type 0) (c : CounterForm) : Type 0 where

@@ -56,7 +56,7 @@ unfoldable mutual
 
 abbrev pub property_signals : Scope → PropertyForm → List (List ℕ)
 property_signals s (plain q) = sequence_signals s q
-property_signals s (implication a t c) = sequence_signals s a ++ sequence_signals s c
+property_signals s (implication word a t c) = sequence_signals s a ++ sequence_signals s c
 
 abbrev pub optional_signals : Scope → Option Tree → List (List ℕ)
 optional_signals s None = []

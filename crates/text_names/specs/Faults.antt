@@ -82,7 +82,7 @@ unfoldable mutual
 
 abbrev pub property_faults : Scope → Sought → PropertyForm → List ℕ
 property_faults s k (plain q) = sequence_faults s k q
-property_faults s k (implication a t c) = sequence_faults s k a ++ sequence_faults s k c
+property_faults s k (implication word a t c) = sequence_faults s k a ++ sequence_faults s k c
 
 -- of an expression that may be left out, and of a clause's two
 abbrev pub optional_faults : Scope → Sought → Option Tree → List ℕ

@@ -116,7 +116,7 @@ module _ (known : List (List ℕ)) where
     property-read : (p : PropertyForm) → AreListed (property_signals any_scope p)
         → AreListed (property_signals some_scope p)
     property-read (plain q) h = sequence-read q h
-    property-read (implication a t c) h =
+    property-read (implication word a t c) h =
         parts (sequence_signals some_scope a) (sequence_signals some_scope c) (sequence_signals any_scope a)
         (sequence_signals any_scope c) (sequence-read a) (sequence-read c) h
 

@@ -215,7 +215,7 @@ fn list_property(
 {
     match property {
         PropertyTree::Plain(sequence) => list_sequence(alloc, scope, columns, sequence),
-        PropertyTree::Implication(antecedent, _, consequent) => {
+        PropertyTree::Implication(_, antecedent, _, consequent) => {
             list_sequence(alloc, scope, columns, antecedent)?;
             list_sequence(alloc, scope, columns, consequent)
         }

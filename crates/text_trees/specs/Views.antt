@@ -65,7 +65,8 @@ boxed_step_of x = (x.0, sequence_of x.1.value)
 
 abbrev pub property_of : PropertyTree → trees.PropertyForm
 property_of (Plain s) = trees.plain (sequence_of s.value)
-property_of (Implication a i c) = trees.implication (sequence_of a.value) i (sequence_of c.value)
+property_of (Implication w a i c) =
+    trees.implication w (sequence_of a.value) i (sequence_of c.value)
 
 abbrev pub pair_of : Box ExprTree Global × Box ExprTree Global → Tree × Tree
 pair_of x = (tree_of x.0.value, tree_of x.1.value)

@@ -9,8 +9,9 @@ use lexer::Token;
 #[derive(Drop)]
 pub enum PropertyTree<'a> {
     Plain(Box<SequenceTree<'a>>),
-    /// Antecedent, `|->` or `|=>`, consequent.
-    Implication(Box<SequenceTree<'a>>, Implication, Box<SequenceTree<'a>>),
+    /// The word `first_match`, if it stands round the antecedent; antecedent, `|->` or `|=>`,
+    /// consequent.
+    Implication(Option<Token<'a>>, Box<SequenceTree<'a>>, Implication, Box<SequenceTree<'a>>),
 }
 
 /// The two operands of a counter's clause: its condition, and the value.

@@ -8,7 +8,7 @@
 //! ```text
 //! match &assertion.property {
 //!     PropertyTree::Plain(sequence) => ..,
-//!     PropertyTree::Implication(antecedent, implication, consequent) => ..,
+//!     PropertyTree::Implication(first, antecedent, implication, consequent) => ..
 //! }
 //! ```
 //!

@@ -1,7 +1,8 @@
 -- Faults of sides, in their order.
 use Rattle.std.proofs.Common.{◌≡◌, ℕ, ◌<◌, ◌≤◌, List, Some, None, arith}
 use Rattle.grammar.specs.Trees.{ItemForm}
-use Rattle.assertions.specs.Segments.{IsDegenerate, AdmitsEmpty}
+use Rattle.assertions.specs.Segments.{AdmitsEmpty}
+use Rattle.assertions.specs.Attempts.{IsDegenerateBy}
 use Rattle.assertions.specs.Written.{kernel, weight}
 use Rattle.text_names.specs.Scopes.{Scope}
 use Rattle.text_names.specs.Faults.{least}
@@ -23,7 +24,7 @@ module _ (s : Scope) (items : List ItemForm) (ys : List Side)
   pub clear_7 : ClearTo s items 6 → least (places_where is_wide ys) ≡ None → ClearTo s items 7
   clear_7 clear e =
       clear_next s items 6 clear (λ fault r h. nowhere (places_where is_wide ys) e (byte_of fault)
-      (side_there Any (λ w. 127 < weight w) is_wide tells_wide (outlines_of s items)
+      (side_there Any (λ first w. 127 < weight w) is_wide tells_wide (outlines_of s items)
       (sides_of s (assertions_of items)) ys
       all (all_any ys) (byte_of fault) (of_rank s items 7 fault r h)))
 
@@ -31,18 +32,19 @@ module _ (s : Scope) (items : List ItemForm) (ys : List Side)
   first_7 at clear e =
       let l = least_stands (places_where is_wide ys) at e in
       first_at s items 6 (TooWide at) clear (omega arith)
-      (side_back Any (λ w. 127 < weight w) is_wide tells_wide (outlines_of s items)
+      (side_back Any (λ first w. 127 < weight w) is_wide tells_wide (outlines_of s items)
       (sides_of s (assertions_of items)) ys
       all (all_any ys) at l.stands)
       (λ other r h. l.lowest (byte_of other)
-      (side_there Any (λ w. 127 < weight w) is_wide tells_wide (outlines_of s items)
+      (side_there Any (λ first w. 127 < weight w) is_wide tells_wide (outlines_of s items)
       (sides_of s (assertions_of items)) ys
       all (all_any ys) (byte_of other) (of_rank s items 7 other r h)))
 
   pub clear_8 : AreLight ys → ClearTo s items 7 → least (places_where is_degenerate ys) ≡ None → ClearTo s items 8
   clear_8 light clear e =
       clear_next s items 7 clear (λ fault r h. nowhere (places_where is_degenerate ys) e (byte_of fault)
-      (side_there Light (λ w. IsDegenerate (kernel dot w)) is_degenerate tells_degenerate (outlines_of s items)
+      (side_there Light (λ first w. IsDegenerateBy first (kernel dot w)) is_degenerate tells_degenerate
+      (outlines_of s items)
       (sides_of s (assertions_of items)) ys all light (byte_of fault) (of_rank s items 8 fault r h)))
 
   pub first_8 : (at : ℕ) → AreLight ys → ClearTo s items 7 → least (places_where is_degenerate ys) ≡ Some at
@@ -50,10 +52,12 @@ module _ (s : Scope) (items : List ItemForm) (ys : List Side)
   first_8 at light clear e =
       let l = least_stands (places_where is_degenerate ys) at e in
       first_at s items 7 (Degenerate at) clear (omega arith)
-      (side_back Light (λ w. IsDegenerate (kernel dot w)) is_degenerate tells_degenerate (outlines_of s items)
+      (side_back Light (λ first w. IsDegenerateBy first (kernel dot w)) is_degenerate tells_degenerate
+      (outlines_of s items)
       (sides_of s (assertions_of items)) ys all light at l.stands)
       (λ other r h. l.lowest (byte_of other)
-      (side_there Light (λ w. IsDegenerate (kernel dot w)) is_degenerate tells_degenerate (outlines_of s items)
+      (side_there Light (λ first w. IsDegenerateBy first (kernel dot w)) is_degenerate tells_degenerate
+      (outlines_of s items)
       (sides_of s (assertions_of items)) ys all light (byte_of other) (of_rank s items 8 other r h)))
 
 module _ (s : Scope) (items : List ItemForm) (ys : List Side)
@@ -61,17 +65,17 @@ module _ (s : Scope) (items : List ItemForm) (ys : List Side)
   pub clear_9 : ClearTo s items 8 → least (places_where is_empty ys) ≡ None → ClearTo s items 9
   clear_9 clear e =
       clear_next s items 8 clear (λ fault r h. nowhere (places_where is_empty ys) e (byte_of fault)
-      (side_there Any (λ w. AdmitsEmpty (kernel dot w)) is_empty tells_empty (outlines_of s items)
+      (side_there Any (λ first w. AdmitsEmpty (kernel dot w)) is_empty tells_empty (outlines_of s items)
       (consequents_of s (assertions_of items)) ys all (all_any ys) (byte_of fault) (of_rank s items 9 fault r h)))
 
   pub first_9 : (at : ℕ) → ClearTo s items 8 → least (places_where is_empty ys) ≡ Some at → IsFirst s items (Empty at)
   first_9 at clear e =
       let l = least_stands (places_where is_empty ys) at e in
       first_at s items 8 (Empty at) clear (omega arith)
-      (side_back Any (λ w. AdmitsEmpty (kernel dot w)) is_empty tells_empty (outlines_of s items)
+      (side_back Any (λ first w. AdmitsEmpty (kernel dot w)) is_empty tells_empty (outlines_of s items)
       (consequents_of s (assertions_of items)) ys all (all_any ys) at l.stands)
       (λ other r h. l.lowest (byte_of other)
-      (side_there Any (λ w. AdmitsEmpty (kernel dot w)) is_empty tells_empty (outlines_of s items)
+      (side_there Any (λ first w. AdmitsEmpty (kernel dot w)) is_empty tells_empty (outlines_of s items)
       (consequents_of s (assertions_of items)) ys all (all_any ys) (byte_of other) (of_rank s items 9 other r h)))
 
 rank_most : (fault : TypeFault) → rank fault ≤ 9

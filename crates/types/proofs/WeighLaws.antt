@@ -19,8 +19,8 @@ use Rattle.text_names.specs.Scopes.{Scope}
 use Rattle.types.specs.declared.side.Side.{Side}
 use Rattle.types_suites.specs.declared.resolved.Resolved.{Resolved}
 use Rattle.types_suites.specs.Readings.{Dot, dot, outline}
-use Rattle.types_suites.specs.Texts.{sequence_byte}
-use Rattle.types_suites.specs.Suites.{before_by, ReadsAntecedent, ReadsConsequent}
+use Rattle.types_suites.specs.Texts.{sequence_byte, led_byte, is_led}
+use Rattle.types_suites.specs.Suites.{before_by, first_by, ReadsAntecedent, ReadsConsequent}
 use Rattle.types_suites.specs.Faults as faults
 use Rattle.types_suites.specs.Faults.{outline_before, antecedents_in, consequent_in, sides_of, consequents_of}
 use Rattle.types.specs.Sides.{IsWeighed, AreWeighed, AreLight}
@@ -98,9 +98,9 @@ sides_known s cs e bodies (a ∷ us) (m ∷ ms) before h =
 
 -- what is known of a side, by its entry
 pub weighed : (bodies : List (Draft Boolean)) (o : List (Draft Dot)) (d : Draft Boolean) (e : Entry) (x : faults.Side)
-    (at : ℕ) → map dotted bodies ≡ o → HasEntry bodies d e →
-    dotted d ≡ x.outline → at ≡ x.byte → IsWeighed o x (side_of e at)
-weighed bodies o d e x at same h out is =
+    (first : Bool) (at : ℕ) → map dotted bodies ≡ o → HasEntry bodies d e →
+    dotted d ≡ x.outline → first ≡ x.first → at ≡ x.byte → IsWeighed o x (side_of e first at)
+weighed bodies o d e x first at same h out led is =
     let f = λ (b : Boolean). dot in
     let k = h.entry.facts in
     record {
@@ -113,6 +113,7 @@ weighed bodies o d e x at same h out is =
       weighs = k.weighs ∙ ap (λ (w : ℕ). min w 128) (sym (weight_map f h.meant));
       empty = k.empty ∙ sym (empty_map f h.meant);
       ticks = λ light. entry_says e h.meant h.entry light ∙ sym (ticks_map f h.meant);
+      first = led;
       byte = is;
     }
 
@@ -122,24 +123,26 @@ before_outline NonOverlapped d = refl
 
 module _ (s : Scope) (cs : List (List ℕ)) (e : List Expr) (bodies : List (Draft Boolean)) (o : List (Draft Dot))
     (same : map dotted bodies ≡ o) where
-  antecedent_weighed : (p : PropertyForm) (d : Draft Boolean) (n : Entry) (at : Option ℕ) → ReadsAntecedent s cs e p d
-      → HasEntry bodies d n → at ≡ antecedent_byte p →
-      AreWeighed o (antecedents_in s p) (side_at n at)
-  antecedent_weighed (plain q) d n at h i is = subst (λ (z : Option ℕ). AreWeighed o [] (side_at n z)) (sym is) tt
-  antecedent_weighed (implication a kind c) d n at h i is =
-      let x : faults.Side = record { outline = outline_before kind (outline s a); byte = sequence_byte a } in
+  antecedent_weighed : (p : PropertyForm) (d : Draft Boolean) (n : Entry) (f : Bool) (at : Option ℕ)
+      → ReadsAntecedent s cs e p d → HasEntry bodies d n → f ≡ first_by p → at ≡ antecedent_byte p →
+      AreWeighed o (antecedents_in s p) (side_at n f at)
+  antecedent_weighed (plain q) d n f at h i led is =
+      subst (λ (z : Option ℕ). AreWeighed o [] (side_at n f z)) (sym is) tt
+  antecedent_weighed (implication word a kind c) d n f at h i led is =
+      let x : faults.Side =
+      record { outline = outline_before kind (outline s a); first = is_led word; byte = led_byte word a } in
       let out = ap dotted h.2 ∙ before_outline kind h.0 ∙ ap (outline_before kind) (reads_outline s cs e a h.0 h.1) in
-      subst (λ (z : Option ℕ). AreWeighed o (x ∷ []) (side_at n z)) (sym is)
-      (weighed bodies o d n x (sequence_byte a) same i out refl, tt)
+      subst (λ (z : Option ℕ). AreWeighed o (x ∷ []) (side_at n f z)) (sym is)
+      (weighed bodies o d n x f (led_byte word a) same i out led refl, tt)
 
   consequent_weighed : (p : PropertyForm) (d : Draft Boolean) (n : Entry) (at : ℕ) → ReadsConsequent s cs e p d
-      → HasEntry bodies d n → at ≡ consequent_byte p → IsWeighed o (consequent_in s p) (side_of n at)
+      → HasEntry bodies d n → at ≡ consequent_byte p → IsWeighed o (consequent_in s p) (side_of n false at)
   consequent_weighed (plain q) d n at h i is =
-      weighed bodies o d n (record { outline = outline s q; byte = sequence_byte q }) at same i
-      (reads_outline s cs e q d h) is
-  consequent_weighed (implication a t c) d n at h i is =
-      weighed bodies o d n (record { outline = outline s c; byte = sequence_byte c }) at same i
-      (reads_outline s cs e c d h) is
+      weighed bodies o d n (record { outline = outline s q; first = false; byte = sequence_byte q }) false at same i
+      (reads_outline s cs e q d h) refl is
+  consequent_weighed (implication word a t c) d n at h i is =
+      weighed bodies o d n (record { outline = outline s c; first = false; byte = sequence_byte c }) false at same i
+      (reads_outline s cs e c d h) refl is
 
   pub sides_weighed : (us : List trees.AssertionForm) (ms : List Resolved) (before : ℕ)
       → AreResolved s cs e bodies before us ms → AreWeighed o (sides_of s us) (sides_in ms)
@@ -149,11 +152,11 @@ module _ (s : Scope) (cs : List (List ℕ)) (e : List Expr) (bodies : List (Draf
   sides_weighed (a ∷ us) (m ∷ ms) before h =
       let one = h.0 in
       weighed_both o (antecedents_in s a.property ++ consequent_in s a.property ∷ [])
-      (side_at m.antecedent m.antecedent_at ++ consequent_side m ∷ []) (sides_of s us) (sides_in ms)
-      (weighed_both o (antecedents_in s a.property) (side_at m.antecedent m.antecedent_at)
+      (side_at m.antecedent m.first m.antecedent_at ++ consequent_side m ∷ []) (sides_of s us) (sides_in ms)
+      (weighed_both o (antecedents_in s a.property) (side_at m.antecedent m.first m.antecedent_at)
       (consequent_in s a.property ∷ []) (consequent_side m ∷ [])
-      (antecedent_weighed a.property one.antecedent m.antecedent m.antecedent_at one.reads_antecedent
-      one.antecedent_entry one.antecedent_at) (
+      (antecedent_weighed a.property one.antecedent m.antecedent m.first m.antecedent_at one.reads_antecedent
+      one.antecedent_entry one.first one.antecedent_at) (
         consequent_weighed a.property one.consequent m.consequent m.consequent_at one.reads_consequent
             one.consequent_entry one.consequent_at,
         tt,
@@ -174,21 +177,22 @@ module _ (s : Scope) (cs : List (List ℕ)) (e : List Expr) (bodies : List (Draf
       )
 
   -- The antecedent of a sequence that is asserted alone is 1, and weighs 1.
-  antecedent_light : (p : PropertyForm) (d : Draft Boolean) (n : Entry) (at : Option ℕ) (rest : List Side)
+  antecedent_light : (p : PropertyForm) (d : Draft Boolean) (n : Entry) (f : Bool) (at : Option ℕ) (rest : List Side)
       → ReadsAntecedent s cs e p d → HasEntry bodies d n → at ≡ antecedent_byte p →
-      AreLight (side_at n at ++ rest) → n.facts.weight ≤ 127
-  antecedent_light (plain q) d n at rest h i is l =
+      AreLight (side_at n f at ++ rest) → n.facts.weight ≤ 127
+  antecedent_light (plain q) d n f at rest h i is l =
       let one : Spells bodies d (written.boolean One) =
       subst (λ (z : Draft Boolean). Spells bodies z (written.boolean One)) (sym h) (0, refl) in
       let w = ap weight (spells_one bodies d i.meant (written.boolean One) i.spells one) in
       omega (arith, i.entry.facts.weighs, w)
-  antecedent_light (implication a t c) d n at rest h i is l =
-      let l2 = subst (λ (z : Option ℕ). AreLight (side_at n z ++ rest)) is l in
+  antecedent_light (implication word a t c) d n f at rest h i is l =
+      let l2 = subst (λ (z : Option ℕ). AreLight (side_at n f z ++ rest)) is l in
       l2.0
 
-  tail_light : (f : Entry) (at : Option ℕ) (rest : List Side) → AreLight (side_at f at ++ rest) → AreLight rest
-  tail_light f None rest h = h
-  tail_light f (Some at) rest h = h.1
+  tail_light : (n : Entry) (f : Bool) (at : Option ℕ) (rest : List Side) → AreLight (side_at n f at ++ rest)
+      → AreLight rest
+  tail_light n f None rest h = h
+  tail_light n f (Some at) rest h = h.1
 
   pub sides_fit : (us : List trees.AssertionForm) (ms : List Resolved) (before : ℕ)
       → AreResolved s cs e bodies before us ms → AreLight (sides_in ms) → AreFitting ms
@@ -197,17 +201,18 @@ module _ (s : Scope) (cs : List (List ℕ)) (e : List Expr) (bodies : List (Draf
   sides_fit (a ∷ us) [] before h l = elim h [ ]
   sides_fit (a ∷ us) (m ∷ ms) before h l =
       let one = h.0 in
-      let f = m.antecedent in
+      let n = m.antecedent in
+      let f = m.first in
       let whole =
-      subst AreLight (let g : (side_at f m.antecedent_at ++ consequent_side m ∷ []) ++ sides_in ms
-      ≡ side_at f m.antecedent_at ++ (consequent_side m ∷ sides_in ms) = split f m.antecedent_at in g) l in
-      let rest = tail_light f m.antecedent_at (consequent_side m ∷ sides_in ms) whole in (
+      subst AreLight (let g : (side_at n f m.antecedent_at ++ consequent_side m ∷ []) ++ sides_in ms
+      ≡ side_at n f m.antecedent_at ++ (consequent_side m ∷ sides_in ms) = split n f m.antecedent_at in g) l in
+      let rest = tail_light n f m.antecedent_at (consequent_side m ∷ sides_in ms) whole in (
         record {
           antecedent =
               record {
                 meant = one.antecedent_entry.meant;
                 entry = one.antecedent_entry.entry;
-                light = antecedent_light a.property one.antecedent m.antecedent m.antecedent_at
+                light = antecedent_light a.property one.antecedent m.antecedent m.first m.antecedent_at
                     (consequent_side m ∷ sides_in ms) one.reads_antecedent one.antecedent_entry one.antecedent_at whole;
               };
           consequent =
@@ -216,7 +221,7 @@ module _ (s : Scope) (cs : List (List ℕ)) (e : List Expr) (bodies : List (Draf
         sides_fit us ms (before + 1) h.1 rest.1,
       )
     where
-      split : (f : Entry) (at : Option ℕ) → (side_at f at ++ consequent_side m ∷ []) ++ sides_in ms
-          ≡ side_at f at ++ (consequent_side m ∷ sides_in ms)
-      split f None = refl
-      split f (Some at) = refl
+      split : (n : Entry) (f : Bool) (at : Option ℕ) → (side_at n f at ++ consequent_side m ∷ []) ++ sides_in ms
+          ≡ side_at n f at ++ (consequent_side m ∷ sides_in ms)
+      split n f None = refl
+      split n f (Some at) = refl

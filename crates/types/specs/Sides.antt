@@ -1,6 +1,6 @@
 -- What is known of the sides of assertions.
 use Rattle.std.specs.Prelude.{◌≡◌, ℕ, ◌≤◌, min, List, [], ◌∷◌, ◌++◌, Option, Some, None, Bool}
-use Rattle.std.specs.Prelude.{nat_lt, not, if◌then◌else◌, true, Box}
+use Rattle.std.specs.Prelude.{nat_lt, not, ◌&&◌, ◌||◌, if◌then◌else◌, true, false, Box}
 use Rattle.std.specs.declared.alloc.Global.{Global}
 use Rattle.std.specs.List.{AllZip, AllByRecursion}
 use Rattle.assertions.specs.declared.sequence.Boolean.{Boolean}
@@ -25,6 +25,7 @@ pub record IsWeighed (bodies : List (Draft Dot)) (side : faults.Side) (seen : Si
   pub weighs : seen.facts.weight ≡ min (weight meant) 128
   pub empty : seen.facts.empty ≡ admits_empty meant
   pub ticks : seen.facts.weight ≤ 127 → seen.ticks ≡ takes_ticks meant
+  pub first : seen.first ≡ side.first
   pub byte : seen.at ≡ side.byte
 
 -- the same of several, in their order
@@ -41,12 +42,13 @@ places_where test [] = []
 places_where test (y ∷ ys) =
     if test y then y.at ∷ places_where test ys else places_where test ys
 
--- it weighs over 127, it takes no tick, it matches an empty segment
+-- it weighs over 127, it takes no tick or only its first match counts and is empty, it matches an
+-- empty segment
 abbrev pub is_wide : Side → Bool
 is_wide y = nat_lt 127 y.facts.weight
 
 abbrev pub is_degenerate : Side → Bool
-is_degenerate y = not y.ticks
+is_degenerate y = not y.ticks || (y.first && y.facts.empty)
 
 abbrev pub is_empty : Side → Bool
 is_empty y = y.facts.empty
@@ -72,21 +74,21 @@ abbrev pub entry_ticks : Entry → Bool
 entry_ticks e = if nat_lt 127 e.facts.weight then true else sequence_ticks e.sequence
 
 -- what is known of a side by its entry
-abbrev pub side_of : Entry → ℕ → Side
-side_of e at = record { facts = e.facts; ticks = entry_ticks e; at = at }
+abbrev pub side_of : Entry → Bool → ℕ → Side
+side_of e first at = record { facts = e.facts; ticks = entry_ticks e; first = first; at = at }
 
 -- what is known of its sides, the antecedent only where one is written
-abbrev pub side_at : Entry → Option ℕ → List Side
-side_at e None = []
-side_at e (Some at) = side_of e at ∷ []
+abbrev pub side_at : Entry → Bool → Option ℕ → List Side
+side_at e first None = []
+side_at e first (Some at) = side_of e first at ∷ []
 
 abbrev pub consequent_side : Resolved → Side
-consequent_side m = side_of m.consequent m.consequent_at
+consequent_side m = side_of m.consequent false m.consequent_at
 
 abbrev pub sides_in : List Resolved → List Side
 sides_in [] = []
 sides_in (m ∷ ms) =
-    (side_at m.antecedent m.antecedent_at ++ consequent_side m ∷ []) ++ sides_in ms
+    (side_at m.antecedent m.first m.antecedent_at ++ consequent_side m ∷ []) ++ sides_in ms
 
 abbrev pub consequents_in : List Resolved → List Side
 consequents_in [] = []

@@ -14,6 +14,8 @@ pub(crate) struct Side {
     pub facts: Facts,
     /// Whether it matches a tick or more, were every boolean true, if it weighs at most 127.
     pub ticks: bool,
+    /// Whether only its first match counts.
+    pub first: bool,
     pub at: usize,
 }
 
@@ -30,13 +32,13 @@ pub(crate) fn first_wide(sides: &[Side]) -> Option<usize>
     fault
 }
 
-/// The first side that matches no tick.
+/// The first side that matches no tick, or whose first match takes none where only that counts.
 pub(crate) fn first_degenerate(sides: &[Side]) -> Option<usize>
     ensures { result ≡ least (places_where is_degenerate sides.now) }
 {
     let mut fault = None;
     for side in sides {
-        if !side.ticks {
+        if !side.ticks || (side.first && side.facts.empty) {
             fault = earlier(fault, Some(side.at));
         }
     }

@@ -26,14 +26,15 @@ fn entry_ticks(alloc: Global, entry: &Entry) -> Result<bool, AllocError>
 }
 
 /// What is known of a side by its entry.
-fn side_of(alloc: Global, entry: &Entry, at: usize) -> Result<Side, AllocError>
+fn side_of(alloc: Global, entry: &Entry, first: bool, at: usize) -> Result<Side, AllocError>
     requires { IsKnown entry.now }
-    ensures { IfOk result (λ side. side ≡ side_of entry.now at) }
+    ensures { IfOk result (λ side. side ≡ side_of entry.now first at) }
 {
     let ticks = entry_ticks(alloc, entry)?;
     Ok(Side {
         facts: entry.facts,
         ticks,
+        first,
         at,
     })
 }
@@ -43,13 +44,14 @@ fn push_antecedent(
     alloc: Global,
     sides: &mut Vec<Side>,
     entry: &Entry,
+    first: bool,
     at: Option<usize>,
 ) -> Result<(), AllocError>
     requires { IsKnown entry.now }
-    ensures { OnOk result (sides.new.items ≡ sides.old.items ++ side_at entry.now at) }
+    ensures { OnOk result (sides.new.items ≡ sides.old.items ++ side_at entry.now first at) }
 {
     match at {
-        Some(at) => Ok(sides.push(side_of(alloc, entry, at)?)?),
+        Some(at) => Ok(sides.push(side_of(alloc, entry, first, at)?)?),
         None => Ok(()),
     }
 }
@@ -74,9 +76,10 @@ pub(crate) fn written_sides(alloc: Global, assertions: &[Resolved]) -> Result<Si
             alloc,
             &mut all,
             &assertion.antecedent,
+            assertion.first,
             assertion.antecedent_at,
         )?;
-        let consequent = side_of(alloc, &assertion.consequent, assertion.consequent_at)?;
+        let consequent = side_of(alloc, &assertion.consequent, false, assertion.consequent_at)?;
         all.push(consequent)?;
         consequents.push(consequent)?;
     }

@@ -120,7 +120,7 @@ pub(crate) fn property_fault(
 {
     match property {
         PropertyTree::Plain(sequence) => sequence_fault(alloc, scope, sought, sequence),
-        PropertyTree::Implication(antecedent, _, consequent) => {
+        PropertyTree::Implication(_, antecedent, _, consequent) => {
             let antecedent = sequence_fault(alloc, scope, sought, antecedent)?;
             let consequent = sequence_fault(alloc, scope, sought, consequent)?;
             Ok(earlier(antecedent, consequent))

@@ -1,6 +1,6 @@
 -- Where faults stand among moved items: where they stood.
 use Rattle.std.proofs.Common.{◌≡◌, ℕ, zero, suc, ◌+◌, List, [], ◌∷◌, ◌++◌, map, Option, Some, None, refl, sym, ap, ◌∙◌}
-use Rattle.std.proofs.Common.{subst, max}
+use Rattle.std.proofs.Common.{subst, max, Bool, false}
 use Rattle.std.specs.Prelude.{is_some, slice_get, bytes_eq, if◌then◌else◌}
 use Rattle.lexer.specs.declared.token.Token.{Token}
 use Rattle.grammar.specs.declared.operator.Junction.{Junction}
@@ -27,7 +27,7 @@ use Rattle.types_suites.specs.Readings.{Dot, dot, joined_by, outline, outline_st
 use Rattle.types_suites.specs.Readings.{least_of, extra_of}
 use Rattle.types_suites.specs.Texts.{declarations_of, assertions_of, label_byte, assertions_after, name_made}
 use Rattle.types_suites.specs.Texts.{names_from, repeated_names, duplicates, label_text, clocks_unlike, clock_of}
-use Rattle.types_suites.specs.Texts.{other_clocks, tree_byte, sequence_byte}
+use Rattle.types_suites.specs.Texts.{other_clocks, tree_byte, sequence_byte, led_byte, is_led}
 use Rattle.types_suites.specs.Readings.{outlines_of}
 use Rattle.types_suites.specs.Faults.{Side, outline_before, antecedents_in, consequent_in, sides_of}
 use Rattle.types_suites.specs.Faults.{consequents_of, CycleAt}
@@ -149,7 +149,7 @@ module _ (lies : ℕ → ℕ × ℕ) where
 
       property_faults-moved : (p : PropertyForm) → property_faults s k (moved_property lies p) ≡ property_faults s k p
       property_faults-moved (plain q) = sequence_faults-moved q
-      property_faults-moved (implication a t c) =
+      property_faults-moved (implication word a t c) =
           both_same _ (sequence_faults s k a) _ (sequence_faults s k c) (sequence_faults-moved a)
           (sequence_faults-moved c)
 
@@ -307,28 +307,39 @@ module _ (lies : ℕ → ℕ × ℕ) where
     sequence_byte-moved (throughout e q) = tree_byte-moved e
     sequence_byte-moved (joined j q others) = sequence_byte-moved q
 
-    side_by : Draft Dot → ℕ → Side
-    side_by d at = record { outline = d; byte = at }
+    side_by : Bool → Draft Dot → ℕ → Side
+    side_by f d at = record { outline = d; first = f; byte = at }
 
-    side_same : (d e : Draft Dot) (at by : ℕ) → d ≡ e → at ≡ by → side_by d at ≡ side_by e by
-    side_same d e at by h k = ap (λ (x : Draft Dot). side_by x at) h ∙ ap (side_by e) k
+    side_same : (f : Bool) (d e : Draft Dot) (at by : ℕ) → d ≡ e → at ≡ by → side_by f d at ≡ side_by f e by
+    side_same f d e at by h k = ap (λ (x : Draft Dot). side_by f x at) h ∙ ap (side_by f e) k
+
+    led_byte-moved : (w : Option Token) (q : SequenceForm) → led_byte (moved_option lies w) (moved_sequence lies q)
+        ≡ led_byte w q
+    led_byte-moved None q = sequence_byte-moved q
+    led_byte-moved (Some t) q = refl
+
+    is_led-moved : (w : Option Token) → is_led (moved_option lies w) ≡ is_led w
+    is_led-moved None = refl
+    is_led-moved (Some t) = refl
 
     antecedents-moved : (p : PropertyForm) → antecedents_in s (moved_property lies p) ≡ antecedents_in s p
     unfolding side_by
     antecedents-moved (plain q) = refl
-    antecedents-moved (implication a i c) =
+    antecedents-moved (implication word a i c) =
         ap (λ (x : Side). x ∷ [])
-        (side_same (outline_before i (outline s (moved_sequence lies a))) (outline_before i (outline s a))
-        (sequence_byte (moved_sequence lies a)) (sequence_byte a)
-        (ap (outline_before i) (outline-moved a)) (sequence_byte-moved a))
+        (ap (λ (f : Bool). side_by f (outline_before i (outline s (moved_sequence lies a)))
+        (led_byte (moved_option lies word) (moved_sequence lies a))) (is_led-moved word)
+        ∙ side_same (is_led word) (outline_before i (outline s (moved_sequence lies a)))
+        (outline_before i (outline s a)) (led_byte (moved_option lies word) (moved_sequence lies a)) (led_byte word a)
+        (ap (outline_before i) (outline-moved a)) (led_byte-moved word a))
 
     consequent-moved : (p : PropertyForm) → consequent_in s (moved_property lies p) ≡ consequent_in s p
     unfolding side_by
     consequent-moved (plain q) =
-        side_same (outline s (moved_sequence lies q)) (outline s q) (sequence_byte (moved_sequence lies q))
+        side_same false (outline s (moved_sequence lies q)) (outline s q) (sequence_byte (moved_sequence lies q))
         (sequence_byte q) (outline-moved q) (sequence_byte-moved q)
-    consequent-moved (implication a t c) =
-        side_same (outline s (moved_sequence lies c)) (outline s c) (sequence_byte (moved_sequence lies c))
+    consequent-moved (implication word a t c) =
+        side_same false (outline s (moved_sequence lies c)) (outline s c) (sequence_byte (moved_sequence lies c))
         (sequence_byte c) (outline-moved c) (sequence_byte-moved c)
 
     sides-moved : (items : List ItemForm) → sides_of s (assertions_of (map (moved_item lies) items))
@@ -373,7 +384,7 @@ module _ (lies : ℕ → ℕ × ℕ) where
       byte = h.byte;
     }
 
-    side-moved : (ds es : List (Draft Dot)) (xs ys : List Side) (IsSo : Written Dot → Type 0) (at : ℕ) → es ≡ ds
+    side-moved : (ds es : List (Draft Dot)) (xs ys : List Side) (IsSo : Bool → Written Dot → Type 0) (at : ℕ) → es ≡ ds
         → ys ≡ xs → SideAt ds xs IsSo at → SideAt es ys IsSo at
     side-moved ds es xs ys IsSo at e f h =
         let first : SideAt ds ys IsSo at = subst (λ (zs : List Side). SideAt ds zs IsSo at) (sym f) h in

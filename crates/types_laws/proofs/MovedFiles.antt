@@ -5,7 +5,7 @@ use Rattle.grammar.specs.declared.bound.Bound.{Bound}
 use Rattle.grammar.specs.declared.bound.Range.{Range}
 use Rattle.grammar.specs.declared.bound.Select.{Select}
 use Rattle.grammar.specs.declared.terminal.Terminal.{Terminal}
-use Rattle.grammar.specs.Terminals.{is_name, is_word}
+use Rattle.grammar.specs.Terminals.{is_name, is_word, is, is_first_match}
 use Rattle.grammar.specs.Bounds.{index, bound_within}
 use Rattle.grammar.specs.Operators.{infix_of, implication_of}
 use Rattle.grammar.specs.Marks.{mark, precedence}
@@ -23,7 +23,8 @@ use Rattle.grammar.specs.Sequences.{AreSteps, no_steps, one_step, IsDelayed, is_
 use Rattle.grammar.specs.Sequences.{AreMeets, no_meet, one_meet, IsIntersection, is_meet, is_intersection}
 use Rattle.grammar.specs.Sequences.{is_throughout, AreConjuncts, no_conjunct, one_conjunct, IsConjunction, is_during}
 use Rattle.grammar.specs.Sequences.{is_all, AreAlternatives, no_alternative, one_alternative, IsSequence}
-use Rattle.grammar.specs.Sequences.{is_conjunction, is_either, IsProperty, is_plain, is_implication, bracketed}
+use Rattle.grammar.specs.Sequences.{is_conjunction, is_either, IsProperty, is_plain, is_implication, is_first}
+use Rattle.grammar.specs.Sequences.{bracketed}
 use Rattle.grammar.specs.Files.{IsClear, no_clear, clear, IsClause, no_clause, clause, SpellsCounter, is_counter}
 use Rattle.grammar.specs.Files.{IsClosing, no_closing, closing, IsEnding, ending, with_semicolon, SpellsDeclaration}
 use Rattle.grammar.specs.Files.{is_declaration, IsDisable, no_disable, disable, IsLabel, no_label, label}
@@ -178,9 +179,10 @@ module _ (lies : ℕ → ℕ × ℕ) where
 
   property-moved : {d : ℕ} {p : PropertyForm} {ts rest : Tokens} → IsProperty d p ts rest
       → IsProperty d (moved_property lies p) (moved_all ts) (moved_all rest)
-  unfolding implication_of
+  unfolding implication_of is is_first_match
   property-moved (is_plain s) = is_plain (sequence-moved s)
   property-moved (is_implication h a c) = is_implication h (sequence-moved a) (sequence-moved c)
+  property-moved (is_first w o a r h c) = is_first w o (sequence-moved a) r h (sequence-moved c)
   property-moved (bracketed a b p) = bracketed a b (property-moved p)
 
   clear-moved : {o : Option Tree} {ts rest : Tokens} → IsClear o ts rest

@@ -23,7 +23,7 @@ use Rattle.types_suites.specs.Texts.{label_text, declarations_of, counters_of, a
 use Rattle.types_suites.specs.Readings.{AllRead}
 use Rattle.types_suites.specs.Suites.{AreSignals, IsCondition, IsRule, IsCounter, AreCounters, ReadsAntecedent}
 use Rattle.types_suites.specs.Suites.{ReadsConsequent, IsDisabling, IsDisablingPlace, IsUsedPlace, IsAssertion}
-use Rattle.types_suites.specs.Suites.{AreAssertions, IsSuite}
+use Rattle.types_suites.specs.Suites.{AreAssertions, IsSuite, first_by}
 use Rattle.types_laws.proofs.MovedTrees.{moved_option, moved_tree, moved_sequence, moved_property, moved_condition}
 use Rattle.types_laws.proofs.MovedTrees.{moved_rule, moved_counter, moved_assertion, moved_item}
 use Rattle.types_laws.proofs.MovedReadings.{path_text-moved, both_same, signals-moved, sequence_signals-moved}
@@ -65,7 +65,7 @@ module _ (lies : ℕ → ℕ × ℕ) where
 
     property-moved : (p : PropertyForm) → property_signals s (moved_property lies p) ≡ property_signals s p
     property-moved (plain q) = sequence_signals-moved lies s q
-    property-moved (implication a t c) =
+    property-moved (implication word a t c) =
         both_same (sequence_signals s (moved_sequence lies a)) (sequence_signals s a)
         (sequence_signals s (moved_sequence lies c)) (sequence_signals s c) (sequence_signals-moved lies s a)
         (sequence_signals-moved lies s c)
@@ -140,12 +140,17 @@ module _ (lies : ℕ → ℕ × ℕ) where
         antecedent-moved : (p : PropertyForm) (d : Draft Boolean) → ReadsAntecedent s cs bs p d
             → ReadsAntecedent s cs bs (moved_property lies p) d
         antecedent-moved (plain q) d h = h
-        antecedent-moved (implication a t c) d h = (h.0, reads-moved lies s cs bs a h.0 h.1, h.2)
+        antecedent-moved (implication word a t c) d h = (h.0, reads-moved lies s cs bs a h.0 h.1, h.2)
+
+        first-moved : (p : PropertyForm) → first_by (moved_property lies p) ≡ first_by p
+        first-moved (plain q) = refl
+        first-moved (implication None a t c) = refl
+        first-moved (implication (Some word) a t c) = refl
 
         consequent-moved : (p : PropertyForm) (d : Draft Boolean) → ReadsConsequent s cs bs p d
             → ReadsConsequent s cs bs (moved_property lies p) d
         consequent-moved (plain q) d h = reads-moved lies s cs bs q d h
-        consequent-moved (implication a t c) d h = reads-moved lies s cs bs c d h
+        consequent-moved (implication word a t c) d h = reads-moved lies s cs bs c d h
 
         disabling-moved : (places : List ℕ) (o : Option Tree) (b : Option Boolean) → IsDisabling s cs bs places o b
             → IsDisabling s cs bs places (moved_condition lies o) b
@@ -172,6 +177,7 @@ module _ (lies : ℕ → ℕ × ℕ) where
           antecedent = h.antecedent;
           consequent = h.consequent;
           name = h.name ∙ sym (label-moved n a.label);
+          first = h.first ∙ sym (first-moved a.property);
           reads_antecedent = antecedent-moved a.property h.antecedent h.reads_antecedent;
           reads_consequent = consequent-moved a.property h.consequent h.reads_consequent;
           antecedent_meant = h.antecedent_meant;

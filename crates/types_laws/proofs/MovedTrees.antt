@@ -53,7 +53,8 @@ module _ (lies : ℕ → ℕ × ℕ) where
 
   abbrev pub moved_property : PropertyForm → PropertyForm
   moved_property (plain q) = plain (moved_sequence q)
-  moved_property (implication a i c) = implication (moved_sequence a) i (moved_sequence c)
+  moved_property (implication word a i c) =
+      implication (moved_option word) (moved_sequence a) i (moved_sequence c)
 
   abbrev pub moved_condition : Option Tree → Option Tree
   moved_condition None = None

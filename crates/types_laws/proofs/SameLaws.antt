@@ -1,5 +1,6 @@
 -- Two suites that are a text's say the same.
-use Rattle.std.proofs.Common.{◌≡◌, ℕ, ◌+◌, List, [], ◌∷◌, map, Option, Some, None, refl, sym, ap, ◌∙◌, string_bytes}
+use Rattle.std.proofs.Common.{◌≡◌, ℕ, ◌+◌, Bool, subst, List, [], ◌∷◌, map, Option, Some, None, refl, sym, ap, ◌∙◌}
+use Rattle.std.proofs.Common.{string_bytes}
 use Rattle.std.specs.List.{AllZip}
 use Rattle.grammar.specs.Trees as trees
 use Rattle.grammar.specs.Trees.{Tree, PropertyForm, plain, implication, ItemForm}
@@ -24,7 +25,8 @@ use Rattle.types_suites.specs.Texts.{declarations_of, counters_of, assertions_of
 use Rattle.types_suites.specs.Suites.{AreSignals, before_by, ReadsAntecedent, ReadsConsequent, IsMeant, IsDisabling}
 use Rattle.types_suites.specs.Suites.{IsAssertion, AreAssertions, IsSuite}
 use Rattle.types_laws.specs.Same.{AreAlike, SaySame}
-use Rattle.types_laws.proofs.AttemptLaws.{alike_turned, alike_on, SeenAlike, same_verdict, seen_turned}
+use Rattle.types_laws.proofs.AttemptLaws.{led, alike_turned, alike_on, SeenAlike, same_verdict, seen_turned}
+use Rattle.assertions.specs.Attempts.{IsVerdict}
 use Rattle.types_laws.proofs.PairLaws.{IsPaired, ArePaired, paired_by, paired_boolean, paired_delay, atoms_alike}
 use Rattle.types_laws.proofs.PairLaws.{reads_paired, all_read_paired}
 use Rattle.types_laws.proofs.SpelledLaws.{spelled_alike}
@@ -69,14 +71,14 @@ module _ (s : Scope) (cs : List (List ℕ)) (ones others : List Expr) where
       → ReadsAntecedent s cs others p b → IsPaired ones others a b
   antecedents_paired (plain q) a b h k =
       paired_by ones others a b (drafts.boolean One) (drafts.boolean One) h k one_paired
-  antecedents_paired (implication q i c) a b h k =
+  antecedents_paired (implication word q i c) a b h k =
       paired_by ones others a b (before_by i h.0) (before_by i k.0) h.2 k.2
       (before_paired i h.0 k.0 (reads_paired ones others s cs q h.0 k.0 h.1 k.1))
 
   consequents_paired : (p : PropertyForm) (a b : Draft Boolean) → ReadsConsequent s cs ones p a
       → ReadsConsequent s cs others p b → IsPaired ones others a b
   consequents_paired (plain q) a b h k = reads_paired ones others s cs q a b h k
-  consequents_paired (implication q t c) a b h k = reads_paired ones others s cs c a b h k
+  consequents_paired (implication word q t c) a b h k = reads_paired ones others s cs c a b h k
 
   -- what two assertions have of paired sides matches alike
   sides_alike : (ds es : List (Draft Boolean)) (places spots : List ℕ) (a b : Draft Boolean) (v w : Written Boolean)
@@ -120,6 +122,7 @@ module _ (s : Scope) (cs : List (List ℕ)) (ones others : List Expr) where
       (written_form b.consequent) all
       (consequents_paired t.property h.consequent k.consequent h.reads_consequent k.reads_consequent) h.consequent_meant
       k.consequent_meant in
+      let first : a.first ≡ b.first = h.first ∙ sym k.first in
       record {
         name = h.name ∙ sym k.name;
         verdicts = λ x ticks clock v.
@@ -130,13 +133,19 @@ module _ (s : Scope) (cs : List (List ℕ)) (ones others : List Expr) where
             let same =
             off_alike a.booleans.items b.booleans.items t.disable a.disabling b.disabling h.disabling k.disabling
             x in (
-              same_verdict value other (shape a.antecedent) (shape a.consequent) (shape b.antecedent)
-                  (shape b.consequent) (r x) (q x) off still same ticks clock v,
-              same_verdict other value (shape b.antecedent) (shape b.consequent) (shape a.antecedent)
+              λ is. subst
+                  (λ (f : Bool). IsVerdict other still (led f (shape b.antecedent)) (shape b.consequent) ticks clock v)
+                  first
+                  (same_verdict value other a.first (shape a.antecedent) (shape a.consequent) (shape b.antecedent)
+                  (shape b.consequent) (r x) (q x) off still same ticks clock v is),
+              λ is. subst
+                  (λ (f : Bool). IsVerdict value off (led f (shape a.antecedent)) (shape a.consequent) ticks clock v)
+                  (sym first)
+                  (same_verdict other value b.first (shape b.antecedent) (shape b.consequent) (shape a.antecedent)
                   (shape a.consequent)
                   (seen_turned value other (shape a.antecedent) (shape b.antecedent) (r x))
                   (seen_turned value other (shape a.consequent) (shape b.consequent) (q x))
-                  still off (λ j. sym (same j)) ticks clock v,
+                  still off (λ j. sym (same j)) ticks clock v is),
             );
       }
 

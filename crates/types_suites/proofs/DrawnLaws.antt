@@ -17,12 +17,12 @@ module _ (s : Scope) (cs : List (List ℕ)) (now next : List Expr) (more : Exten
   pub antecedent_grows : (p : PropertyForm) (d : Draft Boolean) → ReadsAntecedent s cs now p d
       → ReadsAntecedent s cs next p d
   antecedent_grows (plain q) d h = h
-  antecedent_grows (implication a t c) d h = (h.0, reads_grows s cs now next more a h.0 h.1, h.2)
+  antecedent_grows (implication word a t c) d h = (h.0, reads_grows s cs now next more a h.0 h.1, h.2)
 
   pub consequent_grows : (p : PropertyForm) (d : Draft Boolean) → ReadsConsequent s cs now p d
       → ReadsConsequent s cs next p d
   consequent_grows (plain q) d h = reads_grows s cs now next more q d h
-  consequent_grows (implication a t c) d h = reads_grows s cs now next more c d h
+  consequent_grows (implication word a t c) d h = reads_grows s cs now next more c d h
 
   pub disabled_grows : (t : Option Tree) (p : Option ℕ) → IsDisabledBy s cs now t p → IsDisabledBy s cs next t p
   disabled_grows None None h = h

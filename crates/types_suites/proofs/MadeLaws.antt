@@ -171,7 +171,7 @@ module _ (s : Scope) (cs : List (List ℕ)) (e : List Expr) where
     -- An assertion with these parts is that of the text.
     pub assertion_made : (before : ℕ) (a : trees.AssertionForm) (m : Resolved) (r : IsResolved s cs e bodies before a m)
         (made : Assertion) (first second : Written Boolean) (b : Option Boolean) (places : List ℕ) →
-        string_bytes made.name ≡ string_bytes m.name → written_form made.antecedent ≡ first
+        string_bytes made.name ≡ string_bytes m.name → made.first ≡ m.first → written_form made.antecedent ≡ first
         → written_form made.consequent ≡ second → made.disabling ≡ b → made.booleans.items ≡ places →
         IsSide e places r.antecedent_entry.meant first → IsSide e places r.consequent_entry.meant second →
         IsPlacedAt e places m.disabling b →
@@ -179,12 +179,13 @@ module _ (s : Scope) (cs : List (List ℕ)) (e : List Expr) where
         ⊎ (IsUsed (Listed p) r.consequent_entry.meant ⊎ (m.disabling ≡ Some p))) →
         IsAssertion s cs e bodies before a made
     unfolding meant_of
-    assertion_made before a m r made first second b places name one two off list h g d used =
+    assertion_made before a m r made first second b places name led one two off list h g d used =
         let ps = made.booleans.items in
         record {
           antecedent = r.antecedent;
           consequent = r.consequent;
           name = name ∙ r.name;
+          first = led ∙ r.first;
           reads_antecedent = r.reads_antecedent;
           reads_consequent = r.reads_consequent;
           antecedent_meant =

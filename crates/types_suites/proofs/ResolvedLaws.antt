@@ -26,14 +26,14 @@ module _ (s : Scope) (cs : List (List ℕ)) (e : List Expr) (n : ℕ)
   pub antecedent_below : (p : PropertyForm) (d : Draft Boolean) → ReadsAntecedent s cs e p d → (q : ℕ) → IsIn q (uses d)
       → q < n
   antecedent_below (plain x) d h q i = let none = subst (λ (y : Draft Boolean). IsIn q (uses y)) h i in elim none [ ]
-  antecedent_below (implication a k c) d h q i =
+  antecedent_below (implication word a k c) d h q i =
       reads_below s cs e n below a h.0 h.1 q
       (before_uses k h.0 q (subst (λ (y : Draft Boolean). IsIn q (uses y)) h.2 i))
 
   pub consequent_below : (p : PropertyForm) (d : Draft Boolean) → ReadsConsequent s cs e p d → (q : ℕ) → IsIn q (uses d)
       → q < n
   consequent_below (plain x) d h q i = reads_below s cs e n below x d h q i
-  consequent_below (implication a t c) d h q i = reads_below s cs e n below c d h q i
+  consequent_below (implication word a t c) d h q i = reads_below s cs e n below c d h q i
 
 module _ (s : Scope) (cs : List (List ℕ)) (bodies : List (Draft Boolean)) (now next : List Expr)
     (more : Extends now next) where

@@ -79,7 +79,7 @@ module _ (s : Scope) where
 
   property_known : (p : PropertyForm) → Known (property_signals s p)
   property_known (plain q) = sequence_known q
-  property_known (implication a t c) =
+  property_known (implication word a t c) =
       both (sequence_signals s a) (sequence_signals s c) (sequence_known a) (sequence_known c)
 
   optional_known : (o : Option Tree) → Known (optional_signals s o)

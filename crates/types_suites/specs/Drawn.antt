@@ -9,17 +9,17 @@ use Rattle.text_names.specs.Scopes.{Scope}
 use Rattle.types_suites.specs.declared.drawn.Drawn.{Drawn}
 use Rattle.types_suites.specs.Options.{OptionZip}
 use Rattle.types_suites.specs.Readings.{IsAtom}
-use Rattle.types_suites.specs.Texts.{label_text, sequence_byte}
-use Rattle.types_suites.specs.Suites.{ReadsAntecedent, ReadsConsequent}
+use Rattle.types_suites.specs.Texts.{label_text, sequence_byte, led_byte}
+use Rattle.types_suites.specs.Suites.{first_by, ReadsAntecedent, ReadsConsequent}
 
 -- where the antecedent begins, if one is written, and the consequent
 abbrev pub antecedent_byte : PropertyForm → Option ℕ
 antecedent_byte (plain q) = None
-antecedent_byte (implication a i c) = Some (sequence_byte a)
+antecedent_byte (implication word a i c) = Some (led_byte word a)
 
 abbrev pub consequent_byte : PropertyForm → ℕ
 consequent_byte (plain q) = sequence_byte q
-consequent_byte (implication a i c) = sequence_byte c
+consequent_byte (implication word a i c) = sequence_byte c
 
 -- the place of the disabling expression, if there is one
 abbrev pub IsDisabledBy : Scope → List (List ℕ) → List Expr → Option Tree → Option ℕ → Type 0
@@ -29,6 +29,7 @@ IsDisabledBy s columns booleans = OptionZip (λ t p. IsAtom s columns booleans t
 pub record IsDrawn (s : Scope) (columns : List (List ℕ)) (booleans : List Expr) (before : ℕ)
     (a : trees.AssertionForm) (m : Drawn) : Type 0 where
   pub name : string_bytes m.name ≡ label_text before a.label
+  pub first : m.first ≡ first_by a.property
   pub antecedent : ReadsAntecedent s columns booleans a.property (draft_of m.antecedent.value)
   pub consequent : ReadsConsequent s columns booleans a.property (draft_of m.consequent.value)
   pub antecedent_at : m.antecedent_at ≡ antecedent_byte a.property

@@ -1,8 +1,10 @@
 -- Where faults of types stand in a text.
-use Rattle.std.specs.Prelude.{◌≡◌, ◌⊎◌, ℕ, ◌<◌, ◌≤◌, List, [], ◌∷◌, ◌++◌, Some, slice_get}
+use Rattle.std.specs.Prelude.{◌≡◌, ◌⊎◌, ℕ, ◌<◌, ◌≤◌, Bool, false, List, [], ◌∷◌, ◌++◌, Some}
+use Rattle.std.specs.Prelude.{slice_get}
 use Rattle.grammar.specs.Trees.{PropertyForm, plain, implication, DeclarationForm, AssertionForm}
 use Rattle.grammar.specs.Trees.{ItemForm}
-use Rattle.assertions.specs.Segments.{IsDegenerate, AdmitsEmpty}
+use Rattle.assertions.specs.Segments.{AdmitsEmpty}
+use Rattle.assertions.specs.Attempts.{IsDegenerateBy}
 use Rattle.assertions.specs.Written.{Written, kernel, weight}
 use Rattle.types_sequences.specs.Drafts.{Draft, IsIn, Spells, IsCyclic}
 use Rattle.types_sequences.specs.Implications.{rewritten_antecedent}
@@ -18,16 +20,17 @@ use Rattle.types_suites.specs.declared.fault.TypeFault.TheVariants.{AdmitsEmpty 
 use Rattle.types_suites.specs.declared.fault.TypeFault.TheVariants.{CyclicSequence, TooWide, Memory}
 use Rattle.types_suites.specs.Readings.{Dot, dot, outline, outlines_of}
 use Rattle.types_suites.specs.Texts.{declarations_of, assertions_of, duplicates, other_clocks}
-use Rattle.types_suites.specs.Texts.{sequence_byte}
+use Rattle.types_suites.specs.Texts.{sequence_byte, led_byte, is_led}
 
 -- a text, item by item
 abbrev pub Text : Type 0
 Text = List ItemForm
 
--- A side of an assertion: its outline, with the antecedent of |=> as that of |->, and the byte of
--- its first token but brackets.
+-- A side of an assertion: its outline, with the antecedent of |=> as that of |->, whether
+-- "first_match" stands round it, and the byte of its first token but brackets.
 pub record Side : Type 0 where
   pub outline : Draft Dot
+  pub first : Bool
   pub byte : ℕ
 
 -- R |=> S is (R ##1 1) |-> S (16.12.7)
@@ -37,16 +40,19 @@ outline_before k d = rewritten_antecedent dot k d
 -- the antecedent that is written, if there is one
 abbrev pub antecedents_in : Scope → PropertyForm → List Side
 antecedents_in s (plain q) = []
-antecedents_in s (implication a i c) =
+antecedents_in s (implication word a i c) =
     record {
       outline = outline_before i (outline s a);
-      byte = sequence_byte a;
+      first = is_led word;
+      byte = led_byte word a;
     } ∷ []
 
 -- A plain sequence is a consequent alone.
 abbrev pub consequent_in : Scope → PropertyForm → Side
-consequent_in s (plain q) = record { outline = outline s q; byte = sequence_byte q }
-consequent_in s (implication a i c) = record { outline = outline s c; byte = sequence_byte c }
+consequent_in s (plain q) =
+    record { outline = outline s q; first = false; byte = sequence_byte q }
+consequent_in s (implication word a i c) =
+    record { outline = outline s c; first = false; byte = sequence_byte c }
 
 abbrev pub sides_of : Scope → List AssertionForm → List Side
 sides_of s [] = []
@@ -71,30 +77,30 @@ pub record CycleAt (s : Scope) (items : List ItemForm) (at : ℕ) : Type 0 where
   pub byte : at ≡ declared.name.at
 
 -- One of the sides stands at the byte, and is so, with its names written out.
-pub record SideAt (bodies : List (Draft Dot)) (sides : List Side) (IsSo : Written Dot → Type 0)
-    (at : ℕ) : Type 0 where
+pub record SideAt (bodies : List (Draft Dot)) (sides : List Side)
+    (IsSo : Bool → Written Dot → Type 0) (at : ℕ) : Type 0 where
   pub side : Side
   pub one : IsSide side sides
   pub meant : Written Dot
   pub spells : Spells bodies side.outline meant
-  pub so : IsSo meant
+  pub so : IsSo side.first meant
   pub byte : at ≡ side.byte
 
--- A side weighs more than 127 (Y9), has no match of a tick or more (Y5), a consequent has an empty
--- match (Y6), were every boolean true (16.12.22).
+-- A side weighs more than 127 (Y9), has no match of a tick or more, none that is a first one where
+-- that is asked (Y5), a consequent has an empty match (Y6), were every boolean true (16.12.22).
 abbrev pub WideAt : Scope → List ItemForm → ℕ → Type 0
 WideAt s items =
-    SideAt (outlines_of s items) (sides_of s (assertions_of items)) (λ w. 127 < weight w)
+    SideAt (outlines_of s items) (sides_of s (assertions_of items)) (λ first w. 127 < weight w)
 
 abbrev pub DegenerateAt : Scope → List ItemForm → ℕ → Type 0
 DegenerateAt s items =
     SideAt (outlines_of s items) (sides_of s (assertions_of items))
-    (λ w. IsDegenerate (kernel dot w))
+    (λ first w. IsDegenerateBy first (kernel dot w))
 
 abbrev pub EmptyAt : Scope → List ItemForm → ℕ → Type 0
 EmptyAt s items =
     SideAt (outlines_of s items) (consequents_of s (assertions_of items))
-    (λ w. AdmitsEmpty (kernel dot w))
+    (λ first w. AdmitsEmpty (kernel dot w))
 
 -- The fault stands in the text; of several the first by kind, in the order Y1, Y2, Y3, Y4, Y7, Y8,
 -- Y9, Y5, Y6, then the lowest byte.

@@ -11,7 +11,7 @@ use Rattle.text_names.specs.Scopes.{Scope}
 use Rattle.types_suites.specs.declared.resolved.Resolved.{Resolved}
 use Rattle.types_suites.specs.Readings.{AllRead}
 use Rattle.types_suites.specs.Texts.{declarations_of, label_text}
-use Rattle.types_suites.specs.Suites.{ReadsAntecedent, ReadsConsequent}
+use Rattle.types_suites.specs.Suites.{first_by, ReadsAntecedent, ReadsConsequent}
 use Rattle.types_suites.specs.Drawn.{antecedent_byte, consequent_byte, IsDisabledBy}
 
 -- The table has entries of the named sequences of a text.
@@ -28,6 +28,7 @@ pub record IsResolved (s : Scope) (columns : List (List ℕ)) (booleans : List E
   pub antecedent : Draft Boolean
   pub consequent : Draft Boolean
   pub name : string_bytes m.name ≡ label_text before a.label
+  pub first : m.first ≡ first_by a.property
   pub reads_antecedent : ReadsAntecedent s columns booleans a.property antecedent
   pub reads_consequent : ReadsConsequent s columns booleans a.property consequent
   pub antecedent_entry : HasEntry bodies antecedent m.antecedent

@@ -1,5 +1,5 @@
 -- The suite of a text.
-use Rattle.std.specs.Prelude.{◌≡◌, ◌⊎◌, ℕ, List, map, length, Option, Some, None}
+use Rattle.std.specs.Prelude.{◌≡◌, ◌⊎◌, ℕ, Bool, false, List, map, length, Option, Some, None}
 use Rattle.std.specs.Prelude.{string_bytes}
 use Rattle.std.specs.List.{AllZip, enumerate_from}
 use Rattle.grammar.specs.Trees as trees
@@ -27,7 +27,7 @@ use Rattle.types_expressions.specs.Meanings.{Means}
 use Rattle.types_suites.specs.Options.{OptionZip}
 use Rattle.types_suites.specs.Readings.{IsAtom, Reads, AllRead}
 use Rattle.types_suites.specs.Texts.{declarations_of, counters_of, assertions_of, clock_of}
-use Rattle.types_suites.specs.Texts.{label_text}
+use Rattle.types_suites.specs.Texts.{label_text, is_led}
 
 -- A signal that the text reads at the path, with its width.
 abbrev pub IsSignal : Scope → List ℕ → Signal → Type 0
@@ -61,16 +61,21 @@ AreCounters s columns = AllZip (IsCounter s columns)
 abbrev pub before_by : Implication → Draft Boolean → Draft Boolean
 before_by k d = rewritten_antecedent One k d
 
+-- whether only its first match counts
+abbrev pub first_by : PropertyForm → Bool
+first_by (plain q) = false
+first_by (implication word a i c) = is_led word
+
 abbrev pub ReadsAntecedent : Scope → List (List ℕ) → List Expr → PropertyForm → Draft Boolean
     → Type 0
 ReadsAntecedent s columns booleans (plain q) d = d ≡ drafts.boolean One
-ReadsAntecedent s columns booleans (implication a i c) d =
+ReadsAntecedent s columns booleans (implication word a i c) d =
     (r : Draft Boolean) × Reads s columns booleans a r × (d ≡ before_by i r)
 
 abbrev pub ReadsConsequent : Scope → List (List ℕ) → List Expr → PropertyForm → Draft Boolean
     → Type 0
 ReadsConsequent s columns booleans (plain q) d = Reads s columns booleans q d
-ReadsConsequent s columns booleans (implication a i c) d = Reads s columns booleans c d
+ReadsConsequent s columns booleans (implication word a i c) d = Reads s columns booleans c d
 
 -- What a side says with the names written out, and that an assertion's sequence matches the same,
 -- by booleans of the assertion's list.
@@ -109,6 +114,7 @@ pub record IsAssertion (s : Scope) (columns : List (List ℕ)) (booleans : List 
   pub antecedent : Draft Boolean
   pub consequent : Draft Boolean
   pub name : string_bytes made.name ≡ label_text before a.label
+  pub first : made.first ≡ first_by a.property
   pub reads_antecedent : ReadsAntecedent s columns booleans a.property antecedent
   pub reads_consequent : ReadsConsequent s columns booleans a.property consequent
   pub antecedent_meant : IsMeant bodies booleans made.booleans.items antecedent

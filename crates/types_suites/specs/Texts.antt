@@ -1,5 +1,6 @@
 -- The items of a text by their kinds, their names and their places.
 use Rattle.std.specs.Prelude.{ℕ, ◌+◌, List, [], ◌∷◌, ◌++◌, Option, Some, None, codes, Bool}
+use Rattle.std.specs.Prelude.{true, false}
 use Rattle.std.specs.Prelude.{bytes_eq, if◌then◌else◌}
 use Rattle.std.specs.List.{list_any}
 use Rattle.std.specs.Fmt.{decimal}
@@ -105,3 +106,12 @@ sequence_byte (late t n q) = t.at
 sequence_byte (delayed q steps) = sequence_byte q
 sequence_byte (throughout e q) = tree_byte e
 sequence_byte (joined j q others) = sequence_byte q
+
+-- where an antecedent begins, with the word "first_match" where it stands round it
+abbrev pub led_byte : Option Token → SequenceForm → ℕ
+led_byte None q = sequence_byte q
+led_byte (Some word) q = word.at
+
+abbrev pub is_led : Option Token → Bool
+is_led None = false
+is_led (Some word) = true

@@ -10,7 +10,7 @@ ghost use Rattle.text_names.specs.Faults.{property_faults, optional_faults};
 ghost use Rattle.text_names.specs.Faults.{assertion_faults};
 ghost use Rattle.text_names.specs.Views.{scope_of, columns_in};
 ghost use Rattle.types_sequences.specs.Placed.{Extends};
-ghost use Rattle.types_suites.specs.Suites.{ReadsAntecedent, ReadsConsequent};
+ghost use Rattle.types_suites.specs.Suites.{first_by, ReadsAntecedent, ReadsConsequent};
 ghost use Rattle.types_suites.specs.Drawn.{antecedent_byte, consequent_byte, IsDisabledBy, IsDrawn};
 
 use crate::bytes::sequence_at;
@@ -26,6 +26,8 @@ use types_sequences::{Draft, rewrite_antecedent};
 #[derive(Drop)]
 pub(crate) struct Drawn {
     pub name: String,
+    /// Whether `first_match` stands round the antecedent.
+    pub first: bool,
     pub antecedent: Box<Draft>,
     /// Where the antecedent begins, if one is written.
     pub antecedent_at: Option<usize>,
@@ -35,13 +37,25 @@ pub(crate) struct Drawn {
     pub disabling: Option<usize>,
 }
 
+/// Whether `first_match` stands round the antecedent.
+fn is_first(property: &PropertyTree) -> bool
+    ensures { result ≡ first_by (property_of property.now) }
+{
+    match property {
+        PropertyTree::Plain(_) => false,
+        PropertyTree::Implication(None, _, _, _) => false,
+        PropertyTree::Implication(Some(_), _, _, _) => true,
+    }
+}
+
 /// Where an antecedent begins, if one is written.
 fn antecedent_at(property: &PropertyTree) -> Option<usize>
     ensures { result ≡ antecedent_byte (property_of property.now) }
 {
     match property {
         PropertyTree::Plain(_) => None,
-        PropertyTree::Implication(antecedent, _, _) => Some(sequence_at(antecedent)),
+        PropertyTree::Implication(None, antecedent, _, _) => Some(sequence_at(antecedent)),
+        PropertyTree::Implication(Some(word), _, _, _) => Some(word.at),
     }
 }
 
@@ -51,7 +65,7 @@ fn consequent_at(property: &PropertyTree) -> usize
 {
     match property {
         PropertyTree::Plain(sequence) => sequence_at(sequence),
-        PropertyTree::Implication(_, _, consequent) => sequence_at(consequent),
+        PropertyTree::Implication(_, _, _, consequent) => sequence_at(consequent),
     }
 }
 
@@ -73,7 +87,7 @@ fn antecedent_of(
 {
     match property {
         PropertyTree::Plain(_) => Ok(Box::new(alloc, Draft::One)?),
-        PropertyTree::Implication(antecedent, implication, _) => {
+        PropertyTree::Implication(_, antecedent, implication, _) => {
             let draft = draft_of(alloc, scope, columns, antecedent, booleans)?;
             rewrite_antecedent(alloc, draft, *implication)
         }
@@ -98,7 +112,7 @@ fn consequent_of(
 {
     match property {
         PropertyTree::Plain(sequence) => draft_of(alloc, scope, columns, sequence, booleans),
-        PropertyTree::Implication(_, _, consequent) => {
+        PropertyTree::Implication(_, _, _, consequent) => {
             draft_of(alloc, scope, columns, consequent, booleans)
         }
     }
@@ -150,6 +164,7 @@ pub(crate) fn drawn_of(
     let consequent = consequent_of(alloc, scope, columns, &assertion.property, booleans)?;
     Ok(Drawn {
         name,
+        first: is_first(&assertion.property),
         antecedent,
         antecedent_at: antecedent_at(&assertion.property),
         consequent,

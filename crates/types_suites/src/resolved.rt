@@ -25,6 +25,8 @@ use types_sequences::{Draft, Entry, entry_of};
 #[derive(Drop)]
 pub struct Resolved {
     pub name: String,
+    /// Whether `first_match` stands round the antecedent.
+    pub first: bool,
     pub antecedent: Entry,
     /// Where the antecedent begins, if one is written.
     pub antecedent_at: Option<usize>,
@@ -74,6 +76,7 @@ fn resolved_of(
     let consequent = entry_in(alloc, &drawn.consequent, table)?;
     Ok(Resolved {
         name: drawn.name,
+        first: drawn.first,
         antecedent,
         antecedent_at: drawn.antecedent_at,
         consequent,

@@ -69,6 +69,7 @@ fn assertion_of(alloc: Global, resolved: &Resolved) -> Result<Assertion, AllocEr
     let name = String::from_str(alloc, resolved.name.as_str())?;
     match Assertion::new(
         name,
+        resolved.first,
         Box::into_inner(antecedent),
         Box::into_inner(consequent),
         disabling,

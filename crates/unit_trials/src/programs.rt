@@ -10,7 +10,7 @@ use std::test::Fail;
 /// `r: .. top.x |-> top.y` at `top.clk`: the samples of both become atoms 0 and 1, and each section
 /// has a block that accepts where its atom is 1.
 const SMALLEST: [u8; 114] = [
-    0x53, 0x56, 0x41, 0x4d, 1, // the magic number, the version
+    0x53, 0x56, 0x41, 0x4d, 2, // the magic number, the version
     0, 0, 0, 1, 0, 1, 0, 1, 0, 0, 0, 14, 255, 2, // the limits, no disabling atom, two atoms
     0, 1, b'r', 0, 7, b't', b'o', b'p', b'.', b'c', b'l', b'k', // the name, the clock
     0, 2, 1, 0, 5, b't', b'o', b'p', b'.', b'x', // two signals: the first
@@ -29,6 +29,14 @@ const SECTIONS: usize = 64;
 fn without_positions(alloc: Global) -> Result<Vec<u8>, Fail> {
     let mut bytes = Vec::from_slice(alloc, &SMALLEST[..SECTIONS])?;
     bytes.extend_from_slice(&[0; 34])?;
+    Ok(bytes)
+}
+
+/// The file of the smallest program in version 1.
+fn in_version_1(alloc: Global) -> Result<Vec<u8>, Fail> {
+    let mut bytes = Vec::from_slice(alloc, &SMALLEST[..4])?;
+    bytes.push(1)?;
+    bytes.extend_from_slice(&SMALLEST[5..])?;
     Ok(bytes)
 }
 
@@ -96,6 +104,17 @@ fn smallest_program(rt: HostRuntime) -> Result<(), Fail> {
 }
 
 #[test]
+fn smallest_program_of_version_1(rt: HostRuntime) -> Result<(), Fail> {
+    let bytes = in_version_1(rt.alloc())?;
+    let Ok(program) = decode(rt.alloc(), bytes.as_slice()) else {
+        return Err(Fail::from("it is no program"));
+    };
+    let spelled = encode(rt.alloc(), &program)?;
+    assert!(rt; spelled.as_slice() == SMALLEST.as_slice());
+    Ok(())
+}
+
+#[test]
 fn program_without_positions(rt: HostRuntime) -> Result<(), Fail> {
     let bytes = without_positions(rt.alloc())?;
     assert!(rt; bytes.len() == 98);
@@ -123,6 +142,7 @@ fn flows(rt: HostRuntime) {
         (BlockInstr::Unless(0, 7), Flow::Branches(7)),
         (BlockInstr::Enter(7), Flow::GoesOn),
         (BlockInstr::Accept, Flow::GoesOn),
+        (BlockInstr::AcceptFirst, Flow::GoesOn),
         (BlockInstr::Stop, Flow::Stops),
     ] {
         assert!(rt; instr.flow() == flow);

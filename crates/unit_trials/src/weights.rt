@@ -78,7 +78,7 @@ fn assertions_are_bounded(rt: HostRuntime) -> Result<(), Fail> {
         let antecedent = repetition(alloc, antecedent)?;
         let consequent = repetition(alloc, consequent)?;
         let list = vec![in alloc; 7, 8]?;
-        let made = Assertion::new(name, antecedent, consequent, None, list);
+        let made = Assertion::new(name, false, antecedent, consequent, None, list);
         assert!(rt; made.is_some() == fits);
         if let Some(assertion) = made {
             assert!(rt; weight_of(&assertion.antecedent) == Some(127));

@@ -10,7 +10,7 @@ use Rattle.verdicts.specs.Tallies.{is_holds, is_vacuous, is_fails, is_disabled, 
 use Rattle.verdicts.specs.Lines.{line_data_of}
 use Rattle.assertions.specs.declared.sequence.Boolean.{Boolean}
 use Rattle.assertions.specs.Segments.{Seq}
-use Rattle.assertions.specs.Attempts.{IsVerdict, verdict}
+use Rattle.assertions.specs.Attempts.{Antecedent, IsVerdict, verdict}
 use Rattle.assertions.proofs.Verdicts.{IsVerdict-verdict, IsVerdict-only}
 use Rattle.checked_machine.specs.Clocks.{Attempt}
 use Rattle.checked_machine.specs.Runs.{Decides}
@@ -44,7 +44,8 @@ are-one name v count falls =
     ∙ ap (λ fails. record { name = name; counts = tally_of (map v (range_with_len 0 count)); fails = fails })
     (failures v count falls)
 
-falls-before : (value : Boolean → ℕ → Bool) (off : ℕ → Bool) (r s : Seq Boolean) (end c : ℕ) (w : Verdict)
+falls-before : (value : Boolean → ℕ → Bool) (off : ℕ → Bool) (r : Antecedent Boolean) (s : Seq Boolean)
+    (end c : ℕ) (w : Verdict)
     → IsVerdict value off r s end c w → FallsBefore end w
 falls-before value off r s end c outcome.Open is = tt
 falls-before value off r s end c (outcome.Holds t) is = omega (arith, is.0.within)

@@ -10,7 +10,7 @@ use Rattle.bytecode.specs.Values.{ProgramData}
 use Rattle.verifier.specs.Programs.{IsAccepted}
 use Rattle.assertions.specs.declared.sequence.Boolean.{Boolean}
 use Rattle.assertions.specs.Segments.{Seq}
-use Rattle.assertions.specs.Attempts.{IsVerdict}
+use Rattle.assertions.specs.Attempts.{Antecedent, IsVerdict}
 use Rattle.monitors.specs.Monitors.{monitor_of}
 use Rattle.monitors.specs.History.{SamplesAs}
 use Rattle.monitors.specs.Laws.{Watches, Fills, all_fallen, open_starts}
@@ -44,18 +44,20 @@ abbrev pub row_of : List (List ℕ) → ℕ → List ℕ
 row_of rows k = slice_index_or rows k []
 
 -- One verdict for each of so many ticks, in order: that on the attempt that begins there.
-pub record AreVerdicts (value : Boolean → ℕ → Bool) (off : ℕ → Bool) (r s : Seq Boolean)
-    (count : ℕ) (verdicts : List Verdict) : Type 0 where
-  pub long : length verdicts ≡ count
-  pub each : (c : ℕ) → c < count →
-      IsVerdict value off r s count c (slice_index_or verdicts c Open)
+pub record AreVerdicts (value : Boolean → ℕ → Bool) (off : ℕ → Bool)
+    (r : Antecedent Boolean) (s : Seq Boolean) (count : ℕ) (verdicts : List Verdict) : Type 0
+  where
+    pub long : length verdicts ≡ count
+    pub each : (c : ℕ) → c < count →
+        IsVerdict value off r s count c (slice_index_or verdicts c Open)
 
 -- Where the sample code sets atoms on which the sections of an accepted program follow an
 -- antecedent and a consequent, its line over rows is that of the verdicts.
 abbrev pub LineByMeaning : Type 0
 LineByMeaning =
     (p : ProgramData) (rows : List (List ℕ)) (counters : ℕ → List ℕ) (atoms : ℕ → List Bool)
-    (value : Boolean → ℕ → Bool) (r s : Seq Boolean) (verdicts : List Verdict) → IsAccepted p →
+    (value : Boolean → ℕ → Bool) (r : Antecedent Boolean) (s : Seq Boolean)
+    (verdicts : List Verdict) → IsAccepted p →
     SamplesAs p (row_of rows) counters atoms (length rows) → Watches p atoms value r s →
     Fills value s → AreVerdicts value (monitor_of p atoms).off r s (length rows) verdicts →
     IsLineOver p rows (line_data_of p.header.name verdicts)

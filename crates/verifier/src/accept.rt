@@ -13,7 +13,7 @@ use crate::least::LeastLimits;
 use crate::limits::limits_of;
 use crate::verified::Verified;
 use bytecode::{Limits, Program};
-use inference::{Frame, Pool, Refusal, infer, section_fault};
+use inference::{Frame, Pool, Refusal, Side, infer, section_fault};
 use std::alloc::Global;
 
 /// The longest list of the sample code, or its first fault.
@@ -40,11 +40,11 @@ fn longest_list(alloc: Global, program: &Program) -> Result<usize, Refusal>
         None => {}
     }
     let longest = sample_stack(alloc, program)?;
-    match section_fault(alloc, program.atoms, &program.antecedent)? {
+    match section_fault(alloc, Side::Antecedent, program.atoms, &program.antecedent)? {
         Some(fault) => return Err(fault.refusal),
         None => {}
     }
-    match section_fault(alloc, program.atoms, &program.consequent)? {
+    match section_fault(alloc, Side::Consequent, program.atoms, &program.consequent)? {
         Some(fault) => Err(fault.refusal),
         None => Ok(longest),
     }

@@ -3,7 +3,7 @@
 //! Then a table of operand lists types its sample code and its blocks, jumps go forward inside
 //! their code, everything named is there, no entry leads back, nothing is over the most that there
 //! may be, and the declared limits are at least the least. Any other program is refused with its
-//! first fault, F1 to F15, by section, then instruction, then number.
+//! first fault, F1 to F16, by section, then instruction, then number.
 //!
 //! ```text
 //! let verified = verify(alloc, decode(alloc, bytes)?)?;

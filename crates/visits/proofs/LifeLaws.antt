@@ -6,6 +6,7 @@ use Rattle.std.specs.Int.{bit_at}
 use Rattle.std.proofs.lemmas.Bool.{cases_Bool}
 use Rattle.bytecode.specs.declared.block_instr.BlockInstr.{BlockInstr}
 use Rattle.bytecode.specs.declared.block_instr.BlockInstr.TheVariants.{Unless, Enter, Accept, Stop}
+use Rattle.bytecode.specs.declared.block_instr.BlockInstr.TheVariants.{AcceptFirst}
 use Rattle.bytecode.specs.Values.{SectionData}
 use Rattle.verifier.specs.Limits.{longest_entered, lives_from, most_in, start_life}
 
@@ -15,6 +16,7 @@ entered-most next m later few [] = omega arith
 entered-most next m later few (Enter q ∷ is) = omega (arith, few (q - next), entered-most next m later few is)
 entered-most next m later few (Unless atom target ∷ is) = omega (arith, entered-most next m later few is)
 entered-most next m later few (Accept ∷ is) = omega (arith, entered-most next m later few is)
+entered-most next m later few (AcceptFirst ∷ is) = omega (arith, entered-most next m later few is)
 entered-most next m later few (Stop ∷ is) = omega (arith, entered-most next m later few is)
 
 lives-most : (p : ℕ) (bs : List (List BlockInstr)) (k : ℕ) → slice_index (lives_from p bs) k ≤ length bs

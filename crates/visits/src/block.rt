@@ -33,6 +33,14 @@ fn obey(instr: BlockInstr, pc: usize, atoms: &[bool], visit: &mut Visit) -> Opti
             visit.accepted = true;
             Some(pc + 1)
         }
+        BlockInstr::AcceptFirst => {
+            *visit = Visit {
+                entered: visit.entered,
+                accepted: true,
+                first: true,
+            };
+            Some(pc + 1)
+        }
         BlockInstr::Stop => None,
     }
 }

@@ -1,9 +1,10 @@
-use Rattle.std.proofs.Common.{subst}
-use Rattle.bytecode.specs.Values.{ProgramData}
+use Rattle.std.proofs.Common.{◌≡◌, subst}
+use Rattle.std.specs.Prelude.{IsTrue}
+use Rattle.bytecode.specs.Values.{ProgramData, fits_program}
+use Rattle.program_files.specs.Spelling.{spelling}
 use Rattle.compiler.specs.Conditions.{IsFit}
 use Rattle.compiler.proofs.ListLaws.{all-at}
 use Rattle.outcomes.specs.Faults.{compile_fault}
-use Rattle.outcomes.specs.Codes.{Spells}
 use Rattle.cli.specs.Builds.{WhyNoProgram}
 use Rattle.outcomes.proofs.FaultLaws.{err_is}
 use Rattle.cli.proofs.BuildLaws.{unnamed}
@@ -36,6 +37,8 @@ returns-clause-ok c =
       means = c.in_ok-verified.ensures.made;
       accepted = c.in_ok-verified.ensures.accepted;
       least = c.in_ok-verified.ensures.least;
-      spells = subst (λ (p : ProgramData). Spells bytes p) c.program.ensures.same
-          (record { fits = c.program.result.now.fits; spelled = c.in_ok-encode.ensures });
+      fits = subst (λ (p : ProgramData). IsTrue (fits_program p)) c.program.ensures.same
+          c.program.result.now.fits;
+      spelled = subst (λ (p : ProgramData). bytes ≡ spelling p) c.program.ensures.same
+          c.in_ok-encode.ensures;
     }

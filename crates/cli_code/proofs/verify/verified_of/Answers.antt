@@ -11,7 +11,8 @@ returns-in_err-verify-clause-err c =
     let program = data_of c.in_ok-program.program in
     let fault = c.in_err-verify.field-0.0 in
     let spells : Spells bytes program =
-    record { fits = c.in_ok-program.program.fits; spelled = c.in_ok-program.ensures.spelled } in
+    let s = c.in_ok-program.ensures.spelled in
+    record { newer = s.0; fits = s.1; spelled = s.2 } in
     err_is c.from_residual-in_err-verify.result (refusal_fault fault) (WhyNotAccepted bytes)
     c.from_residual-in_err-verify.ensures.1
     (refused_code bytes program spells fault c.in_err-verify.ensures.refused
@@ -20,6 +21,7 @@ returns-in_err-verify-clause-err c =
 pub returns-clause-ok : goal.returns-clause-ok
 returns-clause-ok c =
     let spells : Spells c.args.bytes.now (data_of c.in_ok-program.program) =
-    record { fits = c.in_ok-program.program.fits; spelled = c.in_ok-program.ensures.spelled } in
+    let s = c.in_ok-program.ensures.spelled in
+    record { newer = s.0; fits = s.1; spelled = s.2 } in
     rw c.in_ok-verify.ensures.same
     record { spells = spells; accepted = c.in_ok-verify.ensures.accepted }

@@ -1,7 +1,7 @@
 use Rattle.std.proofs.Common.{◌∙◌, ap, refl}
 use Rattle.std.proofs.lemmas.Result.{IfOk-weaker}
 use Rattle.clap.specs.Words.{App, with_subcommand}
-use Rattle.command_line.specs.Words.{run_app, judge_app, rules_app}
+use Rattle.command_line.specs.Words.{run_app, judge_app, rules_app, upgrade_app}
 use Rattle.command_line.proofs.command.svamon_command.Goals as goal
 
 pub returns : goal.returns
@@ -12,5 +12,8 @@ returns c =
     let five =
     c.in_ok-svamon-3.ensures judge_app c.judge_command.ensures refl
     ∙ ap (λ (a : App). with_subcommand a judge_app.top) four in
-    IfOk-weaker c.with_subcommand-3.result _ _ (λ r h. h ∙ ap (λ (a : App). with_subcommand a rules_app.top) five)
-    (c.with_subcommand-3.ensures rules_app c.rules_command.ensures refl)
+    let six =
+    c.in_ok-svamon-4.ensures rules_app c.rules_command.ensures refl
+    ∙ ap (λ (a : App). with_subcommand a rules_app.top) five in
+    IfOk-weaker c.with_subcommand-4.result _ _ (λ r h. h ∙ ap (λ (a : App). with_subcommand a upgrade_app.top) six)
+    (c.with_subcommand-4.ensures upgrade_app c.upgrade_command.ensures refl)

@@ -57,3 +57,12 @@ returns-in-Some-rules-default c =
     (sym c.subcommand.ensures.name ∙ ap (option_map (λ p. p.0.now)) arm.is ∙ ap (λ (t : List ℕ). Some t) arm.is-rules)
     (sym c.subcommand.ensures.rows ∙ ap (option_map (λ p. rows_of (found_of p.1.now))) arm.is))
     c.rules_request.ensures
+
+pub returns-in-Some-upgrade-default : goal.returns-in-Some-upgrade-default
+returns-in-Some-upgrade-default c =
+    let arm = c.in-Some-upgrade-default in
+    IfOk-weaker c.upgrade_request.result _ _
+    (entered c.args.matches.now (codes "upgrade") (rows_of (found_of arm.options.now))
+    (sym c.subcommand.ensures.name ∙ ap (option_map (λ p. p.0.now)) arm.is ∙ ap (λ (t : List ℕ). Some t) arm.is-upgrade)
+    (sym c.subcommand.ensures.rows ∙ ap (option_map (λ p. rows_of (found_of p.1.now))) arm.is))
+    c.upgrade_request.ensures

@@ -17,13 +17,13 @@ code_of-requires-clause-slots c =
       c.requires.counted.slots,
     )
 
-pub side_of-requires-clause-listed : goal.side_of-requires-clause-listed
-side_of-requires-clause-listed c =
+pub antecedent_of-requires-clause-listed : goal.antecedent_of-requires-clause-listed
+antecedent_of-requires-clause-listed c =
     listed-more (length c.args.assertion.now.booleans.items) 127 (written_form c.args.assertion.now.antecedent)
     c.requires.counted.atoms c.requires.fit.placed.antecedent
 
-pub side_of-requires-2-clause-listed : goal.side_of-requires-2-clause-listed
-side_of-requires-2-clause-listed c =
+pub side_of-requires-clause-listed : goal.side_of-requires-clause-listed
+side_of-requires-clause-listed c =
     listed-more (length c.args.assertion.now.booleans.items) 127 (written_form c.args.assertion.now.consequent)
     c.requires.counted.atoms c.requires.fit.placed.consequent
 

@@ -7,30 +7,33 @@ use Rattle.inference.specs.Marks.{Reached}
 use Rattle.inference.proofs.BlockLaws.{block_start, block_refused, block_step, block_parts}
 use Rattle.inference.proofs.BlockLaws.{block_stop}
 use Rattle.inference.proofs.section_scan.scan_marks.Goals as goal
+use Rattle.inference.specs.Rules.{section_of_side}
 
 pub block-init : goal.block-init
 block-init c =
     record {
       read =
-          λ section. block_start section c.args.atoms c.args.positions c.args.p c.args.base c.args.block.now
+          block_start (section_of_side c.args.side) c.args.atoms c.args.positions c.args.p c.args.base c.args.block.now
           c.args.marks.now c.requires.some c.requires.entry;
       long = c.requires.long;
     }
 
 pub returns-in-Some : goal.returns-in-Some
-returns-in-Some c = λ section.
-    block_refused section c.args.atoms c.args.positions c.args.p c.args.base c.args.block.now c.block.marks c.block.k _
-    (Unless 0 0) _ (c.block.invariant.read section) (omega arith) refl
+returns-in-Some c =
+    block_refused (section_of_side c.args.side) c.args.atoms c.args.positions c.args.p c.args.base c.args.block.now
+    c.block.marks c.block.k _
+    (Unless 0 0) _ (c.block.invariant.read) (omega arith) refl
     (slice_get-get_or c.block.marks c.block.k false (omega (arith, c.block.invariant.long))) c.in-Some.refusal
-    (sym c.in-Some.is ∙ c.block_fault.ensures section)
+    (sym c.in-Some.is ∙ c.block_fault.ensures)
 
 pub mark_on-requires-clause-forward : goal.mark_on-requires-clause-forward
 mark_on-requires-clause-forward c =
     let parts =
-    block_parts 0 c.args.atoms c.args.positions c.args.p c.args.base c.args.block.now c.block.marks c.block.k _
-    (Unless 0 0) _ (c.block.invariant.read 0) (omega arith) refl
+    block_parts (section_of_side c.args.side) c.args.atoms c.args.positions c.args.p c.args.base c.args.block.now
+    c.block.marks c.block.k _
+    (Unless 0 0) _ (c.block.invariant.read) (omega arith) refl
     (slice_get-get_or c.block.marks c.block.k false (omega (arith, c.block.invariant.long)))
-    (sym c.in-None.is ∙ c.block_fault.ensures 0) in
+    (sym c.in-None.is ∙ c.block_fault.ensures) in
     subst (λ (n : ℕ). jump_faults (c.args.base + n) (c.args.base + c.block.k) c.flow.result ≡ [])
     (sym c.block.invariant.long)
     (subst (λ (f : Flow). jump_faults (c.args.base + length c.args.block.now) (c.args.base + c.block.k) f ≡ [])
@@ -39,10 +42,11 @@ mark_on-requires-clause-forward c =
 pub mark_on-requires-clause-ends : goal.mark_on-requires-clause-ends
 mark_on-requires-clause-ends c =
     let parts =
-    block_parts 0 c.args.atoms c.args.positions c.args.p c.args.base c.args.block.now c.block.marks c.block.k _
-    (Unless 0 0) _ (c.block.invariant.read 0) (omega arith) refl
+    block_parts (section_of_side c.args.side) c.args.atoms c.args.positions c.args.p c.args.base c.args.block.now
+    c.block.marks c.block.k _
+    (Unless 0 0) _ (c.block.invariant.read) (omega arith) refl
     (slice_get-get_or c.block.marks c.block.k false (omega (arith, c.block.invariant.long)))
-    (sym c.in-None.is ∙ c.block_fault.ensures 0) in
+    (sym c.in-None.is ∙ c.block_fault.ensures) in
     subst (λ (n : ℕ). end_faults (c.args.base + n) (c.args.base + c.block.k) c.flow.result ≡ [])
     (sym c.block.invariant.long)
     (subst (λ (f : Flow). end_faults (c.args.base + length c.args.block.now) (c.args.base + c.block.k) f ≡ [])
@@ -51,11 +55,12 @@ mark_on-requires-clause-ends c =
 pub block-preserved : goal.block-preserved
 block-preserved c =
     record {
-      read = λ section.
-          block_step section c.args.atoms c.args.positions c.args.p c.args.base c.args.block.now c.block.marks c.block.k
-          _ (Unless 0 0) _ (c.block.invariant.read section) (omega arith) refl
+      read =
+          block_step (section_of_side c.args.side) c.args.atoms c.args.positions c.args.p c.args.base c.args.block.now
+          c.block.marks c.block.k
+          _ (Unless 0 0) _ (c.block.invariant.read) (omega arith) refl
           (slice_get-get_or c.block.marks c.block.k false (omega (arith, c.block.invariant.long))) c.mark_on.new.marks
-          (sym c.in-None.is ∙ c.block_fault.ensures section)
+          (sym c.in-None.is ∙ c.block_fault.ensures)
           (λ ms reached. subst
           (λ (f : Flow). Reached c.args.base c.mark_on.new.marks (sends (c.args.base + c.block.k) f [] ms))
           c.flow.ensures (c.mark_on.ensures.marks ms reached));
@@ -64,5 +69,6 @@ block-preserved c =
 
 pub returns : goal.returns
 returns c =
-    λ section. block_stop section c.args.atoms c.args.positions c.args.p c.args.base c.args.block.now c.block.marks
-    c.block.k (c.block.invariant.read section) (omega arith)
+    block_stop (section_of_side c.args.side) c.args.atoms c.args.positions c.args.p c.args.base c.args.block.now
+    c.block.marks
+    c.block.k (c.block.invariant.read) (omega arith)

@@ -1,5 +1,5 @@
-use Rattle.std.proofs.Common.{◌≡◌, ◌+◌, ℕ, length}
-use Rattle.inference.specs.Rules.{block_rules}
+use Rattle.std.proofs.Common.{◌≡◌, ◌+◌, length}
+use Rattle.inference.specs.Rules.{block_rules, section_of_side}
 use Rattle.inference.specs.Marks.{Reached}
 use Rattle.inference.specs.Scans.{HasRead}
 use Rattle.inference.proofs.section_scan.scan_marks.Given as goal
@@ -7,7 +7,7 @@ use Rattle.inference.proofs.section_scan.scan_marks.Given as goal
 abbrev pub invariant-block : goal.invariant-block
 invariant-block l =
     record {
-      read : (section : ℕ) → HasRead (block_rules section l.atoms l.positions l.p) l.base l.block
+      read : HasRead (block_rules (section_of_side l.side) l.atoms l.positions l.p) l.base l.block
           (Reached l.base l.marks) 0 (l.base + length l.block) (l.base + l.k) l.k;
       long : length l.marks ≡ length l.block;
     }

@@ -1,7 +1,7 @@
 use Rattle.std.proofs.Common.{◌≡◌, ◌<◌, ◌+◌, ℕ, List, ◌∷◌, drop, ap, sym, subst, ◌∙◌, arith, length}
 use Rattle.std.proofs.lemmas.List.{length-map}
 use Rattle.bytecode.specs.declared.block_instr.BlockInstr.{BlockInstr}
-use Rattle.inference.specs.Rules.{block_rules}
+use Rattle.inference.specs.Rules.{block_rules, section_of_side}
 use Rattle.inference.specs.Inference.{code_faults}
 use Rattle.inference.specs.Scans.{IsFirstOf}
 use Rattle.inference.specs.Sections.{size_of}
@@ -14,8 +14,9 @@ pub each-init : goal.each-init
 each-init c =
     record {
       seen =
-          λ number. see_start number c.args.atoms (section_data c.args.section.now)
-          (found_in number c.start_fault-first.result) (c.start_fault-first.ensures number);
+          see_start (section_of_side c.args.side) c.args.atoms (section_data c.args.section.now)
+          (found_in (section_of_side c.args.side) c.start_fault-first.result)
+          (c.start_fault-first.ensures (section_of_side c.args.side));
       size = omega (arith, c.requires.size);
     }
 
@@ -35,14 +36,17 @@ each-preserved c =
     blocks_at c.args.section.now.blocks.items c.each.p c.index.result.now below c.index.ensures
     ∙ ap (λ (b : List BlockInstr). b ∷ drop (c.each.p + 1) s.blocks) (sym c.as_slice-block.ensures.value) in
     record {
-      seen = λ number.
-          see_block number c.args.atoms s (found_in number c.each.first) c.each.p c.each.base
-          (c.each.invariant.seen number) c.as_slice-block.result.now (found_in number c.earlier-first.result)
+      seen =
+          see_block (section_of_side c.args.side) c.args.atoms s (found_in (section_of_side c.args.side) c.each.first)
+          c.each.p c.each.base
+          (c.each.invariant.seen) c.as_slice-block.result.now
+          (found_in (section_of_side c.args.side) c.earlier-first.result)
           block
-          (λ xs first. c.earlier-first.ensures number xs _ first
+          (λ xs first. c.earlier-first.ensures (section_of_side c.args.side) xs _ first
           (subst
           (λ (n : ℕ). IsFirstOf
-          (code_faults (block_rules number c.args.atoms n c.each.p) c.each.base c.as_slice-block.result.now)
-          (found_in number c.in_ok-scan_block.field-0)) many (c.in_ok-scan_block.ensures number)));
+          (code_faults (block_rules (section_of_side c.args.side) c.args.atoms n c.each.p) c.each.base
+          c.as_slice-block.result.now)
+          (found_in (section_of_side c.args.side) c.in_ok-scan_block.field-0)) many (c.in_ok-scan_block.ensures)));
       size = omega (arith, c.each.invariant.size, ap size_of block);
     }

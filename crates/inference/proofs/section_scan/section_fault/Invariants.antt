@@ -1,4 +1,5 @@
-use Rattle.std.proofs.Common.{◌+◌, ◌≤◌, ℕ, drop}
+use Rattle.std.proofs.Common.{◌+◌, ◌≤◌, drop}
+use Rattle.inference.specs.Rules.{section_of_side}
 use Rattle.inference.specs.Sections.{size_of}
 use Rattle.inference.specs.Marks.{found_in}
 use Rattle.bytecode.specs.Views.{section_data}
@@ -9,6 +10,7 @@ use Rattle.inference.proofs.section_scan.section_fault.Given as goal
 abbrev pub invariant-each : goal.invariant-each
 invariant-each l =
     record {
-      seen : (number : ℕ) → HasSeen number l.atoms (section_data l.section) (found_in number l.first) l.p l.base;
+      seen : HasSeen (section_of_side l.side) l.atoms (section_data l.section)
+          (found_in (section_of_side l.side) l.first) l.p l.base;
       size : l.base + size_of (drop l.p (blocks_of l.section.blocks.items)) ≤ 4096;
     }

@@ -2,6 +2,7 @@ use Rattle.std.proofs.Common.{◌≡◌, ℕ, ◌+◌, ◌-◌, List, Bool, [], 
 use Rattle.std.specs.Prelude.{slice_get}
 use Rattle.assertions.specs.Attempts.{decision}
 use Rattle.assertions.specs.Shapes.{shape, value_in, is_true_at, expression_at}
+use Rattle.assertions.specs.Verdicts.{antecedent_of}
 use Rattle.expressions.specs.declared.expr.Expr.{Expr}
 use Rattle.expressions.specs.Rows.{samples_of}
 use Rattle.judging.specs.Tables.{HasSeen}
@@ -25,7 +26,7 @@ pub returns-in-Some-clause-found : goal.returns-in-Some-clause-found
 returns-in-Some-clause-found c =
     let value =
     value_in c.args.suite.now.booleans.items c.args.assertion.now.booleans.items (samples_of c.args.rows.now) in
-    let r = shape c.args.assertion.now.antecedent in
+    let r = antecedent_of c.args.assertion.now in
     let s = shape c.args.assertion.now.consequent in
     let start = c.args.start in
     let below = c.loop-below.below in
@@ -47,7 +48,7 @@ loop-below-preserved c =
     let places = c.args.assertion.now.booleans.items in
     let t = samples_of c.args.rows.now in
     let value = value_in all places t in
-    let r = shape c.args.assertion.now.antecedent in
+    let r = antecedent_of c.args.assertion.now in
     let s = shape c.args.assertion.now.consequent in
     let start = c.args.start in
     let below = c.loop-below.below in

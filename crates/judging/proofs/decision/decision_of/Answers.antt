@@ -1,11 +1,12 @@
-use Rattle.std.proofs.Common.{◌≡◌, ◌+◌, ◌<◌, ◌&&◌, ◌||◌, not, nat_le, Bool, List, length, ap, ◌∙◌, subst, arith}
+use Rattle.std.proofs.Common.{◌≡◌, ◌+◌, ◌<◌, ◌&&◌, ◌||◌, not, nat_le, Bool, List, length, ap, ◌∙◌, sym, subst, arith, ℕ}
 use Rattle.assertions.specs.declared.sequence.Boolean.{Boolean}
 use Rattle.assertions.specs.Quantifiers.{some_in, each_in}
 use Rattle.assertions.specs.Segments.{is_match, longest}
-use Rattle.assertions.specs.Attempts.{decide, decision, goes_on, has_end, is_failed, all_kept}
+use Rattle.assertions.specs.Attempts.{is_leading, decide, decision, goes_on, has_end, is_failed, all_kept}
 use Rattle.assertions.specs.Shapes.{shape}
+use Rattle.assertions.specs.Verdicts.{antecedent_of}
 use Rattle.judging.specs.Tables.{marks, links, value_at, held_at, IsRow, IsRelation}
-use Rattle.judging.proofs.DecisionLaws.{first_row, goes_on_law, has_end_law, failed_law, kept_law}
+use Rattle.judging.proofs.DecisionLaws.{first_row, leading, goes_on_law, has_end_law, failed_law, kept_law}
 use Rattle.judging.proofs.decision.decision_of.Goals as goal
 
 pub returns : goal.returns
@@ -15,22 +16,26 @@ returns c =
     let value = value_at values in
     let h = held_at values in
     let n = length values in
-    let r = shape c.args.assertion.now.antecedent in
+    let r = antecedent_of c.args.assertion.now in
+    let q = shape c.args.assertion.now.antecedent in
     let s = shape c.args.assertion.now.consequent in
     let count = c.max-count.result + 1 in
     let room = c.len-below.result + c.most_ticks-2.result + 1 in
-    let ends = c.row-ends.result.now in
+    let ends = c.as_slice-ends.result.now in
     let consequents = c.in_ok-consequents.consequents in
     let len : c.len-below.result ≡ n = c.len-below.ensures.len in
     let within : n < count = omega arith in
-    let long : longest r < count = omega arith in
+    let long : longest q < count = omega arith in
     let wide : n + longest s < room = omega arith in
     let start =
-    subst (λ (l : List Bool). IsRelation (is_match h r) l c.in_ok-antecedents.antecedents)
+    subst (λ (l : List Bool). IsRelation (is_match h q) l c.in_ok-antecedents.antecedents)
     c.as_slice.ensures.value c.in_ok-antecedents.ensures in
+    let found =
+    (first_row Boolean value n q count c.in_ok-start.start.items c.row.result.now c.in_ok-antecedents.antecedents
+    (omega arith) c.in_ok-start.ensures start c.row.ensures).1 in
     let at =
-    (first_row Boolean value n r count c.in_ok-start.start.items ends c.in_ok-antecedents.antecedents
-    (omega arith) c.in_ok-start.ensures start c.row-ends.ensures).1 in
+    subst (λ (l : List Bool). (j : ℕ) → j < count → marks l j ≡ is_leading h r 0 j) (sym c.as_slice-ends.ensures.value)
+    (leading Boolean value n r count c.row.result.now c.in_ok-row.row.items c.in_ok-row.ensures found) in
     let obliged =
     subst (λ k. IsRow (λ e. nat_le (e + 1) k && marks ends (e + 1)) room c.in_ok-obligations.obligations.items)
     len c.in_ok-obligations.ensures in

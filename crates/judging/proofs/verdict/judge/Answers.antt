@@ -5,7 +5,7 @@ use Rattle.assertions.specs.declared.sequence.Boolean.{Boolean}
 use Rattle.assertions.specs.declared.decision.Decision.{Decision}
 use Rattle.assertions.specs.Quantifiers.{first_in}
 use Rattle.assertions.specs.Segments.{Seq}
-use Rattle.assertions.specs.Attempts.{verdict, verdict_by, decision}
+use Rattle.assertions.specs.Attempts.{Antecedent, verdict, verdict_by, decision}
 use Rattle.assertions.specs.Shapes.{value_in, off_in}
 use Rattle.assertions.proofs.Verdicts.{IsVerdict-at}
 use Rattle.assertions.proofs.AgreeLaws.{verdict_over}
@@ -16,7 +16,8 @@ use Rattle.judging.proofs.DecisionLaws.{verdict_seen}
 use Rattle.judging.proofs.verdict.judge.Goals as goal
 
 -- from the course of an attempt that goes as far as the rows
-verdict_found : (all : List Expr) (places : List ℕ) (t : Samples) (d : Option Boolean) (r s : Seq Boolean)
+verdict_found : (all : List Expr) (places : List ℕ) (t : Samples) (d : Option Boolean) (r : Antecedent Boolean)
+    (s : Seq Boolean)
     (rows end c : ℕ) (values : List (List Bool)) (found : Option (ℕ × Decision)) (v : Verdict) → end ≡ rows
     → HasSeen (value_in all places t) c values → c + length values ≡ last_of end found
     → found ≡ first_in (c + 1) (end + 1) (λ n. decision (value_in all places t) r s n c)

@@ -6,5 +6,5 @@ use Rattle.program_files.proofs.list_reading.blocks_at.Given as goal
 
 abbrev pub invariant-loop : goal.invariant-loop
 invariant-loop l =
-    Turns (counted_at step_at) l.count l.counter (map items_of_block l.found.items) l.rest
-    (many_at (counted_at step_at) l.count l.fn.bytes)
+    Turns (counted_at (step_at l.first)) l.count l.counter (map items_of_block l.found.items) l.rest
+    (many_at (counted_at (step_at l.first)) l.count l.fn.bytes)

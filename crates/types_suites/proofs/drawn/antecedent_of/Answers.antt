@@ -12,7 +12,7 @@ draft_of-requires-clause-sound c = λ k.
     let whole = rw c.in-Implication.is at (c.requires.sound k) in
     rw c.deref.ensures
     (no_faults-parts (sequence_faults s k (sequence_of c.in-Implication.antecedent.value))
-    (sequence_faults s k (sequence_of c.in-Implication.field-2.value)) whole).0
+    (sequence_faults s k (sequence_of c.in-Implication.field-3.value)) whole).0
 
 pub draft_of-requires-clause-listed : goal.draft_of-requires-clause-listed
 draft_of-requires-clause-listed c =
@@ -21,4 +21,4 @@ draft_of-requires-clause-listed c =
     rw c.deref.ensures
     (listed-parts (columns_in c.args.columns.now)
     (sequence_signals s (sequence_of c.in-Implication.antecedent.value))
-    (sequence_signals s (sequence_of c.in-Implication.field-2.value)) whole).0
+    (sequence_signals s (sequence_of c.in-Implication.field-3.value)) whole).0

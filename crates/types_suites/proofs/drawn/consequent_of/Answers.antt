@@ -14,7 +14,7 @@ draft_of-requires-in-Implication-clause-sound c = λ k.
     let s = scope_of c.args.scope.now in
     let whole = rw c.in-Implication.is at (c.requires.sound k) in
     rw c.deref-in-Implication.ensures
-    (no_faults-parts (sequence_faults s k (sequence_of c.in-Implication.field-0.value))
+    (no_faults-parts (sequence_faults s k (sequence_of c.in-Implication.field-1.value))
     (sequence_faults s k (sequence_of c.in-Implication.consequent.value)) whole).1
 
 pub draft_of-requires-in-Implication-clause-listed : goal.draft_of-requires-in-Implication-clause-listed
@@ -23,5 +23,5 @@ draft_of-requires-in-Implication-clause-listed c =
     let whole = rw c.in-Implication.is at c.requires.listed in
     rw c.deref-in-Implication.ensures
     (listed-parts (columns_in c.args.columns.now)
-    (sequence_signals s (sequence_of c.in-Implication.field-0.value))
+    (sequence_signals s (sequence_of c.in-Implication.field-1.value))
     (sequence_signals s (sequence_of c.in-Implication.consequent.value)) whole).1

@@ -59,6 +59,7 @@ returns-clause-drawn c =
     c.consequent_of.new.booleans.items c.in_ok-antecedent.ensures.grows later in
     record {
       name = c.in_ok-name.ensures;
+      first = c.is_first.ensures;
       antecedent =
           antecedent_grows s cs c.antecedent_of.new.booleans.items c.consequent_of.new.booleans.items later
           (property_of c.args.assertion.now.property) (draft_of c.in_ok-antecedent.antecedent.value)

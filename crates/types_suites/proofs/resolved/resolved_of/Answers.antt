@@ -27,6 +27,7 @@ returns-clause-resolved c = λ bodies table.
       antecedent = draft_of c.in_ok-drawn.drawn.antecedent.value;
       consequent = draft_of c.in_ok-drawn.drawn.consequent.value;
       name = d.name;
+      first = d.first;
       reads_antecedent = d.antecedent;
       reads_consequent = d.consequent;
       antecedent_entry = rw c.deref.ensures at (c.in_ok-antecedent.ensures bodies table);

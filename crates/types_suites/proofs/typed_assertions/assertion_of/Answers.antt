@@ -19,9 +19,9 @@ returns c = λ s columns booleans bodies before a r.
     let two = written_form c.in_ok-consequent.consequent.value in
     assertion_made s columns booleans bodies before a c.args.resolved.now r c.in-Some.assertion
     one two c.in_ok-disabling.disabling third
-    (ap string_bytes made.0 ∙ c.in_ok-name.ensures.ok ∙ c.as_str.ensures.value)
-    (ap written_form (made.1 ∙ c.into_inner.ensures))
-    (ap written_form (made.2 ∙ c.into_inner-2.ensures)) made.3 (ap (λ v. v.items) made.4)
+    (ap string_bytes made.0 ∙ c.in_ok-name.ensures.ok ∙ c.as_str.ensures.value) made.1
+    (ap written_form (made.2 ∙ c.into_inner.ensures))
+    (ap written_form (made.3 ∙ c.into_inner-2.ensures)) made.4 (ap (λ v. v.items) made.5)
     (side_on booleans v one first second third behind_arrow.grows off.grows
     (λ more. before_arrow.meant booleans more v r.antecedent_entry.entry))
     (side_here booleans w two second third off.grows

@@ -38,7 +38,7 @@ returns-in-Some-2-clause-refused c =
     inr (refused_antecedent p c.in-Some-2.fault.pc c.in-Some-2.fault.refusal (sym c.in-None.is ∙ c.header_fault.ensures)
     none_s
     (subst (λ (o : Option Fault). IsFirstOf (section_faults 2 p.header.atoms p.antecedent) (found_in 2 o))
-    c.in-Some-2.is (c.in_ok-fault.ensures 2)))
+    c.in-Some-2.is c.in_ok-fault.ensures))
 
 pub section_fault-requires-2-clause-few : goal.section_fault-requires-2-clause-few
 section_fault-requires-2-clause-few c =
@@ -55,11 +55,11 @@ returns-in-Some-3-clause-refused c =
     let none_s = c.in_ok-longest.ensures.ok in
     let none_a =
     subst (λ (o : Option Fault). IsFirstOf (section_faults 2 p.header.atoms p.antecedent) (found_in 2 o))
-    c.in-None-2.is (c.in_ok-fault.ensures 2) in
+    c.in-None-2.is c.in_ok-fault.ensures in
     inr (refused_consequent p c.in-Some-3.fault.pc c.in-Some-3.fault.refusal (sym c.in-None.is ∙ c.header_fault.ensures)
     none_s none_a
     (subst (λ (o : Option Fault). IsFirstOf (section_faults 3 p.header.atoms p.consequent) (found_in 3 o))
-    c.in-Some-3.is (c.in_ok-fault-2.ensures 3)))
+    c.in-Some-3.is c.in_ok-fault-2.ensures))
 
 pub returns-in-None-3-clause-ok : goal.returns-in-None-3-clause-ok
 returns-in-None-3-clause-ok c =
@@ -67,10 +67,10 @@ returns-in-None-3-clause-ok c =
     let none_s = c.in_ok-longest.ensures.ok in
     let none_a =
     subst (λ (o : Option Fault). IsFirstOf (section_faults 2 p.header.atoms p.antecedent) (found_in 2 o))
-    c.in-None-2.is (c.in_ok-fault.ensures 2) in
+    c.in-None-2.is c.in_ok-fault.ensures in
     let none_c =
     subst (λ (o : Option Fault). IsFirstOf (section_faults 3 p.header.atoms p.consequent) (found_in 3 o))
-    c.in-None-3.is (c.in_ok-fault-2.ensures 3) in
+    c.in-None-3.is c.in_ok-fault-2.ensures in
     no_part p (sym c.in-None.is ∙ c.header_fault.ensures) none_s none_a none_c
 
 pub returns-in-None-3-clause-room : goal.returns-in-None-3-clause-room

@@ -1,9 +1,9 @@
 use Rattle.bytecode.specs.Views.{section_data}
 use Rattle.visits.specs.Records.{made_by}
 use Rattle.visits.proofs.SetLaws.{Goes}
-use Rattle.visits.proofs.visit.visit_positions.Given as goal
+use Rattle.visits.proofs.visit.run_set.Given as goal
 
--- the visit goes on from the position behind those that were visited
+-- the run goes on from the position behind those that were visited
 abbrev pub invariant-loop-rest : goal.invariant-loop-rest
 invariant-loop-rest l =
     Goes (section_data l.section) l.atoms l.set l.fn.left l.rest (made_by l.visit) l.left
