@@ -118,8 +118,8 @@ unfolding property property_with
 property-deep d ts o us x n h z = none-fails x _ (rw (n, h, inner-zero d z) refl)
 
 pub property-fail1 : (d : ℕ) (ts : List Token) (o : Token) (us : List Token) (k : ℕ) (x : Stop)
-    → lead is_first_match ts ≡ None → expect OpenRound ts ≡ Some (o, us) → d ≡ k + 1 → Fails x (property k us)
-    → Fails x (property d ts)
+    → lead is_first_match ts ≡ None → expect OpenRound ts ≡ Some (o, us) → d ≡ k + 1
+    → Fails x (property k us) → Fails x (property d ts)
 property-fail1 d ts o us k x n h depth f =
     failing x _ _ (λ none. opened d ts o us k n h depth ∙ behind-none d (property k us) none) f
 
@@ -247,6 +247,12 @@ pub ruleset for_implication = (implication-absent, implication-fails, implicatio
 
 pub ruleset for_regroup = (regroup-fail1, regroup-fail2, regroup-tail, regroup-implication)
 
-pub ruleset for_property =
-    (property-led, property-plain-fails, property-plain-tail, property-deep, property-fail1, property-fail2, property-tail
-        (property-led, property-plain-fails, property-plain-tail, property-deep, property-fail1, property-fail2, property-tail)
+pub ruleset for_property = (
+  property-led,
+  property-plain-fails,
+  property-plain-tail,
+  property-deep,
+  property-fail1,
+  property-fail2,
+  property-tail,
+)
