@@ -33,6 +33,13 @@ AreRead suite a names =
     (name : Name) →
     Contains names name ↔ IsRead (boolean_names suite a) suite.counters.items name
 
+-- The assertion reads what the suite has at this place: a signal or a counter, by the origin.
+pub record Reads (suite : Suite) (a : Assertion) (origin : Origin) (place : ℕ) : Type 0 where
+  pub name : Name
+  pub read : IsRead (boolean_names suite a) suite.counters.items name
+  pub origin_is : name.origin ≡ origin
+  pub place_is : name.place ≡ place
+
 -- a counter of which the clauses are still to be looked at
 abbrev pub is_waiting : List Bool → Origin → ℕ → Bool
 is_waiting done Signal place = false

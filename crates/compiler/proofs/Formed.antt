@@ -49,6 +49,7 @@ use Rattle.compiler.proofs.LedLaws.{led-formed, led-long}
 use Rattle.compiler.proofs.Frames as frames
 use Rattle.compiler.proofs.Places.{places-long, all-held, held-widths}
 use Rattle.compiler.proofs.Known as known
+use Rattle.compiler.proofs.Reads.{exact-signals, exact-counters}
 
 -- A longest path is no longer than the code.
 path-short : (pc : ℕ) (flow : Flow) (later : List ℕ) (n : ℕ) → ((j : ℕ) → slice_index later j ≤ n)
@@ -136,6 +137,8 @@ module _ (suite : Suite) (a : Assertion) (fit : IsFit suite a) (signals counters
             (known.slots suite a fit signals counters reading);
         held = all-held suite.counters.items (places_from 0 counters) below;
         widths = parts.counters_are ∙ held-widths suite.counters.items (places_from 0 counters) below;
+        reads_signals = exact-signals suite a fit signals counters reading;
+        reads_counters = exact-counters suite a fit signals counters reading;
         booleans = found.booleans;
         found = found.found;
         atoms = parts.atoms ∙ found.long;
@@ -316,6 +319,8 @@ declares suite a p l of = record {
   slots = of.slots;
   held = of.held;
   widths = of.widths;
+  reads_signals = of.reads_signals;
+  reads_counters = of.reads_counters;
   booleans = of.booleans;
   found = of.found;
   atoms = of.atoms;
@@ -330,4 +335,5 @@ declares suite a p l of = record {
   consequent_listed = of.consequent_listed;
   disabling_listed = of.disabling_listed;
   fills = of.fills;
+  led = of.led;
 }

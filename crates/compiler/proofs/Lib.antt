@@ -3,6 +3,7 @@ pub mod Frames
 pub mod Names
 pub mod Places
 pub mod Known
+pub mod Reads
 pub mod LedLaws
 pub mod Formed
 pub mod Fits

@@ -137,3 +137,9 @@ module _ (all : List Counter) where
   held-long (q ∷ ps) below =
       let d = stands-at all q below.0 in
       ap length (found-there q ps d.0 d.1) ∙ ap suc (held-long ps below.1)
+
+  pub held-places : (ps : List ℕ) → AreBelow (length all) ps → map (λ (h : Held). h.place) (held_at all ps) ≡ ps
+  held-places [] below = refl
+  held-places (q ∷ ps) below =
+      let d = stands-at all q below.0 in
+      ap (map (λ (h : Held). h.place)) (found-there q ps d.0 d.1) ∙ ap (λ rest. q ∷ rest) (held-places ps below.1)

@@ -1,5 +1,6 @@
 -- What a program of an assertion is.
-use Rattle.std.specs.Prelude.{◌≡◌, ℕ, ◌+◌, ◌≤◌, true, List, length, map, Option, Some, None}
+use Rattle.std.specs.Prelude.{◌≡◌, ◌↔◌, ℕ, ◌+◌, ◌<◌, ◌≤◌, true, List, length, map, Option}
+use Rattle.std.specs.Prelude.{Some, None, Contains, AllPairs}
 use Rattle.std.specs.Prelude.{slice_get, string_bytes}
 use Rattle.std.specs.List.{AllByRecursion, AllZip}
 use Rattle.expressions.specs.declared.name.Origin.TheVariants.{Signal, Counter}
@@ -17,6 +18,7 @@ use Rattle.assertions.specs.Segments.{AdmitsEmpty}
 use Rattle.assertions.specs.Shapes.{written_form, shape}
 use Rattle.assertions.specs.Listed.{EachBoolean, IsListed, IsListedOption}
 use Rattle.bytecode.specs.Values.{ProgramData, SlotData}
+use Rattle.assertion_reads.specs.Reads.{Reads}
 use Rattle.expression_code.specs.Codes.{Slots}
 use Rattle.expression_code.specs.Samples.{Held, sample_code}
 use Rattle.expression_code.specs.Laws.{Each, OfName, program_terms}
@@ -74,8 +76,15 @@ pub record IsSlotOf (suite : Suite) (place : ℕ) (slot : SlotData) : Type 0 whe
   pub width : slot.width ≡ signal.width
   pub path : slot.path ≡ string_bytes signal.path
 
--- The program of an assertion of a suite: an atom for each boolean of its list, in order, and for
--- each of its sides the section that follows it.
+-- These are the places of what an assertion reads, itself or through counters: exactly those, each
+-- once, in the suite's order.
+pub record AreReadPlaces (suite : Suite) (a : Assertion) (origin : Origin) (places : List ℕ) :
+    Type 0 where
+  pub exactly : (place : ℕ) → Contains places place ↔ Reads suite a origin place
+  pub rising : AllPairs (λ x y. x < y) places
+
+-- The program of an assertion of a suite: it holds what the assertion reads, and has an atom for
+-- each boolean of its list, in order, and for each of its sides the section that follows it.
 pub record IsProgramOf (suite : Suite) (a : Assertion) (p : ProgramData) : Type 0 where
   pub name : p.header.name ≡ string_bytes a.name
   pub clock : p.header.clock ≡ string_bytes suite.clock
@@ -85,6 +94,8 @@ pub record IsProgramOf (suite : Suite) (a : Assertion) (p : ProgramData) : Type 
   pub held : AllByRecursion (λ (h : Held). slice_get suite.counters.items h.place ≡ Some h.counter)
       layout.counters
   pub widths : p.counters ≡ map (λ (h : Held). h.counter.width) layout.counters
+  pub reads_signals : AreReadPlaces suite a Signal layout.signals
+  pub reads_counters : AreReadPlaces suite a Counter (map (λ (h : Held). h.place) layout.counters)
   -- its sample code
   pub booleans : List Expr
   pub found : map (λ place. slice_get suite.booleans.items place) a.booleans.items
