@@ -23,8 +23,11 @@ use Rattle.std.proofs.Common.{
   subst,
   arith,
 }
+use Rattle.std.specs.Prelude.{Contains, slice_index, slice_index_or, string_bytes}
 use Rattle.std.specs.List.{AllByRecursion, AllZip, filter_map}
-use Rattle.std.proofs.lemmas.List.{length-map}
+use Rattle.std.proofs.lemmas.List.{length-map, get_or-map, same_lists}
+use Rattle.std.proofs.lemmas.List.Elements.{All-weaker, All-contains_itself, recursion_from_All}
+use Rattle.expressions.specs.declared.name.Origin.TheVariants as origins
 use Rattle.signals.specs.declared.verdict.Verdict.{Verdict}
 use Rattle.assertions.specs.declared.sequence.Boolean.{Boolean}
 use Rattle.assertions.specs.declared.assertion.Assertion.{Assertion}
@@ -35,23 +38,22 @@ use Rattle.assertions.specs.Verdicts.{antecedent_of}
 use Rattle.assertions.proofs.Verdicts.{IsVerdict-only}
 use Rattle.bytecode.specs.Values.{ProgramData, SlotData}
 use Rattle.verifier.specs.Programs.{IsAccepted}
-use Rattle.vcd_reader.specs.Variables.{Declared, variable_named}
+use Rattle.vcd_reader.specs.Variables.{variable_named}
 use Rattle.vcd_reader.specs.Dump.{Contents}
-use Rattle.cycle_window.specs.Ticks.{ticks_of}
+use Rattle.cycle_window.specs.Ticks.{ticks_of, sample, row_of}
 use Rattle.monitors.specs.Monitors.{monitor_of}
 use Rattle.monitors.specs.History.{SamplesAs}
 use Rattle.monitors.specs.Laws.{open_starts, starts_of}
 use Rattle.checked_machine.specs.Outcomes.{done}
 use Rattle.checked_machine.specs.Machine.{State, opening, clocks}
 use Rattle.batches.specs.Batches.{batch_of}
-use Rattle.verdict_lines.specs.Laws.{row_of}
+use Rattle.verdict_lines.specs.Laws.{row_of as row_at}
+use Rattle.assertion_reads.specs.Reads.{Reads}
 use Rattle.compiler.specs.Programs.{IsSlotOf, IsProgramOf}
 use Rattle.compiler.proofs.ListLaws.{some-one}
 use Rattle.assertion_programs.specs.Laws.{AreRowsOf, picked}
 use Rattle.assertion_programs.proofs.Samples as made
 use Rattle.assertion_programs.proofs.Decides as decides
-use Rattle.compiled_lines.specs.Lines.{IsWatched, AreVariables, rows_at}
-use Rattle.compiled_lines.proofs.RowLaws.{own-rows, are-rows}
 use Rattle.workers.specs.States.{MonitorState, BatchState, place}
 use Rattle.workers.specs.Jobs.{sampled}
 use Rattle.workers.specs.Values.{CoreValue, rows_over}
@@ -59,6 +61,7 @@ use Rattle.workers.specs.Following.{FollowsMachine}
 use Rattle.headline.specs.Headline.{
   AreVerdictsOf,
   fallen_between,
+  ReadTheDump,
   PublishesVerdicts,
   DecidesAsMeant,
 }
@@ -79,9 +82,9 @@ module _ (suite : Suite) (a : Assertion) (p : ProgramData) (of : IsProgramOf sui
   abbrev atoms : ℕ → List Bool
   atoms = made.atoms suite a p of rows fit
 
-  samples : SamplesAs p (row_of own) (made.counters suite a p of rows fit) atoms (length own)
+  samples : SamplesAs p (row_at own) (made.counters suite a p of rows fit) atoms (length own)
   samples =
-      subst (λ n. SamplesAs p (row_of own) (made.counters suite a p of rows fit) atoms n) long
+      subst (λ n. SamplesAs p (row_at own) (made.counters suite a p of rows fit) atoms n) long
       (made.samples suite a p of rows fit accepted)
 
   -- the verdict that is computed
@@ -121,6 +124,56 @@ module _ (suite : Suite) (a : Assertion) (p : ProgramData) (of : IsProgramOf sui
       ∙ cuts.open-same meant verdict_at (length own) same
       ∙ ap (open_starts verdict_at) (sym long)
 
+-- the rows of a program over the dump are picked from rows that have its values of what the program holds
+module _ (c : Contents) (code : ℕ) (suite : Suite) (a : Assertion) (rows : List (List ℕ))
+    (read : ReadTheDump c code suite a rows) where
+  abbrev named : SlotData → Option ℕ
+  named s = variable_named c.variables s.path
+
+  abbrev Reading : ℕ → Type 0
+  Reading place = Reads suite a origins.Signal place
+
+  cells : (k : ℕ) → k < length rows → (places : List ℕ) (slots : List SlotData) → AllByRecursion Reading places
+      → AllZip (IsSlotOf suite) places slots
+      → map (sample c (slice_index (ticks_of c code) k)) (filter_map named slots)
+      ≡ picked places (slice_index_or rows k [])
+  cells k lt [] [] reads h = refl
+  cells k lt [] (s ∷ slots) reads h = absurd h
+  cells k lt (p ∷ places) [] reads h = absurd h
+  cells k lt (p ∷ places) (s ∷ slots) reads h =
+      let one = read.columns p h.0.signal reads.0 h.0.is in
+      let is : named s ≡ Some one.variable = ap (variable_named c.variables) h.0.path ∙ one.named in
+      let tick = slice_index (ticks_of c code) k in
+      let first : sample c tick one.variable ≡ slice_index (slice_index_or rows k []) p = sym (one.each k lt) in
+      rw is (ap (λ (n : ℕ). n ∷ map (sample c tick) (filter_map named slots)) first
+      ∙ ap (λ (ns : List ℕ). slice_index (slice_index_or rows k []) p ∷ ns) (cells k lt places slots reads.1 h.1))
+
+  row-same : (p : ProgramData) (places : List ℕ) → AllByRecursion Reading places
+      → AllZip (IsSlotOf suite) places p.signals → (k : ℕ) → k < length rows
+      → row_of c (sampled c.variables p) (slice_index (ticks_of c code) k) ≡ picked places (slice_index_or rows k [])
+  unfolding row_of
+  row-same p places reads slots k lt = cells k lt places p.signals reads slots
+
+  pub own-rows : (p : ProgramData) (of : IsProgramOf suite a p)
+      → map (row_of c (sampled c.variables p)) (ticks_of c code) ≡ map (picked of.layout.signals) rows
+  own-rows p of =
+      let ticks = ticks_of c code in
+      let variables = sampled c.variables p in
+      let places = of.layout.signals in
+      let reads : AllByRecursion Reading places =
+      recursion_from_All Reading places
+      (All-weaker (Contains places) Reading (λ place at. (of.reads_signals.exactly place).0 at) places
+      (All-contains_itself places)) in
+      let left : length (map (row_of c variables) ticks) ≡ length ticks = length-map ticks (row_of c variables) in
+      let right : length (map (picked places) rows) ≡ length rows = length-map rows (picked places) in
+      same_lists (map (row_of c variables) ticks) (map (picked places) rows) (left ∙ sym read.ticks ∙ sym right)
+      (λ k d lt.
+      let below : k < length ticks = omega (arith, lt, left) in
+      let within : k < length rows = omega (arith, below, read.ticks) in
+      get_or-map (row_of c variables) ticks k 0 d below
+      ∙ row-same p places reads of.slots k within
+      ∙ sym (get_or-map (picked places) rows k [] d within))
+
 -- the monitor of a program
 record Runs (ms : List MonitorState) (i : ℕ) (p : ProgramData) : Type 0 where
   monitor : MonitorState
@@ -135,18 +188,14 @@ runs (m ∷ ms) (suc i) p h =
     let r = runs ms i p h in record { monitor = r.monitor; at = r.at; is = r.is }
 
 pub as-meant : (v : CoreValue) (c : Contents) → FollowsMachine v c → DecidesAsMeant v c
-as-meant v c follows number p is suite a of signals named watched verdict_at are =
-    let code = v.job.code in
-    let rows = rows_at c signals code in
+as-meant v c follows number p is suite a of rows read verdict_at are =
     let run =
     runs v.state.monitors number p
     (ap (λ (ps : List ProgramData). slice_get ps number) follows.programs ∙ is) in
     let accepted : IsAccepted p =
     subst IsAccepted run.is (follows.accepted number run.monitor run.at) in
-    let fit = are-rows c suite signals code named watched in
     let own : rows_over v.job c p ≡ map (picked of.layout.signals) rows =
-    own-rows c code suite p signals of.layout.signals named watched of.slots in
-    let ticks : length rows ≡ length (ticks_of c code) = length-map (ticks_of c code) _ in
+    own-rows c v.job.code suite a rows read p of in
     record {
       batches = λ n b at mine.
           let found = follows.batches n b at in
@@ -156,12 +205,12 @@ as-meant v c follows number p is suite a of signals named watched verdict_at are
           found.1.decided
           ∙ ap (λ (x : ProgramData). batch_of x (rows_over v.job c x) b.first b.end) program
           ∙ ap (λ (rs : List (List ℕ)). batch_of p rs b.first b.end) own
-          ∙ batch-is suite a p of rows fit accepted verdict_at are b.first b.end found.1.order
-          (omega (arith, found.1.within, ticks));
+          ∙ batch-is suite a p of rows read.fit accepted verdict_at are b.first b.end found.1.order
+          (omega (arith, found.1.within, read.ticks));
       live = λ m at here.
           let one : run.monitor ≡ m = some-one run.monitor m (sym run.at ∙ at) in
           let program : m.program ≡ p = ap (λ (x : MonitorState). x.program) (sym one) ∙ run.is in
-          live-is suite a p of rows fit accepted verdict_at are (place m) m.state here
+          live-is suite a p of rows read.fit accepted verdict_at are (place m) m.state here
           (ap (λ (rs : List (List ℕ)). clocks p (opening p) (take (place m) rs)) (sym own)
           ∙ ap (λ (x : ProgramData). clocks x (opening x) (take (place m) (rows_over v.job c x)))
           (sym program)
