@@ -13,7 +13,7 @@
 //! let mut window = Window::new(alloc, 1024, columns)?;        // C3; empty, before the first tick
 //! window.slide(&dump, &clocks);                               // the next 1,024, or what is left
 //! let (first, end) = window.bounds();
-//! let row = window.row(alloc, first)?;                        // a new list
+//! window.put_row(&mut row, first);                            // all signals, in the room of row
 //! window.put_part(&mut part, first, 2, 5);                    // signals 2, 3 and 4, in its room
 //! ```
 //!
@@ -23,7 +23,8 @@
 //! `specs/Rows.antt`, `specs/Cursors.antt`, `specs/Changes.antt`, `specs/Picks.antt`.
 //!
 //! Not promised: a memory of earlier rows, or a way back. `slide` asks for ticks that are left, and
-//! for the dump and clocks of the window's columns; `row` and `put_part` for a tick in the window.
+//! for the dump and clocks of the window's columns; `put_row` and `put_part` for a tick in the
+//! window, and for room.
 #![tactic(auto)]
 
 mod clocks;

@@ -16,7 +16,7 @@ use crate::cursor::Cursor;
 use crate::fault::WindowFault;
 use crate::filling::fill_rows;
 use crate::picks::push_picked;
-use std::alloc::{AllocError, Global};
+use std::alloc::Global;
 use vcd_reader::Dump;
 
 /// The most clocks of a window.
@@ -142,18 +142,26 @@ impl<'d> Window<'d> {
         push_picked(part, self.values_at(tick), picks);
     }
 
-    /// The row at a tick of the window: a value for each signal.
-    pub fn row(&self, alloc: Global, tick: u64) -> Result<Vec<u128>, AllocError>
+    /// The row at a tick of the window, in the place of what stood there: a value for each signal.
+    /// There is room for it.
+    pub fn put_row(&self, row: &mut Vec<u128>, tick: u64)
         requires low { first_in self.now ≤ tick }
         requires high { tick < end_in self.now }
-        ensures { IfOk result (λ row. (c : Contents) → IsOver self.now c → row.items ≡ row_of c
+        requires room { length (places_in (columns_in self.now)) ≤ vec_capacity row.old }
+        ensures row { (c : Contents) → IsOver self.now c → row.new.items ≡ row_of c
             (places_in (columns_in self.now))
-            (slice_index (ticks_of c (clock_in (columns_in self.now))) tick)) }
+            (slice_index (ticks_of c (clock_in (columns_in self.now))) tick) }
+        ensures capacity { vec_capacity row.new ≡ vec_capacity row.old }
     {
-        let width = self.columns.shared.picks.len();
-        let mut row = Vec::with_capacity(alloc, width)?;
-        self.put_part(&mut row, tick, 0, width);
-        Ok(row)
+        let width = self.width();
+        self.put_part(row, tick, 0, width);
+    }
+
+    /// The number of its signals, each of which has a value in a row.
+    pub fn width(&self) -> usize
+        ensures { result ≡ length (places_in (columns_in self.now)) }
+    {
+        self.columns.shared.picks.len()
     }
 
     /// The window's clocks: from the first up to the second, which is not in it.

@@ -75,7 +75,8 @@ fn values_in(
         window.slide(dump, &clocks);
         let (first, end) = window.bounds();
         for tick in first..end {
-            let row = window.row(alloc, tick)?;
+            let mut row = Vec::with_capacity(alloc, window.width())?;
+            window.put_row(&mut row, tick);
             values.extend_from_slice(row.as_slice())?;
         }
     }

@@ -9,7 +9,7 @@
 //! let mut machine = Machine::new(alloc, verify(alloc, program)?)?;
 //! let mut decided = ArrayVec::new();
 //! machine.clock(&row, &mut decided);
-//! let ticks = machine.ticks_spent();
+//! let ticks = machine.spent();
 //! machine.open_starts(&mut decided);
 //! ```
 //!

@@ -67,7 +67,7 @@ impl Machine {
     }
 
     /// The ticks of the last clock, 0 before the first.
-    pub fn ticks_spent(&self) -> u64
+    pub fn spent(&self) -> u64
         ensures ticks { result ≡ self.now.spent }
         ensures budget { result ≤ self.now.program.header.limits.budget }
     {

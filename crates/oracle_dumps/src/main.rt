@@ -114,7 +114,8 @@ fn print_rows<R: Print + AllocGlobal>(
     let mut next = first;
     for tick in [0, 1, ticks / 2, ticks - 1] {
         if tick >= next && tick < end {
-            let row = window.row(rt.alloc(), tick)?;
+            let mut row = Vec::with_capacity(rt.alloc(), window.width())?;
+            window.put_row(&mut row, tick);
             print_row(rt, stored.file, tick, &stored.paths, row.as_slice())?;
             next = tick + 1;
         }

@@ -58,7 +58,7 @@ fn show_decided<R: Print + AllocGlobal>(rt: &R, decided: &Decided) -> Result<()>
 fn show_clock<R: Print + AllocGlobal>(rt: &R, run: &mut Run, line: &str) -> Result<()> {
     let row = row_of(rt.alloc(), line)?;
     run.clock(row.as_slice())?;
-    let spent = run.ticks_spent();
+    let spent = run.spent();
     print!(rt; "ticks {spent}")?;
     for decided in run.decisions() {
         show_decided(rt, decided)?;

@@ -75,8 +75,8 @@ impl Run {
     }
 
     /// The ticks of the last clock.
-    pub fn ticks_spent(&self) -> u64 {
-        self.machine.ticks_spent()
+    pub fn spent(&self) -> u64 {
+        self.machine.spent()
     }
 
     /// The attempts that are live, each with `Open`.

@@ -82,7 +82,7 @@ fn sums_of(run: &mut Run, trace: &[Vec<u128>], clocks: u64) -> Result<Sums> {
         for decided in run.decisions() {
             sums.verdicts = sums.verdicts.wrapping_add(worth(decided));
         }
-        sums.ticks = sums.ticks.wrapping_add(run.ticks_spent());
+        sums.ticks = sums.ticks.wrapping_add(run.spent());
     }
     Ok(sums)
 }

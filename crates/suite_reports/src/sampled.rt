@@ -37,7 +37,8 @@ fn push_rows(alloc: Global, rows: &mut Table<u128>, window: &Window<'_>) -> Resu
 {
     let (first, end) = window.bounds();
     for clock in first..end {
-        let row = window.row(alloc, clock)?;
+        let mut row = Vec::with_capacity(alloc, window.width())?;
+        window.put_row(&mut row, clock);
         rows.push(row)?;
     }
     Ok(())

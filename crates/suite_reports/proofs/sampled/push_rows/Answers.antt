@@ -11,15 +11,15 @@ loop-clock-preserved c = record {
       omega (
         arith,
         ap length c.in_ok-push.ensures.ok,
-        length-append c.loop-clock.rows (c.in_ok-row.row.items ∷ []),
+        length-append c.loop-clock.rows (c.put_row.new.row.items ∷ []),
         c.loop-clock.invariant.long,
       );
   rows = λ contents over before.
       let window = c.args.window.now in
       row_more (row_of contents (places_in (columns_in window)))
       (ticks_of contents (clock_in (columns_in window))) c.loop-clock.clock c.loop-clock.rows
-      c.push.new.self c.in_ok-row.row.items
+      c.push.new.self c.put_row.new.row.items
       (omega (arith, over-end window contents over, c.bounds-first.ensures.end))
       (c.loop-clock.invariant.rows contents over before)
-      (c.in_ok-row.ensures contents over) c.in_ok-push.ensures.ok;
+      (c.put_row.ensures.row contents over) c.in_ok-push.ensures.ok;
 }
