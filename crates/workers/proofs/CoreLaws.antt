@@ -35,21 +35,28 @@ use Rattle.workers.specs.Standing.{variables_in}
 use Rattle.workers.specs.Floors.{core_state, IsSound, IsKept, SeeAs}
 use Rattle.workers.specs.Opening.{Part, part_of}
 use Rattle.workers.specs.Jobs.{sampled}
+use Rattle.workers.specs.Wanted.{wanted_in}
 use Rattle.workers.specs.Cores.{IsCore}
 use Rattle.workers.specs.declared.step.Step.{Step}
 use Rattle.workers.specs.declared.step.Step.TheVariants as steps
 use Rattle.workers.specs.declared.step.Reply.{Reply}
-use Rattle.workers.specs.States.{CoreState, Setting, Replies, next, next_slide, next_advance}
+use Rattle.workers.specs.States.{CoreState, Setting, EachStandsOnce, Replies, next, next_slide, next_advance}
 use Rattle.workers.specs.Values.{CoreValue, Says, job_value, value_of, setting_of}
 use Rattle.workers.proofs.FloorLaws.{get-mapped}
 use Rattle.workers.proofs.PartLaws.{IsPlaced, each-placed}
 
+pub kept-places : (j : Job) (old new : Floor) → IsKept old new
+    → map Some (places_in (columns_in old.window)) ≡ places_of (variables_of j.dump) (wanted_in j.programs.items)
+    → map Some (places_in (columns_in new.window)) ≡ places_of (variables_of j.dump) (wanted_in j.programs.items)
+kept-places j old new kept places = ap (λ (cs : Columns). map Some (places_in cs)) kept.columns ∙ places
+
 pub kept-core : (j : Job) (old new : Floor) → IsCore j old → IsSound new → IsKept old new
-    → new.window ≡ old.window → IsCore j new
-kept-core j old new h sound kept same = record {
+    → new.window ≡ old.window → EachStandsOnce (core_state new) → IsCore j new
+kept-core j old new h sound kept same once = record {
   sound = sound;
+  once = once;
   window = subst (λ (w : Window). IsWindowOf w j.dump j.clocks) (sym same) h.window;
-  places = ap (λ (cs : Columns). map Some (places_in cs)) kept.columns ∙ h.places;
+  places = kept-places j old new kept h.places;
   parts = kept.parts ∙ h.parts;
 }
 

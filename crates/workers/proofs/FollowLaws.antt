@@ -144,6 +144,8 @@ module _ (j : Job) (f : Floor) (c : Contents) (core : IsCore j f)
 
   pub core-follows : FollowsMachine (value_of j f) c
   core-follows = record {
+    ticks = j.ticks c (holds j c says);
+    once = core.once;
     programs = programs-are;
     accepted = λ i s is.
         let r = found monitor_state f.monitors.items i s is in

@@ -6,6 +6,7 @@ pub mod ToldLaws
 pub mod JobLaws
 pub mod OpeningLaws
 pub mod PartLaws
+pub mod OnceLaws
 pub mod StartLaws
 pub mod CoreLaws
 pub mod FollowLaws

@@ -43,13 +43,14 @@ use Rattle.batches.proofs.JoinLaws.{come-first}
 use Rattle.workers.specs.declared.job.Job.{Job}
 use Rattle.workers.specs.declared.floor.Floor.{Floor}
 use Rattle.workers.specs.declared.monitor.Monitor.{Monitor}
-use Rattle.workers.specs.States.{CoreState, MonitorState, WorkerState, BatchState, published_by}
+use Rattle.workers.specs.States.{CoreState, MonitorState, WorkerState, BatchState, EachStandsOnce, published_by}
 use Rattle.workers.specs.Standing.{monitor_state, variables_in, seen, Stands}
-use Rattle.workers.specs.Floors.{worker_state, batch_state, AreAllBefore}
+use Rattle.workers.specs.Floors.{core_state, worker_state, batch_state, AreAllBefore}
 use Rattle.workers.specs.Opening.{Part, IsNew, part_of, parts_from, opened_monitor}
 use Rattle.workers.specs.Wanted.{wanted_in}
-use Rattle.workers.specs.Cores.{IsFirstWindow, IsOpened}
+use Rattle.workers.specs.Cores.{IsFirstWindow, IsOpened, opening_state}
 use Rattle.workers.proofs.FloorLaws.{get-mapped}
+use Rattle.workers.proofs.OnceLaws.{opening-once}
 use Rattle.workers.proofs.ToldLaws.{none-told}
 use Rattle.workers.proofs.PartLaws.{IsPlaced, each-placed, each-accepted}
 
@@ -137,8 +138,28 @@ opened j n most f h states parts new waiting workers board =
     let many : length ms ≡ length ps =
     sym (length-map ms monitor_state) ∙ ap length states ∙ length-map ps opened_monitor in
     let idle : List WorkerState = replicate n (record { hand = None; done = [] }) in
+    let is : core_state f ≡ opening_state ps n =
+    ap (λ (a : ℕ).
+    state a (end_in f.window) (map monitor_state ms) f.waiting.items
+    (map worker_state f.workers.items) (map batch_state f.board.items)) h.first
+    ∙ ap (λ (b : ℕ).
+    state 0 b (map monitor_state ms) f.waiting.items (map worker_state f.workers.items)
+    (map batch_state f.board.items)) h.end
+    ∙ ap (λ (xs : List MonitorState).
+    state 0 0 xs f.waiting.items (map worker_state f.workers.items)
+    (map batch_state f.board.items)) states
+    ∙ ap (λ (is : List ℕ).
+    state 0 0 (map opened_monitor ps) is (map worker_state f.workers.items)
+    (map batch_state f.board.items)) (waiting ∙ ap (range_with_len 0) many)
+    ∙ ap (λ (ws : List WorkerState).
+    state 0 0 (map opened_monitor ps) (range_with_len 0 (length ps)) ws
+    (map batch_state f.board.items)) workers
+    ∙ ap (λ (bs : List Batch).
+    state 0 0 (map opened_monitor ps) (range_with_len 0 (length ps)) idle
+    (map batch_state bs)) board in
     record {
       core = record {
+        once = subst EachStandsOnce (sym is) (opening-once ps n);
         sound = record {
           monitors = λ i m is.
               stands-new j most f.window m i h
@@ -155,24 +176,6 @@ opened j n most f h states parts new waiting workers board =
         places = h.places;
         parts = parts;
       };
-      state =
-          ap (λ (a : ℕ).
-          state a (end_in f.window) (map monitor_state ms) f.waiting.items
-          (map worker_state f.workers.items) (map batch_state f.board.items)) h.first
-          ∙ ap (λ (b : ℕ).
-          state 0 b (map monitor_state ms) f.waiting.items (map worker_state f.workers.items)
-          (map batch_state f.board.items)) h.end
-          ∙ ap (λ (xs : List MonitorState).
-          state 0 0 xs f.waiting.items (map worker_state f.workers.items)
-          (map batch_state f.board.items)) states
-          ∙ ap (λ (is : List ℕ).
-          state 0 0 (map opened_monitor ps) is (map worker_state f.workers.items)
-          (map batch_state f.board.items)) (waiting ∙ ap (range_with_len 0) many)
-          ∙ ap (λ (ws : List WorkerState).
-          state 0 0 (map opened_monitor ps) (range_with_len 0 (length ps)) ws
-          (map batch_state f.board.items)) workers
-          ∙ ap (λ (bs : List Batch).
-          state 0 0 (map opened_monitor ps) (range_with_len 0 (length ps)) idle
-          (map batch_state bs)) board;
+      state = is;
       size = h.size;
     }

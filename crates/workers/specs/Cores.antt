@@ -8,7 +8,7 @@ use Rattle.cycle_window.specs.Bound.{places_of, first_refused}
 use Rattle.cycle_window.specs.Held.{columns_in, places_in, size_in, first_in, end_in, IsWindowOf}
 use Rattle.workers.specs.declared.job.Job.{Job}
 use Rattle.workers.specs.declared.floor.Floor.{Floor}
-use Rattle.workers.specs.States.{CoreState}
+use Rattle.workers.specs.States.{CoreState, EachStandsOnce}
 use Rattle.workers.specs.Opening.{part_of, parts_from, opened_monitor}
 use Rattle.workers.specs.Floors.{core_state, IsSound}
 use Rattle.workers.specs.Wanted.{wanted_in}
@@ -35,10 +35,11 @@ pub record IsFirstWindow (j : Job) (n : ℕ) (w : Window) : Type 0 where
   pub first : first_in w ≡ 0
   pub end : end_in w ≡ 0
 
--- It is sound, its window is over the rows of the job's signals, and monitor i has program i with
--- its part of a row.
+-- It is sound, each monitor stands once in its lists, its window is over the rows of the job's
+-- signals, and monitor i has program i with its part of a row.
 pub record IsCore (j : Job) (f : Floor) : Type 0 where
   pub sound : IsSound f
+  pub once : EachStandsOnce (core_state f)
   pub window : IsWindowOf f.window j.dump j.clocks
   pub places : map Some (places_in (columns_in f.window))
       ≡ places_of (variables_of j.dump) (wanted_in j.programs.items)

@@ -7,7 +7,7 @@ use Rattle.cycle_window.specs.Ticks.{ticks_of}
 use Rattle.checked_machine.specs.Outcomes.{done}
 use Rattle.checked_machine.specs.Machine.{opening, clocks}
 use Rattle.batches.specs.Batches.{batch_of}
-use Rattle.workers.specs.States.{MonitorState, BatchState, place, published_by}
+use Rattle.workers.specs.States.{MonitorState, BatchState, EachStandsOnce, place, published_by}
 use Rattle.workers.specs.Values.{JobValue, CoreValue, rows_over}
 
 -- The monitor is in the state of the checked machine over the trace's first rows up to its place,
@@ -32,11 +32,14 @@ IsWhole v c number m =
     published_by v.state.board number ++ m.decided
     ≡ batch_of m.program (rows_over v.job c m.program) 0 (place m)
 
--- The core's monitors are the job's programs, in order, each accepted by the verifier; each is in
--- the state of the checked machine over the trace's first rows up to its place, which is a clock of
--- the trace or its end; each batch on the board is that of its monitor for its clocks; and the
--- batches of a monitor leave nothing out.
+-- The job's ticks are the trace's. The core's monitors are the job's programs, in order, each
+-- accepted by the verifier; each stands once among those that wait, in hands and done lists; each
+-- is in the state of the checked machine over the trace's first rows up to its place, which is a
+-- clock of the trace or its end; each batch on the board is that of its monitor for its clocks; and
+-- the batches of a monitor leave nothing out.
 pub record FollowsMachine (v : CoreValue) (c : Contents) : Type 0 where
+  pub ticks : v.job.ticks ≡ ticks_of c v.job.code
+  pub once : EachStandsOnce v.state
   pub programs : map (λ m. m.program) v.state.monitors ≡ v.job.programs
   pub accepted : (i : ℕ) (m : MonitorState) → slice_get v.state.monitors i ≡ Some m →
       IsAccepted m.program

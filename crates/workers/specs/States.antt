@@ -1,8 +1,9 @@
 -- The states of a core, and the next one.
 use Rattle.std.specs.Prelude.{◌≡◌, ℕ, ◌+◌, ◌-◌, ◌==◌, ◌&&◌, nat_le, nat_lt, min, Bool, true, false}
 use Rattle.std.specs.Prelude.{if◌then◌else◌, List, [], ◌∷◌, ◌++◌, Option, Some, None, is_some, map}
-use Rattle.std.specs.Prelude.{slice_get, slice_set, drop}
+use Rattle.std.specs.Prelude.{◌<◌, ◌≤◌, length, count_by, slice_get, slice_set, drop}
 use Rattle.std.specs.List.{list_all, flat_map}
+use Rattle.std.specs.Option.{option_to_list}
 use Rattle.signals.specs.declared.verdict.Decided.{Decided}
 use Rattle.bytecode.specs.Values.{ProgramData}
 use Rattle.checked_machine.specs.Outcomes.{Ran, done, trapped}
@@ -67,6 +68,24 @@ pub record CoreState : Type 0 where
 abbrev pub published_by : List BatchState → ℕ → List Decided
 published_by board number =
     flat_map (λ b. if b.monitor == number then b.decided else []) board
+
+-- the numbers of a worker's monitors: that of the one in its hand, and those of its done list
+abbrev pub numbers_of : WorkerState → List ℕ
+numbers_of w = option_to_list w.hand ++ w.done
+
+-- the numbers of all monitors, where they stand: those that wait, then those of the workers
+abbrev pub all_numbers : CoreState → List ℕ
+all_numbers s = s.waiting ++ flat_map numbers_of s.workers
+
+-- how often a number stands in a list
+abbrev pub times_in : ℕ → List ℕ → ℕ
+times_in number numbers = count_by (λ x. x == number) numbers
+
+-- The number of each monitor stands once among those that wait, in the workers' hands and in their
+-- done lists, and no other number does.
+pub record EachStandsOnce (s : CoreState) : Type 0 where
+  pub once : (i : ℕ) → i < length s.monitors → times_in i (all_numbers s) ≡ 1
+  pub other : (i : ℕ) → length s.monitors ≤ i → times_in i (all_numbers s) ≡ 0
 
 -- What doesn't change: the number of the trace's clocks, the core's window size, and the trace's
 -- rows of a program's signals.

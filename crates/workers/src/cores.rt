@@ -120,9 +120,10 @@ impl<'j> Core<'j> {
         self.floor.board.as_slice()
     }
 
-    /// A law, and a call that does nothing. Whatever list of steps was made: each monitor is in the
-    /// state of the checked machine over the trace's first rows up to its place, each batch on the
-    /// board is that of its monitor for its clocks, and a monitor's batches leave nothing out.
+    /// A law, and a call that does nothing. Whatever list of steps was made: the job's ticks are
+    /// the trace's, each monitor stands once in the core's lists and is in the state of the checked
+    /// machine over the trace's first rows up to its place, each batch on the board is that of its
+    /// monitor for its clocks, and a monitor's batches leave nothing out.
     pub fn follows_machine(&self)
         ensures follows { (c : Contents) → Says self.now.job c → FollowsMachine self.now c }
         // The dump has contents.

@@ -94,6 +94,8 @@ impl<'j> Floor<'j> {
         ensures sound { IsSound self.new }
         ensures kept { IsKept self.old self.new }
         ensures window { self.new.window ≡ self.old.window }
+        ensures waiting { self.new.waiting ≡ self.old.waiting }
+        ensures workers { self.new.workers ≡ self.old.workers }
     {
         let Some(number) = held_by(self.workers.as_slice(), worker) else {
             return Reply::Refused;
@@ -177,6 +179,8 @@ impl<'j> Floor<'j> {
         ensures sound { IsSound self.old → IsSound self.new }
         ensures same { IsWindowOf self.new.window dump.now clocks.now }
         ensures kept { IsKept self.old self.new }
+        ensures waiting { self.new.waiting ≡ self.old.waiting }
+        ensures workers { self.new.workers ≡ self.old.workers }
     {
         let (_, end) = self.window.bounds();
         let idle = are_idle(self.workers.as_slice());
