@@ -1,0 +1,24 @@
+-- Why bytes have no upgrade.
+use Rattle.std.proofs.Common.{◌≡◌, List, ℕ}
+use Rattle.bytecode.specs.Values.{ProgramData}
+use Rattle.program_files.specs.declared.fault.CodeFault.{CodeFault}
+use Rattle.program_files.specs.declared.fault.CodeFault.TheVariants as codes
+use Rattle.program_files.specs.Reading.{IsFirstFault}
+use Rattle.outcomes.specs.Faults.{code_fault}
+use Rattle.outcomes.specs.Codes.{Spells, IsMisspelled}
+use Rattle.cli_code.specs.Upgrades.{WhyNotUpgraded}
+
+module _ (bytes : List ℕ) where
+  misspelled : (e : CodeFault) → (e ≡ codes.Memory → ⊥) → ((p : ProgramData) → Spells bytes p → e ≡ codes.Memory)
+      → IsFirstFault bytes e → IsMisspelled bytes e
+  misspelled e other read first = record { none = λ p spells. other (read p spells); first = first }
+
+  pub not_upgraded : (e : CodeFault) → ((p : ProgramData) → Spells bytes p → e ≡ codes.Memory) → IsFirstFault bytes e
+      → WhyNotUpgraded bytes (code_fault e)
+  not_upgraded codes.Magic read first = misspelled codes.Magic (λ e. cc) read first
+  not_upgraded codes.Version read first = misspelled codes.Version (λ e. cc) read first
+  not_upgraded (codes.Truncated at) read first = misspelled (codes.Truncated at) (λ e. cc) read first
+  not_upgraded (codes.BadOpcode at) read first = misspelled (codes.BadOpcode at) (λ e. cc) read first
+  not_upgraded (codes.BadField at) read first = misspelled (codes.BadField at) (λ e. cc) read first
+  not_upgraded (codes.TrailingBytes at) read first = misspelled (codes.TrailingBytes at) (λ e. cc) read first
+  not_upgraded codes.Memory read first = tt
