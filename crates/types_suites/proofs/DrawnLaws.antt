@@ -35,6 +35,7 @@ module _ (s : Scope) (cs : List (List ℕ)) (now next : List Expr) (more : Exten
   drawn_grows before a m h =
       record {
         name = h.name;
+        first = h.first;
         antecedent = antecedent_grows a.property _ h.antecedent;
         consequent = consequent_grows a.property _ h.consequent;
         antecedent_at = h.antecedent_at;

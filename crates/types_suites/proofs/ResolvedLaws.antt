@@ -44,6 +44,7 @@ module _ (s : Scope) (cs : List (List ℕ)) (bodies : List (Draft Boolean)) (now
         antecedent = h.antecedent;
         consequent = h.consequent;
         name = h.name;
+        first = h.first;
         reads_antecedent = antecedent_grows s cs now next more a.property h.antecedent h.reads_antecedent;
         reads_consequent = consequent_grows s cs now next more a.property h.consequent h.reads_consequent;
         antecedent_entry = h.antecedent_entry;
