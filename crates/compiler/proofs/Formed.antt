@@ -49,7 +49,7 @@ use Rattle.compiler.proofs.LedLaws.{led-formed, led-long}
 use Rattle.compiler.proofs.Frames as frames
 use Rattle.compiler.proofs.Places.{places-long, all-held, held-widths}
 use Rattle.compiler.proofs.Known as known
-use Rattle.compiler.proofs.Reads.{exact-signals, exact-counters}
+use Rattle.compiler.proofs.ReadPlaces.{exact-signals, exact-counters}
 
 -- A longest path is no longer than the code.
 path-short : (pc : ℕ) (flow : Flow) (later : List ℕ) (n : ℕ) → ((j : ℕ) → slice_index later j ≤ n)

@@ -3,7 +3,7 @@ pub mod Frames
 pub mod Names
 pub mod Places
 pub mod Known
-pub mod Reads
+pub mod ReadPlaces
 pub mod LedLaws
 pub mod Formed
 pub mod Fits
