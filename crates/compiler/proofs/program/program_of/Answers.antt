@@ -17,8 +17,8 @@ code_of-requires-clause-slots c =
       c.requires.counted.slots,
     )
 
-pub antecedent_of-requires-clause-listed : goal.antecedent_of-requires-clause-listed
-antecedent_of-requires-clause-listed c =
+pub antecedent_of-requires : goal.antecedent_of-requires
+antecedent_of-requires c =
     listed-more (length c.args.assertion.now.booleans.items) 127 (written_form c.args.assertion.now.antecedent)
     c.requires.counted.atoms c.requires.fit.placed.antecedent
 
