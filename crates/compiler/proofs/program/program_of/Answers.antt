@@ -18,9 +18,11 @@ code_of-requires-clause-slots c =
     )
 
 pub antecedent_of-requires : goal.antecedent_of-requires
-antecedent_of-requires c =
-    listed-more (length c.args.assertion.now.booleans.items) 127 (written_form c.args.assertion.now.antecedent)
-    c.requires.counted.atoms c.requires.fit.placed.antecedent
+antecedent_of-requires c = record {
+  listed =
+      listed-more (length c.args.assertion.now.booleans.items) 127 (written_form c.args.assertion.now.antecedent)
+      c.requires.counted.atoms c.requires.fit.placed.antecedent;
+}
 
 pub side_of-requires-clause-listed : goal.side_of-requires-clause-listed
 side_of-requires-clause-listed c =
