@@ -1,3 +1,3 @@
 pub mod VerifyLaws
 pub mod RunLaws
-pub mod UpgradeLaws
+pub mod CodeLaws

@@ -112,6 +112,7 @@ module _ (size : ℕ) (r : Run) (c : Contents) (gave : GaveDump r.source_before.
       refused (Refused (refusals.BudgetTooSmall least)) h
   refused_program (refusals.LimitTooLarge field) h =
       refused (Refused (refusals.LimitTooLarge field)) h
+  refused_program (refusals.AcceptKind pc) h = refused (Refused (refusals.AcceptKind pc)) h
   refused_program refusals.NoHalt h = refused (Refused refusals.NoHalt) h
   refused_program refusals.Memory h = absurd h
 

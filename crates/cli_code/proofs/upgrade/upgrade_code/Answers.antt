@@ -1,7 +1,7 @@
 use Rattle.outcomes.specs.Faults.{code_fault}
 use Rattle.outcomes.proofs.FaultLaws.{err_is}
 use Rattle.cli_code.specs.Upgrades.{WhyNotUpgraded}
-use Rattle.cli_code.proofs.UpgradeLaws.{not_upgraded}
+use Rattle.cli_code.proofs.CodeLaws.{not_upgraded}
 use Rattle.cli_code.proofs.upgrade.upgrade_code.Goals as goal
 
 pub returns-in_err-upgrade-clause-refused : goal.returns-in_err-upgrade-clause-refused

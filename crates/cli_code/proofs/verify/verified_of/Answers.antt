@@ -1,9 +1,18 @@
 use Rattle.bytecode.specs.Programs.{data_of}
-use Rattle.outcomes.specs.Faults.{refusal_fault}
+use Rattle.outcomes.specs.Faults.{code_fault, refusal_fault}
 use Rattle.outcomes.specs.Codes.{Spells, WhyNotAccepted}
 use Rattle.outcomes.proofs.FaultLaws.{err_is}
+use Rattle.cli_code.proofs.CodeLaws.{not_spelled}
 use Rattle.cli_code.proofs.VerifyLaws.{refused_code}
 use Rattle.cli_code.proofs.verify.verified_of.Goals as goal
+
+pub returns-in_err-program-clause-err : goal.returns-in_err-program-clause-err
+returns-in_err-program-clause-err c =
+    let bytes = c.args.bytes.now in
+    let fault = c.in_err-program.field-0.0 in
+    err_is c.from_residual.result (code_fault fault) (WhyNotAccepted bytes) c.from_residual.ensures.1
+    (not_spelled bytes fault (λ p s. c.in_err-program.ensures.read s.newer p s.fits s.spelled)
+    c.in_err-program.ensures.fault)
 
 pub returns-in_err-verify-clause-err : goal.returns-in_err-verify-clause-err
 returns-in_err-verify-clause-err c =

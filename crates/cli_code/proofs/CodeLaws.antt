@@ -1,11 +1,11 @@
--- Why bytes have no upgrade.
+-- Bytes that spell no program: why they have no upgrade, and may not run.
 use Rattle.std.proofs.Common.{◌≡◌, List, ℕ}
 use Rattle.bytecode.specs.Values.{ProgramData}
 use Rattle.program_files.specs.declared.fault.CodeFault.{CodeFault}
 use Rattle.program_files.specs.declared.fault.CodeFault.TheVariants as codes
 use Rattle.program_files.specs.Reading.{IsFirstFault}
 use Rattle.outcomes.specs.Faults.{code_fault}
-use Rattle.outcomes.specs.Codes.{Spells, IsMisspelled}
+use Rattle.outcomes.specs.Codes.{Spells, IsMisspelled, WhyNotAccepted}
 use Rattle.cli_code.specs.Upgrades.{WhyNotUpgraded}
 
 module _ (bytes : List ℕ) where
@@ -22,3 +22,13 @@ module _ (bytes : List ℕ) where
   not_upgraded (codes.BadField at) read first = misspelled (codes.BadField at) (λ e. cc) read first
   not_upgraded (codes.TrailingBytes at) read first = misspelled (codes.TrailingBytes at) (λ e. cc) read first
   not_upgraded codes.Memory read first = tt
+
+  pub not_spelled : (e : CodeFault) → ((p : ProgramData) → Spells bytes p → e ≡ codes.Memory) → IsFirstFault bytes e
+      → WhyNotAccepted bytes (code_fault e)
+  not_spelled codes.Magic read first = misspelled codes.Magic (λ e. cc) read first
+  not_spelled codes.Version read first = misspelled codes.Version (λ e. cc) read first
+  not_spelled (codes.Truncated at) read first = misspelled (codes.Truncated at) (λ e. cc) read first
+  not_spelled (codes.BadOpcode at) read first = misspelled (codes.BadOpcode at) (λ e. cc) read first
+  not_spelled (codes.BadField at) read first = misspelled (codes.BadField at) (λ e. cc) read first
+  not_spelled (codes.TrailingBytes at) read first = misspelled (codes.TrailingBytes at) (λ e. cc) read first
+  not_spelled codes.Memory read first = tt
