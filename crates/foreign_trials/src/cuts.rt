@@ -1,7 +1,7 @@
 //! Devices that fail, and one that keeps bytes back, on the way of a run and of a line of limits.
 
-use crate::files::PROGRAM;
 use crate::outcome::{Answer, told};
+use crate::program::PROGRAM;
 use crate::programs::{DUMP, REPORT};
 use cli_code::{run_code, verify_code};
 use dump_trials::SlowWriter;

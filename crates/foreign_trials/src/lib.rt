@@ -16,7 +16,7 @@
 //! each in its `specs/`. More files, with answers from outside, are in the tables of
 //! `oracle_bytecode` and `oracle_verifier`.
 //!
-//! Not promised: that each file that matters occurs here; `told` is for tests alone.
+//! Not promised: that each file that matters occurs here; `told` and `PROGRAM` are for tests alone.
 #![tactic(auto)]
 
 #[cfg(test)]
@@ -24,6 +24,7 @@ mod cuts;
 #[cfg(test)]
 mod files;
 mod outcome;
+mod program;
 #[cfg(test)]
 mod programs;
 #[cfg(test)]
@@ -32,3 +33,4 @@ mod refusals;
 mod runs;
 
 pub use outcome::{Answer, has_line, told};
+pub use program::PROGRAM;

@@ -1,7 +1,8 @@
 //! Programs from bytes: their limits, their reports, and upgrades.
 
-use crate::files::{PROGRAM, changed};
+use crate::files::changed;
 use crate::outcome::told;
+use crate::program::PROGRAM;
 use cli_code::{run_code, upgrade_code, verify_code};
 use signals::{Counted, CutWriter};
 use std::alloc::{AllocError, Global};

@@ -1,7 +1,8 @@
 //! Each refusal of a file, with its line: B1 to B6, and F1 to F16.
 
-use crate::files::{ANTECEDENT, CONSEQUENT, PROGRAM, SAMPLE, SIGNALS, changed, repeated, replaced};
+use crate::files::{ANTECEDENT, CONSEQUENT, SAMPLE, SIGNALS, changed, repeated, replaced};
 use crate::outcome::has_line;
+use crate::program::PROGRAM;
 use crate::programs::line_of;
 use outcomes::Fault;
 use std::alloc::Global;

@@ -1,7 +1,7 @@
 //! Runs that are refused, each with its line.
 
-use crate::files::PROGRAM;
 use crate::outcome::told;
+use crate::program::PROGRAM;
 use crate::programs::DUMP;
 use cli_code::run_code;
 use signals::{Counted, CutWriter};
