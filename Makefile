@@ -43,7 +43,7 @@ test:
 	@scripts/gate
 
 test-all:
-	rt ci
+	@scripts/gate all
 
 edits:
 	@test -n '$(NAME)' || { echo 'make edits NAME=crate'; exit 2; }

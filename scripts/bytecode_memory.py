@@ -43,7 +43,7 @@ def asked(program, folder, file):
         written = ran.stdout + ran.stderr
         sys.exit(f"status {ran.returncode}, another answer to {file.hex()}: {written}")
     with open(f"{folder}/counts") as counts:
-        return [int(word) for word in counts.read().split()]
+        return [int(word) for word in counts.read().split()[:2]]
 
 
 def compare_declared(program, folder):

@@ -1,7 +1,7 @@
 /*
  * Refuses the allocation whose number is in FAIL_ALLOC, and all after it where FAIL_ALLOC_ON is
  * set. Where COUNT_ALLOC names a file, writes into it how many bytes the largest request wanted,
- * and how many all of them did, as the program ends.
+ * how many all of them did, and how many requests there were, as the program ends.
  */
 #define _GNU_SOURCE
 #include <dlfcn.h>
@@ -46,11 +46,11 @@ void *realloc(void *old, size_t size)
 __attribute__((destructor)) static void write_counts(void)
 {
 	const char *path = getenv("COUNT_ALLOC");
-	const size_t seen[] = { largest, total };
+	const size_t seen[] = { largest, total, (size_t)count };
 	FILE *file = path ? fopen(path, "w") : NULL;
 
 	if (file) {
-		fprintf(file, "%zu %zu\n", seen[0], seen[1]);
+		fprintf(file, "%zu %zu %zu\n", seen[0], seen[1], seen[2]);
 		fclose(file);
 	}
 }

@@ -7,7 +7,8 @@ the signals' values. Its answer in stdout is the line `case NAME`, for each cloc
 `ticks T (START VERDICT CLOCK) ..` of the ticks spent and what was decided, in the order of the
 starts, and a line `open START ..` of the attempts that are live behind the last clock.
 
-Named cases come first, most of them with answers that were worked out by hand; then random ones.
+Named cases come first, most of them with answers that were worked out by hand; then random ones,
+and those files that are accepted of all with one byte of the smallest made another.
 """
 import collections
 import itertools
@@ -15,18 +16,21 @@ import os
 import random
 import sys
 
+import bytecode_cases
 from machine_makers import (
     accepting, always, columns, monitor, over_bits, placed, size_of, some_first_program,
     some_program, some_rows, step)
 from machine_model import COMPARES, JOINS, PURE, REDUCES, SHIFTS, answer_of, case_of, most, run
 from verifier_cases import SMALL, changed, pooled
-from verifier_model import MOST, encode, verdict
+from verifier_model import MOST, decode, encode, verdict
 
 ACCEPT, STOP, FIRST = ("Accept",), ("Stop",), ("AcceptFirst",)
 WIDTHS = (1, 64, 127, 128)
 RANDOM, CLOCKS, LARGEST = 400, 20, 40
 # How many random programs of version 2.
 RANDOM_FIRST = 150
+# How many rows each file with a byte of the smallest made another runs over.
+SWEPT_ROWS = 100
 
 
 def named(name, program, rows, decided=None, ticks=None, still=""):
@@ -402,6 +406,27 @@ def small_first_cases():
             made += 1
 
 
+def swept_files():
+    """The smallest file with each byte made 0, 255 and one more, by name."""
+    whole = bytecode_cases.SMALL
+    for at, byte in enumerate(whole):
+        for other in sorted({0, 255, (byte + 1) % 256} - {byte}):
+            yield f"byte_{at}_is_{other}", whole[:at] + bytes([other]) + whole[at + 1:]
+
+
+def swept_cases():
+    """Those of them that are accepted, none of which may spend more than its budget."""
+    rng = random.Random(3)
+    for name, file in swept_files():
+        if bytecode_cases.answer(file) != "program":
+            continue
+        program = decode(file)
+        if verdict(program).startswith("accepted"):
+            rows = some_rows(rng, program, SWEPT_ROWS)
+            assert all(spent <= program.budget for spent, _ in run(program, rows)[0])
+            yield name, program, rows, (None, None, None)
+
+
 def fixed_cases():
     yield from itertools.chain(worked_cases(), long_cases(), disabled_cases(), block_cases())
     yield from itertools.chain(sample_cases(), history_cases(), counter_cases(), edge_cases())
@@ -451,7 +476,7 @@ def check_spread(answers, machines):
 def write(folder):
     os.makedirs(folder, exist_ok=True)
     lines, answers, machines = [], [], []
-    firsts = itertools.chain(fixed_cases(), small_random_cases())
+    firsts = itertools.chain(fixed_cases(), small_random_cases(), swept_cases())
     seconds = itertools.chain(first_cases(), small_first_cases())
     for case, version in [*((it, 1) for it in firsts), *((it, 2) for it in seconds)]:
         asked, answer, machine = answered(case, version)

@@ -541,6 +541,15 @@ def all_cases():
     yield from random_cases(rng)
 
 
+def swept_cases():
+    """Those programs that the smallest file spells with a byte made 0, 255 or one more."""
+    whole = bytecode_cases.SMALL
+    for file in bytecode_cases.swept(whole):
+        is_other = len(file) == len(whole) and file != whole
+        if is_other and bytecode_cases.answer(file) == "program":
+            yield decode(file)
+
+
 def first_rows():
     """Programs with AcceptFirst, each with the answer that was worked out by hand."""
     one, two = changed(SMALL, antecedent=accepting(FIRST)), changed(SMALL, consequent=accepting(FIRST))
@@ -700,10 +709,11 @@ def write(folder):
         assert answer_to(program, faults_of(program)) == answer, answer
         lines.append(encode(program, 1).hex())
         answers.append(answer)
+    swept_lines, swept_answers, _ = judged(swept_cases(), 1)
     later_lines, later_answers, seen = judged(later_cases(), 2)
     check_later_spread(seen, later_answers)
-    lines += later_lines
-    answers += later_answers
+    lines += swept_lines + later_lines
+    answers += swept_answers + later_answers
     for name, written in (("data/cases.txt", lines), ("stdout", answers)):
         with open(f"{folder}/{name}", "w") as file:
             file.writelines(f"{it}\n" for it in written)

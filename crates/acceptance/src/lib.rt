@@ -1,10 +1,11 @@
-//! Tests of `cli`: devices that fail, programs that are run, words, and the lines of faults that no
-//! small text or dump brings. What reports say of dumps and texts is a table, that of
-//! `oracle_reports`; what is compiled is tried in `compiled_trials`.
+//! Tests of `cli`: devices that fail, words, and the lines of faults that no small text or dump
+//! brings. What reports say of dumps and texts is a table, that of `oracle_reports`; files of
+//! bytecode are tried in `foreign_trials`, and what is compiled in `compiled_trials`.
 //!
 //! They stand above `cli`, so that the gate proves that crate once, and not once more beside its
 //! tests. A test is proved, too, and one that holds a value of many variants over a `?` is dear: it
-//! holds lines, counts and bytes in place of those, which `told` makes of an answer.
+//! holds lines, counts and bytes in place of those, which `told` of `foreign_trials` makes of an
+//! answer.
 //!
 //! ```text
 //! let answer = told(rt.alloc(), check_one(rt.alloc(), &mut dump, text, 1024, &mut out))?;
@@ -15,15 +16,10 @@
 //! `cli` cite stand there, in `specs/`: what a report says of a dump and a text, in
 //! `specs/Reported.antt`.
 //!
-//! Not promised: that each report that matters occurs here; `told` is for tests alone.
+//! Not promised: that each report that matters occurs here; this crate has no public functions.
 #![tactic(auto)]
 
-mod outcome;
-#[cfg(test)]
-mod programs;
 #[cfg(test)]
 mod reports;
 #[cfg(test)]
 mod words;
-
-pub use outcome::{Answer, told};

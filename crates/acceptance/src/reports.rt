@@ -1,9 +1,11 @@
 //! Devices that fail, the size of a window, and the lines of those faults that no small dump or
 //! text brings. What reports say of dumps and texts is the table of `oracle_reports`.
 
-use crate::outcome::{Answer, told};
+use axi4_rules::PortFault;
 use cli::{Fault, WordsFault, check_one, judge_one, status};
 use cycle_window::WindowFault;
+use dump_trials::SlowWriter;
+use foreign_trials::{Answer, has_line, told};
 use parser::ParseFault;
 use signals::{Counted, CutReader, CutWriter, Sink, Source};
 use std::alloc::{AllocError, Global};
@@ -96,21 +98,69 @@ fn sizes_of_windows(rt: HostRuntime) -> Result<(), Fail> {
     Ok(())
 }
 
-/// A run into a device that takes so many bytes.
-fn run_into(alloc: Global, room: usize) -> Result<Outcome, AllocError> {
+/// What `check` tells of the dump and the text, written to a device.
+fn check_into<W: Sink>(alloc: Global, out: &mut W) -> Result<Answer, AllocError> {
     let mut source = Counted::new(DUMP.as_bytes());
-    let mut out = Counted::new(CutWriter::new(alloc, room)?);
-    let told = told(alloc, check_one(alloc, &mut source, TEXT, 7, &mut out))?;
-    Outcome::of(alloc, told, out.inner.as_slice(), out.failed_calls())
+    told(alloc, check_one(alloc, &mut source, TEXT, 7, out))
+}
+
+/// What `judge` tells of them.
+fn judge_into<W: Sink>(alloc: Global, out: &mut W) -> Result<Answer, AllocError> {
+    let mut source = Counted::new(DUMP.as_bytes());
+    told(alloc, judge_one(alloc, &mut source, TEXT, out))
+}
+
+/// Whether it is refused for the device, which has the beginning of the report.
+fn is_cut(answer: &Answer, written: &[u8], end: usize) -> bool {
+    let front = REPORT.get(..end).unwrap_or(REPORT);
+    answer.is("svamon: G1 Write", 4) && written == front
 }
 
 #[test]
 fn cut_reports(rt: HostRuntime) -> Result<(), Fail> {
-    for room in 0..REPORT.len() {
-        let outcome = run_into(rt.alloc(), room)?;
-        let is_refused = outcome.is_refused("svamon: G1 Write", 4, room);
-        assert!(rt; is_refused && outcome.failed == 1, "cut at {room}");
+    let alloc = rt.alloc();
+    for end in 0..REPORT.len() {
+        let mut out = Counted::new(CutWriter::new(alloc, end)?);
+        let answer = check_into(alloc, &mut out)?;
+        assert!(rt;
+            is_cut(&answer, out.inner.as_slice(), end),
+            "checked up to {end}"
+        );
+        assert!(rt; out.failed_calls() == 1, "checked up to {end}");
+        let mut out = Counted::new(CutWriter::new(alloc, end)?);
+        let answer = judge_into(alloc, &mut out)?;
+        assert!(rt;
+            is_cut(&answer, out.inner.as_slice(), end),
+            "judged up to {end}"
+        );
     }
+    Ok(())
+}
+
+/// The same on a device that keeps bytes back until it is flushed.
+#[test]
+fn cut_flushes(rt: HostRuntime) -> Result<(), Fail> {
+    let alloc = rt.alloc();
+    for end in 0..REPORT.len() {
+        let mut out = Counted::new(SlowWriter::new(alloc, end));
+        let answer = check_into(alloc, &mut out)?;
+        assert!(rt;
+            is_cut(&answer, out.inner.as_slice(), end),
+            "checked up to {end}"
+        );
+        let mut out = Counted::new(SlowWriter::new(alloc, end));
+        let answer = judge_into(alloc, &mut out)?;
+        assert!(rt;
+            is_cut(&answer, out.inner.as_slice(), end),
+            "judged up to {end}"
+        );
+    }
+    let mut out = Counted::new(SlowWriter::new(alloc, REPORT.len()));
+    let answer = check_into(alloc, &mut out)?;
+    assert!(rt; answer.totals == Some(TOTALS) && out.inner.as_slice() == REPORT);
+    let mut out = Counted::new(SlowWriter::new(alloc, REPORT.len()));
+    let answer = judge_into(alloc, &mut out)?;
+    assert!(rt; answer.totals == Some(TOTALS) && out.inner.as_slice() == REPORT);
     Ok(())
 }
 
@@ -145,11 +195,6 @@ fn short_dumps(rt: HostRuntime) -> Result<(), Fail> {
     Ok(())
 }
 
-/// Whether a fault has this line and this status.
-pub fn has_line(alloc: Global, fault: Fault, line: &str, number: u8) -> Result<bool, AllocError> {
-    Ok(told(alloc, Err(fault))?.is(line, number))
-}
-
 #[test]
 fn lines_of_memory(rt: HostRuntime) -> Result<(), Fail> {
     let alloc = rt.alloc();
@@ -177,5 +222,37 @@ fn lines_of_names(rt: HostRuntime) -> Result<(), Fail> {
     assert!(rt; has_line(alloc, signal, "svamon: C4 NoSignal top.a", 2)?);
     let width = Fault::Window(WindowFault::SignalWidth(String::from_str(alloc, "top.a")?));
     assert!(rt; has_line(alloc, width, "svamon: C5 SignalWidth top.a", 2)?);
+    Ok(())
+}
+
+/// The lines of the faults of a port file.
+#[test]
+fn lines_of_ports(rt: HostRuntime) -> Result<(), Fail> {
+    let alloc = rt.alloc();
+    assert!(rt;
+        has_line(
+            alloc,
+            Fault::Port(PortFault::BadWidth),
+            "svamon: X1 BadWidth",
+            2
+        )?
+    );
+    assert!(rt; has_line(alloc, Fault::Port(PortFault::BadId), "svamon: X2 BadId", 2)?);
+    assert!(rt;
+        has_line(
+            alloc,
+            Fault::Port(PortFault::BadName),
+            "svamon: X3 BadName",
+            2
+        )?
+    );
+    assert!(rt;
+        has_line(
+            alloc,
+            Fault::Port(PortFault::BadLine(3)),
+            "svamon: X4 BadLine 3",
+            2
+        )?
+    );
     Ok(())
 }

@@ -42,6 +42,7 @@ fn line_of(alloc: Global, request: &Request) -> Result<String, AllocError> {
             workers,
             window,
         } => format!(in alloc; "run {vcd} {code} {workers} {window}"),
+        Request::Upgrade { code, out } => format!(in alloc; "upgrade {code} {out}"),
     }
 }
 
@@ -90,6 +91,7 @@ fn words_are_read(rt: HostRuntime) -> Result<(), Fail> {
             "svamon run --code a.svm --vcd a.vcd",
             "run a.vcd a.svm 4 1024",
         ),
+        ("svamon upgrade a.svm --out b.svm", "upgrade a.svm b.svm"),
         ("svamon check --vcd a --sva b --window 0", "refused 2 true"),
         ("svamon check --vcd a --sva b --workers 0", "refused 2 true"),
         ("svamon run --vcd a --code b --workers 65", "refused 2 true"),
@@ -97,6 +99,7 @@ fn words_are_read(rt: HostRuntime) -> Result<(), Fail> {
         ("svamon chek", "refused 2 true"),
         ("svamon --help", "refused 2 true"),
         ("svamon verify", "refused 2 true"),
+        ("svamon upgrade a.svm", "refused 2 true"),
         ("svamon run --vcd a.vcd", "refused 2 true"),
         ("svamon verify a.svm b.svm", "refused 2 true"),
     ] {

@@ -1,8 +1,8 @@
 //! Compiled assertions: refusals at their borders, and programs that are built and run.
 
-use acceptance::told;
 use cli::{NoGate, build_one, check_all, check_one};
 use cli_code::run_code;
+use foreign_trials::told;
 use program_files::decode;
 use signals::{Counted, CutWriter};
 use std::alloc::{AllocError, Global};
@@ -333,14 +333,24 @@ fn pools(alloc: Global, bytes: &[u8]) -> Option<(u16, u16)> {
     }
 }
 
-/// A first match takes no other pools, and both are written in version 2.
+/// A first match takes no other pools than what it stands for; all are written in version 2.
 #[test]
-fn first_match_is_built(rt: HostRuntime) -> Result<(), Fail> {
-    for property in ["first_match(x[*1:3] ##1 y) |-> x", "x[*1:3] ##1 y |-> x"] {
+fn limits_of_compiled_assertions(rt: HostRuntime) -> Result<(), Fail> {
+    for (property, wanted) in [
+        ("x |-> ##[1:3] y", (4, 4)),
+        ("(x[*1:3] ##1 y) |-> v[0]", (4, 1)),
+        ("first_match(x[*1:3] ##1 y) |-> v[0]", (4, 1)),
+    ] {
         let text = assertion(&rt, "r", property)?;
         let built = build(&rt, text.as_str(), "r")?;
-        assert!(rt; pools(rt.alloc(), built.bytes.as_slice()) == Some((4, 1)));
-        assert!(rt; built.bytes.as_slice().get(4).copied() == Some(2));
+        assert!(rt;
+            pools(rt.alloc(), built.bytes.as_slice()) == Some(wanted),
+            "{property}"
+        );
+        assert!(rt;
+            built.bytes.as_slice().get(4).copied() == Some(2),
+            "{property}"
+        );
     }
     Ok(())
 }
@@ -369,5 +379,18 @@ fn build_then_run(rt: HostRuntime) -> Result<(), Fail> {
     assert!(rt; report_run(&rt, made.bytes.as_slice())?.as_str() == REPORT);
     let none = build(&rt, text, "s\nt")?;
     assert!(rt; none.bytes.is_empty() && none.line.as_str() == "svamon: N1 NoAssertion s\\nt");
+    Ok(())
+}
+
+/// What is built, with room for one attempt less than it may have.
+#[test]
+fn one_attempt_too_few(rt: HostRuntime) -> Result<(), Fail> {
+    let text = assertion(&rt, "r", "x |-> ##[1:3] y")?;
+    let mut made = build(&rt, text.as_str(), "r")?;
+    if let Some(attempts) = made.bytes.get_mut(10) {
+        *attempts = 3;
+    }
+    let line = report_run(&rt, made.bytes.as_slice())?;
+    assert!(rt; line.as_str() == "svamon: F13 PoolTooSmall attempts 4");
     Ok(())
 }

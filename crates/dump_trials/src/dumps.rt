@@ -138,11 +138,28 @@ const FRONT: &str = "$timescale 1ns $end\n$scope module top $end\n$var wire 1 ! 
 /// A device that fails after so many bytes.
 #[test]
 fn failed_reads(rt: HostRuntime) -> Result<(), Fail> {
-    for good in [0, 1, 100, FRONT.len()] {
+    for good in 0..FRONT.len() + 1 {
         let mut source = Counted::new(CutReader::new(FRONT.as_bytes(), good));
         let fault = fault_from(rt.alloc(), &mut source);
         assert!(rt; fault == Some(VcdFault::Read), "{good}");
         assert!(rt; source.failed_calls() == 1, "{good}");
+    }
+    Ok(())
+}
+
+/// A dump whose fourth line lacks a name, which its byte 82 shows.
+const NAMELESS: &str = "$timescale 1ns $end\n$scope module top $end\n$var wire 1 ! clk $end\n\
+    $var reg 8 % $end\n$upscope $end\n$enddefinitions $end\n#0\n0!\n";
+
+/// Where the device fails, that is told, or the fault that already stood before.
+#[test]
+fn failed_reads_of_a_faulty_dump(rt: HostRuntime) -> Result<(), Fail> {
+    for good in 0..NAMELESS.len() + 2 {
+        let mut source = Counted::new(CutReader::new(NAMELESS.as_bytes(), good));
+        let fault = fault_from(rt.alloc(), &mut source);
+        let is_read = good <= NAMELESS.len() && fault == Some(VcdFault::Read);
+        let has_stood = good > 82 && fault == Some(VcdFault::BadToken(4));
+        assert!(rt; is_read || has_stood, "{good}");
     }
     Ok(())
 }

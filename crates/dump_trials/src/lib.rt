@@ -16,7 +16,8 @@
 //! stand in the crates that are tested: of values and devices in `signals`, of dumps in
 //! `vcd_reader`, of ticks in `cycle_window`, of lines in `verdicts`, each in its `specs/`.
 //!
-//! Not promised: that each fault of a dump occurs here; this crate has no public functions.
+//! Not promised: that each fault of a dump occurs here; `SlowWriter`, which keeps bytes back until
+//! it is flushed, is for tests alone.
 #![tactic(auto)]
 
 #[cfg(test)]
@@ -25,3 +26,6 @@ mod devices;
 mod dumps;
 #[cfg(test)]
 mod reports;
+mod slow_writer;
+
+pub use slow_writer::SlowWriter;

@@ -1,9 +1,8 @@
 //! The bytes of a report, and devices that fail on the way or keep bytes back.
 
+use crate::slow_writer::SlowWriter;
 use signals::{Counted, CutWriter, Sink, Verdict};
 use std::alloc::{AllocError, Global};
-use std::io;
-use std::io::Write;
 use std::test::Fail;
 use verdicts::{Counts, Failure, Line, Report, ReportFault, write_report};
 
@@ -61,36 +60,26 @@ fn cut_reports(rt: HostRuntime) -> Result<(), Fail> {
     Ok(())
 }
 
-/// Keeps the bytes back until it is flushed.
-#[derive(Drop)]
-struct SlowWriter {
-    kept: Vec<u8>,
-    written: Vec<u8>,
-}
-
-impl Write for SlowWriter {
-    fn write(&mut self, buf: &[u8]) -> io::Result<usize> {
-        self.kept.extend_from_slice(buf)?;
-        Ok(buf.len())
-    }
-
-    fn flush(&mut self) -> io::Result<()> {
-        self.written.extend_from_slice(&self.kept)?;
-        self.kept.clear();
-        Ok(())
-    }
-}
-
 /// The whole report is on a device that hands on what it took only once it is flushed.
 #[test]
 fn report_is_flushed(rt: HostRuntime) -> Result<(), Fail> {
     let report = report(rt.alloc())?;
-    let mut out = Counted::new(SlowWriter {
-        kept: Vec::new(rt.alloc()),
-        written: Vec::new(rt.alloc()),
-    });
+    for room in 0..TEXT.len() {
+        let mut out = Counted::new(SlowWriter::new(rt.alloc(), room));
+        let written = write_report(rt.alloc(), &report, &mut out);
+        assert!(rt;
+            matches!(written, Err(ReportFault::Write)),
+            "flushed up to {room}"
+        );
+        assert!(rt;
+            out.inner.as_slice() == &TEXT[..room],
+            "flushed up to {room}"
+        );
+        assert!(rt; out.failed_calls() == 1, "flushed up to {room}");
+    }
+    let mut out = Counted::new(SlowWriter::new(rt.alloc(), TEXT.len()));
     assert!(rt; write_report(rt.alloc(), &report, &mut out).is_ok());
-    assert!(rt; out.inner.written.as_slice() == TEXT);
+    assert!(rt; out.inner.as_slice() == TEXT);
     assert!(rt; out.failed_calls() == 0);
     Ok(())
 }

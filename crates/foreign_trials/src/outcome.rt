@@ -1,7 +1,7 @@
-//! What answers of `cli` tell. The one place that lets go of a fault, a value of many variants: a
-//! function that held one over a `?` would write out its drop on each path.
+//! What answers of `cli` and `cli_code` tell. The one place that lets go of a fault, a value of
+//! many variants: a function that held one over a `?` would write out its drop on each path.
 
-use cli::{Fault, fault_line, status};
+use outcomes::{Fault, fault_line, status};
 use std::alloc::{AllocError, Global};
 
 /// What an answer tells: its counts or the line of its fault, and its status.
@@ -39,4 +39,9 @@ pub fn told(alloc: Global, answer: Result<[u64; 5], Fault>) -> Result<Answer, Al
         line,
         status,
     })
+}
+
+/// Whether a fault has this line and this status.
+pub fn has_line(alloc: Global, fault: Fault, line: &str, number: u8) -> Result<bool, AllocError> {
+    Ok(told(alloc, Err(fault))?.is(line, number))
 }
