@@ -122,7 +122,7 @@ fn visited(section: &Section, set: u128, atoms: &[bool]) -> (u128, bool) {
                             entered |= 1 << next;
                         }
                     }
-                    BlockInstr::Accept => accepted = true,
+                    BlockInstr::Accept | BlockInstr::AcceptFirst => accepted = true,
                     BlockInstr::Stop => over = block.len(),
                 }
             }
