@@ -21,7 +21,7 @@ help:
 	@echo 'make demo             shows the reports on examples/ within three minutes; unproved and slow: make install proves'
 	@echo 'make try VCD= SVA=    the same for a small dump and a text of your own'
 	@echo 'make install PREFIX=  proves and builds svamon, and puts it into PREFIX/bin (PREFIX is $(PREFIX))'
-	@echo 'make test             the gate: proves all from nothing, and runs tests, programs, and the edits of what changed'
+	@echo 'make test             the gate: proves all from nothing, and runs tests, programs, and the edits of what changed; then tries the built programs from outside'
 	@echo 'make test-all         the gate with all edits'
 	@echo 'make edits NAME=      tries the must-fail edits of a crate, and writes its stamp'
 	@echo 'make bench            times reading against the plain C baseline, on dumps of 50 and 200 MB made from DUMP (clock CLOCK), and on odd shapes; reading and checking texts; bytecode; verifying; judging; checking by programs; the machine against a plain C one; and what several workers gain'
