@@ -91,7 +91,7 @@ def rules(symbol):
                 for disable in ([], ['disable', 'iff', '(', n('expr', less(inner)), ')'])]
     if name == 'prop':
         brackets = [['(', n('prop', inner), ')']] if deep else []
-        first = [['first_match', '(', n('seq', inner), ')', arrow, n('seq')] for arrow in ('|->', '|=>')] if deep else []
+        first = [['first_match', '(', n('seq', inner), ')', arrow, n('seq')] for arrow in ('|->', '|=>')] if deep else [['first_match', 'NEVER']]
         return brackets + first + [[n('seq')], [n('seq'), '|->', n('seq')], [n('seq'), '|=>', n('seq')]]
     if name == 'seq':
         return [[n('and_seq')], [n('seq'), 'or', n('and_seq')]]
