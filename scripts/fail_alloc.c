@@ -54,3 +54,13 @@ __attribute__((destructor)) static void write_counts(void)
 		fclose(file);
 	}
 }
+
+/* A program that ends so runs no destructor. */
+__attribute__((noreturn)) void _exit(int status)
+{
+	void (*next)(int) = (void (*)(int))dlsym(RTLD_NEXT, "_exit");
+
+	write_counts();
+	next(status);
+	__builtin_unreachable();
+}
