@@ -22,7 +22,8 @@ use Rattle.text_names.specs.Columns.{clause_signals, item_signals, file_signals,
 use Rattle.types_suites.specs.Texts.{label_text, declarations_of, counters_of, assertions_of, clock_of}
 use Rattle.types_suites.specs.Readings.{AllRead}
 use Rattle.types_suites.specs.Suites.{AreSignals, IsCondition, IsRule, IsCounter, AreCounters, ReadsAntecedent}
-use Rattle.types_suites.specs.Suites.{ReadsConsequent, IsDisabling, IsDisablingPlace, IsUsedPlace, IsAssertion}
+use Rattle.types_suites.specs.Suites.{ReadsConsequent, IsDisabling, IsDisabledBy, IsDisablingPlace, IsUsedPlace}
+use Rattle.types_suites.specs.Suites.{IsAssertion}
 use Rattle.types_suites.specs.Suites.{AreAssertions, IsSuite, first_by}
 use Rattle.types_laws.proofs.MovedTrees.{moved_option, moved_tree, moved_sequence, moved_property, moved_condition}
 use Rattle.types_laws.proofs.MovedTrees.{moved_rule, moved_counter, moved_assertion, moved_item}
@@ -165,6 +166,13 @@ module _ (lies : ℕ → ℕ × ℕ) where
         place-moved None p h = h
         place-moved (Some t) p h = atom-moved lies s cs bs t (Listed p) h
 
+        disabled-moved : (o : Option Tree) (off : Option ℕ) → IsDisabledBy s cs bs o off →
+            IsDisabledBy s cs bs (moved_condition lies o) off
+        disabled-moved None None h = h
+        disabled-moved None (Some p) h = h
+        disabled-moved (Some t) None h = h
+        disabled-moved (Some t) (Some p) h = atom-moved lies s cs bs t (Listed p) h
+
         used-moved : (o : Option Tree) (v w : Written Boolean) (p : ℕ) →
             IsUsedPlace s cs bs o v w p → IsUsedPlace s cs bs (moved_condition lies o) v w p
         used-moved o v w p (inl u) = inl u
@@ -185,6 +193,9 @@ module _ (lies : ℕ → ℕ × ℕ) where
           disabling = disabling-moved m.booleans.items a.disable m.disabling h.disabling;
           used = λ p i.
               used-moved a.disable h.antecedent_meant.meant h.consequent_meant.meant p (h.used p i);
+          off = h.off;
+          disabled = disabled-moved a.disable h.off h.disabled;
+          list = h.list;
         }
 
         assertions-moved : (bodies : List (Draft Boolean)) (n : ℕ) (items : List ItemForm) (ms : List Assertion)

@@ -4,6 +4,7 @@ pub mod CyclicLaws
 pub mod AlikeLaws
 pub mod ConstantLaws
 pub mod UsedLaws
+pub mod TrimLaws
 pub mod SameLaws
 pub mod EntryLaws
 pub mod SpellLaws

@@ -2,8 +2,10 @@
 use Rattle.std.proofs.Common.{◌≡◌, ◌⊎◌, inl, inr, ℕ, ◌+◌, ◌-◌, ◌≤◌, ◌++◌, ◌||◌, List, [], ◌∷◌, length, Bool, nat_le}
 use Rattle.std.proofs.Common.{◌*◌, refl, sym, ap, ◌∙◌, subst, arith, Result, Ok, Err}
 use Rattle.std.specs.Prelude.{Box, IfOk}
+use Rattle.std.specs.List.{flat_map}
 use Rattle.std.specs.declared.alloc.Global.{Global}
-use Rattle.std.proofs.lemmas.List.{append_assoc, length-append}
+use Rattle.std.proofs.lemmas.List.{append_assoc, append-nil, length-append}
+use Rattle.std.proofs.lemmas.Grind.{flat_map-append}
 use Rattle.expressions.specs.declared.expr.Expr.{Expr}
 use Rattle.assertions.specs.declared.sequence.Boolean.{Boolean}
 use Rattle.assertions.specs.declared.sequence.Boolean.TheVariants.{One, Listed}
@@ -17,6 +19,7 @@ use Rattle.assertions.specs.Listed.{EachBoolean, IsUsed, IsListed}
 use Rattle.types_sequences.specs.Drafts.{IsIn}
 use Rattle.types_sequences.specs.Placed.{atom_true, IsPlaced, IsPlacedBoolean, Extends, Adds, AllListed}
 use Rattle.types_sequences.specs.Placed.{ArePlaced}
+use Rattle.types_sequences.specs.Leaves.{leaves, place_in, places_of, is_one, form_of}
 use Rattle.types_sequences.proofs.InLaws.{in_last}
 use Rattle.types_sequences.proofs.UsedLaws.{each_listed}
 use Rattle.types_sequences.proofs.AlikeLaws.{alike_one, alike_one_of, alike_after, alike_later, alike_times}
@@ -111,6 +114,22 @@ of_two before between after v w f g p h =
       | inr u ↦ inr (inr u)
     ]
 
+-- the list behind a boolean, and behind two parts
+pub list_pushed : (before after : List ℕ) (place : ℕ) (b : Boolean) → b ≡ Listed place →
+    after ≡ before ++ place ∷ [] → after ≡ before ++ places_of (boolean b)
+list_pushed before after place b is pushed = pushed ∙ ap (λ (c : Boolean). before ++ places_of (boolean c)) (sym is)
+
+pub list_same : (before : List ℕ) (b : Boolean) → b ≡ One → before ≡ before ++ places_of (boolean b)
+list_same before b is =
+    sym (append-nil before) ∙ ap (λ (c : Boolean). before ++ places_of (boolean c)) (sym is)
+
+list_two : (before between after : List ℕ) (xs ys : List Boolean) → between ≡ before ++ flat_map place_in xs →
+    after ≡ between ++ flat_map place_in ys → after ≡ before ++ flat_map place_in (xs ++ ys)
+list_two before between after xs ys f g =
+    g ∙ ap (λ (ps : List ℕ). ps ++ flat_map place_in ys) f
+    ∙ append_assoc before (flat_map place_in xs) (flat_map place_in ys)
+    ∙ ap (λ (ps : List ℕ). before ++ ps) (sym (flat_map-append place_in xs ys))
+
 -- what is placed of a sequence, from its parts
 extends_two : (before between after : List ℕ) → Extends before between → Extends between after
     → Extends before after
@@ -131,6 +150,8 @@ module _ (before after : List ℕ) where
         ordered = λ o. (o.0, y.ordered o.1);
         listed = y.listed;
         own = y.own;
+        list = y.list;
+        form = ap (λ (z : Written Bool). lead least most z) y.form;
       }
 
   pub are_repeat : (w b : Written Boolean) (least most : ℕ) → ArePlaced before after w b
@@ -143,6 +164,8 @@ module _ (before after : List ℕ) where
         ordered = λ o. (o.0, y.ordered o.1);
         listed = y.listed;
         own = y.own;
+        list = y.list;
+        form = ap (λ (z : Written Bool). repeat z least most) y.form;
       }
 
 module _ (before between after : List ℕ) (v w a b : Written Boolean) (x : ArePlaced before between v a)
@@ -162,6 +185,10 @@ module _ (before between after : List ℕ) (v w a b : Written Boolean) (x : AreP
         ordered = λ o. (o.0, x.ordered o.1, y.ordered o.2);
         listed = both_listed;
         own = of_two before between after v w x.own y.own;
+        list = list_two before between after (leaves v) (leaves w) x.list y.list;
+        form =
+            ap (λ (z : Written Bool). delay z least most (form_of b)) x.form
+            ∙ ap (λ (z : Written Bool). delay (form_of v) least most z) y.form;
       }
 
   pub are_or : ArePlaced before after (or v w) (or a b)
@@ -173,6 +200,10 @@ module _ (before between after : List ℕ) (v w a b : Written Boolean) (x : AreP
         ordered = λ o. (x.ordered o.0, y.ordered o.1);
         listed = both_listed;
         own = of_two before between after v w x.own y.own;
+        list = list_two before between after (leaves v) (leaves w) x.list y.list;
+        form =
+            ap (λ (z : Written Bool). or z (form_of b)) x.form
+            ∙ ap (λ (z : Written Bool). or (form_of v) z) y.form;
       }
 
   pub are_and : ArePlaced before after (and v w) (and a b)
@@ -184,6 +215,10 @@ module _ (before between after : List ℕ) (v w a b : Written Boolean) (x : AreP
         ordered = λ o. (x.ordered o.0, y.ordered o.1);
         listed = both_listed;
         own = of_two before between after v w x.own y.own;
+        list = list_two before between after (leaves v) (leaves w) x.list y.list;
+        form =
+            ap (λ (z : Written Bool). and z (form_of b)) x.form
+            ∙ ap (λ (z : Written Bool). and (form_of v) z) y.form;
       }
 
   pub are_intersect : ArePlaced before after (intersect v w) (intersect a b)
@@ -195,12 +230,17 @@ module _ (before between after : List ℕ) (v w a b : Written Boolean) (x : AreP
         ordered = λ o. (x.ordered o.0, y.ordered o.1);
         listed = both_listed;
         own = of_two before between after v w x.own y.own;
+        list = list_two before between after (leaves v) (leaves w) x.list y.list;
+        form =
+            ap (λ (z : Written Bool). intersect z (form_of b)) x.form
+            ∙ ap (λ (z : Written Bool). intersect (form_of v) z) y.form;
       }
 
 pub are_boolean : (before after : List ℕ) (a b : Boolean) → Extends before after
     → ((e : List Expr) (more : List ℕ) → IsPlacedBoolean e (after ++ more) a b) → IsListed (length after) b
-    → Adds (boolean a) before after → ArePlaced before after (boolean a) (boolean b)
-are_boolean before after a b grows placed listed own =
+    → Adds (boolean a) before after → after ≡ before ++ places_of (boolean a) → is_one b ≡ is_one a
+    → ArePlaced before after (boolean a) (boolean b)
+are_boolean before after a b grows placed listed own list form =
     record {
       grows = grows;
       placed = λ e more. placed_one e (after ++ more) a b (placed e more);
@@ -208,13 +248,15 @@ are_boolean before after a b grows placed listed own =
       ordered = λ o. tt;
       listed = listed;
       own = own;
+      list = list;
+      form = ap (λ (z : Bool). boolean z) form;
     }
 
 pub are_throughout : (before between after : List ℕ) (a b : Boolean) (w u : Written Boolean) → Extends before between
     → ((e : List Expr) (more : List ℕ) → IsPlacedBoolean e (between ++ more) a b) → IsListed (length between) b
-    → Adds (boolean a) before between → ArePlaced between after w u
-    → ArePlaced before after (throughout a w) (throughout b u)
-are_throughout before between after a b w u grows placed listed own y =
+    → Adds (boolean a) before between → between ≡ before ++ places_of (boolean a) → is_one b ≡ is_one a
+    → ArePlaced between after w u → ArePlaced before after (throughout a w) (throughout b u)
+are_throughout before between after a b w u grows placed listed own list form y =
     record {
       grows = extends_two before between after grows y.grows;
       placed =
@@ -224,6 +266,10 @@ are_throughout before between after a b w u grows placed listed own y =
       ordered = y.ordered;
       listed = (listed_on between after (boolean b) y.grows listed, y.listed);
       own = of_two before between after (boolean a) w own y.own;
+      list = list_two before between after (a ∷ []) (leaves w) list y.list;
+      form =
+          ap (λ (z : Bool). throughout z (form_of u)) form
+          ∙ ap (λ (z : Written Bool). throughout (is_one a) z) y.form;
     }
 
 -- what is made of a sequence in a box

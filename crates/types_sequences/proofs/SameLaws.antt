@@ -1,5 +1,6 @@
 -- What is made of parts that say the same says the same.
 use Rattle.std.proofs.Common.{◌≡◌, inl, inr, ℕ, ◌+◌, ◌-◌, ◌*◌, ◌≤◌, true, false, refl, arith}
+use Rattle.std.proofs.Common.{sym, ap}
 use Rattle.std.proofs.Math.Nat.{mul-le-mul_left, mul-le-mul}
 use Rattle.assertions.specs.declared.sequence.Boolean.{Boolean}
 use Rattle.assertions.specs.declared.sequence.Boolean.TheVariants.{One}
@@ -8,6 +9,8 @@ use Rattle.assertions.specs.Written.{weight}
 use Rattle.assertions.specs.Written.{after, later, IsOrdered}
 use Rattle.assertions.specs.Emptiness.{admits_empty}
 use Rattle.types_sequences.specs.Entries.{SaysSame}
+use Rattle.types_sequences.specs.Trimmed.{weightless_form}
+use Rattle.types_sequences.proofs.TrimLaws.{replaced}
 use Rattle.types_sequences.proofs.UsedLaws.{used_on}
 use Rattle.types_sequences.proofs.AlikeLaws.{alike_same, alike_one_of, alike_after, alike_later, alike_times}
 use Rattle.types_sequences.proofs.AlikeLaws.{alike_either, alike_both, alike_meet, alike_during}
@@ -19,6 +22,7 @@ says_boolean b = record {
   light = omega arith;
   known = inl refl;
   alike = λ holds. alike_same holds (kernel One (boolean b));
+  trimmed = refl;
 }
 
 pub says_delay : (v w a b : Written Boolean) (least most : ℕ) → least ≤ most → SaysSame v a → SaysSame w b
@@ -36,6 +40,7 @@ says_delay v w a b least most le x y =
           (after One (kernel One a) (kernel One b))
           (alike_after holds holds One One (kernel One v) (kernel One w) (kernel One a) (kernel One b) (λ k. refl)
           (x.alike holds) (y.alike holds));
+      trimmed = inr (a, b, x.trimmed, y.trimmed, refl);
     }
 
 pub says_lead : (w b : Written Boolean) (least most : ℕ) → least ≤ most → SaysSame w b
@@ -48,6 +53,7 @@ says_lead w b least most le y =
       alike =
           λ holds. alike_one_of holds holds least (most - least) (later One (kernel One w)) (later One (kernel One b))
           (alike_later holds holds One One (kernel One w) (kernel One b) (λ k. refl) (y.alike holds));
+      trimmed = inr (b, y.trimmed, refl);
     }
 
 pub says_repeat : (w b : Written Boolean) (least most : ℕ) → least ≤ most → SaysSame w b
@@ -58,6 +64,7 @@ says_repeat w b least most le y =
       light = mul-le-mul_left most y.light;
       known = used_on w (repeat w least most) b (λ c u. u) y.known;
       alike = λ holds. alike_times holds holds (kernel One w) (kernel One b) least most (y.alike holds);
+      trimmed = inr (b, y.trimmed, refl);
     }
 
 pub says_or : (v w a b : Written Boolean) → SaysSame v a → SaysSame w b → SaysSame (or v w) (or a b)
@@ -69,6 +76,7 @@ says_or v w a b x y =
       alike =
           λ holds. alike_either holds holds (kernel One v) (kernel One w) (kernel One a) (kernel One b)
           (x.alike holds) (y.alike holds);
+      trimmed = inr (a, b, x.trimmed, y.trimmed, refl);
     }
 
 lighter_product : (a b c d : ℕ) → a ≤ c → b ≤ d → (a + 1) * (b + 1) ≤ (c + 1) * (d + 1)
@@ -84,6 +92,7 @@ says_and v w a b x y =
       alike =
           λ holds. alike_both holds holds (kernel One v) (kernel One w) (kernel One a) (kernel One b) (x.alike holds)
           (y.alike holds);
+      trimmed = inr (a, b, x.trimmed, y.trimmed, refl);
     }
 
 pub says_intersect : (v w a b : Written Boolean) → SaysSame v a → SaysSame w b → SaysSame (intersect v w)
@@ -96,6 +105,7 @@ says_intersect v w a b x y =
       alike =
           λ holds. alike_meet holds holds (kernel One v) (kernel One w) (kernel One a) (kernel One b) (x.alike holds)
           (y.alike holds);
+      trimmed = inr (a, b, x.trimmed, y.trimmed, refl);
     }
 
 pub says_throughout : (b : Boolean) (v a : Written Boolean) → SaysSame v a → SaysSame (throughout b v) (throughout b a)
@@ -105,6 +115,7 @@ says_throughout b v a x =
       light = x.light;
       known = (inl (inl refl), used_on v (throughout b v) a (λ c u. inr u) x.known);
       alike = λ holds. alike_during holds holds b b (kernel One v) (kernel One a) (λ k. refl) (x.alike holds);
+      trimmed = inr (a, x.trimmed, refl);
     }
 
 pub says_empty : (w : Written Boolean) → IsOrdered w → weight w ≡ 0 → admits_empty w ≡ true
@@ -114,6 +125,7 @@ says_empty w o z e = record {
   light = omega arith;
   known = inr refl;
   alike = λ holds. alike_empty holds w o z e;
+  trimmed = replaced One w (weightless_form One true) z (sym (ap (weightless_form One) e));
 }
 
 pub says_never : (w : Written Boolean) → IsOrdered w → weight w ≡ 0 → admits_empty w ≡ false
@@ -123,4 +135,5 @@ says_never w o z e = record {
   light = omega arith;
   known = (inr refl, inr refl);
   alike = λ holds. alike_never holds w o z e;
+  trimmed = replaced One w (weightless_form One false) z (sym (ap (weightless_form One) e));
 }

@@ -13,6 +13,7 @@ use Rattle.assertions.specs.Listed.{EachBoolean, IsUsed}
 use Rattle.types_sequences.specs.declared.facts.Facts.{Facts}
 use Rattle.types_sequences.specs.declared.entry.Entry.{Entry}
 use Rattle.types_sequences.specs.Drafts.{Draft, IsIn, named_within, Spells, uses_at}
+use Rattle.types_sequences.specs.Trimmed.{IsTrimmed}
 
 -- the bodies of the named sequences, in the order of their declarations
 abbrev pub Bodies : Type 0
@@ -31,12 +32,14 @@ pub record IsFacts (w : Written Boolean) (f : Facts) : Type 0 where
 abbrev pub IsUsedOrOne : Written Boolean → Boolean → Type 0
 IsUsedOrOne w b = IsUsed b w ⊎ (b ≡ One)
 
--- What is written second says the same as the first, by its booleans, and weighs no more.
+-- What is written second says the same as the first, by its booleans, and weighs no more: it is the
+-- first, in which parts that weigh nothing may be replaced.
 pub record SaysSame (w u : Written Boolean) : Type 0 where
   pub ordered : IsOrdered u
   pub light : weight u ≤ weight w
   pub known : EachBoolean (IsUsedOrOne w) u
   pub alike : (holds : Boolean → ℕ → Bool) → Alike holds holds (kernel One w) (kernel One u)
+  pub trimmed : IsTrimmed One w u
 
 -- There is a sequence, and it says the same.
 abbrev pub HasSame : Written Boolean → Option (Box Sequence Global) → Type 0

@@ -3,7 +3,9 @@ pub mod Views
 pub mod Marks
 pub mod Sweeps
 pub mod Cycles
+pub mod Trimmed
 pub mod Entries
-pub mod Placed
 pub mod Outlines
+pub mod Leaves
+pub mod Placed
 pub mod Implications

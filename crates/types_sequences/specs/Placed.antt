@@ -10,6 +10,7 @@ use Rattle.assertions.specs.Shapes.{is_true_at, value_in}
 use Rattle.assertions.specs.Listed.{EachBoolean, IsUsed, IsListed}
 use Rattle.types_sequences.specs.Drafts.{IsIn}
 use Rattle.types_sequences.specs.Entries.{Alike}
+use Rattle.types_sequences.specs.Leaves.{places_of, form_of}
 
 -- whether a boolean that has its place among a suite's expressions is true at a tick
 abbrev pub atom_true : List Expr → Samples → Boolean → ℕ → Bool
@@ -42,7 +43,7 @@ abbrev pub Adds : Written Boolean → List ℕ → List ℕ → Type 0
 Adds w before after = (p : ℕ) → IsIn p after → IsIn p before ⊎ IsUsed (Listed p) w
 
 -- Behind the places that there were, each boolean of the first sequence has one of its own, by
--- which the second says the same, and weighs as much.
+-- which the second says the same, in the same form, and weighs as much.
 pub record ArePlaced (before after : List ℕ) (w u : Written Boolean) : Type 0 where
   pub grows : Extends before after
   pub placed : (booleans : List Expr) (more : List ℕ) → IsPlaced booleans (after ++ more) w u
@@ -50,3 +51,5 @@ pub record ArePlaced (before after : List ℕ) (w u : Written Boolean) : Type 0 
   pub ordered : IsOrdered w → IsOrdered u
   pub listed : AllListed after u
   pub own : Adds w before after
+  pub list : after ≡ before ++ places_of w
+  pub form : form_of u ≡ form_of w

@@ -8,6 +8,7 @@ ghost use Rattle.assertions.specs.Written as written;
 ghost use Rattle.assertions.specs.Written.{weight, IsOrdered};
 ghost use Rattle.types_sequences.specs.Placed.{IsPlaced, IsPlacedBoolean, Extends, AllListed, Adds};
 ghost use Rattle.types_sequences.specs.Placed.{ArePlaced};
+ghost use Rattle.types_sequences.specs.Leaves.{places_of, is_one, form_of};
 
 use crate::make::boxed;
 use assertions::{Boolean, Sequence};
@@ -21,6 +22,9 @@ pub fn place_boolean(boolean: Boolean, places: &mut Vec<usize>) -> Result<Boolea
         → IfOk result (λ b. IsPlacedBoolean booleans (places.new.items ++ more) boolean b) }
     ensures listed { IfOk result (IsListed (length places.new.items)) }
     ensures own { OnOk result (Adds (written.boolean boolean) places.old.items places.new.items) }
+    ensures list { OnOk result (places.new.items
+        ≡ places.old.items ++ places_of (written.boolean boolean)) }
+    ensures form { IfOk result (λ b. is_one b ≡ is_one boolean) }
 {
     match boolean {
         Boolean::One => Ok(Boolean::One),
@@ -82,7 +86,8 @@ fn placed(
     }
 }
 
-/// A sequence in which each boolean has a place of its own in an assertion's list.
+/// A sequence of the same form in which each boolean has a place of its own in an assertion's list:
+/// one more for each that is written, and no other.
 pub fn place_sequence(
     alloc: Global,
     sequence: &Sequence,
@@ -98,6 +103,10 @@ pub fn place_sequence(
         → IsOrdered (written_form b.value)) }
     ensures listed { IfOk result (λ b. AllListed places.new.items (written_form b.value)) }
     ensures own { OnOk result (Adds (written_form sequence.now) places.old.items places.new.items) }
+    ensures list { OnOk result (places.new.items
+        ≡ places.old.items ++ places_of (written_form sequence.now)) }
+    ensures form { IfOk result (λ b. form_of (written_form b.value)
+        ≡ form_of (written_form sequence.now)) }
 {
     placed(alloc, sequence, places)
 }

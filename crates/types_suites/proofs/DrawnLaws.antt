@@ -8,7 +8,8 @@ use Rattle.types_sequences.specs.Drafts.{Draft}
 use Rattle.text_names.specs.Scopes.{Scope}
 use Rattle.types_sequences.specs.Placed.{Extends}
 use Rattle.types_suites.specs.Suites.{ReadsAntecedent, ReadsConsequent}
-use Rattle.types_suites.specs.Drawn.{IsDisabledBy, IsDrawn}
+use Rattle.types_suites.specs.Suites.{IsDisabledBy}
+use Rattle.types_suites.specs.Drawn.{IsDrawn}
 use Rattle.types_suites.specs.declared.drawn.Drawn.{Drawn}
 use Rattle.types_suites.proofs.ReadingLaws.{reads_grows, atom_grows}
 use Rattle.grammar.specs.Trees as trees

@@ -25,9 +25,11 @@ use Rattle.types_sequences.proofs.PlacedLaws.{listed_on}
 use Rattle.text_names.specs.Scopes.{Scope}
 use Rattle.types_suites.specs.declared.resolved.Resolved.{Resolved}
 use Rattle.types_suites.specs.Suites.{IsMeant, IsDisabling, IsDisablingPlace, IsAssertion, AreAssertions}
-use Rattle.types_suites.specs.Drawn.{IsDisabledBy}
+use Rattle.types_suites.specs.Suites.{IsDisabledBy, off_places}
 use Rattle.types_suites.specs.Resolved.{IsResolved, AreResolved}
-use Rattle.types_suites.specs.Made.{IsFitting, IsSide, IsPlacedAt, AreAt}
+use Rattle.types_suites.specs.Made.{IsFitting, IsSide, IsPlacedAt, AreAt, kept_by, kept_of}
+use Rattle.types_sequences.specs.Leaves.{places_of, form_of}
+use Rattle.types_sequences.specs.Trimmed.{IsTrimmed}
 
 -- two things of what a call gives, and what follows from one that isn't of it
 pub ok_both : {X E : Type 0} (P Q : X → Type 0) (r : Result X E) → IfOk r P → IfOk r Q →
@@ -62,16 +64,26 @@ fits_light e x f is =
 pub side_of : (booleans : List Expr) (places more : List ℕ) (e : Entry) (x : Box Sequence Global)
     (w made : Written Boolean) → e.facts.weight ≤ 127 → e.sequence ≡ Some x → IsEntry w e →
     IsPlaced booleans (places ++ more) (written_form x.value) made →
-    AllListed places made → IsSide booleans (places ++ more) w made
-side_of booleans places more e x w made low is h p listed =
+    AllListed places made → form_of made ≡ form_of (written_form x.value) →
+    IsSide booleans (places ++ more) w (kept_of e) made
+side_of booleans places more e x w made low is h p listed form =
     let says = fits_says e x w low h is in
+    let kept : kept_of e ≡ written_form x.value = ap kept_by is in
     record {
       placed = λ t n i j.
           let first = says.alike (sat (atom_true booleans t) n) i j in
           let second = p t n i j in
           (λ m. second.0 (first.0 m), λ m. first.1 (second.1 m));
       listed = listed_on places (places ++ more) made (record { added = more; is = refl }) listed;
+      trimmed = subst (λ (u : Written Boolean). IsTrimmed One w u) (sym kept) says.trimmed;
+      form = form ∙ ap form_of (sym kept);
     }
+
+-- and the list behind it
+pub list_by : (before after : List ℕ) (e : Entry) (x : Box Sequence Global) → e.sequence ≡ Some x →
+    after ≡ before ++ places_of (written_form x.value) → after ≡ before ++ places_of (kept_of e)
+list_by before after e x is h =
+    h ∙ ap (λ (u : Written Boolean). before ++ places_of u) (sym (ap kept_by is))
 
 -- Only its booleans have places.
 meant_too : (w : Written Boolean) (p : ℕ) → IsUsedOrOne w (Listed p) → IsUsed (Listed p) w
@@ -89,20 +101,20 @@ used_by before after e x w low is h f p i =
     ]
 
 -- It stays so behind more places.
-pub side_here : (e : List Expr) (w made : Written Boolean) (first second : List ℕ) →
-    Extends first second → ((more : List ℕ) → IsSide e (first ++ more) w made) →
-    IsSide e second w made
-side_here e w made first second x f =
-    subst (λ (ps : List ℕ). IsSide e ps w made) (sym x.is) (f x.added)
+pub side_here : (e : List Expr) (w kept made : Written Boolean) (first second : List ℕ) →
+    Extends first second → ((more : List ℕ) → IsSide e (first ++ more) w kept made) →
+    IsSide e second w kept made
+side_here e w kept made first second x f =
+    subst (λ (ps : List ℕ). IsSide e ps w kept made) (sym x.is) (f x.added)
 
-pub side_on : (e : List Expr) (w made : Written Boolean) (first second third : List ℕ) →
+pub side_on : (e : List Expr) (w kept made : Written Boolean) (first second third : List ℕ) →
     Extends first second → Extends second third →
-    ((more : List ℕ) → IsSide e (first ++ more) w made) → IsSide e third w made
-side_on e w made first second third x y f =
+    ((more : List ℕ) → IsSide e (first ++ more) w kept made) → IsSide e third w kept made
+side_on e w kept made first second third x y f =
     let is : first ++ (x.added ++ y.added) ≡ third =
     sym (append_assoc first x.added y.added)
     ∙ sym (ap (λ (ps : List ℕ). ps ++ y.added) x.is) ∙ sym y.is in
-    subst (λ (ps : List ℕ). IsSide e ps w made) is (f (x.added ++ y.added))
+    subst (λ (ps : List ℕ). IsSide e ps w kept made) is (f (x.added ++ y.added))
 
 -- A boolean that stands for one at a place, whatever is there, is listed.
 pub listed_too : (places : List ℕ) (place n : ℕ) (b : Boolean) →
@@ -134,6 +146,16 @@ places_used start first second third v w o none f g h p i =
       ]
     ]
 
+-- the list behind both sides and the disabling place, where none was there at first
+pub list_whole : (start first second third : List ℕ) (v w : Written Boolean) (o : Option ℕ) →
+    start ≡ [] → first ≡ start ++ places_of v → second ≡ first ++ places_of w →
+    third ≡ second ++ off_places o → third ≡ places_of v ++ (places_of w ++ off_places o)
+list_whole start first second third v w o none f g h =
+    h ∙ ap (λ (ps : List ℕ). ps ++ off_places o) g
+    ∙ ap (λ (ps : List ℕ). (ps ++ places_of w) ++ off_places o)
+    (f ∙ ap (λ (ps : List ℕ). ps ++ places_of v) none)
+    ∙ append_assoc (places_of v) (places_of w) (off_places o)
+
 module _ (s : Scope) (cs : List (List ℕ)) (e : List Expr) where
   disabling_made : (places : List ℕ) (t : Option Tree) (p : Option ℕ) (b : Option Boolean) → IsDisabledBy s cs e t p
       → IsPlacedAt e places p b → IsDisabling s cs e places t b
@@ -154,9 +176,9 @@ module _ (s : Scope) (cs : List (List ℕ)) (e : List Expr) where
 
   module _ (bodies : List (Draft Boolean)) where
     meant_of : (d : Draft Boolean) (m : Entry) (h : HasEntry bodies d m)
-        (places spots : List ℕ) (w made : Written Boolean) → spots ≡ places → made ≡ w →
-        IsSide e places h.meant w → IsMeant bodies e spots d made
-    meant_of d m h places spots w made list is side =
+        (places spots : List ℕ) (w kept made : Written Boolean) → spots ≡ places → made ≡ w →
+        IsSide e places h.meant kept w → IsMeant bodies e spots d made
+    meant_of d m h places spots w kept made list is side =
         record {
           meant = h.meant;
           spells = h.spells;
@@ -166,20 +188,28 @@ module _ (s : Scope) (cs : List (List ℕ)) (e : List Expr) where
           listed =
               subst (λ (u : Written Boolean). AllListed spots u) (sym is)
               (subst (λ (ps : List ℕ). AllListed ps w) (sym list) side.listed);
+          ordered = h.entry.ordered;
+          kept = kept;
+          trimmed = side.trimmed;
+          form = ap form_of is ∙ side.form;
         }
 
     -- An assertion with these parts is that of the text.
     pub assertion_made : (before : ℕ) (a : trees.AssertionForm) (m : Resolved) (r : IsResolved s cs e bodies before a m)
-        (made : Assertion) (first second : Written Boolean) (b : Option Boolean) (places : List ℕ) →
+        (made : Assertion) (first second before_kept behind_kept : Written Boolean) (b : Option Boolean)
+        (places : List ℕ) →
         string_bytes made.name ≡ string_bytes m.name → made.first ≡ m.first → written_form made.antecedent ≡ first
         → written_form made.consequent ≡ second → made.disabling ≡ b → made.booleans.items ≡ places →
-        IsSide e places r.antecedent_entry.meant first → IsSide e places r.consequent_entry.meant second →
+        IsSide e places r.antecedent_entry.meant before_kept first →
+        IsSide e places r.consequent_entry.meant behind_kept second →
         IsPlacedAt e places m.disabling b →
         ((p : ℕ) → IsIn p places → IsUsed (Listed p) r.antecedent_entry.meant
         ⊎ (IsUsed (Listed p) r.consequent_entry.meant ⊎ (m.disabling ≡ Some p))) →
+        places ≡ places_of before_kept ++ (places_of behind_kept ++ off_places m.disabling) →
         IsAssertion s cs e bodies before a made
     unfolding meant_of
-    assertion_made before a m r made first second b places name led one two off list h g d used =
+    assertion_made before a m r made first second before_kept behind_kept b places name led one two off list h g d used
+        whole =
         let ps = made.booleans.items in
         record {
           antecedent = r.antecedent;
@@ -189,11 +219,11 @@ module _ (s : Scope) (cs : List (List ℕ)) (e : List Expr) where
           reads_antecedent = r.reads_antecedent;
           reads_consequent = r.reads_consequent;
           antecedent_meant =
-              meant_of r.antecedent m.antecedent r.antecedent_entry places ps first (written_form made.antecedent)
-              list one h;
+              meant_of r.antecedent m.antecedent r.antecedent_entry places ps first before_kept
+              (written_form made.antecedent) list one h;
           consequent_meant =
-              meant_of r.consequent m.consequent r.consequent_entry places ps second (written_form made.consequent)
-              list two g;
+              meant_of r.consequent m.consequent r.consequent_entry places ps second behind_kept
+              (written_form made.consequent) list two g;
           disabling = subst (λ (x : Option Boolean). IsDisabling s cs e ps a.disable x) (sym off)
               (subst (λ (qs : List ℕ). IsDisabling s cs e qs a.disable b) (sym list)
               (disabling_made places a.disable m.disabling b r.disabling d));
@@ -205,6 +235,9 @@ module _ (s : Scope) (cs : List (List ℕ)) (e : List Expr) where
                   | inr is ↦ inr (inr (disabling_place a.disable m.disabling p r.disabling is))
                 ]
               ];
+          off = m.disabling;
+          disabled = r.disabling;
+          list = list ∙ whole;
         }
 
     assertion_more : (us : List trees.AssertionForm) (made : List Assertion) (before : ℕ) (a : trees.AssertionForm)

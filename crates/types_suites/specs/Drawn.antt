@@ -1,16 +1,13 @@
 -- What the code keeps of an assertion before it is written out.
 use Rattle.std.specs.Prelude.{◌≡◌, ℕ, List, Option, Some, None, string_bytes}
 use Rattle.grammar.specs.Trees as trees
-use Rattle.grammar.specs.Trees.{Tree, PropertyForm, plain, implication}
+use Rattle.grammar.specs.Trees.{PropertyForm, plain, implication}
 use Rattle.expressions.specs.declared.expr.Expr.{Expr}
-use Rattle.assertions.specs.declared.sequence.Boolean.TheVariants.{Listed}
 use Rattle.types_sequences.specs.Views.{draft_of}
 use Rattle.text_names.specs.Scopes.{Scope}
 use Rattle.types_suites.specs.declared.drawn.Drawn.{Drawn}
-use Rattle.types_suites.specs.Options.{OptionZip}
-use Rattle.types_suites.specs.Readings.{IsAtom}
 use Rattle.types_suites.specs.Texts.{label_text, sequence_byte, led_byte}
-use Rattle.types_suites.specs.Suites.{first_by, ReadsAntecedent, ReadsConsequent}
+use Rattle.types_suites.specs.Suites.{first_by, ReadsAntecedent, ReadsConsequent, IsDisabledBy}
 
 -- where the antecedent begins, if one is written, and the consequent
 abbrev pub antecedent_byte : PropertyForm → Option ℕ
@@ -20,10 +17,6 @@ antecedent_byte (implication word a i c) = Some (led_byte word a)
 abbrev pub consequent_byte : PropertyForm → ℕ
 consequent_byte (plain q) = sequence_byte q
 consequent_byte (implication word a i c) = sequence_byte c
-
--- the place of the disabling expression, if there is one
-abbrev pub IsDisabledBy : Scope → List (List ℕ) → List Expr → Option Tree → Option ℕ → Type 0
-IsDisabledBy s columns booleans = OptionZip (λ t p. IsAtom s columns booleans t (Listed p))
 
 -- The sides of an assertion, before which so many stand, as drafts.
 pub record IsDrawn (s : Scope) (columns : List (List ℕ)) (booleans : List Expr) (before : ℕ)

@@ -1,16 +1,21 @@
 -- Assertions that are made of what is resolved.
-use Rattle.std.specs.Prelude.{◌≡◌, ◌⊎◌, ℕ, ◌≤◌, List, length, Option, Some}
+use Rattle.std.specs.Prelude.{◌≡◌, ◌⊎◌, ℕ, ◌≤◌, List, length, Option, Some, None, Box}
+use Rattle.std.specs.declared.alloc.Global.{Global}
 use Rattle.std.specs.List.{AllByRecursion}
 use Rattle.grammar.specs.Trees as trees
 use Rattle.expressions.specs.declared.expr.Expr.{Expr}
 use Rattle.assertions.specs.declared.sequence.Boolean.{Boolean}
-use Rattle.assertions.specs.declared.sequence.Boolean.TheVariants.{Listed}
-use Rattle.assertions.specs.Written.{Written}
+use Rattle.assertions.specs.declared.sequence.Boolean.TheVariants.{One, Listed}
+use Rattle.assertions.specs.declared.sequence.Sequence.{Sequence}
+use Rattle.assertions.specs.Written.{Written, boolean}
+use Rattle.assertions.specs.Shapes.{written_form}
 use Rattle.assertions.specs.Listed.{IsListedOption}
 use Rattle.types_sequences.specs.declared.entry.Entry.{Entry}
 use Rattle.types_sequences.specs.Drafts.{Draft, IsIn}
 use Rattle.types_sequences.specs.Entries.{IsEntry}
 use Rattle.types_sequences.specs.Placed.{IsPlaced, IsPlacedBoolean, AllListed}
+use Rattle.types_sequences.specs.Leaves.{form_of}
+use Rattle.types_sequences.specs.Trimmed.{IsTrimmed}
 use Rattle.types_suites.specs.declared.resolved.Resolved.{Resolved}
 use Rattle.types_suites.specs.Options.{OptionZip}
 
@@ -44,11 +49,22 @@ pub record SidesFit (m : Resolved) : Type 0 where
 abbrev pub AreFitting : List Resolved → Type 0
 AreFitting = AllByRecursion SidesFit
 
--- A side matches by an assertion's list of places what is meant by the places among the suite's.
-pub record IsSide (booleans : List Expr) (places : List ℕ) (meant made : Written Boolean) :
+-- what is kept of a sequence in its entry, if anything is
+abbrev pub kept_by : Option (Box Sequence Global) → Written Boolean
+kept_by None = boolean One
+kept_by (Some s) = written_form s.value
+
+abbrev pub kept_of : Entry → Written Boolean
+kept_of e = kept_by e.sequence
+
+-- A side matches by an assertion's list of places what is meant by the places among the suite's. It
+-- is what is kept of that, with other places.
+pub record IsSide (booleans : List Expr) (places : List ℕ) (meant kept made : Written Boolean) :
     Type 0 where
   pub placed : IsPlaced booleans places meant made
   pub listed : AllListed places made
+  pub trimmed : IsTrimmed One meant kept
+  pub form : form_of made ≡ form_of kept
 
 -- Each place behind was there before, or it is that of the disabling expression.
 abbrev pub AreAt : Option ℕ → List ℕ → List ℕ → Type 0

@@ -11,8 +11,8 @@ use Rattle.text_names.specs.Scopes.{Scope}
 use Rattle.types_suites.specs.declared.resolved.Resolved.{Resolved}
 use Rattle.types_suites.specs.Readings.{AllRead}
 use Rattle.types_suites.specs.Texts.{declarations_of, label_text}
-use Rattle.types_suites.specs.Suites.{first_by, ReadsAntecedent, ReadsConsequent}
-use Rattle.types_suites.specs.Drawn.{antecedent_byte, consequent_byte, IsDisabledBy}
+use Rattle.types_suites.specs.Suites.{first_by, ReadsAntecedent, ReadsConsequent, IsDisabledBy}
+use Rattle.types_suites.specs.Drawn.{antecedent_byte, consequent_byte}
 
 -- The table has entries of the named sequences of a text.
 pub record HasBodies (s : Scope) (columns : List (List ℕ)) (booleans : List Expr)

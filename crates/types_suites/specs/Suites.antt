@@ -1,5 +1,6 @@
 -- The suite of a text.
-use Rattle.std.specs.Prelude.{◌≡◌, ◌⊎◌, ℕ, Bool, false, List, map, length, Option, Some, None}
+use Rattle.std.specs.Prelude.{◌≡◌, ◌⊎◌, ℕ, Bool, false, List, [], ◌∷◌, ◌++◌, map, length, Option}
+use Rattle.std.specs.Prelude.{Some, None}
 use Rattle.std.specs.Prelude.{string_bytes}
 use Rattle.std.specs.List.{AllZip, enumerate_from}
 use Rattle.grammar.specs.Trees as trees
@@ -14,13 +15,15 @@ use Rattle.assertions.specs.declared.sequence.Boolean.TheVariants.{One, Listed}
 use Rattle.assertions.specs.declared.assertion.Assertion.{Assertion}
 use Rattle.assertions.specs.declared.signal.Signal.{Signal}
 use Rattle.assertions.specs.declared.suite.Suite.{Suite}
-use Rattle.assertions.specs.Written.{Written}
+use Rattle.assertions.specs.Written.{Written, IsOrdered}
 use Rattle.assertions.specs.Shapes.{written_form}
 use Rattle.assertions.specs.Listed.{IsUsed, IsListedOption}
 use Rattle.types_sequences.specs.Drafts as drafts
 use Rattle.types_sequences.specs.Implications.{rewritten_antecedent}
 use Rattle.types_sequences.specs.Drafts.{Draft, Spells, IsIn}
 use Rattle.types_sequences.specs.Placed.{IsPlaced, IsPlacedBoolean, AllListed}
+use Rattle.types_sequences.specs.Leaves.{places_of, form_of}
+use Rattle.types_sequences.specs.Trimmed.{IsTrimmed}
 use Rattle.text_names.specs.Scopes.{Scope, width_in}
 use Rattle.text_names.specs.Columns.{columns_of}
 use Rattle.types_expressions.specs.Meanings.{Means}
@@ -78,13 +81,18 @@ ReadsConsequent s columns booleans (plain q) d = Reads s columns booleans q d
 ReadsConsequent s columns booleans (implication word a i c) d = Reads s columns booleans c d
 
 -- What a side says with the names written out, and that an assertion's sequence matches the same,
--- by booleans of the assertion's list.
+-- by booleans of the assertion's list: it is what is said, in which parts that weigh nothing may be
+-- replaced, with other places for its booleans. In each range the least comes first.
 pub record IsMeant (bodies : List (Draft Boolean)) (booleans : List Expr) (places : List ℕ)
     (d : Draft Boolean) (made : Written Boolean) : Type 0 where
   pub meant : Written Boolean
   pub spells : Spells bodies d meant
   pub placed : IsPlaced booleans places meant made
   pub listed : AllListed places made
+  pub ordered : IsOrdered meant
+  pub kept : Written Boolean
+  pub trimmed : IsTrimmed One meant kept
+  pub form : form_of made ≡ form_of kept
 
 -- The boolean of an assertion's list that an expression is.
 abbrev pub IsListedAtom : Scope → List (List ℕ) → List Expr → List ℕ → Tree → Boolean → Type 0
@@ -95,6 +103,14 @@ IsListedAtom s columns booleans places t b =
 abbrev pub IsDisabling : Scope → List (List ℕ) → List Expr → List ℕ → Option Tree → Option Boolean
     → Type 0
 IsDisabling s columns booleans places = OptionZip (IsListedAtom s columns booleans places)
+
+-- the place of the disabling expression among the suite's, if there is one
+abbrev pub IsDisabledBy : Scope → List (List ℕ) → List Expr → Option Tree → Option ℕ → Type 0
+IsDisabledBy s columns booleans = OptionZip (λ t p. IsAtom s columns booleans t (Listed p))
+
+abbrev pub off_places : Option ℕ → List ℕ
+off_places None = []
+off_places (Some p) = p ∷ []
 
 -- The disabling expression stands at the place among the suite's.
 abbrev pub IsDisablingPlace : Scope → List (List ℕ) → List Expr → Option Tree → ℕ → Type 0
@@ -107,7 +123,8 @@ abbrev pub IsUsedPlace :
 IsUsedPlace s columns booleans disable v w p =
     IsUsed (Listed p) v ⊎ (IsUsed (Listed p) w ⊎ IsDisablingPlace s columns booleans disable p)
 
--- An assertion of the text, before which so many stand.
+-- An assertion of the text, before which so many stand. Its list has a place for each boolean that
+-- is kept of its sides, as often as it is written, and that of the disabling expression.
 pub record IsAssertion (s : Scope) (columns : List (List ℕ)) (booleans : List Expr)
     (bodies : List (Draft Boolean)) (before : ℕ) (a : trees.AssertionForm)
     (made : Assertion) : Type 0 where
@@ -125,6 +142,10 @@ pub record IsAssertion (s : Scope) (columns : List (List ℕ)) (booleans : List 
   pub used :
       (p : ℕ) → IsIn p made.booleans.items →
       IsUsedPlace s columns booleans a.disable antecedent_meant.meant consequent_meant.meant p
+  pub off : Option ℕ
+  pub disabled : IsDisabledBy s columns booleans a.disable off
+  pub list : made.booleans.items
+      ≡ places_of antecedent_meant.kept ++ (places_of consequent_meant.kept ++ off_places off)
 
 -- Several, in their order, before which so many stand.
 abbrev pub AreAssertions : Scope → List (List ℕ) → List Expr → List (Draft Boolean) → ℕ

@@ -11,7 +11,8 @@ ghost use Rattle.text_names.specs.Faults.{assertion_faults};
 ghost use Rattle.text_names.specs.Views.{scope_of, columns_in};
 ghost use Rattle.types_sequences.specs.Placed.{Extends};
 ghost use Rattle.types_suites.specs.Suites.{first_by, ReadsAntecedent, ReadsConsequent};
-ghost use Rattle.types_suites.specs.Drawn.{antecedent_byte, consequent_byte, IsDisabledBy, IsDrawn};
+ghost use Rattle.types_suites.specs.Suites.{IsDisabledBy};
+ghost use Rattle.types_suites.specs.Drawn.{antecedent_byte, consequent_byte, IsDrawn};
 
 use crate::bytes::sequence_at;
 use crate::drafts::{atom, draft_of};

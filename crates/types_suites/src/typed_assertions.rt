@@ -1,15 +1,16 @@
 //! Assertions of a suite.
 
-ghost use Rattle.std.specs.Prelude.{◌≤◌, ℕ, List, ◌++◌, IfOk, OnOk};
+ghost use Rattle.std.specs.Prelude.{◌≡◌, ◌≤◌, ℕ, List, ◌++◌, IfOk, OnOk};
 ghost use Rattle.assertions.specs.Shapes.{written_form};
 ghost use Rattle.assertions.specs.Written.{weight, IsOrdered};
 ghost use Rattle.types_sequences.specs.Entries.{Bodies, IsEntry};
 ghost use Rattle.types_sequences.specs.Placed.{Extends, Adds};
+ghost use Rattle.types_sequences.specs.Leaves.{places_of};
 ghost use Rattle.types_suites.specs.Readings.{Where};
-ghost use Rattle.types_suites.specs.Suites.{IsAssertion, AreAssertions};
+ghost use Rattle.types_suites.specs.Suites.{IsAssertion, AreAssertions, off_places};
 ghost use Rattle.types_suites.specs.Resolved.{IsResolved, AreResolved};
 ghost use Rattle.types_suites.specs.Made.{Expressions, Side, Statement, Statements, IsSide};
-ghost use Rattle.types_suites.specs.Made.{IsFitting, AreFitting, IsPlacedAt, AreAt};
+ghost use Rattle.types_suites.specs.Made.{IsFitting, AreFitting, IsPlacedAt, AreAt, kept_of};
 
 use crate::resolved::Resolved;
 use assertions::{Assertion, Boolean, Sequence};
@@ -27,9 +28,12 @@ fn side_of(
     ensures light { IfOk result (λ b. weight (written_form b.value) ≤ 127) }
     ensures ordered { IfOk result (λ b. IsOrdered (written_form b.value)) }
     ensures meant { (booleans : Expressions) (more : List ℕ) (w : Side) → IsEntry w entry.now →
-        IfOk result (λ b. IsSide booleans (places.new.items ++ more) w (written_form b.value)) }
+        IfOk result (λ b. IsSide booleans (places.new.items ++ more) w (kept_of entry.now)
+        (written_form b.value)) }
     ensures used { (w : Side) → IsEntry w entry.now →
         OnOk result (Adds w places.old.items places.new.items) }
+    ensures list { OnOk result (places.new.items
+        ≡ places.old.items ++ places_of (kept_of entry.now)) }
 {
     match &entry.sequence {
         Some(sequence) => place_sequence(alloc, sequence, places),
@@ -46,6 +50,7 @@ fn disabling_of(
     ensures placed { (booleans : Expressions)
         → IfOk result (IsPlacedAt booleans places.new.items place) }
     ensures used { OnOk result (AreAt place places.old.items places.new.items) }
+    ensures list { OnOk result (places.new.items ≡ places.old.items ++ off_places place) }
 {
     match place {
         Some(place) => Ok(Some(place_boolean(Boolean::Listed(place), places)?)),

@@ -12,7 +12,7 @@ returns-in_ok-boolean-in-Boolean t c =
     (λ u. ArePlaced c.args.places.now.items c.place_boolean.new.places.items (written_form c.args.sequence.now) u)
     (rw c.in-Boolean.is
     (are_boolean c.args.places.now.items c.place_boolean.new.places.items c.in-Boolean.boolean
-    c.in_ok-boolean-in-Boolean.boolean e.grows e.placed e.listed e.own))
+    c.in_ok-boolean-in-Boolean.boolean e.grows e.placed e.listed e.own e.list e.form))
     c.boxed.ensures
 
 pub returns-in_ok-second-in-Delay : goal.returns-in_ok-second-in-Delay
@@ -100,5 +100,6 @@ returns-in_ok-body-in-Throughout t c =
     (are_throughout c.args.places.now.items c.place_boolean-in-Throughout.new.places.items
     c.placed-in-Throughout.new.places.items
     c.in-Throughout.boolean c.in_ok-boolean-in-Throughout.boolean (written_form c.in-Throughout.body.value)
-    (written_form c.in_ok-body-in-Throughout.body.value) e.grows e.placed e.listed e.own body))
+    (written_form c.in_ok-body-in-Throughout.body.value) e.grows e.placed e.listed e.own e.list e.form
+    body))
     c.boxed-in-Throughout.ensures

@@ -19,6 +19,9 @@ returns-in_ok-place_boolean-in-Some-clause-placed c = λ booleans.
           (call.placed [] [])) call.listed,
     )
 
+pub returns-in_ok-place_boolean-in-Some-clause-list : goal.returns-in_ok-place_boolean-in-Some-clause-list
+returns-in_ok-place_boolean-in-Some-clause-list c = rw c.in-Some.is c.in_ok-place_boolean-in-Some.ensures.list
+
 pub returns-in_ok-place_boolean-in-Some-clause-used : goal.returns-in_ok-place_boolean-in-Some-clause-used
 returns-in_ok-place_boolean-in-Some-clause-used c =
     rw c.in-Some.is
