@@ -3,7 +3,6 @@ use Rattle.std.specs.Prelude.{◌≡◌, ℕ, ◌≤◌, Bool, List, length, sum
 use Rattle.std.specs.List.{AllByRecursion}
 use Rattle.expressions.specs.declared.name.Origin.TheVariants.{Signal}
 use Rattle.expressions.specs.declared.name.Name.{Name}
-use Rattle.assertions.specs.declared.sequence.Boolean.{Boolean}
 use Rattle.assertions.specs.declared.assertion.Assertion.{Assertion}
 use Rattle.assertions.specs.declared.suite.Suite.{Suite}
 use Rattle.assertions.specs.Written.{Written, weight}
@@ -14,20 +13,21 @@ use Rattle.positions.specs.Laws.{IsPlain, booleans}
 use Rattle.compiler.specs.Readings.{IsReading, boolean_terms}
 use Rattle.compiler.specs.Faults.{HasLongCode}
 
--- No `and`, no delay between two parts that may be 0, a weight of at most 60 and at most 32
--- booleans; the 1 of |=> is one more of each.
-pub record IsSmallSide (w : Written Boolean) : Type 0 where
+-- No `and`, no `intersect`, no delay between two parts that may be 0, a weight of at most 60 and at
+-- most 32 booleans; the 1 of |=> is one more of each.
+pub record IsSmallSide {B : Type 0} (w : Written B) : Type 0 where
   pub plain : IsPlain w
   pub light : weight w ≤ 61
   pub few : booleans w ≤ 33
 
--- Both sides are small; at most 32 booleans with at most 256 operators and operands, none of them
--- a counter, and no call that compares with the tick before.
+-- Both sides are small; at most 32 booleans with at most 512 operators and operands, none of them
+-- a counter, and no call that compares with the tick before. Here a concatenation of n parts has
+-- n - 1 operators; where it counts as one, 256 operators and operands are at most 512 of these.
 pub record IsSmall (suite : Suite) (a : Assertion) : Type 0 where
   pub antecedent : IsSmallSide (written_form a.antecedent)
   pub consequent : IsSmallSide (written_form a.consequent)
   pub few : length a.booleans.items ≤ 32
-  pub short : sum_by size (boolean_terms suite a) ≤ 256
+  pub short : sum_by size (boolean_terms suite a) ≤ 512
   pub still : AllByRecursion (Each IsNoChange) (boolean_terms suite a)
   pub signals : (n : Name) → Contains (boolean_names suite a) n → n.origin ≡ Signal
 
