@@ -1,6 +1,7 @@
 //! Laws of reports, each a call that does nothing.
 
 ghost use Rattle.cli_laws.specs.Laws.{ReportsAreOne, ReportsAreNotRefused};
+ghost use Rattle.cli_laws.specs.Causes.{FaultsHaveCauses, BuildFaultsHaveCauses};
 
 /// The bytes of a dump and the bytes of a text have at most one report.
 pub fn report_law()
@@ -11,3 +12,13 @@ pub fn report_law()
 pub fn refusal_law()
     ensures { ReportsAreNotRefused }
 {}
+
+/// Where a text isn't compiled, the cause stands of one of its assertions, and where a build has no
+/// program, of one of the name.
+pub fn cause_law()
+    ensures check { FaultsHaveCauses }
+    ensures build { BuildFaultsHaveCauses }
+{
+    compiler::small_law();
+    suite_facts::small_law();
+}

@@ -4,3 +4,8 @@ pub mod NameLaws
 pub mod KnownLaws
 pub mod EmptyLaws
 pub mod FitLaws
+pub mod MeasureLaws
+pub mod TrimmedLaws
+pub mod TreeLaws
+pub mod LeafLaws
+pub mod SmallLaws

@@ -1,6 +1,7 @@
 //! Laws of the suites that texts say, each a call that does nothing.
 
 ghost use Rattle.suite_facts.specs.Laws.{SuitesFit};
+ghost use Rattle.suite_facts.specs.Small.{SuitesKeepTo};
 
 use text_depths::depth_law;
 
@@ -10,3 +11,9 @@ pub fn suite_law()
 {
     depth_law();
 }
+
+/// An assertion of a suite that a text says has no more booleans than are written, with names
+/// written out, and is small where the text's is.
+pub fn small_law()
+    ensures { SuitesKeepTo }
+{}

@@ -9,11 +9,17 @@
 //! part of one has over 128 bits, no `$past` looks back over 64 ticks, and at most 64 brackets and
 //! operators are open at once. A consequent takes at least a tick.
 //!
+//! An assertion has no more booleans than its text has, as it is written and with names written
+//! out; so K1 stands only of a text with over 127. That of a small assertion of the text is small,
+//! so that K2 never stands of it (`compiler::small_law`).
+//!
 //! ```text
 //! suite_facts::suite_law();
+//! suite_facts::small_law();
 //! ```
 //!
-//! The definitions: the theorem in `specs/Laws.antt`, what the compiler asks in
+//! The definitions: the theorems in `specs/Laws.antt` and `specs/Small.antt`, a text with its names
+//! written out in `specs/WrittenOut.antt`, what the compiler asks in
 //! `compiler/specs/Conditions.antt`, what a text says in `types_suites/specs/Suites.antt`, where
 //! its faults stand in `types/specs/Faults.antt`.
 //!
@@ -22,4 +28,4 @@
 
 mod laws;
 
-pub use laws::suite_law;
+pub use laws::{small_law, suite_law};
