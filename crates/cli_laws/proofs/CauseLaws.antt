@@ -1,6 +1,6 @@
 -- The causes of an assertion's fault stand in the text.
-use Rattle.std.proofs.Common.{◌≡◌, ℕ, zero, suc, ◌+◌, List, [], ◌∷◌, Option, Some, slice_get, refl, sym, ◌∙◌}
-use Rattle.std.proofs.Common.{subst, arith, string_bytes}
+use Rattle.std.proofs.Common.{◌≡◌, ℕ, zero, suc, ◌+◌, List, [], ◌∷◌, Option, Some, slice_get, refl, sym, ap}
+use Rattle.std.proofs.Common.{◌∙◌, subst, arith, string_bytes}
 use Rattle.std.specs.List.{AllZip}
 use Rattle.grammar.specs.Trees.{AssertionForm, ItemForm}
 use Rattle.expressions.specs.declared.expr.Expr.{Expr}
@@ -119,10 +119,21 @@ module _ (law : SmallHaveCode) (keep : SuitesKeepTo) where
       string_bytes m.name ≡ name → WhyNotCompiled suite m fault → HasNamedCause c text name fault
   named_cause c text name suite x place m fault at named why =
       let found = found_in c text suite x place m at in
+      let same : place ≡ 0 + place = omega arith in
       record {
         place = place;
-        has = has_cause c text suite x place m fault at why;
-        named = sym found.named ∙ named;
+        has =
+            record {
+              items = x.items;
+              spelled = x.spelled;
+              assertion = found.form;
+              is = found.is;
+              cause =
+                  cause_of law (scope_over c.variables x.items) x.items suite found.form m fault why
+                  found.keeps;
+            };
+        named =
+            ap (λ (k : ℕ). label_text k found.form.label) same ∙ sym found.named ∙ named;
       }
 
   pub build_faults_caused : BuildFaultsHaveCauses
