@@ -9,7 +9,7 @@
 //! ```
 //!
 //! A `Program` holds only what a file can spell (its ghost field `fits`); the files are those of
-//! `program_files`. The definitions: what a file can spell in `specs/Values.antt`, words and paths
+//! `bytecode_files`. The definitions: what a file can spell in `specs/Values.antt`, words and paths
 //! in `specs/Texts.antt`, what a program in memory holds in `specs/Views.antt` and
 //! `specs/Programs.antt`. `specs/Instructions.antt` is the one table of what instructions do to the
 //! operands on the stack, what they name and where they lead.

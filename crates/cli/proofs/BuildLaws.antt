@@ -1,7 +1,7 @@
 -- What a build comes to.
 use Rattle.std.proofs.Common.{◌≡◌, List, ℕ}
 use Rattle.std.specs.Prelude.{Result, Ok, Err, IfOk, IfErr}
-use Rattle.grammar.specs.Trees.{ItemForm}
+use Rattle.parser_grammar.specs.Trees.{ItemForm}
 use Rattle.assertions.specs.declared.assertion.Assertion.{Assertion}
 use Rattle.assertions.specs.declared.suite.Suite.{Suite}
 use Rattle.parser.specs.declared.fault.ParseFault.{ParseFault}
@@ -14,8 +14,8 @@ use Rattle.compiler.specs.Faults.{WhyNotCompiled}
 use Rattle.vcd_reader.specs.declared.fault.VcdFault.{VcdFault}
 use Rattle.vcd_reader.specs.declared.fault.VcdFault.TheVariants as dumps
 use Rattle.vcd_reader.specs.Dump.{Contents, GaveDump, Stands}
-use Rattle.outcomes.specs.declared.fault.Fault.{Fault}
-use Rattle.outcomes.specs.declared.fault.Fault.TheVariants.{
+use Rattle.cli_faults.specs.declared.fault.Fault.{Fault}
+use Rattle.cli_faults.specs.declared.fault.Fault.TheVariants.{
   Vcd,
   Lex,
   Parse,
@@ -34,7 +34,7 @@ use Rattle.outcomes.specs.declared.fault.Fault.TheVariants.{
   File,
   Memory,
 }
-use Rattle.outcomes.specs.Faults.{vcd_fault, type_fault, compile_fault}
+use Rattle.cli_faults.specs.Faults.{vcd_fault, type_fault, compile_fault}
 use Rattle.cli.specs.Reported.{HasItems, SaysSuite}
 use Rattle.cli.specs.Outcomes.{WhyNoItems, WhyNotTyped, WhyNoReport}
 use Rattle.cli.specs.Builds.{

@@ -8,10 +8,10 @@ use Rattle.vcd_reader.specs.Dump.{Contents}
 use Rattle.vcd_reader.specs.Held.{HoldsContents, variables_of}
 use Rattle.cycle_window.specs.Bound.{IsClock}
 use Rattle.verdicts.specs.Lines.{ReportData}
-use Rattle.compiled_lines.specs.declared.fault.LinesFault.{LinesFault}
-use Rattle.compiled_lines.specs.Lines.{AreVariables, rows_at}
-use Rattle.compiled_lines.specs.Faults.{WhyNoLines}
-use Rattle.suite_reports.specs.Reported.{OverRows}
+use Rattle.cli_lines.specs.declared.fault.LinesFault.{LinesFault}
+use Rattle.cli_lines.specs.Lines.{AreVariables, rows_at}
+use Rattle.cli_lines.specs.Faults.{WhyNoLines}
+use Rattle.judging_reports.specs.Reported.{OverRows}
 use Rattle.cli.specs.Programs.{lines_fault}
 use Rattle.cli.specs.Reported.{HasReport, SaysSuite}
 use Rattle.cli.specs.Outcomes.{WhyNoneByPrograms}

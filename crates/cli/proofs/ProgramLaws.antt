@@ -23,8 +23,8 @@ use Rattle.std.proofs.lemmas.List.{length-map}
 use Rattle.assertions.specs.declared.assertion.Assertion.{Assertion}
 use Rattle.assertions.specs.declared.signal.Signal.{Signal}
 use Rattle.assertions.specs.declared.suite.Suite.{Suite}
-use Rattle.grammar.specs.Trees.{ItemForm}
-use Rattle.suite_facts.specs.Laws.{SuitesFit}
+use Rattle.parser_grammar.specs.Trees.{ItemForm}
+use Rattle.laws_suites.specs.Laws.{SuitesFit}
 use Rattle.cli.specs.Dumps.{width_named}
 use Rattle.vcd_reader.specs.declared.dump.Dump.{Dump}
 use Rattle.vcd_reader.specs.Variables.{Declared, variable_named, size_of}
@@ -34,12 +34,12 @@ use Rattle.vcd_reader.specs.Dump.{Contents}
 use Rattle.cycle_window.specs.Ticks.{ticks_of, row_of}
 use Rattle.verdicts.specs.Lines.{LineData, ReportData, report_of}
 use Rattle.compiler.specs.Conditions.{IsFit}
-use Rattle.compiled_lines.specs.Lines.{IsWatched, AreVariables, rows_at, IsLineOf, IsReportOf}
-use Rattle.suite_reports.specs.Named.{AreNamed}
-use Rattle.suite_reports.specs.Judged.{AreLinesOver}
-use Rattle.suite_reports.specs.Reported.{OverRows, Reports}
+use Rattle.cli_lines.specs.Lines.{IsWatched, AreVariables, rows_at, IsLineOf, IsReportOf}
+use Rattle.judging_reports.specs.Named.{AreNamed}
+use Rattle.judging_reports.specs.Judged.{AreLinesOver}
+use Rattle.judging_reports.specs.Reported.{OverRows, Reports}
 use Rattle.cli.specs.Reported.{HasItems, IsTyped}
-use Rattle.suite_reports.proofs.ReportLaws.{same_places, have_places, reports}
+use Rattle.judging_reports.proofs.ReportLaws.{same_places, have_places, reports}
 
 -- the lines of programs are lines of verdicts
 lines_kept : (suite : Suite) (rows : List (List ℕ)) (all : List Assertion) (ls : List LineData)

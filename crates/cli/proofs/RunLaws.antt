@@ -7,9 +7,9 @@ use Rattle.compiler.specs.declared.fault.CompileFault.TheVariants as compiles
 use Rattle.vcd_reader.specs.declared.fault.VcdFault.{VcdFault}
 use Rattle.vcd_reader.specs.declared.fault.VcdFault.TheVariants as dumps
 use Rattle.vcd_reader.specs.Dump.{Contents, GaveDump, Stands}
-use Rattle.outcomes.specs.Faults.{vcd_fault}
-use Rattle.outcomes.specs.declared.fault.Fault.{Fault}
-use Rattle.outcomes.specs.declared.fault.Fault.TheVariants.{
+use Rattle.cli_faults.specs.Faults.{vcd_fault}
+use Rattle.cli_faults.specs.declared.fault.Fault.{Fault}
+use Rattle.cli_faults.specs.declared.fault.Fault.TheVariants.{
   Vcd,
   Lex,
   Parse,
@@ -28,7 +28,7 @@ use Rattle.outcomes.specs.declared.fault.Fault.TheVariants.{
   File,
   Memory,
 }
-use Rattle.outcomes.specs.Runs.{Run, IsUnwritten}
+use Rattle.cli_faults.specs.Runs.{Run, IsUnwritten}
 use Rattle.cli.specs.Outcomes.{
   WhyNoReport,
   IsRefusedReport,

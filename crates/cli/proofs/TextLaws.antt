@@ -35,29 +35,29 @@ use Rattle.lexer.proofs.CoveringLaws.{tokens_of-covered}
 use Rattle.parser.specs.declared.fault.ParseFault.{ParseFault}
 use Rattle.parser.specs.declared.fault.ParseFault.TheVariants as parsing
 use Rattle.parser.specs.Faults as parser_faults
-use Rattle.grammar.specs.Trees.{ItemForm}
+use Rattle.parser_grammar.specs.Trees.{ItemForm}
 use Rattle.assertions.specs.declared.signal.Signal.{Signal}
 use Rattle.assertions.specs.declared.suite.Suite.{Suite}
 use Rattle.cli.specs.Dumps.{width_named}
-use Rattle.text_names.specs.Columns.{columns_of, is_listed}
-use Rattle.text_names.specs.Asked.{asked}
+use Rattle.types_names.specs.Columns.{columns_of, is_listed}
+use Rattle.types_names.specs.Asked.{asked}
 use Rattle.types_suites.specs.declared.fault.TypeFault.{TypeFault}
 use Rattle.types_suites.specs.declared.fault.TypeFault.TheVariants as types
 use Rattle.types_suites.specs.Faults as faults
 use Rattle.types_suites.specs.Faults.{IsFirst, IsFaultless}
 use Rattle.types_suites.specs.Suites.{AreSignals, IsSuite}
-use Rattle.compiled_lines.specs.declared.fault.LinesFault.{LinesFault}
-use Rattle.compiled_lines.specs.declared.fault.LinesFault.TheVariants.{Program}
-use Rattle.compiled_lines.specs.declared.fault.LinesFault.TheVariants as lines
+use Rattle.cli_lines.specs.declared.fault.LinesFault.{LinesFault}
+use Rattle.cli_lines.specs.declared.fault.LinesFault.TheVariants.{Program}
+use Rattle.cli_lines.specs.declared.fault.LinesFault.TheVariants as lines
 use Rattle.compiler.specs.declared.fault.CompileFault.TheVariants as compiles
-use Rattle.compiled_lines.specs.Faults.{WhyNoLines}
+use Rattle.cli_lines.specs.Faults.{WhyNoLines}
 use Rattle.vcd_reader.specs.Variables.{Declared, variable_named, size_of}
 use Rattle.vcd_reader.specs.Dump.{Contents}
 use Rattle.cycle_window.specs.declared.fault.WindowFault.{WindowFault}
 use Rattle.cycle_window.specs.declared.fault.WindowFault.TheVariants as windows
 use Rattle.cycle_window.specs.Bound.{IsClockFault, misfit}
-use Rattle.outcomes.specs.declared.fault.Fault.{Fault}
-use Rattle.outcomes.specs.declared.fault.Fault.TheVariants.{
+use Rattle.cli_faults.specs.declared.fault.Fault.{Fault}
+use Rattle.cli_faults.specs.declared.fault.Fault.TheVariants.{
   Vcd,
   Lex,
   Parse,
@@ -77,8 +77,8 @@ use Rattle.outcomes.specs.declared.fault.Fault.TheVariants.{
   Memory,
 }
 use Rattle.cli.specs.Named.{scope_over}
-use Rattle.suite_reports.specs.Named.{AreNamed}
-use Rattle.outcomes.specs.Faults.{lex_fault, parse_fault, type_fault, window_fault}
+use Rattle.judging_reports.specs.Named.{AreNamed}
+use Rattle.cli_faults.specs.Faults.{lex_fault, parse_fault, type_fault, window_fault}
 use Rattle.cli.specs.Programs.{lines_fault}
 use Rattle.cli.specs.Reported.{AreTokens, HasItems, IsTyped, SaysSuite}
 use Rattle.cli.specs.Outcomes.{

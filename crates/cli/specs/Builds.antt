@@ -5,7 +5,7 @@ use Rattle.signals.specs.Source.{SourceState}
 use Rattle.assertions.specs.declared.assertion.Assertion.{Assertion}
 use Rattle.assertions.specs.declared.suite.Suite.{Suite}
 use Rattle.bytecode.specs.Values.{ProgramData, fits_program}
-use Rattle.program_files.specs.Spelling.{spelling}
+use Rattle.bytecode_files.specs.Spelling.{spelling}
 use Rattle.verifier.specs.Programs.{IsAccepted, least_limits}
 use Rattle.parser.specs.declared.fault.ParseFault.TheVariants as parsing
 use Rattle.compiler.specs.declared.fault.CompileFault.{CompileFault}
@@ -16,9 +16,9 @@ use Rattle.compiler.specs.Programs.{IsProgramOf}
 use Rattle.vcd_reader.specs.declared.fault.VcdFault.TheVariants as dumps
 use Rattle.vcd_reader.specs.Dump.{Contents, GaveDump, Stands}
 use Rattle.lexer.specs.Covering.{IsFaulty}
-use Rattle.outcomes.specs.declared.fault.Fault.{Fault}
-use Rattle.outcomes.specs.declared.fault.Fault.TheVariants.{Vcd, Lex, Parse, Typing, Compile}
-use Rattle.outcomes.specs.declared.fault.Fault.TheVariants.{NoAssertion, Memory}
+use Rattle.cli_faults.specs.declared.fault.Fault.{Fault}
+use Rattle.cli_faults.specs.declared.fault.Fault.TheVariants.{Vcd, Lex, Parse, Typing, Compile}
+use Rattle.cli_faults.specs.declared.fault.Fault.TheVariants.{NoAssertion, Memory}
 use Rattle.cli.specs.Reported.{SaysSuite}
 use Rattle.cli.specs.Outcomes.{HasNoItems, IsMistyped}
 

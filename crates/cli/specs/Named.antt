@@ -1,8 +1,8 @@
 -- The names of a text over a dump.
 use Rattle.std.specs.Prelude.{List}
-use Rattle.grammar.specs.Trees.{ItemForm}
-use Rattle.text_names.specs.Scopes.{Scope}
-use Rattle.text_names.specs.Asked.{scope_for}
+use Rattle.parser_grammar.specs.Trees.{ItemForm}
+use Rattle.types_names.specs.Scopes.{Scope}
+use Rattle.types_names.specs.Asked.{scope_for}
 use Rattle.cli.specs.Dumps.{width_named}
 use Rattle.vcd_reader.specs.Variables.{Declared}
 

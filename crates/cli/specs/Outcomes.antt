@@ -5,8 +5,8 @@ use Rattle.signals.specs.Source.{after_failure}
 use Rattle.signals.specs.Sink.{AppendsFront}
 use Rattle.lexer.specs.declared.token.Token.{Token}
 use Rattle.lexer.specs.Covering.{IsFaulty}
-use Rattle.grammar.specs.Trees.{ItemForm}
-use Rattle.grammar.specs.Files.{IsFile}
+use Rattle.parser_grammar.specs.Trees.{ItemForm}
+use Rattle.parser_grammar.specs.Files.{IsFile}
 use Rattle.assertions.specs.declared.suite.Suite.{Suite}
 use Rattle.parser.specs.declared.fault.ParseFault.{ParseFault}
 use Rattle.parser.specs.declared.fault.ParseFault.TheVariants as parsing
@@ -16,7 +16,7 @@ use Rattle.types_suites.specs.declared.fault.TypeFault.TheVariants as types
 use Rattle.types_suites.specs.Faults.{IsFirst}
 use Rattle.compiler.specs.declared.fault.CompileFault.{CompileFault}
 use Rattle.compiler.specs.declared.fault.CompileFault.TheVariants as compiles
-use Rattle.compiled_lines.specs.Faults.{HasNoProgram, HasBadCount}
+use Rattle.cli_lines.specs.Faults.{HasNoProgram, HasBadCount}
 use Rattle.vcd_reader.specs.declared.fault.VcdFault.TheVariants as dumps
 use Rattle.vcd_reader.specs.Variables.{variable_named}
 use Rattle.vcd_reader.specs.Dump.{Contents, Gave, GaveDump}
@@ -26,13 +26,13 @@ use Rattle.cycle_window.specs.Bound.{misfit, IsClockFault}
 use Rattle.verdicts.specs.declared.write.ReportFault.TheVariants as reports
 use Rattle.verdicts.specs.Lines.{ReportData}
 use Rattle.verdicts.specs.Texts.{report_text}
-use Rattle.outcomes.specs.declared.fault.Fault.{Fault}
-use Rattle.outcomes.specs.declared.fault.Fault.TheVariants.{Vcd, Lex, Parse, Typing, Compile}
-use Rattle.outcomes.specs.declared.fault.Fault.TheVariants.{BadWorkers, BadJob, Window, Report}
-use Rattle.outcomes.specs.declared.fault.Fault.TheVariants.{Memory}
-use Rattle.outcomes.specs.Runs.{Run, totals_of, IsUnwritten, IsUnread, IsOutOfMemory}
-use Rattle.outcomes.specs.Runs.{IsOutOfRange, IsUntouched}
-use Rattle.workers.specs.Values.{IsBadTeam}
+use Rattle.cli_faults.specs.declared.fault.Fault.{Fault}
+use Rattle.cli_faults.specs.declared.fault.Fault.TheVariants.{Vcd, Lex, Parse, Typing, Compile}
+use Rattle.cli_faults.specs.declared.fault.Fault.TheVariants.{BadWorkers, BadJob, Window, Report}
+use Rattle.cli_faults.specs.declared.fault.Fault.TheVariants.{Memory}
+use Rattle.cli_faults.specs.Runs.{Run, totals_of, IsUnwritten, IsUnread, IsOutOfMemory}
+use Rattle.cli_faults.specs.Runs.{IsOutOfRange, IsUntouched}
+use Rattle.workers_core.specs.Values.{IsBadTeam}
 use Rattle.cli.specs.Named.{scope_over}
 use Rattle.cli.specs.Reported.{AreTokens, HasItems, SaysSuite, IsReport}
 

@@ -1,10 +1,10 @@
 -- The faults of a suite's lines by programs, as faults of a command.
-use Rattle.compiled_lines.specs.declared.fault.LinesFault.{LinesFault}
-use Rattle.compiled_lines.specs.declared.fault.LinesFault.TheVariants.{Program}
-use Rattle.compiled_lines.specs.declared.fault.LinesFault.TheVariants as lines
-use Rattle.outcomes.specs.declared.fault.Fault.{Fault}
-use Rattle.outcomes.specs.declared.fault.Fault.TheVariants.{BadJob, Memory}
-use Rattle.outcomes.specs.Faults.{compile_fault}
+use Rattle.cli_lines.specs.declared.fault.LinesFault.{LinesFault}
+use Rattle.cli_lines.specs.declared.fault.LinesFault.TheVariants.{Program}
+use Rattle.cli_lines.specs.declared.fault.LinesFault.TheVariants as lines
+use Rattle.cli_faults.specs.declared.fault.Fault.{Fault}
+use Rattle.cli_faults.specs.declared.fault.Fault.TheVariants.{BadJob, Memory}
+use Rattle.cli_faults.specs.Faults.{compile_fault}
 
 abbrev pub lines_fault : LinesFault → Fault
 lines_fault (Program e) = compile_fault e

@@ -11,11 +11,11 @@ ghost use Rattle.cli.specs.Builds.{IsBuilt, WhyNotBuilt, IsBuiltFrom, WhyBuildRe
 use crate::text::{file_of, suite_of};
 use assertions::{Assertion, Suite};
 use compiler::compile;
-use outcomes::Fault;
-use program_files::encode;
+use cli_faults::Fault;
+use bytecode_files::encode;
 use signals::Source;
 use std::alloc::Global;
-use suite_facts::suite_law;
+use laws_suites::suite_law;
 use vcd_reader::{Dump, read_dump};
 
 /// The assertion of this name.

@@ -3,16 +3,16 @@
 ghost use Rattle.std.specs.Prelude.{◌≡◌, ◌↔◌, ◌≤◌, Err, IfOk, IfErr};
 ghost use Rattle.cycle_window.specs.declared.fault.WindowFault.TheVariants.{BadSize};
 ghost use Rattle.cycle_window.specs.Bound.{IsBadSize};
-ghost use Rattle.outcomes.specs.declared.fault.Fault.TheVariants.{Window, BadWorkers};
-ghost use Rattle.workers.specs.Values.{IsBadTeam};
+ghost use Rattle.cli_faults.specs.declared.fault.Fault.TheVariants.{Window, BadWorkers};
+ghost use Rattle.workers_core.specs.Values.{IsBadTeam};
 ghost use Rattle.cli.specs.Outcomes.{IsAnswered, WhyRunRefused, WhyNotChecked, WhyNotCheckedBy};
-ghost use Rattle.outcomes.specs.Runs.{run_of};
+ghost use Rattle.cli_faults.specs.Runs.{run_of};
 
 use crate::checked::{check_by_team, check_through};
 use crate::run::run_through;
-use compiled_lines::Gate;
+use cli_lines::Gate;
 use cycle_window::WindowFault;
-use outcomes::Fault;
+use cli_faults::Fault;
 use signals::{Sink, Source};
 use std::alloc::Global;
 use std::sync::Wait;
@@ -52,13 +52,13 @@ pub fn check_one<'a, S: Source, W: Sink>(
     check_through(alloc, source, text, window as usize, out)
 }
 
-/// Does what [`check_one`] does, by 1 to 64 workers, each a thread: `workers` and `gate` do not
-/// change what is written either. It may wait for them, and all have ended when it returns.
+/// Does what [`check_one`] does, by 1 to 64 workers, each a thread: `workers_core` and `gate` do
+/// not change what is written either. It may wait for them, and all have ended when it returns.
 ///
 /// # Errors
 ///
-/// Those of [`check_one`], and U1 where `workers` is out of its range, which is tested after C3 and
-/// before anything is read.
+/// Those of [`check_one`], and U1 where `workers_core` is out of its range, which is tested after
+/// C3 and before anything is read.
 pub fn check_all<'a, S: Source, W: Sink, G: Gate + Sync, R: Threads + Wait + Sync>(
     rt: &R,
     alloc: Global,

@@ -8,22 +8,22 @@ ghost use Rattle.cycle_window.specs.Bound.{IsClock};
 ghost use Rattle.cycle_window.specs.Held.{AreClocksOf, code_in};
 ghost use Rattle.verdicts.specs.Shown.{data_of};
 ghost use Rattle.compiler.specs.Conditions.{IsFit};
-ghost use Rattle.compiled_lines.specs.Lines.{IsWatched};
+ghost use Rattle.cli_lines.specs.Lines.{IsWatched};
 ghost use Rattle.cli.specs.Reported.{HasReport, SaysSuite};
 ghost use Rattle.cli.specs.Outcomes.{WhyNoneByPrograms, IsAnswered, WhyCheckRefused};
-ghost use Rattle.outcomes.specs.Runs.{run_of};
+ghost use Rattle.cli_faults.specs.Runs.{run_of};
 
 use crate::programs::{lines_fault, report_by_programs};
 use crate::text::{file_of, suite_of};
 use assertions::Suite;
-use compiled_lines::{Gate, suite_report};
+use cli_lines::{Gate, suite_report};
 use cycle_window::Clocks;
-use outcomes::{Fault, totals};
+use cli_faults::{Fault, totals};
 use signals::{Sink, Source};
 use std::alloc::Global;
 use std::sync::Wait;
 use std::thread::Threads;
-use suite_facts::suite_law;
+use laws_suites::suite_law;
 use vcd_reader::{Dump, read_dump};
 use verdicts::{Report, ReportFault, write_report};
 

@@ -13,7 +13,7 @@
 //!
 //! The definitions: what a report on bytes and a text is in `specs/Reported.antt`, what a run comes
 //! to in `specs/Outcomes.antt`, what a build comes to in `specs/Builds.antt`; the report on a suite
-//! in `suite_reports`; faults, their lines and statuses in `outcomes`.
+//! in `judging_reports`; faults, their lines and statuses in `cli_faults`.
 //!
 //! Not promised: that memory suffices; of `check_all`, that it returns, and that two workers were
 //! at work at once.
@@ -29,6 +29,6 @@ mod text;
 
 pub use build::build_one;
 pub use check::{check_all, check_one, judge_one};
-pub use command_line::{Request, WordsFault, read_words};
-pub use compiled_lines::{Gate, NoGate};
-pub use outcomes::{Fault, fault_line, status};
+pub use cli_words::{Request, WordsFault, read_words};
+pub use cli_lines::{Gate, NoGate};
+pub use cli_faults::{Fault, fault_line, status};

@@ -6,13 +6,13 @@ ghost use Rattle.vcd_reader.specs.Held.{HoldsContents};
 ghost use Rattle.verdicts.specs.Shown.{data_of};
 ghost use Rattle.cli.specs.Reported.{HasReport};
 ghost use Rattle.cli.specs.Outcomes.{WhyNoReport, IsAnswered, WhyRunRefused};
-ghost use Rattle.outcomes.specs.Runs.{run_of};
+ghost use Rattle.cli_faults.specs.Runs.{run_of};
 
 use crate::text::{file_of, suite_of};
-use outcomes::{Fault, totals};
+use cli_faults::{Fault, totals};
 use signals::{Sink, Source};
 use std::alloc::Global;
-use suite_reports::report_by_judge;
+use judging_reports::report_by_judge;
 use vcd_reader::{Dump, read_dump};
 use verdicts::{Report, ReportFault, write_report};
 

@@ -1,7 +1,7 @@
 //! What a text says over a dump.
 
 ghost use Rattle.std.specs.Prelude.{IfOk, IfErr};
-ghost use Rattle.text_trees.specs.Views.{items_of};
+ghost use Rattle.parser_trees.specs.Views.{items_of};
 ghost use Rattle.vcd_reader.specs.Dump.{Contents};
 ghost use Rattle.vcd_reader.specs.Held.{HoldsContents};
 ghost use Rattle.cli.specs.Reported.{HasItems, IsTyped};
@@ -10,7 +10,7 @@ ghost use Rattle.cli.specs.Outcomes.{WhyNoItems, WhyNotTyped};
 use crate::dump_widths::DumpWidths;
 use assertions::Suite;
 use lexer::lex;
-use outcomes::Fault;
+use cli_faults::Fault;
 use parser::{File, parse};
 use std::alloc::Global;
 use types::{TypeFault, check};

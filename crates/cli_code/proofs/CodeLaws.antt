@@ -1,11 +1,11 @@
 -- Bytes that spell no program: why they have no upgrade, and may not run.
 use Rattle.std.proofs.Common.{◌≡◌, List, ℕ}
 use Rattle.bytecode.specs.Values.{ProgramData}
-use Rattle.program_files.specs.declared.fault.CodeFault.{CodeFault}
-use Rattle.program_files.specs.declared.fault.CodeFault.TheVariants as codes
-use Rattle.program_files.specs.Reading.{IsFirstFault}
-use Rattle.outcomes.specs.Faults.{code_fault}
-use Rattle.outcomes.specs.Codes.{Spells, IsMisspelled, WhyNotAccepted}
+use Rattle.bytecode_files.specs.declared.fault.CodeFault.{CodeFault}
+use Rattle.bytecode_files.specs.declared.fault.CodeFault.TheVariants as codes
+use Rattle.bytecode_files.specs.Reading.{IsFirstFault}
+use Rattle.cli_faults.specs.Faults.{code_fault}
+use Rattle.cli_faults.specs.Codes.{Spells, IsMisspelled, WhyNotAccepted}
 use Rattle.cli_code.specs.Upgrades.{WhyNotUpgraded}
 
 module _ (bytes : List ℕ) where

@@ -4,16 +4,16 @@ use Rattle.vcd_reader.specs.declared.fault.VcdFault.{VcdFault}
 use Rattle.vcd_reader.specs.declared.fault.VcdFault.TheVariants as dumps
 use Rattle.vcd_reader.specs.Dump.{Contents, GaveDump, Stands}
 use Rattle.bytecode.specs.Values.{ProgramData}
-use Rattle.program_files.specs.declared.fault.CodeFault.{CodeFault}
-use Rattle.program_files.specs.declared.fault.CodeFault.TheVariants as codes
-use Rattle.inference.specs.declared.refusal.Refusal.{Refusal}
-use Rattle.inference.specs.declared.refusal.Refusal.TheVariants as refusals
+use Rattle.bytecode_files.specs.declared.fault.CodeFault.{CodeFault}
+use Rattle.bytecode_files.specs.declared.fault.CodeFault.TheVariants as codes
+use Rattle.verifier_inference.specs.declared.refusal.Refusal.{Refusal}
+use Rattle.verifier_inference.specs.declared.refusal.Refusal.TheVariants as refusals
 use Rattle.cycle_window.specs.declared.fault.WindowFault.{WindowFault}
 use Rattle.cycle_window.specs.declared.fault.WindowFault.TheVariants as windows
-use Rattle.program_runs.specs.Reported.{WhyNoRun}
-use Rattle.outcomes.specs.Faults.{vcd_fault, window_fault}
-use Rattle.outcomes.specs.declared.fault.Fault.{Fault}
-use Rattle.outcomes.specs.declared.fault.Fault.TheVariants.{
+use Rattle.machine_runs.specs.Reported.{WhyNoRun}
+use Rattle.cli_faults.specs.Faults.{vcd_fault, window_fault}
+use Rattle.cli_faults.specs.declared.fault.Fault.{Fault}
+use Rattle.cli_faults.specs.declared.fault.Fault.TheVariants.{
   Vcd,
   Lex,
   Parse,
@@ -22,12 +22,12 @@ use Rattle.outcomes.specs.declared.fault.Fault.TheVariants.{
   Window,
   Port,
 }
-use Rattle.outcomes.specs.declared.fault.Fault.TheVariants.{BadWorkers, BadJob}
-use Rattle.outcomes.specs.declared.fault.Fault.TheVariants.{Report, Code}
-use Rattle.outcomes.specs.declared.fault.Fault.TheVariants.{Refused, NoAssertion, NotText, Words, File}
-use Rattle.outcomes.specs.declared.fault.Fault.TheVariants.{Memory}
-use Rattle.outcomes.specs.Runs.{Run, IsUnwritten}
-use Rattle.outcomes.specs.Codes.{SpellsAccepted, WhyNotAccepted}
+use Rattle.cli_faults.specs.declared.fault.Fault.TheVariants.{BadWorkers, BadJob}
+use Rattle.cli_faults.specs.declared.fault.Fault.TheVariants.{Report, Code}
+use Rattle.cli_faults.specs.declared.fault.Fault.TheVariants.{Refused, NoAssertion, NotText, Words, File}
+use Rattle.cli_faults.specs.declared.fault.Fault.TheVariants.{Memory}
+use Rattle.cli_faults.specs.Runs.{Run, IsUnwritten}
+use Rattle.cli_faults.specs.Codes.{SpellsAccepted, WhyNotAccepted}
 use Rattle.cli_code.specs.Outcomes.{WhyNoRunReport, IsRefusedRun, WhyRunFails}
 
 -- bytes that spell no accepted program have no report

@@ -1,16 +1,16 @@
 -- Why bytes are no program that may run, and why no line was written.
 use Rattle.std.proofs.Common.{◌≡◌, ◌⊎◌, inl, inr, ℕ, List}
 use Rattle.bytecode.specs.Values.{ProgramData}
-use Rattle.inference.specs.declared.refusal.Refusal.{Refusal}
-use Rattle.inference.specs.declared.refusal.Refusal.TheVariants as refusals
-use Rattle.inference.specs.Order.{IsFirstRefusal}
+use Rattle.verifier_inference.specs.declared.refusal.Refusal.{Refusal}
+use Rattle.verifier_inference.specs.declared.refusal.Refusal.TheVariants as refusals
+use Rattle.verifier_inference.specs.Order.{IsFirstRefusal}
 use Rattle.verifier.specs.Programs.{all_faults, IsAccepted}
 use Rattle.verdicts.specs.declared.write.ReportFault.{ReportFault}
 use Rattle.verdicts.specs.declared.write.ReportFault.TheVariants as reports
 use Rattle.verdicts.specs.Written.{WhyUnwritten}
 use Rattle.cli_code.specs.Limits.{limits_text}
-use Rattle.outcomes.specs.Faults.{refusal_fault, report_fault}
-use Rattle.outcomes.specs.Codes.{Spells, SpellsAccepted, IsNotAccepted, WhyNotAccepted}
+use Rattle.cli_faults.specs.Faults.{refusal_fault, report_fault}
+use Rattle.cli_faults.specs.Codes.{Spells, SpellsAccepted, IsNotAccepted, WhyNotAccepted}
 use Rattle.cli_code.specs.Verifications.{Verification, WhyNotTold}
 
 or_none : {A B : Type 0} → (A → ⊥) → A ⊎ B → B

@@ -7,21 +7,22 @@ use Rattle.signals.specs.Sink.{AppendsFront}
 use Rattle.vcd_reader.specs.declared.fault.VcdFault.TheVariants as dumps
 use Rattle.vcd_reader.specs.Dump.{Contents, Gave, GaveDump, dump_of, most_bytes}
 use Rattle.bytecode.specs.Values.{ProgramData}
-use Rattle.program_files.specs.declared.fault.CodeFault.TheVariants as codes
-use Rattle.inference.specs.declared.refusal.Refusal.TheVariants as refusals
+use Rattle.bytecode_files.specs.declared.fault.CodeFault.TheVariants as codes
+use Rattle.verifier_inference.specs.declared.refusal.Refusal.TheVariants as refusals
 use Rattle.cycle_window.specs.declared.fault.WindowFault.{WindowFault}
 use Rattle.cycle_window.specs.declared.fault.WindowFault.TheVariants as windows
 use Rattle.verdicts.specs.declared.write.ReportFault.TheVariants as reports
 use Rattle.verdicts.specs.Lines.{ReportData}
 use Rattle.verdicts.specs.Texts.{report_text}
-use Rattle.program_runs.specs.Reported.{Reports, WhyNoRun}
-use Rattle.outcomes.specs.declared.fault.Fault.{Fault}
-use Rattle.outcomes.specs.declared.fault.Fault.TheVariants.{Vcd, BadWorkers, Window, Report, Code}
-use Rattle.outcomes.specs.declared.fault.Fault.TheVariants.{Refused, Memory}
-use Rattle.outcomes.specs.Runs.{Run, totals_of, IsUnwritten, IsUnread, IsOutOfMemory, IsOutOfRange}
-use Rattle.outcomes.specs.Runs.{IsUntouched}
-use Rattle.workers.specs.Values.{IsBadTeam}
-use Rattle.outcomes.specs.Codes.{SpellsAccepted, WhyNotAccepted}
+use Rattle.machine_runs.specs.Reported.{Reports, WhyNoRun}
+use Rattle.cli_faults.specs.declared.fault.Fault.{Fault}
+use Rattle.cli_faults.specs.declared.fault.Fault.TheVariants.{Vcd, BadWorkers, Window, Report, Code}
+use Rattle.cli_faults.specs.declared.fault.Fault.TheVariants.{Refused, Memory}
+use Rattle.cli_faults.specs.Runs.{Run, totals_of, IsUnwritten, IsUnread, IsOutOfMemory}
+use Rattle.cli_faults.specs.Runs.{IsOutOfRange}
+use Rattle.cli_faults.specs.Runs.{IsUntouched}
+use Rattle.workers_core.specs.Values.{IsBadTeam}
+use Rattle.cli_faults.specs.Codes.{SpellsAccepted, WhyNotAccepted}
 
 -- The bytes spell a program that the verifier accepts, and this is its report over the contents of
 -- a dump.

@@ -1,11 +1,11 @@
 -- What an upgrade of bytes comes to.
 use Rattle.std.specs.Prelude.{◌≡◌, ℕ, List}
 use Rattle.bytecode.specs.Values.{ProgramData}
-use Rattle.program_files.specs.declared.fault.CodeFault.TheVariants as codes
-use Rattle.program_files.specs.Spelling.{spelling}
-use Rattle.outcomes.specs.declared.fault.Fault.{Fault}
-use Rattle.outcomes.specs.declared.fault.Fault.TheVariants.{Code, Memory}
-use Rattle.outcomes.specs.Codes.{Spells, IsMisspelled}
+use Rattle.bytecode_files.specs.declared.fault.CodeFault.TheVariants as codes
+use Rattle.bytecode_files.specs.Spelling.{spelling}
+use Rattle.cli_faults.specs.declared.fault.Fault.{Fault}
+use Rattle.cli_faults.specs.declared.fault.Fault.TheVariants.{Code, Memory}
+use Rattle.cli_faults.specs.Codes.{Spells, IsMisspelled}
 
 -- The bytes spell a program, in version 2 or in version 1, and the file is its spelling in
 -- version 2.

@@ -5,9 +5,9 @@ use Rattle.signals.specs.Source.{after_failure}
 use Rattle.signals.specs.Sink.{SinkState, AppendsFront}
 use Rattle.bytecode.specs.Values.{ProgramData}
 use Rattle.verdicts.specs.declared.write.ReportFault.TheVariants as reports
-use Rattle.outcomes.specs.declared.fault.Fault.{Fault}
-use Rattle.outcomes.specs.declared.fault.Fault.TheVariants.{Report}
-use Rattle.outcomes.specs.Codes.{SpellsAccepted, WhyNotAccepted}
+use Rattle.cli_faults.specs.declared.fault.Fault.{Fault}
+use Rattle.cli_faults.specs.declared.fault.Fault.TheVariants.{Report}
+use Rattle.cli_faults.specs.Codes.{SpellsAccepted, WhyNotAccepted}
 use Rattle.cli_code.specs.Limits.{limits_text}
 
 -- What a verification was given and what it left: the bytes, and the sink before and after.

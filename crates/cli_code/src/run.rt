@@ -6,20 +6,20 @@ ghost use Rattle.vcd_reader.specs.Held.{HoldsContents};
 ghost use Rattle.cycle_window.specs.declared.fault.WindowFault.TheVariants.{BadSize};
 ghost use Rattle.cycle_window.specs.Bound.{IsBadSize};
 ghost use Rattle.verdicts.specs.Shown.{data_of};
-ghost use Rattle.outcomes.specs.declared.fault.Fault.TheVariants.{Window, BadWorkers};
-ghost use Rattle.workers.specs.Values.{IsBadTeam};
-ghost use Rattle.outcomes.specs.Runs.{run_of};
+ghost use Rattle.cli_faults.specs.declared.fault.Fault.TheVariants.{Window, BadWorkers};
+ghost use Rattle.workers_core.specs.Values.{IsBadTeam};
+ghost use Rattle.cli_faults.specs.Runs.{run_of};
 ghost use Rattle.cli_code.specs.Outcomes.{HasRunReport, WhyNoRunReport, IsRunAnswered};
 ghost use Rattle.cli_code.specs.Outcomes.{WhyRunFails, WhyNotRun};
 
 use crate::verify::verified_of;
 use cycle_window::WindowFault;
-use outcomes::{Fault, totals};
+use cli_faults::{Fault, totals};
 use signals::{Sink, Source};
 use std::alloc::Global;
 use std::sync::Wait;
 use std::thread::Threads;
-use threaded_runs::{Gate, report_run};
+use workers::{Gate, report_run};
 use vcd_reader::{Dump, read_dump};
 use verdicts::{Report, ReportFault, write_report};
 
@@ -76,16 +76,16 @@ fn run_through<S: Source, W: Sink, G: Gate + Sync, R: Threads + Wait + Sync>(
 /// by 1 to 64 workers, each a thread, through windows of so many clocks, and writes the report.
 ///
 /// The answer is the report's totals: how many attempts held, were vacuous, failed, were disabled,
-/// and are open. `window` is from 1 to 65,536. Neither it nor `workers` nor `gate` changes what is
-/// written. The call may wait for the workers, and all have ended when it returns.
+/// and are open. `window` is from 1 to 65,536. Neither it nor `workers_core` nor `gate` changes
+/// what is written. The call may wait for the workers, and all have ended when it returns.
 ///
 /// # Errors
 ///
-/// C3 where `window` is out of its range, then U1 where `workers` is, before anything is read; then
-/// what is wrong with the dump (V1 to V8), with the bytes (B1 to B6), with the program (F1 to F16),
-/// with its clock (C1, C2) and with its signals (C4, C5), all before anything is written; G1 where
-/// the sink failed, which then holds a beginning of the report after what it held before; and want
-/// of memory.
+/// C3 where `window` is out of its range, then U1 where `workers_core` is, before anything is read;
+/// then what is wrong with the dump (V1 to V8), with the bytes (B1 to B6), with the program (F1 to
+/// F16), with its clock (C1, C2) and with its signals (C4, C5), all before anything is written; G1
+/// where the sink failed, which then holds a beginning of the report after what it held before; and
+/// want of memory.
 pub fn run_code<S: Source, W: Sink, G: Gate + Sync, R: Threads + Wait + Sync>(
     rt: &R,
     alloc: Global,

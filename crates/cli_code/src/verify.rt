@@ -1,12 +1,12 @@
 //! The call behind the command `verify`.
 
 ghost use Rattle.std.specs.Prelude.{OnOk, IfOk, IfErr};
-ghost use Rattle.outcomes.specs.Codes.{SpellsAccepted, WhyNotAccepted};
+ghost use Rattle.cli_faults.specs.Codes.{SpellsAccepted, WhyNotAccepted};
 ghost use Rattle.cli_code.specs.Verifications.{IsTold, WhyNotTold, verification_of};
 
 use crate::limits::write_limits;
-use outcomes::Fault;
-use program_files::decode;
+use cli_faults::Fault;
+use bytecode_files::decode;
 use signals::Sink;
 use std::alloc::Global;
 use verifier::{Verified, verify};

@@ -13,12 +13,12 @@ use Rattle.assertions.specs.Written.{Written, boolean, delay, lead, repeat, or, 
 use Rattle.assertions.specs.declared.sequence.Boolean.{Boolean}
 use Rattle.assertions.specs.declared.sequence.Boolean.TheVariants.{One, Listed}
 use Rattle.assertions.specs.Listed.{EachBoolean, IsListed, IsListedOption}
-use Rattle.assertion_reads.specs.Marks.{is_marked, places_from, slots_from}
-use Rattle.expression_code.specs.declared.slots.SlotTable.{SlotTable}
-use Rattle.expression_code.specs.Codes.{Slots}
-use Rattle.expression_code.specs.Samples.{sample_code, sample_reach}
-use Rattle.expression_code.specs.Chosen.{terms_at, held_at}
-use Rattle.expression_code.specs.Slots.{slots_in}
+use Rattle.compiler_reads.specs.Marks.{is_marked, places_from, slots_from}
+use Rattle.compiler_expressions.specs.declared.slots.SlotTable.{SlotTable}
+use Rattle.compiler_expressions.specs.Codes.{Slots}
+use Rattle.compiler_expressions.specs.Samples.{sample_code, sample_reach}
+use Rattle.compiler_expressions.specs.Chosen.{terms_at, held_at}
+use Rattle.compiler_expressions.specs.Slots.{slots_in}
 use Rattle.compiler.specs.Conditions.{IsFit}
 use Rattle.compiler.specs.Readings.{IsReading, first_counter, slots_over, boolean_terms, counters_read, code_over}
 use Rattle.compiler.proofs.Places.{places-long}

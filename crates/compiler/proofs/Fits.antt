@@ -24,14 +24,14 @@ use Rattle.bytecode.specs.Instructions.{frame_of}
 use Rattle.bytecode.specs.Values.{ProgramData, SectionData, in_byte, in_two, is_width, fits_text, fits_slot, fits_list}
 use Rattle.bytecode.specs.Values.{fits_sample, fits_block, fits_section, fits_disable, fits_limits, fits_header}
 use Rattle.bytecode.specs.Values.{fits_program}
-use Rattle.inference.specs.declared.refusal.Refusal.{Refusal}
-use Rattle.inference.specs.declared.refusal.Refusal.TheVariants.{SlotRange, Cycle}
-use Rattle.inference.specs.Rules.{block_rules}
-use Rattle.inference.specs.Typing.{IsFine}
-use Rattle.inference.specs.Sections.{IsSection, AreTyped, size_of}
-use Rattle.expression_code.proofs.FitLaws.{samples-fit}
-use Rattle.assertion_reads.specs.Marks.{is_marked, places_from}
-use Rattle.assertion_reads.proofs.SlotLaws.{place-at}
+use Rattle.verifier_inference.specs.declared.refusal.Refusal.{Refusal}
+use Rattle.verifier_inference.specs.declared.refusal.Refusal.TheVariants.{SlotRange, Cycle}
+use Rattle.verifier_inference.specs.Rules.{block_rules}
+use Rattle.verifier_inference.specs.Typing.{IsFine}
+use Rattle.verifier_inference.specs.Sections.{IsSection, AreTyped, size_of}
+use Rattle.compiler_expressions.proofs.FitLaws.{samples-fit}
+use Rattle.compiler_reads.specs.Marks.{is_marked, places_from}
+use Rattle.compiler_reads.proofs.SlotLaws.{place-at}
 use Rattle.compiler.specs.Conditions.{IsFit}
 use Rattle.compiler.specs.Programs.{disabling_atom}
 use Rattle.compiler.specs.Readings.{IsReading, slots_over, counters_read}

@@ -22,23 +22,23 @@ use Rattle.bytecode.specs.declared.flow.Flow.TheVariants.{Stops, GoesOn, Jumps, 
 use Rattle.bytecode.specs.declared.block_instr.BlockInstr.{BlockInstr}
 use Rattle.bytecode.specs.Values.{ProgramData, SectionData}
 use Rattle.bytecode.specs.Instructions.{frame_of, sample_flow, block_flow}
-use Rattle.inference.specs.Sections.{IsSection, size_of}
-use Rattle.inference.specs.Typing.{longest_list}
+use Rattle.verifier_inference.specs.Sections.{IsSection, size_of}
+use Rattle.verifier_inference.specs.Typing.{longest_list}
 use Rattle.verifier.specs.Limits.{path_of, paths_from, longest_path, path_sum}
 use Rattle.verifier.specs.Programs.{IsAtom, IsWellFormed, HasRoom, IsAccepted, least_limits, least_attempts}
 use Rattle.verifier.specs.Programs.{least_obligations, least_stack}
 use Rattle.verifier.proofs.ProgramLaws.{longest_is_least}
 use Rattle.verifier.proofs.ShortLaws.{accepted}
-use Rattle.visits.proofs.LifeLaws.{start_life-most}
-use Rattle.expression_code.specs.Samples.{Held, sample_code, sample_need, sample_reach}
-use Rattle.expression_code.specs.Laws.{IsFrame, IsTypedWithin, Each, program_terms}
-use Rattle.expression_code.specs.Depths.{depth, IsShortPast, IsBounded}
-use Rattle.expression_code.proofs.Quiet.{samples-are-typed}
-use Rattle.expression_code.proofs.DepthLaws.{depth-bounds-code}
-use Rattle.assertion_reads.specs.Marks.{is_marked, places_from}
-use Rattle.positions.specs.Sequences.{atom_of}
-use Rattle.positions.specs.Laws.{Occurs, IsThere, section_for, led_section}
-use Rattle.positions.proofs.Theorem.{law-section_is_well_formed, law-section_is_small}
+use Rattle.verifier.proofs.LifeLaws.{start_life-most}
+use Rattle.compiler_expressions.specs.Samples.{Held, sample_code, sample_need, sample_reach}
+use Rattle.compiler_expressions.specs.Laws.{IsFrame, IsTypedWithin, Each, program_terms}
+use Rattle.compiler_expressions.specs.Depths.{depth, IsShortPast, IsBounded}
+use Rattle.compiler_expressions.proofs.Quiet.{samples-are-typed}
+use Rattle.compiler_expressions.proofs.DepthLaws.{depth-bounds-code}
+use Rattle.compiler_reads.specs.Marks.{is_marked, places_from}
+use Rattle.compiler_positions.specs.Sequences.{atom_of}
+use Rattle.compiler_positions.specs.Laws.{Occurs, IsThere, section_for, led_section}
+use Rattle.compiler_positions.proofs.Theorem.{law-section_is_well_formed, law-section_is_small}
 use Rattle.compiler.specs.Conditions.{IsKnown, IsFit}
 use Rattle.compiler.specs.Programs.{disabling_atom, IsSlotOf, IsProgramOf}
 use Rattle.compiler.specs.Readings.{IsReading, slots_over, counters_read}

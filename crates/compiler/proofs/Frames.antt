@@ -12,9 +12,9 @@ use Rattle.assertions.specs.declared.assertion.Assertion.{Assertion}
 use Rattle.assertions.specs.declared.suite.Suite.{Suite}
 use Rattle.bytecode.specs.Values.{ProgramData, SlotData}
 use Rattle.bytecode.specs.Instructions.{frame_of}
-use Rattle.expression_code.specs.Codes.{slot_of}
-use Rattle.expression_code.specs.Samples.{Held, held_slot}
-use Rattle.expression_code.specs.Laws.{Each, OfName, HasSlot, IsNarrow, IsFrame, program_terms}
+use Rattle.compiler_expressions.specs.Codes.{slot_of}
+use Rattle.compiler_expressions.specs.Samples.{Held, held_slot}
+use Rattle.compiler_expressions.specs.Laws.{Each, OfName, HasSlot, IsNarrow, IsFrame, program_terms}
 use Rattle.compiler.specs.Programs.{HoldsAt, HoldsName, IsSampled, IsSlotOf, IsProgramOf}
 use Rattle.compiler.proofs.ListLaws.{some-one, zip-at, zip-long, all-by-places, all-more, signal-slot, counter-slot}
 

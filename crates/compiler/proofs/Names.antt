@@ -10,9 +10,9 @@ use Rattle.expressions.specs.declared.counter.Counter.{Counter}
 use Rattle.expressions.specs.Terms.{Term, constant, named, slice, group, concat, inverse, reduce}
 use Rattle.expressions.specs.Terms.{combine, shift, compare, connect, choose, past, change}
 use Rattle.expressions.specs.Expressions.{term_of}
-use Rattle.assertion_reads.specs.Names.{names_in, expression_names, rule_names, counter_names}
-use Rattle.expression_code.specs.Samples.{rule_terms, clear_terms, counter_terms}
-use Rattle.expression_code.specs.Laws.{Each, OfName}
+use Rattle.compiler_reads.specs.Names.{names_in, expression_names, rule_names, counter_names}
+use Rattle.compiler_expressions.specs.Samples.{rule_terms, clear_terms, counter_terms}
+use Rattle.compiler_expressions.specs.Laws.{Each, OfName}
 
 -- these names are among those
 abbrev pub Within : List Name → List Name → Type 0

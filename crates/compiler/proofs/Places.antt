@@ -6,10 +6,10 @@ use Rattle.std.specs.List.{AllByRecursion, AllZip, All}
 use Rattle.std.proofs.lemmas.List.Sums.{sum_by-cons}
 use Rattle.std.proofs.lemmas.Option.{slice_get_within, slice_get_cases}
 use Rattle.expressions.specs.declared.counter.Counter.{Counter}
-use Rattle.assertion_reads.specs.Marks.{is_marked, places_from, slots_from}
-use Rattle.assertion_reads.proofs.SlotLaws.{place-at, marked-at}
-use Rattle.expression_code.specs.Samples.{Held}
-use Rattle.expression_code.specs.Chosen.{held_found, held_at}
+use Rattle.compiler_reads.specs.Marks.{is_marked, places_from, slots_from}
+use Rattle.compiler_reads.proofs.SlotLaws.{place-at, marked-at}
+use Rattle.compiler_expressions.specs.Samples.{Held}
+use Rattle.compiler_expressions.specs.Chosen.{held_found, held_at}
 use Rattle.compiler.proofs.ListLaws.{some-one}
 use Rattle.compiler.specs.Parts.{width_found, width_at}
 

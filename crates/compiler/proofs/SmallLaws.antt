@@ -12,25 +12,25 @@ use Rattle.expressions.specs.declared.name.Name.{Name}
 use Rattle.expressions.specs.declared.expr.Expr.{Expr}
 use Rattle.expressions.specs.declared.counter.Counter.{Counter as Counting}
 use Rattle.expressions.specs.Terms.{Term}
-use Rattle.inference.specs.Sections.{size_of}
+use Rattle.verifier_inference.specs.Sections.{size_of}
 use Rattle.assertions.specs.declared.sequence.Boolean.{Boolean}
 use Rattle.assertions.specs.declared.sequence.Boolean.TheVariants.{One}
 use Rattle.assertions.specs.declared.assertion.Assertion.{Assertion}
 use Rattle.assertions.specs.declared.suite.Suite.{Suite}
 use Rattle.assertions.specs.Written.{Written, weight, IsOrdered}
 use Rattle.assertions.specs.Shapes.{written_form}
-use Rattle.assertion_reads.specs.Reads.{IsRead, at_once, through, boolean_names}
-use Rattle.assertion_reads.specs.Marks.{places_from}
-use Rattle.assertion_reads.proofs.SlotLaws.{place-at}
-use Rattle.expression_code.specs.Codes.{Slots}
-use Rattle.expression_code.specs.Samples.{Held, sample_code}
-use Rattle.expression_code.specs.Chosen.{term_found, terms_at, held_at}
-use Rattle.expression_code.specs.Laws.{size}
-use Rattle.expression_code.proofs.Lengths.{samples-are-short}
-use Rattle.positions.specs.Sequences.{atom_of}
-use Rattle.positions.specs.Lengths.{HasLongSection}
-use Rattle.positions.specs.Laws.{booleans}
-use Rattle.positions.proofs.Short.{law-section_is_short, law-tables_are_short}
+use Rattle.compiler_reads.specs.Reads.{IsRead, at_once, through, boolean_names}
+use Rattle.compiler_reads.specs.Marks.{places_from}
+use Rattle.compiler_reads.proofs.SlotLaws.{place-at}
+use Rattle.compiler_expressions.specs.Codes.{Slots}
+use Rattle.compiler_expressions.specs.Samples.{Held, sample_code}
+use Rattle.compiler_expressions.specs.Chosen.{term_found, terms_at, held_at}
+use Rattle.compiler_expressions.specs.Laws.{size}
+use Rattle.compiler_expressions.proofs.Lengths.{samples-are-short}
+use Rattle.compiler_positions.specs.Sequences.{atom_of}
+use Rattle.compiler_positions.specs.Lengths.{HasLongSection}
+use Rattle.compiler_positions.specs.Laws.{booleans}
+use Rattle.compiler_positions.proofs.Short.{law-section_is_short, law-tables_are_short}
 use Rattle.compiler.specs.Readings.{IsReading, slots_over, boolean_terms, counters_read, code_over}
 use Rattle.compiler.specs.Small.{IsSmallSide, IsSmall, SmallHaveCode}
 

@@ -16,9 +16,9 @@ use Rattle.assertions.specs.Segments.{AdmitsEmpty}
 use Rattle.assertions.specs.Listed.{EachBoolean, IsListed, IsListedOption}
 use Rattle.assertions.specs.Shapes.{written_form, shape}
 use Rattle.bytecode.specs.Texts.{is_word, is_path}
-use Rattle.expression_code.specs.Laws.{Each, OfName}
-use Rattle.expression_code.specs.Samples.{counter_terms}
-use Rattle.expression_code.specs.Depths.{depth, IsShortPast}
+use Rattle.compiler_expressions.specs.Laws.{Each, OfName}
+use Rattle.compiler_expressions.specs.Samples.{counter_terms}
+use Rattle.compiler_expressions.specs.Depths.{depth, IsShortPast}
 
 -- What the suite has at a place has so many bits.
 pub record IsSignalAt (suite : Suite) (place width : ℕ) : Type 0 where

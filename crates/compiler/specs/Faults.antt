@@ -2,12 +2,12 @@
 use Rattle.std.specs.Prelude.{◌⊎◌, ℕ, ◌<◌, ◌≤◌, Bool, false, ◌||◌, nat_lt, IsTrue, List, length}
 use Rattle.std.specs.Prelude.{Option, Some, None, slice_get, string_bytes}
 use Rattle.std.specs.List.{list_any}
-use Rattle.assertion_reads.specs.Marks.{places_from}
+use Rattle.compiler_reads.specs.Marks.{places_from}
 use Rattle.assertions.specs.declared.signal.Signal.{Signal}
 use Rattle.assertions.specs.declared.assertion.Assertion.{Assertion}
 use Rattle.assertions.specs.declared.suite.Suite.{Suite}
 use Rattle.assertions.specs.Shapes.{written_form}
-use Rattle.positions.specs.Lengths.{HasLongSection}
+use Rattle.compiler_positions.specs.Lengths.{HasLongSection}
 use Rattle.compiler.specs.declared.fault.CompileFault.{CompileFault}
 use Rattle.compiler.specs.declared.fault.CompileFault.TheVariants.{TooManyAtoms, CodeTooLong}
 use Rattle.compiler.specs.declared.fault.CompileFault.TheVariants.{TooManySlots, TextTooLong}

@@ -18,12 +18,12 @@ use Rattle.assertions.specs.Segments.{AdmitsEmpty}
 use Rattle.assertions.specs.Shapes.{written_form, shape}
 use Rattle.assertions.specs.Listed.{EachBoolean, IsListed, IsListedOption}
 use Rattle.bytecode.specs.Values.{ProgramData, SlotData}
-use Rattle.assertion_reads.specs.Reads.{Reads}
-use Rattle.expression_code.specs.Codes.{Slots}
-use Rattle.expression_code.specs.Samples.{Held, sample_code}
-use Rattle.expression_code.specs.Laws.{Each, OfName, program_terms}
-use Rattle.positions.specs.Sequences.{atom_of}
-use Rattle.positions.specs.Laws.{section_for, led_section}
+use Rattle.compiler_reads.specs.Reads.{Reads}
+use Rattle.compiler_expressions.specs.Codes.{Slots}
+use Rattle.compiler_expressions.specs.Samples.{Held, sample_code}
+use Rattle.compiler_expressions.specs.Laws.{Each, OfName, program_terms}
+use Rattle.compiler_positions.specs.Sequences.{atom_of}
+use Rattle.compiler_positions.specs.Laws.{section_for, led_section}
 
 -- What a program holds of a suite: the places of signals, and counters, in the order of its slots.
 pub record Layout : Type 0 where

@@ -6,11 +6,11 @@ use Rattle.expressions.specs.Terms.{Term}
 use Rattle.assertions.specs.declared.assertion.Assertion.{Assertion}
 use Rattle.assertions.specs.declared.suite.Suite.{Suite}
 use Rattle.bytecode.specs.declared.sample_instr.SampleInstr.{SampleInstr}
-use Rattle.assertion_reads.specs.Reads.{AreRead}
-use Rattle.assertion_reads.specs.Marks.{AreMarks, is_marked, places_from, slots_from}
-use Rattle.expression_code.specs.Codes.{Slots}
-use Rattle.expression_code.specs.Samples.{Held, sample_code}
-use Rattle.expression_code.specs.Chosen.{terms_at, held_at}
+use Rattle.compiler_reads.specs.Reads.{AreRead}
+use Rattle.compiler_reads.specs.Marks.{AreMarks, is_marked, places_from, slots_from}
+use Rattle.compiler_expressions.specs.Codes.{Slots}
+use Rattle.compiler_expressions.specs.Samples.{Held, sample_code}
+use Rattle.compiler_expressions.specs.Chosen.{terms_at, held_at}
 
 -- For each signal and each counter of the suite, whether the assertion reads it.
 pub record IsReading (suite : Suite) (a : Assertion) (signals counters : List Bool) : Type 0 where

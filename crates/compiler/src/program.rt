@@ -5,13 +5,13 @@ ghost use Rattle.assertions.specs.declared.sequence.Boolean.TheVariants.{One};
 ghost use Rattle.assertions.specs.Written.{weight, IsOrdered};
 ghost use Rattle.assertions.specs.Shapes.{written_form};
 ghost use Rattle.assertions.specs.Listed.{EachBoolean, IsListed, IsListedOption};
-ghost use Rattle.assertion_reads.specs.Marks.{places_from, slots_from};
-ghost use Rattle.positions.specs.Sequences.{atom_of, largest};
-ghost use Rattle.positions.specs.Laws.{section_for, led_section};
+ghost use Rattle.compiler_reads.specs.Marks.{places_from, slots_from};
+ghost use Rattle.compiler_positions.specs.Sequences.{atom_of, largest};
+ghost use Rattle.compiler_positions.specs.Laws.{section_for, led_section};
 ghost use Rattle.compiler.specs.Programs.{disabling_atom};
 ghost use Rattle.bytecode.specs.Programs.{data_of};
 ghost use Rattle.bytecode.specs.Views.{section_data};
-ghost use Rattle.inference.specs.Sections.{size_of};
+ghost use Rattle.verifier_inference.specs.Sections.{size_of};
 ghost use Rattle.compiler.specs.Conditions.{IsFit};
 ghost use Rattle.compiler.specs.Readings.{first_counter, code_over};
 ghost use Rattle.compiler.specs.Reads.{IsReadingOf};
@@ -21,11 +21,11 @@ ghost use Rattle.compiler.specs.Parts.{AreParts, IsCodeFault, IsSideFault, no_li
 use crate::fault::CompileFault;
 use crate::reading::Reading;
 use crate::slots::{counter_widths, signal_slots};
-use assertion_reads::slots_of;
+use compiler_reads::slots_of;
 use assertions::{Assertion, Boolean, Sequence, Suite};
 use bytecode::{Limits, Program, SampleInstr, Section};
-use expression_code::{LengthFault, SlotTable, sample_code};
-use positions::{SectionFault, accepting_first, positions_of};
+use compiler_expressions::{LengthFault, SlotTable, sample_code};
+use compiler_positions::{SectionFault, accepting_first, positions_of};
 use std::alloc::{AllocError, Global};
 
 /// The slots of the names that are read.

@@ -7,20 +7,20 @@ use Rattle.std.specs.Prelude.{nat_eq}
 use Rattle.std.specs.Map.{lookup, set_value}
 use Rattle.bytecode.specs.Values.{ProgramData}
 use Rattle.verifier.specs.Limits.{path_sum}
-use Rattle.checked_machine.specs.Outcomes.{Ran, done, trapped, and_then}
-use Rattle.checked_machine.specs.Blocks.{Visit, visit}
-use Rattle.checked_machine.specs.Clocks.{Attempt, Visits, visited, visit_attempts}
-use Rattle.checked_machine.specs.Bounds.{Rises}
-use Rattle.checked_machine.proofs.Outcomes.{Meets-at}
-use Rattle.checked_machine.proofs.Rises.{Rises-within}
-use Rattle.checked_machine.proofs.Typing.{IsSection}
-use Rattle.checked_machine.proofs.Visits.{Visited, visit-meets}
-use Rattle.checked_machine.proofs.Parts.{began, IsRunning}
-use Rattle.visits.proofs.LifeLaws.{start_life-most}
-use Rattle.attempt_pool.specs.Pooled.{Pooled, pooled, slot_after}
-use Rattle.attempt_pool.specs.Walk.{IsAt, left_at}
-use Rattle.visits.specs.declared.attempt.AttemptRecord.{AttemptRecord}
-use Rattle.visits.specs.Records.{attempt_of}
+use Rattle.machine_definition.specs.Outcomes.{Ran, done, trapped, and_then}
+use Rattle.machine_definition.specs.Blocks.{Visit, visit}
+use Rattle.machine_definition.specs.Clocks.{Attempt, Visits, visited, visit_attempts}
+use Rattle.machine_definition.specs.Bounds.{Rises}
+use Rattle.machine_definition.proofs.Outcomes.{Meets-at}
+use Rattle.machine_definition.proofs.Rises.{Rises-within}
+use Rattle.machine_definition.proofs.Typing.{IsSection}
+use Rattle.machine_definition.proofs.Visits.{Visited, visit-meets}
+use Rattle.machine_definition.proofs.Parts.{began, IsRunning}
+use Rattle.verifier.proofs.LifeLaws.{start_life-most}
+use Rattle.machine_pool.specs.Pooled.{Pooled, pooled, slot_after}
+use Rattle.machine_pool.specs.Walk.{IsAt, left_at}
+use Rattle.machine_visits.specs.declared.attempt.AttemptRecord.{AttemptRecord}
+use Rattle.machine_visits.specs.Records.{attempt_of}
 use Rattle.machine.specs.Live.{attempts_in}
 use Rattle.machine.proofs.PoolSteps as steps
 

@@ -6,12 +6,12 @@ use Rattle.std.specs.List.{IsDistinct}
 use Rattle.std.specs.Map.{lookup, remove_entry, keys_of}
 use Rattle.signals.specs.declared.verdict.Verdict.TheVariants.{Disabled}
 use Rattle.signals.specs.declared.verdict.Decided.{Decided}
-use Rattle.checked_machine.specs.Outcomes.{Ran, done, trapped, and_then}
-use Rattle.checked_machine.specs.Clocks.{disable_all}
-use Rattle.attempt_pool.specs.Pooled.{Pooled, pooled, first_slot, slot_after}
-use Rattle.attempt_pool.specs.Walk.{IsAt}
-use Rattle.visits.specs.declared.attempt.AttemptRecord.{AttemptRecord}
-use Rattle.visits.specs.Records.{attempt_of}
+use Rattle.machine_definition.specs.Outcomes.{Ran, done, trapped, and_then}
+use Rattle.machine_definition.specs.Clocks.{disable_all}
+use Rattle.machine_pool.specs.Pooled.{Pooled, pooled, first_slot, slot_after}
+use Rattle.machine_pool.specs.Walk.{IsAt}
+use Rattle.machine_visits.specs.declared.attempt.AttemptRecord.{AttemptRecord}
+use Rattle.machine_visits.specs.Records.{attempt_of}
 use Rattle.machine.specs.Live.{attempts_in, AreDisabled}
 use Rattle.machine.proofs.PoolSteps as steps
 

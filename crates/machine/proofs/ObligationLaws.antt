@@ -9,20 +9,20 @@ use Rattle.std.specs.Prelude.{nat_eq}
 use Rattle.std.specs.Map.{lookup, set_value, remove_entry}
 use Rattle.bytecode.specs.Values.{ProgramData}
 use Rattle.verifier.specs.Limits.{path_sum}
-use Rattle.checked_machine.specs.Outcomes.{Ran, done, trapped, and_then}
-use Rattle.checked_machine.specs.Blocks.{Visit, visit}
-use Rattle.checked_machine.specs.Clocks.{Obligation, Fate, visit_obligations, staying, is_ended, is_broken}
-use Rattle.checked_machine.specs.Bounds.{Rises}
-use Rattle.checked_machine.proofs.Outcomes.{Meets-at}
-use Rattle.checked_machine.proofs.Typing.{IsSection}
-use Rattle.checked_machine.proofs.Visits.{Visited, visit-meets}
-use Rattle.checked_machine.proofs.Parts.{since, IsOwed}
-use Rattle.attempt_pool.specs.Pooled.{Pooled, pooled, slot_after}
-use Rattle.attempt_pool.specs.Walk.{IsAt, left_at}
-use Rattle.visits.specs.declared.fates.Fates.{Fates}
-use Rattle.visits.specs.declared.obligation.ObligationRecord.{ObligationRecord}
-use Rattle.visits.specs.Marks.{mark_if, marked, is_open, fates_of, AreRecent}
-use Rattle.visits.specs.Records.{obligation_of, left_open}
+use Rattle.machine_definition.specs.Outcomes.{Ran, done, trapped, and_then}
+use Rattle.machine_definition.specs.Blocks.{Visit, visit}
+use Rattle.machine_definition.specs.Clocks.{Obligation, Fate, visit_obligations, staying, is_ended, is_broken}
+use Rattle.machine_definition.specs.Bounds.{Rises}
+use Rattle.machine_definition.proofs.Outcomes.{Meets-at}
+use Rattle.machine_definition.proofs.Typing.{IsSection}
+use Rattle.machine_definition.proofs.Visits.{Visited, visit-meets}
+use Rattle.machine_definition.proofs.Parts.{since, IsOwed}
+use Rattle.machine_pool.specs.Pooled.{Pooled, pooled, slot_after}
+use Rattle.machine_pool.specs.Walk.{IsAt, left_at}
+use Rattle.machine_visits.specs.declared.fates.Fates.{Fates}
+use Rattle.machine_visits.specs.declared.obligation.ObligationRecord.{ObligationRecord}
+use Rattle.machine_visits.specs.Marks.{mark_if, marked, is_open, fates_of, AreRecent}
+use Rattle.machine_visits.specs.Records.{obligation_of, left_open}
 use Rattle.machine.specs.Live.{obligations_in, OpenedLately, AreVisited}
 use Rattle.machine.proofs.PoolSteps as steps
 

@@ -7,16 +7,16 @@ use Rattle.std.specs.Map.{lookup, remove_entry}
 use Rattle.signals.specs.declared.verdict.Verdict.{Verdict}
 use Rattle.signals.specs.declared.verdict.Verdict.TheVariants.{Open}
 use Rattle.signals.specs.declared.verdict.Decided.{Decided}
-use Rattle.checked_machine.specs.Outcomes.{Ran, done, trapped, and_then}
-use Rattle.checked_machine.specs.Clocks.{Attempt, Fate, Settlement, settle, settle_all, stays, ends}
-use Rattle.attempt_pool.specs.Pooled.{Pooled, pooled, slot_after}
-use Rattle.attempt_pool.specs.Walk.{IsAt, left_at}
-use Rattle.visits.specs.declared.attempt.AttemptRecord.{AttemptRecord}
-use Rattle.visits.specs.declared.fates.Fates.{Fates}
-use Rattle.visits.specs.Marks.{fates_of, AreRecent, SettlesAs}
-use Rattle.visits.specs.Records.{attempt_of, settled}
+use Rattle.machine_definition.specs.Outcomes.{Ran, done, trapped, and_then}
+use Rattle.machine_definition.specs.Clocks.{Attempt, Fate, Settlement, settle, settle_all, stays, ends}
+use Rattle.machine_pool.specs.Pooled.{Pooled, pooled, slot_after}
+use Rattle.machine_pool.specs.Walk.{IsAt, left_at}
+use Rattle.machine_visits.specs.declared.attempt.AttemptRecord.{AttemptRecord}
+use Rattle.machine_visits.specs.declared.fates.Fates.{Fates}
+use Rattle.machine_visits.specs.Marks.{fates_of, AreRecent, SettlesAs}
+use Rattle.machine_visits.specs.Records.{attempt_of, settled}
 use Rattle.machine.specs.Live.{attempts_in, HaveBegun, AreSettled}
-use Rattle.machine.specs.Running.{open_ones}
+use Rattle.machine_definition.specs.Runs.{open_ones}
 use Rattle.machine.proofs.PoolSteps as steps
 
 -- those that stay and those that were decided, in front of the settlement of the others

@@ -3,19 +3,19 @@
 ghost use Rattle.std.specs.Prelude.{◌≡◌, ◌+◌, ◌*◌, ◌≤◌, ◌++◌, [], length};
 ghost use Rattle.bytecode.specs.Programs.{data_of};
 ghost use Rattle.verifier.specs.Programs.{IsAccepted};
-ghost use Rattle.attempt_pool.specs.Pooled.{pooled};
-ghost use Rattle.checked_machine.specs.Outcomes.{done};
-ghost use Rattle.checked_machine.specs.Clocks.{visit_attempts};
-ghost use Rattle.visits.specs.Bases.{AreBases};
+ghost use Rattle.machine_pool.specs.Pooled.{pooled};
+ghost use Rattle.machine_definition.specs.Outcomes.{done};
+ghost use Rattle.machine_definition.specs.Clocks.{visit_attempts};
+ghost use Rattle.machine_visits.specs.Bases.{AreBases};
 ghost use Rattle.machine.specs.Live.{attempts_in, visit_cost, AreRunning, HaveBegun, AreSettled};
 ghost use Rattle.machine.specs.Live.{AreDisabled};
-ghost use Rattle.machine.specs.Running.{open_ones};
+ghost use Rattle.machine_definition.specs.Runs.{open_ones};
 
 use arrayvec::ArrayVec;
-use attempt_pool::Pool;
+use machine_pool::Pool;
 use bytecode::Program;
 use signals::{Decided, Verdict};
-use visits::{AttemptRecord, Fates, visit_positions};
+use machine_visits::{AttemptRecord, Fates, visit_positions};
 
 /// Visits each attempt in order of its start, and answers whether any accepted.
 pub(crate) fn visit_attempts(

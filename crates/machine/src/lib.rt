@@ -14,8 +14,8 @@
 //! ```
 //!
 //! A contract sees the program, the state of the checked machine, and the ticks of the last clock:
-//! `specs/Running.antt`. The definitions of a clock stand in `checked_machine`: `clock` there says
-//! what a clock comes to, with every test that it could fail.
+//! `specs/Running.antt`. The definitions of a clock stand in `machine_definition`: `clock` there
+//! says what a clock comes to, with every test that it could fail.
 //!
 //! Not promised: that memory suffices for a machine, or that a foreign program means anything.
 #![tactic(auto)]

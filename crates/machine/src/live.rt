@@ -3,8 +3,8 @@
 ghost use Rattle.std.specs.Prelude.{◌≡◌, ◌+◌, ◌^◌, ◌<◌, ◌≤◌, ◌++◌, ◌∷◌, [], Some, length};
 ghost use Rattle.bytecode.specs.Programs.{data_of};
 ghost use Rattle.verifier.specs.Programs.{IsAccepted};
-ghost use Rattle.checked_machine.specs.Clocks.{disabling};
-ghost use Rattle.checked_machine.specs.Bounds.{IsReached};
+ghost use Rattle.machine_definition.specs.Clocks.{disabling};
+ghost use Rattle.machine_definition.specs.Bounds.{IsReached};
 ghost use Rattle.machine.specs.Code.{AreBasesOf};
 ghost use Rattle.machine.specs.Live.{attempts_in, obligations_in, standing_of, new_attempt};
 ghost use Rattle.machine.specs.Live.{with_new};
@@ -14,10 +14,10 @@ use crate::attempts::{disable_attempts, settle_attempts, visit_attempts};
 use crate::bases::Bases;
 use crate::obligations::{drop_obligations, visit_obligations};
 use arrayvec::ArrayVec;
-use attempt_pool::Pool;
+use machine_pool::Pool;
 use bytecode::Program;
 use signals::Decided;
-use visits::{AttemptRecord, ObligationRecord};
+use machine_visits::{AttemptRecord, ObligationRecord};
 
 /// The live attempts and obligations, and the number of clocks that were run.
 #[derive(Drop)]

@@ -29,7 +29,8 @@ impl Model for Machine {
 
 impl Machine {
     ghost use Rattle.std.specs.Prelude.{◌≡◌, ◌+◌, ◌^◌, ◌<◌, ◌≤◌, ◌++◌, length, IfOk, IfErr};
-    ghost use Rattle.machine.specs.Running.{opened_on, open_ones, IsClock, IsRowOf};
+    ghost use Rattle.machine.specs.Running.{opened_on, IsClock, IsRowOf};
+    ghost use Rattle.machine_definition.specs.Runs.{open_ones};
 
     /// A machine before its first clock, or the program again where memory is refused. No other
     /// call takes memory.

@@ -4,7 +4,7 @@ ghost use Rattle.std.specs.Prelude.{◌≡◌, ◌+◌, ◌^◌, ◌<◌, ◌≤
 ghost use Rattle.std.specs.Prelude.{replicate, false, vec_capacity};
 ghost use Rattle.bytecode.specs.Programs.{data_of};
 ghost use Rattle.verifier.specs.Programs.{IsAccepted};
-ghost use Rattle.checked_machine.specs.Machine.{opening};
+ghost use Rattle.machine_definition.specs.Machine.{opening};
 ghost use Rattle.machine.specs.Code.{AreBasesOf};
 ghost use Rattle.machine.specs.Memory.{IsLiveAtFirst, IsMemory, state_of};
 ghost use Rattle.machine.specs.Running.{IsClock, IsRowOf};
@@ -13,14 +13,14 @@ use crate::bases::Bases;
 use crate::live::Live;
 use crate::row::push_row;
 use arrayvec::ArrayVec;
-use attempt_pool::Pool;
+use machine_pool::Pool;
 use bytecode::Program;
-use history_ring::Ring;
-use inference::Frame;
-use sample_code::{Stack, run};
+use machine_ring::Ring;
+use verifier_inference::Frame;
+use machine_samples::{Stack, run};
 use signals::Decided;
 use std::alloc::{AllocError, Global};
-use visits::bases_of;
+use machine_visits::bases_of;
 
 /// How many bytes at least stay unused behind what a clock writes, so that it shares no line of a
 /// cache with the block behind, which another thread may write.

@@ -1,9 +1,9 @@
 //! Rows in the making.
 
 ghost use Rattle.std.specs.Prelude.{◌≡◌, ◌+◌, ◌<◌, ◌^◌, ◌≤◌, ◌∷◌, ◌++◌, length, take, drop};
-ghost use Rattle.history_ring.specs.History.{pushed};
+ghost use Rattle.machine_ring.specs.History.{pushed};
 
-use history_ring::Ring;
+use machine_ring::Ring;
 
 /// Copies values into a row from `at` on.
 fn copy_values(row: &mut [u128], at: usize, values: &[u128])

@@ -16,7 +16,7 @@
 //! that file took at best (`bench/bytecode`).
 //!
 //! What is answered is said by the contracts of `decode`, `encode` and `upgrade` of
-//! `program_files`; the definitions stand in its `specs/Spelling.antt`, and in
+//! `bytecode_files`; the definitions stand in its `specs/Spelling.antt`, and in
 //! `bytecode/specs/Values.antt`.
 //!
 //! Not promised: that a program is accepted, which is `oracle_verifier`'s.
@@ -26,7 +26,7 @@ ghost use Rattle.std.specs.Prelude.{◌<◌};
 
 use anyhow::{Result, bail};
 use bytecode::Program;
-use program_files::{decode, encode, upgrade};
+use bytecode_files::{decode, encode, upgrade};
 use std::alloc::Global;
 use std::time::Instant;
 use std::{env, fs};

@@ -3,12 +3,12 @@
 ghost use Rattle.std.specs.Prelude.{◌<◌};
 
 use anyhow::{Result, bail};
-use program_files::decode;
+use bytecode_files::decode;
 use signals::Counted;
 use std::alloc::Global;
 use vcd_reader::read_dump;
 use verifier::{Verified, verify};
-use workers::Job;
+use workers_core::Job;
 
 /// The value of a hexadecimal digit, 0 for other bytes.
 fn digit(byte: u8) -> u8

@@ -18,8 +18,8 @@
 //! made once more, so `make allocations` can refuse each allocation in turn.
 //!
 //! The gate compares that with `stdout`; `scripts/core_cases.py` made the cases, with the answers
-//! of a core of its own. What a step does is said by the contract of `workers::Core::step`; the
-//! definitions stand in `workers/specs` (`States.antt`, `Floors.antt`).
+//! of a core of its own. What a step does is said by the contract of `workers_core::Core::step`;
+//! the definitions stand in `workers/specs` (`States.antt`, `Floors.antt`).
 //!
 //! Not promised: that each list of steps occurs.
 #![tactic(auto)]
@@ -34,7 +34,7 @@ use show::{batch_line, letter, step_of};
 use std::alloc::Global;
 use std::io::{Print, Read};
 use sum::sum_of;
-use workers::{Core, Job, Reply, Step};
+use workers_core::{Core, Job, Reply, Step};
 
 /// The most steps of a list whose board is printed whole.
 const SHORT: usize = 1_000;

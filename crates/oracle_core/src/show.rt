@@ -1,10 +1,10 @@
 //! Steps, replies and batches as text.
 
 use anyhow::{Context, Result, bail};
-use batches::Batch;
+use machine_runs::Batch;
 use signals::{Decided, Verdict};
 use std::alloc::Global;
-use workers::{Reply, Step};
+use workers_core::{Reply, Step};
 
 /// The step that a line names.
 pub fn step_of(line: &str) -> Result<Step> {

@@ -1,13 +1,13 @@
 //! Programs that run.
 
 ghost use Rattle.std.specs.Prelude.{◌≡◌, ◌<◌, ◌≤◌, ◌^◌, map, true, IfOk};
-ghost use Rattle.sample_code.specs.Memory.{AreValues};
+ghost use Rattle.machine_definition.specs.Values.{AreValues};
 
 use anyhow::{Result, bail};
 use arrayvec::ArrayVec;
 use bytecode::Program;
 use machine::Machine;
-use program_files::{CodeFault, decode};
+use bytecode_files::{CodeFault, decode};
 use signals::Decided;
 use std::alloc::Global;
 use verifier::{Refusal, Verified, verify};

@@ -3,18 +3,18 @@
 use crate::steps::board_after;
 use cli::{NoGate, build_one, check_one, judge_one};
 use cli_code::run_code;
-use foreign_trials::{PROGRAM, told};
-use outcomes::Fault;
-use program_files::decode;
+use trials_code::{PROGRAM, told};
+use cli_faults::Fault;
+use bytecode_files::decode;
 use signals::{Counted, CutWriter};
 use std::alloc::{AllocError, Global};
 use std::sync::Wait;
 use std::thread::Threads;
-use threaded_runs::run;
+use workers::run;
 use vcd_reader::{VcdFault, read_dump};
 use verdicts::{Report, write_report};
 use verifier::{Verified, verify};
-use workers::Job;
+use workers_core::Job;
 
 /// Three ticks, at which x is 1, 0, 1, and y is 0, 1, 0.
 const DUMP: &str = "$scope module top $end\n$var wire 1 ! clk $end\n$var wire 1 x x $end\n\

@@ -16,7 +16,7 @@
 //!
 //! The calls are `read_dump`, `check_one`, `judge_one`, `build_one`, `run_code`, the steps of a
 //! core, and `run` with two workers. What they answer is said by their contracts, which stand with
-//! their definitions in `vcd_reader`, `cli`, `cli_code`, `workers` and `threaded_runs`.
+//! their definitions in `vcd_reader`, `cli`, `cli_code`, `workers_core` and `workers`.
 //!
 //! Not promised: that these are all requests that these calls can make.
 #![tactic(auto)]

@@ -1,9 +1,9 @@
 //! The steps of a core.
 
-use batches::Batch;
+use machine_runs::Batch;
 use std::alloc::{AllocError, Global};
 use std::fmt::Write;
-use workers::{Core, Job, Reply, Step};
+use workers_core::{Core, Job, Reply, Step};
 
 /// Two rounds of one worker with two monitors, through windows of two clocks over three, and one
 /// step for which no clock is left.

@@ -1,6 +1,6 @@
 //! What stands at the root of the trees that texts have.
 
-use grammar::{Infix, Junction};
+use parser_grammar::{Infix, Junction};
 use parser::{AssertionTree, ExprTree, File, ItemTree, PropertyTree, SequenceTree};
 
 /// The sign of a left operator: `~^` also where the text has `^~`.

@@ -24,7 +24,7 @@ ghost use Rattle.std.specs.Prelude.{◌<◌};
 
 use anyhow::{Result, bail};
 use bytecode::{Limits, Program};
-use program_files::{CodeFault, decode, encode, upgrade};
+use bytecode_files::{CodeFault, decode, encode, upgrade};
 use std::alloc::Global;
 use std::time::Instant;
 use std::{env, fs};

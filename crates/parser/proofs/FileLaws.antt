@@ -2,20 +2,20 @@
 use Rattle.std.proofs.Common.{◌≡◌, Bool, true, false, ◌||◌, List, [], ◌∷◌, ◌++◌, Option, Some, None, refl, sym, ap, ap₂}
 use Rattle.std.proofs.Common.{◌∙◌, subst, map}
 use Rattle.lexer.specs.declared.token.Token.{Token}
-use Rattle.grammar.specs.declared.terminal.Terminal.TheVariants.{End}
-use Rattle.grammar.specs.Terminals.{terminal, is}
-use Rattle.grammar.specs.Trees.{ItemForm, counter, declaration, assertion}
-use Rattle.grammar.specs.Files.{IsFile}
-use Rattle.grammar.specs.Readers.{each}
-use Rattle.grammar.specs.ReadFiles.{asserts, is_more, item, items, ReadsFile}
-use Rattle.grammar.proofs.TerminalLaws.{is-true, is-false}
-use Rattle.grammar.proofs.FilesComplete.{file-read}
-use Rattle.grammar.proofs.FilesSound.{file-found}
+use Rattle.parser_grammar.specs.declared.terminal.Terminal.TheVariants.{End}
+use Rattle.parser_grammar.specs.Terminals.{terminal, is}
+use Rattle.parser_grammar.specs.Trees.{ItemForm, counter, declaration, assertion}
+use Rattle.parser_grammar.specs.Files.{IsFile}
+use Rattle.parser_grammar.specs.Readers.{each}
+use Rattle.parser_grammar.specs.ReadFiles.{asserts, is_more, item, items, ReadsFile}
+use Rattle.parser_grammar.proofs.TerminalLaws.{is-true, is-false}
+use Rattle.parser_grammar.proofs.FilesComplete.{file-read}
+use Rattle.parser_grammar.proofs.FilesSound.{file-found}
 use Rattle.parser.specs.declared.fault.ParseFault.{ParseFault}
 use Rattle.parser_expressions.specs.declared.stop.Stop.{Stop}
 use Rattle.parser_expressions.specs.declared.stop.Stop.TheVariants as stops
-use Rattle.text_trees.specs.declared.item.ItemTree.{ItemTree}
-use Rattle.text_trees.specs.Views.{item_of}
+use Rattle.parser_trees.specs.declared.item.ItemTree.{ItemTree}
+use Rattle.parser_trees.specs.Views.{item_of}
 use Rattle.parser_expressions.proofs.LoopLaws.{map-push}
 use Rattle.parser.specs.Faults.{NamesStop, Refuses, IsParseFault}
 use Rattle.parser_expressions.specs.Views.{Fails}

@@ -3,23 +3,25 @@ use Rattle.std.proofs.Common.{if◌then◌else◌, ◌≡◌, ℕ, Bool, true, f
 use Rattle.std.proofs.Common.{option_map, refl}
 use Rattle.std.specs.Str.{bytes_eq}
 use Rattle.lexer.specs.declared.token.Token.{Token}
-use Rattle.grammar.specs.declared.bound.Bound.{Bound}
-use Rattle.grammar.specs.declared.terminal.Terminal.{Terminal}
-use Rattle.grammar.specs.declared.terminal.Terminal.TheVariants as word
-use Rattle.grammar.specs.declared.terminal.Terminal.TheVariants.{OpenRound, CloseRound, OpenSquare, CloseSquare, Comma}
-use Rattle.grammar.specs.declared.terminal.Terminal.TheVariants.{Semicolon, Colon, AtSign, Posedge, Disable, Iff}
-use Rattle.grammar.specs.declared.terminal.Terminal.TheVariants.{EndSequence, End}
-use Rattle.grammar.specs.Terminals.{is, is_name, is_word}
-use Rattle.grammar.specs.Bounds.{bound_within}
-use Rattle.grammar.specs.Trees.{Tree, SequenceForm, PropertyForm, declaration}
-use Rattle.grammar.specs.Readers.{lead, expect, pick, optional}
-use Rattle.grammar.specs.ReadExpressions.{name_of, path_words, expression}
-use Rattle.grammar.specs.ReadSequences.{whole, property}
-use Rattle.grammar.specs.Files.{most_open, in_one, in_two}
-use Rattle.grammar.specs.ReadFiles.{one_operand, two_operands, counter_head, counter_form, counter_item, again_of, skip}
-use Rattle.grammar.specs.ReadFiles.{ending_of, declaration_item, is_verb_token, opening_words, clock_words}
-use Rattle.grammar.specs.ReadFiles.{disable_reader, property_end, assertion_form, assertion_item, label_reader}
-use Rattle.grammar.specs.ReadFiles.{declaration_reader, item, is_more}
+use Rattle.parser_grammar.specs.declared.bound.Bound.{Bound}
+use Rattle.parser_grammar.specs.declared.terminal.Terminal.{Terminal}
+use Rattle.parser_grammar.specs.declared.terminal.Terminal.TheVariants as word
+use Rattle.parser_grammar.specs.declared.terminal.Terminal.TheVariants.{OpenRound, CloseRound, OpenSquare, CloseSquare}
+use Rattle.parser_grammar.specs.declared.terminal.Terminal.TheVariants.{Comma}
+use Rattle.parser_grammar.specs.declared.terminal.Terminal.TheVariants.{Semicolon, Colon, AtSign, Posedge, Disable, Iff}
+use Rattle.parser_grammar.specs.declared.terminal.Terminal.TheVariants.{EndSequence, End}
+use Rattle.parser_grammar.specs.Terminals.{is, is_name, is_word}
+use Rattle.parser_grammar.specs.Bounds.{bound_within}
+use Rattle.parser_grammar.specs.Trees.{Tree, SequenceForm, PropertyForm, declaration}
+use Rattle.parser_grammar.specs.Readers.{lead, expect, pick, optional}
+use Rattle.parser_grammar.specs.ReadExpressions.{name_of, path_words, expression}
+use Rattle.parser_grammar.specs.ReadSequences.{whole, property}
+use Rattle.parser_grammar.specs.Files.{most_open, in_one, in_two}
+use Rattle.parser_grammar.specs.ReadFiles.{one_operand, two_operands, counter_head, counter_form, counter_item}
+use Rattle.parser_grammar.specs.ReadFiles.{again_of, skip}
+use Rattle.parser_grammar.specs.ReadFiles.{ending_of, declaration_item, is_verb_token, opening_words, clock_words}
+use Rattle.parser_grammar.specs.ReadFiles.{disable_reader, property_end, assertion_form, assertion_item, label_reader}
+use Rattle.parser_grammar.specs.ReadFiles.{declaration_reader, item, is_more}
 use Rattle.parser_expressions.specs.declared.stop.Stop.{Stop}
 use Rattle.parser_expressions.specs.Views.{Fails}
 use Rattle.parser_expressions.proofs.Steps.{failing}

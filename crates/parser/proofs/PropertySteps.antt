@@ -2,14 +2,14 @@
 use Rattle.std.proofs.Common.{◌≡◌, ℕ, suc, ◌+◌, List, [], ◌∷◌, Option, Some, None, option_map, refl, sym, ap, ◌∙◌}
 use Rattle.std.proofs.Common.{arith}
 use Rattle.lexer.specs.declared.token.Token.{Token}
-use Rattle.grammar.specs.declared.operator.Implication.{Implication}
-use Rattle.grammar.specs.declared.terminal.Terminal.TheVariants.{OpenRound, CloseRound}
-use Rattle.grammar.specs.Operators.{implication_of}
-use Rattle.grammar.specs.Trees.{SequenceForm, PropertyForm, plain, implication}
-use Rattle.grammar.specs.Terminals.{is_first_match}
-use Rattle.grammar.specs.Readers.{◌>>=◌, Reader, refuse, lead, expect, pick}
-use Rattle.grammar.specs.ReadSequences.{whole, regroup, sequence_behind, implication_behind, regroup_property}
-use Rattle.grammar.specs.ReadSequences.{property_with, properties, property, sequences, first_behind}
+use Rattle.parser_grammar.specs.declared.operator.Implication.{Implication}
+use Rattle.parser_grammar.specs.declared.terminal.Terminal.TheVariants.{OpenRound, CloseRound}
+use Rattle.parser_grammar.specs.Operators.{implication_of}
+use Rattle.parser_grammar.specs.Trees.{SequenceForm, PropertyForm, plain, implication}
+use Rattle.parser_grammar.specs.Terminals.{is_first_match}
+use Rattle.parser_grammar.specs.Readers.{◌>>=◌, Reader, refuse, lead, expect, pick}
+use Rattle.parser_grammar.specs.ReadSequences.{whole, regroup, sequence_behind, implication_behind, regroup_property}
+use Rattle.parser_grammar.specs.ReadSequences.{property_with, properties, property, sequences, first_behind}
 use Rattle.parser_expressions.specs.declared.stop.Stop.{Stop}
 use Rattle.parser_expressions.specs.Views.{Fails}
 use Rattle.parser_expressions.proofs.Steps.{failing, none-fails, lead-nil, lead-no, lead-yes}

@@ -2,8 +2,8 @@
 use Rattle.std.specs.Prelude.{◌≡◌, ℕ, List, Option, None}
 use Rattle.std.specs.List.{Contains}
 use Rattle.lexer.specs.declared.token.Token.{Token}
-use Rattle.grammar.specs.Trees.{ItemForm}
-use Rattle.grammar.specs.Files.{IsFile}
+use Rattle.parser_grammar.specs.Trees.{ItemForm}
+use Rattle.parser_grammar.specs.Files.{IsFile}
 use Rattle.parser.specs.declared.fault.ParseFault.{ParseFault}
 use Rattle.parser.specs.declared.fault.ParseFault.TheVariants as faults
 use Rattle.parser_expressions.specs.Bytes.{IsByteIn}

@@ -6,7 +6,7 @@ ghost use Rattle.parser.specs.declared.fault.ParseFault.TheVariants.{Memory};
 ghost use Rattle.parser_expressions.specs.Bytes.{IsByteIn};
 ghost use Rattle.parser.specs.Faults.{NamesStop, IsPlaced};
 
-use grammar::{Terminal, implication_of, is, terminal_of};
+use parser_grammar::{Terminal, implication_of, is, terminal_of};
 use lexer::Token;
 use parser_expressions::{Stop, byte_at, first, same};
 use std::alloc::{AllocError, AllocFailed};

@@ -2,21 +2,21 @@
 
 ghost use Rattle.std.specs.Prelude.{◌≡◌, ◌≤◌, ◌<◌, ◌-◌, [], ◌∷◌, Some, None, length, drop, map};
 ghost use Rattle.std.specs.Prelude.{IfOk, IfErr, MatchOption, MatchResult, IfSome, List};
-ghost use Rattle.grammar.specs.Trees.{ItemForm};
-ghost use Rattle.grammar.specs.Readers.{lead};
-ghost use Rattle.grammar.specs.Files.{IsFile};
-ghost use Rattle.grammar.specs.ReadFiles.{asserts, is_more, items};
-ghost use Rattle.text_trees.specs.Views.{item_of, items_of};
+ghost use Rattle.parser_grammar.specs.Trees.{ItemForm};
+ghost use Rattle.parser_grammar.specs.Readers.{lead};
+ghost use Rattle.parser_grammar.specs.Files.{IsFile};
+ghost use Rattle.parser_grammar.specs.ReadFiles.{asserts, is_more, items};
+ghost use Rattle.parser_trees.specs.Views.{item_of, items_of};
 ghost use Rattle.parser.specs.Faults.{IsParseFault, Refuses, IsPlaced};
 
 use crate::fault::{ParseFault, byte_in, fault_of};
 use crate::item::read_item;
 use crate::read::read;
-use grammar::{Terminal, is};
+use parser_grammar::{Terminal, is};
 use lexer::Token;
 use parser_expressions::{byte_at, first, same};
 use std::alloc::Global;
-use text_trees::{File, ItemTree};
+use parser_trees::{File, ItemTree};
 
 /// The items that stand first, whether one of them is an assertion, and the tokens behind them.
 type Items<'t, 'a> = Result<(Vec<ItemTree<'a>>, bool, &'t [Token<'a>]), ParseFault<'a>>;

@@ -3,22 +3,26 @@
 ghost use Rattle.std.specs.Prelude.{◌≡◌, ◌<◌, ◌≤◌, ◌+◌, ◌&&◌, ℕ, length, IfOk, option_map, Option};
 ghost use Rattle.std.specs.Str.{bytes_eq};
 ghost use Rattle.lexer.specs.declared.token.Token.{Token};
-ghost use Rattle.grammar.specs.declared.terminal.Terminal.TheVariants.{Clear, Colon, Disable};
-ghost use Rattle.grammar.specs.Readers.{pick, optional};
-ghost use Rattle.grammar.specs.Trees as trees;
-ghost use Rattle.grammar.specs.Files.{in_one};
-ghost use Rattle.grammar.specs.ReadFiles.{one_operand, two_operands, counter_head, counter_item};
-ghost use Rattle.grammar.specs.ReadFiles.{again_of, skip, ending_of, declaration_item};
-ghost use Rattle.grammar.specs.ReadFiles.{opening_words, clock_words, disable_reader, property_end};
-ghost use Rattle.grammar.specs.ReadFiles.{assertion_item, label_reader, declaration_reader, item};
-ghost use Rattle.text_trees.specs.Views.{path_of, boxed_of};
+ghost use Rattle.parser_grammar.specs.declared.terminal.Terminal.TheVariants.{Clear, Colon};
+ghost use Rattle.parser_grammar.specs.declared.terminal.Terminal.TheVariants.{Disable};
+ghost use Rattle.parser_grammar.specs.Readers.{pick, optional};
+ghost use Rattle.parser_grammar.specs.Trees as trees;
+ghost use Rattle.parser_grammar.specs.Files.{in_one};
+ghost use Rattle.parser_grammar.specs.ReadFiles.{one_operand, two_operands, counter_head};
+ghost use Rattle.parser_grammar.specs.ReadFiles.{counter_item};
+ghost use Rattle.parser_grammar.specs.ReadFiles.{again_of, skip, ending_of, declaration_item};
+ghost use Rattle.parser_grammar.specs.ReadFiles.{opening_words, clock_words, disable_reader};
+ghost use Rattle.parser_grammar.specs.ReadFiles.{property_end};
+ghost use Rattle.parser_grammar.specs.ReadFiles.{assertion_item, label_reader, declaration_reader};
+ghost use Rattle.parser_grammar.specs.ReadFiles.{item};
+ghost use Rattle.parser_trees.specs.Views.{path_of, boxed_of};
 ghost use Rattle.parser_expressions.specs.Views.{Gives};
-ghost use Rattle.text_trees.specs.Views.{pair_of, property_of, counter_of, declaration_of};
-ghost use Rattle.text_trees.specs.Views.{assertion_of, item_of};
+ghost use Rattle.parser_trees.specs.Views.{pair_of, property_of, counter_of, declaration_of};
+ghost use Rattle.parser_trees.specs.Views.{assertion_of, item_of};
 
 use crate::property::read_property;
 use crate::read::read;
-use grammar::{Bound, Terminal, is_word};
+use parser_grammar::{Bound, Terminal, is_word};
 use lexer::Token;
 use parser_expressions::{
     Read, Stop, accept, accept_name, expect, expect_bound, expect_name, expect_verb, first,
@@ -26,7 +30,7 @@ use parser_expressions::{
 };
 use parser_sequences::read_sequence;
 use std::alloc::Global;
-use text_trees::{
+use parser_trees::{
     AssertionTree, CounterTree, DeclarationTree, ExprTree, ItemTree, Operands, Path, PropertyTree,
 };
 

@@ -5,11 +5,11 @@
 //! let file = parse(alloc, &tokens)?;
 //! ```
 //!
-//! The grammar stands in `grammar/specs/Files.antt` (`IsFile`: the tokens before the end spell the
-//! items, one of which is an assertion), and the functions that read by it in
-//! `grammar/specs/ReadFiles.antt`; `text_trees` has the trees, and says how one stands for the
-//! grammar's, and `specs/Faults.antt` what a refusal says: no items spell the tokens, unless memory
-//! ran out.
+//! The grammar stands in `parser_grammar/specs/Files.antt` (`IsFile`: the tokens before the end
+//! spell the items, one of which is an assertion), and the functions that read by it in
+//! `parser_grammar/specs/ReadFiles.antt`; `parser_trees` has the trees, and says how one stands for
+//! the grammar's, and `specs/Faults.antt` what a refusal says: no items spell the tokens, unless
+//! memory ran out.
 //!
 //! Expressions are read by `parser_expressions`, and sequences by `parser_sequences`; the trees can
 //! be imported from here, too.
@@ -26,8 +26,8 @@ mod read;
 
 pub use fault::ParseFault;
 pub use file::parse;
-pub use grammar::{Bound, Function, Index, Range, Select};
-pub use text_trees::{
+pub use parser_grammar::{Bound, Function, Index, Range, Select};
+pub use parser_trees::{
     AssertionTree, CounterTree, DeclarationTree, ExprTree, File, ItemTree, Operands, Path,
     PropertyTree, SequenceTree,
 };

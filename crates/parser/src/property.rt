@@ -2,21 +2,22 @@
 
 ghost use Rattle.std.specs.Prelude.{◌≡◌, ◌<◌, ◌≤◌, ◌+◌, ℕ, length, None, Some};
 ghost use Rattle.std.specs.Prelude.{MatchOption, IfSome, IfOk};
-ghost use Rattle.grammar.specs.Operators.{implication_of};
-ghost use Rattle.grammar.specs.Terminals.{is_first_match};
-ghost use Rattle.grammar.specs.Readers.{lead, pick};
-ghost use Rattle.grammar.specs.ReadSequences.{implication_behind, regroup_property, property};
-ghost use Rattle.grammar.specs.ReadSequences.{first_behind};
+ghost use Rattle.parser_grammar.specs.Operators.{implication_of};
+ghost use Rattle.parser_grammar.specs.Terminals.{is_first_match};
+ghost use Rattle.parser_grammar.specs.Readers.{lead, pick};
+ghost use Rattle.parser_grammar.specs.ReadSequences.{implication_behind, regroup_property};
+ghost use Rattle.parser_grammar.specs.ReadSequences.{property};
+ghost use Rattle.parser_grammar.specs.ReadSequences.{first_behind};
 ghost use Rattle.parser_expressions.specs.Views.{Gives};
-ghost use Rattle.text_trees.specs.Views.{sequence_of, property_of};
+ghost use Rattle.parser_trees.specs.Views.{sequence_of, property_of};
 
 use crate::read::read;
-use grammar::{Implication, Terminal, implication_of, is_first_match};
+use parser_grammar::{Implication, Terminal, implication_of, is_first_match};
 use lexer::Token;
 use parser_expressions::{Read, Stop, accept, byte_at, deeper, expect, first};
 use parser_sequences::{finish_sequence, read_sequence, regroup};
 use std::alloc::Global;
-use text_trees::{PropertyTree, SequenceTree};
+use parser_trees::{PropertyTree, SequenceTree};
 
 /// The implication that stands first, if one does.
 #[tactic(auto, using(crate::proofs::PropertySteps::for_accept))]

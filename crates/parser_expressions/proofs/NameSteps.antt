@@ -1,11 +1,11 @@
 -- Reading of names and paths, in the steps of the code.
 use Rattle.std.proofs.Common.{if◌then◌else◌, ◌≡◌, Bool, true, false, ◌||◌, List, [], ◌∷◌, Some, None, refl}
 use Rattle.lexer.specs.declared.token.Token.{Token}
-use Rattle.grammar.specs.declared.terminal.Terminal.TheVariants as word
-use Rattle.grammar.specs.Terminals.{is, is_name}
-use Rattle.grammar.specs.Readers.{lead, expect, pick}
-use Rattle.grammar.specs.ReadExpressions.{name_of, members, path_words}
-use Rattle.grammar.specs.ReadFiles.{is_verb_token}
+use Rattle.parser_grammar.specs.declared.terminal.Terminal.TheVariants as word
+use Rattle.parser_grammar.specs.Terminals.{is, is_name}
+use Rattle.parser_grammar.specs.Readers.{lead, expect, pick}
+use Rattle.parser_grammar.specs.ReadExpressions.{name_of, members, path_words}
+use Rattle.parser_grammar.specs.ReadFiles.{is_verb_token}
 use Rattle.parser_expressions.specs.declared.stop.Stop.{Stop}
 use Rattle.parser_expressions.specs.Views.{Fails}
 use Rattle.parser_expressions.proofs.Steps.{failing}

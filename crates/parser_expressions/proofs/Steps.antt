@@ -5,26 +5,28 @@ use Rattle.std.proofs.Common.{option_map, Result, refl, sym, ap, subst, ◌∙�
 use Rattle.std.proofs.lemmas.Bool.{eq-eqb, ne_eqb}
 use Rattle.lexer.specs.declared.token.Number.{Number}
 use Rattle.lexer.specs.declared.token.Token.{Token}
-use Rattle.grammar.specs.declared.bound.Bound.{Bound}
-use Rattle.grammar.specs.declared.bound.Index.{Index}
-use Rattle.grammar.specs.declared.bound.Select.{Select}
-use Rattle.grammar.specs.declared.mark.Function.{Function}
-use Rattle.grammar.specs.declared.operator.Infix.{Infix}
-use Rattle.grammar.specs.declared.operator.Prefix.{Prefix}
-use Rattle.grammar.specs.declared.mark.Mark.TheVariants as marks
-use Rattle.grammar.specs.declared.terminal.Terminal.{Terminal}
-use Rattle.grammar.specs.declared.terminal.Terminal.TheVariants.{OpenRound, CloseRound, CloseBrace, OpenSquare}
-use Rattle.grammar.specs.declared.terminal.Terminal.TheVariants.{CloseSquare, Comma, Colon}
-use Rattle.grammar.specs.Terminals.{is, is_word}
-use Rattle.grammar.specs.Bounds.{index, bound_within}
-use Rattle.grammar.specs.Operators.{infix_of, infix_level, is_of_level, is_infix}
-use Rattle.grammar.specs.Marks.{mark, precedence, has_precedence}
-use Rattle.grammar.specs.Trees.{Tree, number, path, concatenation, past, call, unary, choice}
-use Rattle.grammar.specs.Readers.{◌>>=◌, Reader, refuse, lead, expect, pick, optional, each}
-use Rattle.grammar.specs.ReadExpressions.{word_of, members, select, parts_of, name_reader, bracket_reader}
-use Rattle.grammar.specs.ReadExpressions.{concatenation_reader, past_reader, call_reader, prefix_reader, prefixed_with}
-use Rattle.grammar.specs.ReadExpressions.{unary_reader, links, chain_of, climb, level, choice_with, readers, operand}
-use Rattle.grammar.specs.ReadExpressions.{finish, expression}
+use Rattle.parser_grammar.specs.declared.bound.Bound.{Bound}
+use Rattle.parser_grammar.specs.declared.bound.Index.{Index}
+use Rattle.parser_grammar.specs.declared.bound.Select.{Select}
+use Rattle.parser_grammar.specs.declared.mark.Function.{Function}
+use Rattle.parser_grammar.specs.declared.operator.Infix.{Infix}
+use Rattle.parser_grammar.specs.declared.operator.Prefix.{Prefix}
+use Rattle.parser_grammar.specs.declared.mark.Mark.TheVariants as marks
+use Rattle.parser_grammar.specs.declared.terminal.Terminal.{Terminal}
+use Rattle.parser_grammar.specs.declared.terminal.Terminal.TheVariants.{OpenRound, CloseRound, CloseBrace, OpenSquare}
+use Rattle.parser_grammar.specs.declared.terminal.Terminal.TheVariants.{CloseSquare, Comma, Colon}
+use Rattle.parser_grammar.specs.Terminals.{is, is_word}
+use Rattle.parser_grammar.specs.Bounds.{index, bound_within}
+use Rattle.parser_grammar.specs.Operators.{infix_of, infix_level, is_of_level, is_infix}
+use Rattle.parser_grammar.specs.Marks.{mark, precedence, has_precedence}
+use Rattle.parser_grammar.specs.Trees.{Tree, number, path, concatenation, past, call, unary, choice}
+use Rattle.parser_grammar.specs.Readers.{◌>>=◌, Reader, refuse, lead, expect, pick, optional, each}
+use Rattle.parser_grammar.specs.ReadExpressions.{word_of, members, select, parts_of, name_reader, bracket_reader}
+use Rattle.parser_grammar.specs.ReadExpressions.{concatenation_reader, past_reader, call_reader, prefix_reader}
+use Rattle.parser_grammar.specs.ReadExpressions.{prefixed_with}
+use Rattle.parser_grammar.specs.ReadExpressions.{unary_reader, links, chain_of, climb, level, choice_with, readers}
+use Rattle.parser_grammar.specs.ReadExpressions.{operand}
+use Rattle.parser_grammar.specs.ReadExpressions.{finish, expression}
 use Rattle.parser_expressions.specs.declared.stop.Stop.{Stop}
 use Rattle.parser_expressions.specs.declared.stop.Stop.TheVariants as stops
 use Rattle.parser_expressions.specs.Views.{Fails, Gives, IsLed}

@@ -1,9 +1,9 @@
 -- What it is that a reader of the code gives what a function reads.
 use Rattle.std.specs.Prelude.{◌≡◌, ℕ, List, Option, Some, None, Result, Ok, Err}
 use Rattle.lexer.specs.declared.token.Token.{Token}
-use Rattle.grammar.specs.declared.operator.Infix.{Infix}
-use Rattle.grammar.specs.Operators.{infix_of, is_infix}
-use Rattle.grammar.specs.Readers.{Reader, lead}
+use Rattle.parser_grammar.specs.declared.operator.Infix.{Infix}
+use Rattle.parser_grammar.specs.Operators.{infix_of, is_infix}
+use Rattle.parser_grammar.specs.Readers.{Reader, lead}
 use Rattle.parser_expressions.specs.declared.stop.Stop.{Stop}
 use Rattle.parser_expressions.specs.declared.stop.Stop.TheVariants as stops
 

@@ -3,15 +3,20 @@
 ghost use Rattle.std.specs.Prelude.{◌≡◌, ◌<◌, ◌≤◌, ◌+◌, ◌==◌, ℕ, suc, length, map, IfOk};
 ghost use Rattle.std.specs.Prelude.{option_map};
 ghost use Rattle.lexer.specs.declared.token.Token.{Token};
-ghost use Rattle.grammar.specs.Terminals.{is};
-ghost use Rattle.grammar.specs.declared.terminal.Terminal.TheVariants.{Comma, OpenSquare, Colon};
-ghost use Rattle.grammar.specs.Bounds.{bound_within, index};
-ghost use Rattle.grammar.specs.Readers.{pick, optional, each};
-ghost use Rattle.grammar.specs.ReadExpressions.{members, select, readers, path_words, name_reader};
-ghost use Rattle.grammar.specs.ReadExpressions.{bracket_reader, concatenation_reader, past_reader};
-ghost use Rattle.grammar.specs.ReadExpressions.{call_reader, prefix_reader, unary_reader, links};
-ghost use Rattle.grammar.specs.ReadExpressions.{climb, operand, prefixed_with, finish, expression};
-ghost use Rattle.text_trees.specs.Views.{path_of, tree_of, link_of};
+ghost use Rattle.parser_grammar.specs.Terminals.{is};
+ghost use Rattle.parser_grammar.specs.declared.terminal.Terminal.TheVariants.{Comma, OpenSquare};
+ghost use Rattle.parser_grammar.specs.declared.terminal.Terminal.TheVariants.{Colon};
+ghost use Rattle.parser_grammar.specs.Bounds.{bound_within, index};
+ghost use Rattle.parser_grammar.specs.Readers.{pick, optional, each};
+ghost use Rattle.parser_grammar.specs.ReadExpressions.{members, select, readers, path_words};
+ghost use Rattle.parser_grammar.specs.ReadExpressions.{name_reader};
+ghost use Rattle.parser_grammar.specs.ReadExpressions.{bracket_reader, concatenation_reader};
+ghost use Rattle.parser_grammar.specs.ReadExpressions.{past_reader};
+ghost use Rattle.parser_grammar.specs.ReadExpressions.{call_reader, prefix_reader, unary_reader};
+ghost use Rattle.parser_grammar.specs.ReadExpressions.{links};
+ghost use Rattle.parser_grammar.specs.ReadExpressions.{climb, operand, prefixed_with, finish};
+ghost use Rattle.parser_grammar.specs.ReadExpressions.{expression};
+ghost use Rattle.parser_trees.specs.Views.{path_of, tree_of, link_of};
 ghost use Rattle.parser_expressions.specs.Views.{Gives};
 
 use crate::node::{
@@ -22,10 +27,10 @@ use crate::read::{
     left_operator, operator, read, same,
 };
 use crate::stop::Stop;
-use grammar::{Bound, Function, Index, Infix, Mark, Prefix, Select, Terminal, mark_of};
+use parser_grammar::{Bound, Function, Index, Infix, Mark, Prefix, Select, Terminal, mark_of};
 use lexer::Token;
 use std::alloc::Global;
-use text_trees::{ExprTree, Path};
+use parser_trees::{ExprTree, Path};
 
 /// The words of a path behind its first.
 fn read_members<'t, 'a>(alloc: Global, tokens: &'t [Token<'a>]) -> Read<'t, 'a, Vec<Token<'a>>>

@@ -7,10 +7,10 @@
 //! let (left, rest) = read!(read_expression(alloc, tokens, 64));
 //! ```
 //!
-//! The grammar stands in `grammar/specs/Expressions.antt`, and the functions that read by it in
-//! `grammar/specs/ReadExpressions.antt`; `text_trees` has the trees, and says how one stands for
-//! the grammar's; `specs/Views.antt` says what it is that a reader gives what the function reads
-//! (`Gives`).
+//! The grammar stands in `parser_grammar/specs/Expressions.antt`, and the functions that read by it
+//! in `parser_grammar/specs/ReadExpressions.antt`; `parser_trees` has the trees, and says how one
+//! stands for the grammar's; `specs/Views.antt` says what it is that a reader gives what the
+//! function reads (`Gives`).
 //!
 //! The depth is how many more brackets and unfinished operators may open, from 0 to 64.
 //!

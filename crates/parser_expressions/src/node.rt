@@ -2,17 +2,17 @@
 
 ghost use Rattle.std.specs.Prelude.{◌≡◌, ◌≤◌, ◌++◌, [], ◌∷◌, length, map, IfOk, IfErr};
 ghost use Rattle.parser_expressions.specs.declared.stop.Stop.TheVariants.{Memory};
-ghost use Rattle.grammar.specs.Trees as trees;
-ghost use Rattle.grammar.specs.ReadExpressions.{parts_of, chain_of};
-ghost use Rattle.text_trees.specs.Views.{tree_of, link_of};
+ghost use Rattle.parser_grammar.specs.Trees as trees;
+ghost use Rattle.parser_grammar.specs.ReadExpressions.{parts_of, chain_of};
+ghost use Rattle.parser_trees.specs.Views.{tree_of, link_of};
 ghost use Rattle.parser_expressions.specs.Views.{Gives, read_as};
 
 use crate::read::Read;
 use crate::stop::Stop;
-use grammar::{Bound, Function, Infix, Prefix, Select};
+use parser_grammar::{Bound, Function, Infix, Prefix, Select};
 use lexer::{Number, Token};
 use std::alloc::Global;
-use text_trees::{ExprTree, Path};
+use parser_trees::{ExprTree, Path};
 
 /// A tree in memory, with the tokens behind it.
 fn boxed<'t, 'a>(

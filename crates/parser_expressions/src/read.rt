@@ -3,18 +3,18 @@
 ghost use Rattle.std.specs.Prelude.{◌≡◌, ◌≤◌, ◌<◌, ◌+◌, ◌==◌, ℕ, length, [], ◌∷◌, Some, None};
 ghost use Rattle.std.specs.Prelude.{MatchOption, IfSome, IfOk, IfErr};
 ghost use Rattle.lexer.specs.declared.token.Token.{Token};
-ghost use Rattle.grammar.specs.Bounds.{bound_within, index};
-ghost use Rattle.grammar.specs.Operators.{is_infix};
-ghost use Rattle.grammar.specs.Marks.{has_precedence};
-ghost use Rattle.grammar.specs.Readers.{lead, expect, pick};
-ghost use Rattle.grammar.specs.ReadExpressions.{name_of, word_of};
-ghost use Rattle.grammar.specs.ReadFiles.{is_verb_token};
-ghost use Rattle.grammar.specs.Terminals.{is_name};
+ghost use Rattle.parser_grammar.specs.Bounds.{bound_within, index};
+ghost use Rattle.parser_grammar.specs.Operators.{is_infix};
+ghost use Rattle.parser_grammar.specs.Marks.{has_precedence};
+ghost use Rattle.parser_grammar.specs.Readers.{lead, expect, pick};
+ghost use Rattle.parser_grammar.specs.ReadExpressions.{name_of, word_of};
+ghost use Rattle.parser_grammar.specs.ReadFiles.{is_verb_token};
+ghost use Rattle.parser_grammar.specs.Terminals.{is_name};
 ghost use Rattle.parser_expressions.specs.Views.{Gives, IsLed};
 ghost use Rattle.parser_expressions.specs.Bytes.{IsByteIn};
 
 use crate::stop::{Stop, in_words};
-use grammar::{
+use parser_grammar::{
     Bound, Index, Infix, Terminal, bound_of, index_of, infix_of, is, is_name, is_word,
     precedence_of,
 };

@@ -1,6 +1,6 @@
 //! Why reading stops, before the fault is named.
 
-use grammar::Terminal;
+use parser_grammar::Terminal;
 use std::alloc::{AllocError, AllocFailed};
 
 /// Each but `Memory` with the byte of the first token at which reading can't go on.

@@ -1,10 +1,10 @@
 -- Sequences that are no expressions, and what goes on with "throughout".
 use Rattle.std.proofs.Common.{◌≡◌, List, None}
 use Rattle.lexer.specs.declared.token.Token.{Token}
-use Rattle.grammar.specs.declared.terminal.Terminal.TheVariants.{Throughout}
-use Rattle.grammar.specs.Readers.{expect}
-use Rattle.grammar.specs.Trees.{SequenceForm, boolean, repeated, late, delayed, throughout, joined}
-use Rattle.grammar.specs.Sequences.{IsNoExpression}
+use Rattle.parser_grammar.specs.declared.terminal.Terminal.TheVariants.{Throughout}
+use Rattle.parser_grammar.specs.Readers.{expect}
+use Rattle.parser_grammar.specs.Trees.{SequenceForm, boolean, repeated, late, delayed, throughout, joined}
+use Rattle.parser_grammar.specs.Sequences.{IsNoExpression}
 use Rattle.parser_sequences.specs.Bodies.{HasNoThroughout}
 
 pub no-word : (s : SequenceForm) (ts : List Token) → expect Throughout ts ≡ None → HasNoThroughout s ts

@@ -1,27 +1,31 @@
 -- Reading of sequences, in the steps of the code.
 use Rattle.std.proofs.Common.{◌≡◌, ℕ, suc, ◌+◌, ◌-◌, List, Option, Some, None, refl, sym, ap, ◌∙◌, arith}
 use Rattle.lexer.specs.declared.token.Token.{Token}
-use Rattle.grammar.specs.declared.bound.Bound.{Bound}
-use Rattle.grammar.specs.declared.bound.Range.{Range}
-use Rattle.grammar.specs.declared.operator.Junction.TheVariants as junctions
-use Rattle.grammar.specs.declared.terminal.Terminal.TheVariants.{OpenRound, CloseRound, OpenSquare, OpenRepeat}
-use Rattle.grammar.specs.declared.terminal.Terminal.TheVariants.{CloseSquare, Colon, Delay, Throughout, Intersect, And}
-use Rattle.grammar.specs.declared.terminal.Terminal.TheVariants.{Or}
-use Rattle.grammar.specs.Terminals.{is}
-use Rattle.grammar.specs.Bounds.{bound_within}
-use Rattle.grammar.specs.Trees.{Tree, SequenceForm, boolean, repeated, late, delayed, throughout, joined}
-use Rattle.grammar.specs.Readers.{◌>>=◌, refuse, expect, pick, optional, each}
-use Rattle.grammar.specs.ReadExpressions.{expression, finish}
-use Rattle.grammar.specs.ReadSequences.{times, range_between, delay, regroup, body_with, with_times, repeat_behind}
-use Rattle.grammar.specs.ReadSequences.{repetition_with, late_part, with_steps, delayed_behind, cat_behind}
-use Rattle.grammar.specs.ReadSequences.{during_behind, during_with, with_others, conjunction_behind, conjunction_with}
-use Rattle.grammar.specs.ReadSequences.{intersection_behind, intersection_with}
-use Rattle.grammar.specs.ReadSequences.{alternatives_behind, sides_behind, whole_with, sequences, throughout_reader}
-use Rattle.grammar.specs.ReadSequences.{whole, sequence_behind}
+use Rattle.parser_grammar.specs.declared.bound.Bound.{Bound}
+use Rattle.parser_grammar.specs.declared.bound.Range.{Range}
+use Rattle.parser_grammar.specs.declared.operator.Junction.TheVariants as junctions
+use Rattle.parser_grammar.specs.declared.terminal.Terminal.TheVariants.{OpenRound, CloseRound, OpenSquare, OpenRepeat}
+use Rattle.parser_grammar.specs.declared.terminal.Terminal.TheVariants.{CloseSquare, Colon, Delay, Throughout}
+use Rattle.parser_grammar.specs.declared.terminal.Terminal.TheVariants.{Intersect, And}
+use Rattle.parser_grammar.specs.declared.terminal.Terminal.TheVariants.{Or}
+use Rattle.parser_grammar.specs.Terminals.{is}
+use Rattle.parser_grammar.specs.Bounds.{bound_within}
+use Rattle.parser_grammar.specs.Trees.{Tree, SequenceForm, boolean, repeated, late, delayed, throughout, joined}
+use Rattle.parser_grammar.specs.Readers.{◌>>=◌, refuse, expect, pick, optional, each}
+use Rattle.parser_grammar.specs.ReadExpressions.{expression, finish}
+use Rattle.parser_grammar.specs.ReadSequences.{times, range_between, delay, regroup, body_with, with_times}
+use Rattle.parser_grammar.specs.ReadSequences.{repeat_behind}
+use Rattle.parser_grammar.specs.ReadSequences.{repetition_with, late_part, with_steps, delayed_behind, cat_behind}
+use Rattle.parser_grammar.specs.ReadSequences.{during_behind, during_with, with_others, conjunction_behind}
+use Rattle.parser_grammar.specs.ReadSequences.{conjunction_with}
+use Rattle.parser_grammar.specs.ReadSequences.{intersection_behind, intersection_with}
+use Rattle.parser_grammar.specs.ReadSequences.{alternatives_behind, sides_behind, whole_with, sequences}
+use Rattle.parser_grammar.specs.ReadSequences.{throughout_reader}
+use Rattle.parser_grammar.specs.ReadSequences.{whole, sequence_behind}
 use Rattle.parser_expressions.specs.declared.stop.Stop.{Stop}
 use Rattle.parser_expressions.specs.Views.{Fails}
 use Rattle.parser_sequences.specs.Bodies.{HasNoThroughout}
-use Rattle.grammar.specs.Sequences.{IsNoExpression}
+use Rattle.parser_grammar.specs.Sequences.{IsNoExpression}
 use Rattle.parser_expressions.proofs.Steps.{failing, none-fails, below, optional-absent, optional-present}
 use Rattle.parser_expressions.proofs.Steps.{optional-fails}
 

@@ -1,12 +1,12 @@
 -- What a reader makes of a first part and what goes on behind it; and the rules of the trees of sequences.
 use Rattle.std.proofs.Common.{◌≡◌, List, [], ◌∷◌, map, length, refl, arith}
-use Rattle.grammar.specs.Trees as trees
-use Rattle.grammar.specs.declared.bound.Range.{Range}
-use Rattle.grammar.specs.declared.operator.Junction.{Junction}
-use Rattle.grammar.specs.ReadSequences.{steps_of, others_of, with_steps, with_others}
-use Rattle.text_trees.specs.declared.sequence.SequenceTree.{SequenceTree}
-use Rattle.text_trees.specs.Views.{sequence_of, delay_step_of}
-use Rattle.text_trees.proofs.TreeLaws.{seq-Boolean, seq-Repeated, seq-Late, seq-Delayed, seq-Throughout, seq-Joined}
+use Rattle.parser_grammar.specs.Trees as trees
+use Rattle.parser_grammar.specs.declared.bound.Range.{Range}
+use Rattle.parser_grammar.specs.declared.operator.Junction.{Junction}
+use Rattle.parser_grammar.specs.ReadSequences.{steps_of, others_of, with_steps, with_others}
+use Rattle.parser_trees.specs.declared.sequence.SequenceTree.{SequenceTree}
+use Rattle.parser_trees.specs.Views.{sequence_of, delay_step_of}
+use Rattle.parser_trees.proofs.TreeLaws.{seq-Boolean, seq-Repeated, seq-Late, seq-Delayed, seq-Throughout, seq-Joined}
 
 pub ruleset sequence_rules = (seq-Boolean, seq-Repeated, seq-Late, seq-Delayed, seq-Throughout, seq-Joined)
 

@@ -1,9 +1,9 @@
 -- What stands behind a body.
 use Rattle.std.specs.Prelude.{◌≡◌, List, None}
 use Rattle.lexer.specs.declared.token.Token.{Token}
-use Rattle.grammar.specs.declared.terminal.Terminal.TheVariants.{Throughout}
-use Rattle.grammar.specs.Readers.{expect}
-use Rattle.grammar.specs.Trees as trees
+use Rattle.parser_grammar.specs.declared.terminal.Terminal.TheVariants.{Throughout}
+use Rattle.parser_grammar.specs.Readers.{expect}
+use Rattle.parser_grammar.specs.Trees as trees
 
 -- An expression that goes on with "throughout" is no part of a chain of delays.
 abbrev pub HasNoThroughout : trees.SequenceForm → List Token → Type 0

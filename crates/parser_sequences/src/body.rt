@@ -3,22 +3,22 @@
 ghost use Rattle.std.specs.Prelude.{◌≡◌, true, false, ◌<◌, ◌≤◌, ◌++◌, [], ◌∷◌, length, map, Some};
 ghost use Rattle.std.specs.Prelude.{IfOk, IfErr, MatchResult};
 ghost use Rattle.parser_expressions.specs.declared.stop.Stop.TheVariants.{Memory};
-ghost use Rattle.grammar.specs.declared.terminal.Terminal.TheVariants.{Throughout};
-ghost use Rattle.grammar.specs.Trees.{boolean};
-ghost use Rattle.grammar.specs.Trees as trees;
-ghost use Rattle.grammar.specs.Readers.{expect};
-ghost use Rattle.grammar.specs.ReadSequences.{with_times, with_steps, with_others};
-ghost use Rattle.text_trees.specs.Views.{tree_of};
+ghost use Rattle.parser_grammar.specs.declared.terminal.Terminal.TheVariants.{Throughout};
+ghost use Rattle.parser_grammar.specs.Trees.{boolean};
+ghost use Rattle.parser_grammar.specs.Trees as trees;
+ghost use Rattle.parser_grammar.specs.Readers.{expect};
+ghost use Rattle.parser_grammar.specs.ReadSequences.{with_times, with_steps, with_others};
+ghost use Rattle.parser_trees.specs.Views.{tree_of};
 ghost use Rattle.parser_expressions.specs.Views.{Gives, read_as};
-ghost use Rattle.text_trees.specs.Views.{sequence_of, delay_step_of};
-ghost use Rattle.grammar.specs.Sequences.{IsNoExpression};
+ghost use Rattle.parser_trees.specs.Views.{sequence_of, delay_step_of};
+ghost use Rattle.parser_grammar.specs.Sequences.{IsNoExpression};
 ghost use Rattle.parser_sequences.specs.Bodies.{HasNoThroughout};
 
-use grammar::{Junction, Range, Terminal};
+use parser_grammar::{Junction, Range, Terminal};
 use lexer::Token;
 use parser_expressions::{Read, Stop, accept};
 use std::alloc::Global;
-use text_trees::{ExprTree, SequenceTree};
+use parser_trees::{ExprTree, SequenceTree};
 
 /// Whether a sequence is an expression.
 fn is_expression(sequence: &SequenceTree) -> bool

@@ -1,14 +1,14 @@
 //! Counts of delays and repetitions.
 
 ghost use Rattle.std.specs.Prelude.{◌≡◌, ◌≤◌, ℕ, length, IfOk};
-ghost use Rattle.grammar.specs.declared.terminal.Terminal.TheVariants.{Colon, OpenRepeat};
-ghost use Rattle.grammar.specs.Bounds.{bound_within};
-ghost use Rattle.grammar.specs.Readers.{pick, optional};
-ghost use Rattle.grammar.specs.ReadSequences.{times, range_between, delay, sequences};
+ghost use Rattle.parser_grammar.specs.declared.terminal.Terminal.TheVariants.{Colon, OpenRepeat};
+ghost use Rattle.parser_grammar.specs.Bounds.{bound_within};
+ghost use Rattle.parser_grammar.specs.Readers.{pick, optional};
+ghost use Rattle.parser_grammar.specs.ReadSequences.{times, range_between, delay, sequences};
 ghost use Rattle.parser_expressions.specs.Views.{Gives};
 
 use crate::read::read;
-use grammar::{Bound, Range, Terminal};
+use parser_grammar::{Bound, Range, Terminal};
 use lexer::Token;
 use parser_expressions::{Read, Stop, accept, expect, expect_bound};
 

@@ -11,10 +11,10 @@
 //! Brackets may hold a part of what goes on behind them: `regroup` and `finish_sequence` go on
 //! from what stood in brackets, which a property, too, may begin with.
 //!
-//! The grammar stands in `grammar/specs/Sequences.antt`, and the functions that read by it in
-//! `grammar/specs/ReadSequences.antt`; `text_trees` has the trees, and says how one stands for the
-//! grammar's. What it is that a reader gives what the function reads (`Gives`) is a definition of
-//! `parser_expressions`.
+//! The grammar stands in `parser_grammar/specs/Sequences.antt`, and the functions that read by it
+//! in `parser_grammar/specs/ReadSequences.antt`; `parser_trees` has the trees, and says how one
+//! stands for the grammar's. What it is that a reader gives what the function reads (`Gives`) is a
+//! definition of `parser_expressions`.
 //!
 //! The depth is how many more brackets and unfinished operators may open, from 0 to 64.
 //!

@@ -1,14 +1,14 @@
 //! Sequences.
 
 ghost use Rattle.std.specs.Prelude.{◌≡◌, ◌<◌, ◌≤◌, ◌+◌, ◌==◌, ℕ, suc, length, map, IfOk};
-ghost use Rattle.grammar.specs.ReadSequences.{sequences, regroup, body_with, repeat_behind};
-ghost use Rattle.grammar.specs.ReadSequences.{late_part, delayed_behind, during_behind};
-ghost use Rattle.grammar.specs.ReadSequences.{throughout_reader, conjunction_behind};
-ghost use Rattle.grammar.specs.ReadSequences.{intersection_behind, intersection_with};
-ghost use Rattle.grammar.specs.ReadSequences.{conjunction_with, alternatives_behind};
-ghost use Rattle.grammar.specs.ReadSequences.{sequence_behind, whole};
+ghost use Rattle.parser_grammar.specs.ReadSequences.{sequences, regroup, body_with, repeat_behind};
+ghost use Rattle.parser_grammar.specs.ReadSequences.{late_part, delayed_behind, during_behind};
+ghost use Rattle.parser_grammar.specs.ReadSequences.{throughout_reader, conjunction_behind};
+ghost use Rattle.parser_grammar.specs.ReadSequences.{intersection_behind, intersection_with};
+ghost use Rattle.parser_grammar.specs.ReadSequences.{conjunction_with, alternatives_behind};
+ghost use Rattle.parser_grammar.specs.ReadSequences.{sequence_behind, whole};
 ghost use Rattle.parser_expressions.specs.Views.{Gives};
-ghost use Rattle.text_trees.specs.Views.{sequence_of, boxed_step_of};
+ghost use Rattle.parser_trees.specs.Views.{sequence_of, boxed_step_of};
 
 use crate::body::{
     into_expression, late, plain, push_sequence, push_step, throughout, throughout_side,
@@ -16,13 +16,13 @@ use crate::body::{
 };
 use crate::count::{read_counts, read_delay};
 use crate::read::read;
-use grammar::{Junction, Range, Terminal};
+use parser_grammar::{Junction, Range, Terminal};
 use lexer::Token;
 use parser_expressions::{
     Read, Stop, accept, deeper, expect, finish_expression, read_expression, same,
 };
 use std::alloc::Global;
-use text_trees::SequenceTree;
+use parser_trees::SequenceTree;
 
 /// What goes on behind brackets.
 #[tactic(auto, using(crate::proofs::Steps::for_regroup))]

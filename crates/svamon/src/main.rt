@@ -14,8 +14,8 @@
 //! no attempt failed, 1 where some did, 2 for input or words that are refused, 3 for want of
 //! memory, and 4 for a file that can't be opened, read or written.
 //!
-//! It opens files (`shell`) and hands over what is in them; what a command answers is said by the
-//! contracts of `cli` (`check_all`, `judge_one`, `build_one`), of `cli_code` (`verify_code`,
+//! It opens files (`cli_shell`) and hands over what is in them; what a command answers is said by
+//! the contracts of `cli` (`check_all`, `judge_one`, `build_one`), of `cli_code` (`verify_code`,
 //! `run_code`, `upgrade_code`) and of `axi4_rules` (`port_rules`, `joined_text`), whose definitions
 //! stand in their `specs/`.
 //!

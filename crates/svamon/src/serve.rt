@@ -2,7 +2,7 @@
 
 use cli::{Fault, NoGate, Request, build_one, check_all, judge_one};
 use cli_code::{run_code, upgrade_code, verify_code};
-use shell::{
+use cli_shell::{
     open, print_rules, read_assertions, read_bytes, refuse_words, request_of, shown_status,
     words_of, write_bytes,
 };

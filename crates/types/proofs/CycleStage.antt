@@ -5,7 +5,7 @@ use Rattle.std.proofs.lemmas.Bool.{false≢true}
 use Rattle.std.proofs.lemmas.List.{length-map}
 use Rattle.std.proofs.lemmas.Option.{slice_get-map, slice_get-get_or, get_or_from_slice_get}
 use Rattle.std.specs.Prelude.{option_map}
-use Rattle.grammar.specs.Trees.{DeclarationForm, ItemForm}
+use Rattle.parser_grammar.specs.Trees.{DeclarationForm, ItemForm}
 use Rattle.assertions.specs.declared.sequence.Boolean.{Boolean}
 use Rattle.types_sequences.specs.declared.entry.Entry.{Entry}
 use Rattle.types_sequences.specs.Drafts.{Draft, IsCyclic}
@@ -14,7 +14,7 @@ use Rattle.types_sequences.specs.Entries.{IsTable, has_entry, is_entry}
 use Rattle.types_sequences.proofs.MapLaws.{cyclic_map, map_cyclic}
 use Rattle.types_sequences.proofs.AcyclicLaws.{named_acyclic}
 use Rattle.types_sequences.proofs.CyclicLaws.{declared_by_reach}
-use Rattle.text_names.specs.Scopes.{Scope}
+use Rattle.types_names.specs.Scopes.{Scope}
 use Rattle.types_suites.specs.declared.fault.TypeFault.TheVariants.{CyclicSequence}
 use Rattle.types_suites.specs.declared.fault.TypeFault.{TypeFault}
 use Rattle.types_suites.specs.Readings.{Dot, dot}

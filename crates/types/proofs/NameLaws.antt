@@ -30,10 +30,10 @@ use Rattle.std.specs.Prelude.{bytes_eq, if◌then◌else◌}
 use Rattle.std.specs.List.{list_any}
 use Rattle.std.specs.String.{string_eq}
 use Rattle.indexmap.specs.IndexSet.{insert_key}
-use Rattle.text_names.specs.Faults.{earlier, least}
-use Rattle.text_names.proofs.FaultLaws.{earlier-assoc}
+use Rattle.types_names.specs.Faults.{earlier, least}
+use Rattle.types_names.proofs.FaultLaws.{earlier-assoc}
 use Rattle.types_suites.specs.Texts.{is_among, repeated_names, assertions_after}
-use Rattle.grammar.specs.Trees.{ItemForm, counter, declaration, assertion}
+use Rattle.parser_grammar.specs.Trees.{ItemForm, counter, declaration, assertion}
 
 -- the keys of a set, as texts
 abbrev pub texts_of : List (String Global) → List (List ℕ)

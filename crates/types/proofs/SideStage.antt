@@ -1,11 +1,11 @@
 -- Faults of sides, in their order.
 use Rattle.std.proofs.Common.{◌≡◌, ℕ, ◌<◌, ◌≤◌, List, Some, None, arith}
-use Rattle.grammar.specs.Trees.{ItemForm}
+use Rattle.parser_grammar.specs.Trees.{ItemForm}
 use Rattle.assertions.specs.Segments.{AdmitsEmpty}
 use Rattle.assertions.specs.Attempts.{IsDegenerateBy}
 use Rattle.assertions.specs.Written.{kernel, weight}
-use Rattle.text_names.specs.Scopes.{Scope}
-use Rattle.text_names.specs.Faults.{least}
+use Rattle.types_names.specs.Scopes.{Scope}
+use Rattle.types_names.specs.Faults.{least}
 use Rattle.types.specs.declared.side.Side.{Side}
 use Rattle.types_suites.specs.declared.fault.TypeFault.{TypeFault}
 use Rattle.types_suites.specs.declared.fault.TypeFault.TheVariants.{UnknownName, Duplicate, WiderThan128, SliceRange}

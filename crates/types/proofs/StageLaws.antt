@@ -4,12 +4,12 @@ use Rattle.std.proofs.Common.{Err, IfErr, refl, sym, subst, ◌∙◌, arith}
 use Rattle.std.specs.Result.{IsErrAnd}
 use Rattle.std.proofs.lemmas.Option.{none-some}
 use Rattle.std.proofs.lemmas.Bool.{cases_eq, cases_lt}
-use Rattle.grammar.specs.Trees.{ItemForm}
+use Rattle.parser_grammar.specs.Trees.{ItemForm}
 use Rattle.types_sequences.specs.Drafts.{IsIn}
-use Rattle.text_names.specs.declared.own.Sought.{Sought}
-use Rattle.text_names.specs.declared.own.Sought.TheVariants.{Unknown, Wide, OutOfRange}
-use Rattle.text_names.specs.Scopes.{Scope}
-use Rattle.text_names.specs.Faults.{file_faults, earlier, least}
+use Rattle.types_names.specs.declared.own.Sought.{Sought}
+use Rattle.types_names.specs.declared.own.Sought.TheVariants.{Unknown, Wide, OutOfRange}
+use Rattle.types_names.specs.Scopes.{Scope}
+use Rattle.types_names.specs.Faults.{file_faults, earlier, least}
 use Rattle.types_suites.specs.declared.fault.TypeFault.{TypeFault}
 use Rattle.types_suites.specs.declared.fault.TypeFault.TheVariants.{UnknownName, Duplicate, WiderThan128, SliceRange}
 use Rattle.types_suites.specs.declared.fault.TypeFault.TheVariants.{Degenerate, AdmitsEmpty as Empty, OtherClock}

@@ -1,11 +1,11 @@
 -- What is known of sides, from the entries of what they say.
 use Rattle.std.proofs.Common.{◌≡◌, ℕ, ◌+◌, ◌≤◌, min, List, [], ◌∷◌, ◌++◌, map, Option, Some, None, refl, sym, ap, ◌∙◌}
 use Rattle.std.proofs.Common.{subst, arith}
-use Rattle.grammar.specs.Trees as trees
-use Rattle.grammar.specs.Trees.{PropertyForm, plain, implication}
+use Rattle.parser_grammar.specs.Trees as trees
+use Rattle.parser_grammar.specs.Trees.{PropertyForm, plain, implication}
 use Rattle.expressions.specs.declared.expr.Expr.{Expr}
-use Rattle.grammar.specs.declared.operator.Implication.{Implication}
-use Rattle.grammar.specs.declared.operator.Implication.TheVariants.{Overlapped, NonOverlapped}
+use Rattle.parser_grammar.specs.declared.operator.Implication.{Implication}
+use Rattle.parser_grammar.specs.declared.operator.Implication.TheVariants.{Overlapped, NonOverlapped}
 use Rattle.assertions.specs.declared.sequence.Boolean.{Boolean}
 use Rattle.assertions.specs.declared.sequence.Boolean.TheVariants.{One}
 use Rattle.assertions.specs.Written.{weight}
@@ -15,7 +15,7 @@ use Rattle.types_sequences.specs.Drafts.{Draft, Spells}
 use Rattle.types_sequences.specs.Outlines.{map_written}
 use Rattle.types_sequences.specs.Entries.{HasEntry}
 use Rattle.types_sequences.proofs.MapLaws.{spells_map, weight_map, empty_map, ticks_map, ordered_map, spells_one}
-use Rattle.text_names.specs.Scopes.{Scope}
+use Rattle.types_names.specs.Scopes.{Scope}
 use Rattle.types.specs.declared.side.Side.{Side}
 use Rattle.types_suites.specs.declared.resolved.Resolved.{Resolved}
 use Rattle.types_suites.specs.Readings.{Dot, dot, outline}

@@ -1,13 +1,13 @@
 -- The first declaration that reaches itself, by the bytes of the declarations.
 use Rattle.std.specs.Prelude.{◌≡◌, ℕ, ◌<◌, ◌≤◌, List, length, map, slice_index_or, Option, Some}
 use Rattle.std.specs.Prelude.{None, false}
-use Rattle.grammar.specs.Trees.{ItemForm}
+use Rattle.parser_grammar.specs.Trees.{ItemForm}
 use Rattle.assertions.specs.declared.sequence.Boolean.{Boolean}
 use Rattle.types_sequences.specs.Drafts.{Draft, IsCyclic}
 use Rattle.types_sequences.specs.Outlines.{map_draft}
 use Rattle.types_sequences.specs.declared.entry.Entry.{Entry}
 use Rattle.types_sequences.specs.Entries.{has_entry}
-use Rattle.text_names.specs.Scopes.{Scope}
+use Rattle.types_names.specs.Scopes.{Scope}
 use Rattle.types_suites.specs.Readings.{dot}
 use Rattle.types_suites.specs.Texts.{declarations_of}
 use Rattle.types_suites.specs.Readings.{outlines_of}

@@ -1,10 +1,10 @@
 -- What the code keeps of a text's assertions behind the faults of their sides.
 use Rattle.std.specs.Prelude.{ℕ, List, map}
-use Rattle.grammar.specs.Trees as trees
+use Rattle.parser_grammar.specs.Trees as trees
 use Rattle.expressions.specs.declared.expr.Expr.{Expr}
 use Rattle.assertions.specs.declared.sequence.Boolean.{Boolean}
 use Rattle.types_sequences.specs.Drafts.{Draft}
-use Rattle.text_names.specs.Scopes.{Scope}
+use Rattle.types_names.specs.Scopes.{Scope}
 use Rattle.types_suites.specs.declared.resolved.Resolved.{Resolved}
 use Rattle.types_suites.specs.Made.{AreFitting}
 use Rattle.types_suites.specs.Readings.{AllRead}

@@ -1,14 +1,14 @@
 //! Clocks.
 
 ghost use Rattle.std.specs.Prelude.{◌≡◌, map, IfOk, string_bytes};
-ghost use Rattle.text_trees.specs.Views.{path_of, item_of};
-ghost use Rattle.text_names.specs.Faults.{least};
-ghost use Rattle.text_names.specs.Scopes.{first_byte};
+ghost use Rattle.parser_trees.specs.Views.{path_of, item_of};
+ghost use Rattle.types_names.specs.Faults.{least};
+ghost use Rattle.types_names.specs.Scopes.{first_byte};
 ghost use Rattle.types_suites.specs.Texts.{assertions_of, clocks_unlike, clock_of};
 
 use std::alloc::{AllocError, Global};
-use text_names::path_string;
-use text_trees::{ItemTree, Path};
+use types_names::path_string;
+use parser_trees::{ItemTree, Path};
 use types_faults::earlier;
 
 /// The path of the first assertion's clock, and no text where there is no assertion.

@@ -22,8 +22,8 @@
 //! says are those of `types_suites`, in its `specs/Faults.antt` (`IsFaultless`, `IsTypeFault`) and
 //! `specs/Suites.antt` (`IsSuite`); behind them are `specs/Cycles.antt`, of sequences that reach
 //! themselves, and `specs/Sides.antt`, of what is known of antecedents and consequents. Scopes and
-//! the faults of expressions are those of `text_names`, and named sequences those of
-//! `types_sequences`. `types_laws` has the law that suites of one text mean the same.
+//! the faults of expressions are those of `types_names`, and named sequences those of
+//! `types_sequences`. `laws_reports` has the law that suites of one text mean the same.
 //!
 //! Not promised: that the clock's path is among the dump's, how the expressions of a suite are laid
 //! out, or that memory suffices.
@@ -39,5 +39,5 @@ mod suite;
 
 pub use assertions::{Assertion, Suite};
 pub use suite::check;
-pub use text_names::{Names, PathWidths, Width, path_string};
+pub use types_names::{Names, PathWidths, Width, path_string};
 pub use types_suites::TypeFault;

@@ -2,13 +2,13 @@
 
 ghost use Rattle.std.specs.Prelude.{◌≡◌, ◌<◌, ◌++◌, ◌+◌, map, IfOk, OnOk, string_bytes, option_map};
 ghost use Rattle.std.specs.Prelude.{codes};
-ghost use Rattle.text_trees.specs.Views.{assertion_of, item_of};
-ghost use Rattle.text_names.specs.Faults.{least};
+ghost use Rattle.parser_trees.specs.Views.{assertion_of, item_of};
+ghost use Rattle.types_names.specs.Faults.{least};
 ghost use Rattle.types_suites.specs.Texts.{label_byte, name_made, assertions_after, duplicates};
 
 use indexmap::IndexSet;
 use std::alloc::{AllocError, Global};
-use text_trees::{AssertionTree, ItemTree};
+use parser_trees::{AssertionTree, ItemTree};
 use types_faults::earlier;
 use types_suites::label_string;
 

@@ -1,7 +1,7 @@
 //! Sides of assertions, and what is wrong with them.
 
 ghost use Rattle.std.specs.Prelude.{◌≡◌};
-ghost use Rattle.text_names.specs.Faults.{least};
+ghost use Rattle.types_names.specs.Faults.{least};
 ghost use Rattle.types.specs.Sides.{places_where, is_wide, is_degenerate, is_empty};
 
 use assertions::HEAVIEST;

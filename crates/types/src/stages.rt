@@ -1,8 +1,8 @@
 //! Faults in their order.
 
 ghost use Rattle.std.specs.Prelude.{◌≡◌, ◌<◌, ℕ, true, false, map, length, IfOk, IfErr};
-ghost use Rattle.text_trees.specs.Views.{item_of};
-ghost use Rattle.text_names.specs.Views.{scope_of};
+ghost use Rattle.parser_trees.specs.Views.{item_of};
+ghost use Rattle.types_names.specs.Views.{scope_of};
 ghost use Rattle.types_suites.specs.Texts.{assertions_of, clock_of};
 ghost use Rattle.types_suites.specs.Readings.{Where, outlines_of};
 ghost use Rattle.types_suites.specs.Faults.{Text, sides_of, consequents_of, ClearTo, IsFaultless};
@@ -18,8 +18,8 @@ use crate::cycles::{first_cycle, has_all};
 use crate::names::first_duplicate;
 use crate::side::{Side, first_degenerate, first_empty, first_wide};
 use std::alloc::Global;
-use text_names::{Scope, Sought};
-use text_trees::ItemTree;
+use types_names::{Scope, Sought};
+use parser_trees::ItemTree;
 use types_faults::first_fault;
 use types_sequences::{Draft, Entry};
 use types_suites::TypeFault;

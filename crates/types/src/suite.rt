@@ -2,15 +2,15 @@
 
 ghost use Rattle.std.specs.Prelude.{◌≡◌, ◌<◌, ℕ, [], true, map, length, Some, string_bytes, IfOk};
 ghost use Rattle.std.specs.Prelude.{IfErr, OnOk, IsTrue};
-ghost use Rattle.grammar.specs.Trees.{Tree};
-ghost use Rattle.text_trees.specs.Views.{item_of, items_of};
+ghost use Rattle.parser_grammar.specs.Trees.{Tree};
+ghost use Rattle.parser_trees.specs.Views.{item_of, items_of};
 ghost use Rattle.types_sequences.specs.Entries.{has_entry};
-ghost use Rattle.text_names.specs.declared.own.Sought.{Sought};
-ghost use Rattle.text_names.specs.Scopes.{sequence_named};
-ghost use Rattle.text_names.specs.Asked.{scope_for};
-ghost use Rattle.text_names.specs.Columns.{all_listed, file_signals, columns_of};
-ghost use Rattle.text_names.specs.Faults.{file_faults};
-ghost use Rattle.text_names.specs.Views.{scope_of, columns_in};
+ghost use Rattle.types_names.specs.declared.own.Sought.{Sought};
+ghost use Rattle.types_names.specs.Scopes.{sequence_named};
+ghost use Rattle.types_names.specs.Asked.{scope_for};
+ghost use Rattle.types_names.specs.Columns.{all_listed, file_signals, columns_of};
+ghost use Rattle.types_names.specs.Faults.{file_faults};
+ghost use Rattle.types_names.specs.Views.{scope_of, columns_in};
 ghost use Rattle.types_sequences.specs.Placed.{Extends};
 ghost use Rattle.types_suites.specs.Texts.{declarations_of, assertions_of, clock_of};
 ghost use Rattle.types_suites.specs.Readings.{Where, outlines_of};
@@ -27,9 +27,9 @@ use crate::sides::written_sides;
 use crate::stages::{check_cycles, check_expressions, check_sides};
 use assertions::Suite;
 use std::alloc::Global;
-use text_names::{PathWidths, Scope, SignalPaths};
-use text_signals::{columns_of, scope_for};
-use text_trees::{File, ItemTree};
+use types_names::{PathWidths, Scope, SignalPaths};
+use types_faults::{columns_of, scope_for};
+use parser_trees::{File, ItemTree};
 use types_sequences::{Entry, resolve};
 use types_suites::{
     Resolved, TypeFault, all_resolved, assertions_of, bodies_of, counters_of, name_bytes,

@@ -2,9 +2,10 @@
 use Rattle.std.proofs.Common.{◌≡◌, ℕ, ◌+◌, ◌-◌, ◌*◌, ◌/◌, ◌%◌, ◌^◌, max, List, Option, Some, None, refl, sym, ap, ◌∙◌}
 use Rattle.std.proofs.Common.{if◌then◌else◌}
 use Rattle.std.specs.Prelude.{nat_le, ◌==◌}
-use Rattle.grammar.specs.declared.bound.Select.{Select}
-use Rattle.grammar.specs.Trees.{Tree, number, path, concatenation, past, call, unary, chain, choice, Links, end, link}
-use Rattle.grammar.specs.Trees.{Parts, no_part, part}
+use Rattle.parser_grammar.specs.declared.bound.Select.{Select}
+use Rattle.parser_grammar.specs.Trees.{Tree, number, path, concatenation, past, call, unary, chain, choice, Links, end}
+use Rattle.parser_grammar.specs.Trees.{link}
+use Rattle.parser_grammar.specs.Trees.{Parts, no_part, part}
 use Rattle.expressions.specs.Terms as terms
 use Rattle.expressions.specs.Terms.{Term, Samples, width_of, value_of, name_at, sample_at}
 use Rattle.expressions.specs.Operators.{complement, arithmetic, shift_value, comparison_value, connective_value}
@@ -13,18 +14,18 @@ use Rattle.expressions.specs.declared.name.Origin.{Origin}
 use Rattle.expressions.specs.declared.name.Name.{Name}
 use Rattle.expressions.specs.declared.operator.Reduction.{Reduction}
 use Rattle.expressions.specs.declared.operator.Change.{Change}
-use Rattle.text_names.specs.declared.own.Own.TheVariants.{Counter, Sequence}
-use Rattle.text_names.specs.declared.own.Meaning.{Meaning}
-use Rattle.text_names.specs.declared.own.Meaning.TheVariants.{Signal, Own as Declared}
-use Rattle.text_names.specs.declared.operator.Binary.{Binary}
-use Rattle.text_names.specs.declared.operator.Binary.TheVariants.{Arithmetic, Shift, Comparison, Connective}
-use Rattle.text_names.specs.declared.operator.Unary.{Unary}
-use Rattle.text_names.specs.declared.operator.Unary.TheVariants as unaries
-use Rattle.text_names.specs.declared.operator.Call.{Call}
-use Rattle.text_names.specs.declared.operator.Call.TheVariants as calls
-use Rattle.text_names.specs.Scopes.{Scope, path_text, meaning}
-use Rattle.text_names.specs.Widths.{binary_of, unary_of, call_of, ticks_of}
-use Rattle.text_names.specs.Columns.{column_of}
+use Rattle.types_names.specs.declared.own.Own.TheVariants.{Counter, Sequence}
+use Rattle.types_names.specs.declared.own.Meaning.{Meaning}
+use Rattle.types_names.specs.declared.own.Meaning.TheVariants.{Signal, Own as Declared}
+use Rattle.types_names.specs.declared.operator.Binary.{Binary}
+use Rattle.types_names.specs.declared.operator.Binary.TheVariants.{Arithmetic, Shift, Comparison, Connective}
+use Rattle.types_names.specs.declared.operator.Unary.{Unary}
+use Rattle.types_names.specs.declared.operator.Unary.TheVariants as unaries
+use Rattle.types_names.specs.declared.operator.Call.{Call}
+use Rattle.types_names.specs.declared.operator.Call.TheVariants as calls
+use Rattle.types_names.specs.Scopes.{Scope, path_text, meaning}
+use Rattle.types_names.specs.Widths.{binary_of, unary_of, call_of, ticks_of}
+use Rattle.types_names.specs.Columns.{column_of}
 use Rattle.types_expressions.specs.Meanings.{binary_term, unary_term, call_term, IsName, IsNameOf, IsRead, Means}
 use Rattle.types_expressions.specs.Meanings.{Chains, Joins, JoinsMore}
 

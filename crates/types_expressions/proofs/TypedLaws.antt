@@ -5,37 +5,38 @@ use Rattle.std.specs.Prelude.{nat_le, nat_lt, is_some}
 use Rattle.std.proofs.lemmas.Bool.{and_parts, leb-true, ltb-true}
 use Rattle.lexer.specs.declared.token.Number.{Number}
 use Rattle.lexer.specs.declared.token.Token.{Token}
-use Rattle.grammar.specs.declared.bound.Bound.{Bound}
-use Rattle.grammar.specs.declared.bound.Select.{Select}
-use Rattle.grammar.specs.declared.mark.Function.{Function}
-use Rattle.grammar.specs.declared.operator.Infix.{Infix}
-use Rattle.grammar.specs.declared.operator.Prefix.{Prefix}
-use Rattle.grammar.specs.Trees.{Tree, number, path, concatenation, past, call, unary, chain, choice, Links, end, link}
-use Rattle.grammar.specs.Trees.{Parts, no_part, part}
-use Rattle.grammar.specs.ReadExpressions.{parts_of}
-use Rattle.text_trees.specs.declared.expression.ExprTree.{ExprTree}
-use Rattle.text_trees.specs.Views.{tree_of}
+use Rattle.parser_grammar.specs.declared.bound.Bound.{Bound}
+use Rattle.parser_grammar.specs.declared.bound.Select.{Select}
+use Rattle.parser_grammar.specs.declared.mark.Function.{Function}
+use Rattle.parser_grammar.specs.declared.operator.Infix.{Infix}
+use Rattle.parser_grammar.specs.declared.operator.Prefix.{Prefix}
+use Rattle.parser_grammar.specs.Trees.{Tree, number, path, concatenation, past, call, unary, chain, choice, Links, end}
+use Rattle.parser_grammar.specs.Trees.{link}
+use Rattle.parser_grammar.specs.Trees.{Parts, no_part, part}
+use Rattle.parser_grammar.specs.ReadExpressions.{parts_of}
+use Rattle.parser_trees.specs.declared.expression.ExprTree.{ExprTree}
+use Rattle.parser_trees.specs.Views.{tree_of}
 use Rattle.signals.specs.declared.bits.Bits.{Bits}
 use Rattle.expressions.specs.Terms as terms
 use Rattle.expressions.specs.Terms.{Term, width_of}
 use Rattle.expressions.specs.declared.name.Name.{Name}
 use Rattle.expressions.specs.declared.slice.Slice.{Slice}
-use Rattle.text_names.specs.declared.own.Own.TheVariants.{Counter, Sequence}
-use Rattle.text_names.specs.declared.own.Meaning.{Meaning}
-use Rattle.text_names.specs.declared.own.Meaning.TheVariants.{Signal, Own as Declared}
-use Rattle.text_names.specs.declared.own.Sought.{Sought}
-use Rattle.text_names.specs.declared.own.Sought.TheVariants.{Unknown, Wide, OutOfRange}
-use Rattle.text_names.specs.Scopes.{Scope, path_text, first_byte, meaning, bits_of}
-use Rattle.text_names.specs.Widths.{binary_of, unary_of, call_of, literal_width, literal_value, ticks_of}
-use Rattle.text_names.specs.Widths.{high_of, low_of, own_width, parts_width}
-use Rattle.text_names.specs.Faults.{unless, has_bits, path_faults, wide_faults, faults, link_faults, part_faults}
-use Rattle.text_names.specs.Faults.{IsSound}
-use Rattle.text_names.specs.Columns.{signals, link_signals, part_signals, path_signals, all_listed, column_of}
-use Rattle.text_names.specs.Columns.{HasColumns}
+use Rattle.types_names.specs.declared.own.Own.TheVariants.{Counter, Sequence}
+use Rattle.types_names.specs.declared.own.Meaning.{Meaning}
+use Rattle.types_names.specs.declared.own.Meaning.TheVariants.{Signal, Own as Declared}
+use Rattle.types_names.specs.declared.own.Sought.{Sought}
+use Rattle.types_names.specs.declared.own.Sought.TheVariants.{Unknown, Wide, OutOfRange}
+use Rattle.types_names.specs.Scopes.{Scope, path_text, first_byte, meaning, bits_of}
+use Rattle.types_names.specs.Widths.{binary_of, unary_of, call_of, literal_width, literal_value, ticks_of}
+use Rattle.types_names.specs.Widths.{high_of, low_of, own_width, parts_width}
+use Rattle.types_names.specs.Faults.{unless, has_bits, path_faults, wide_faults, faults, link_faults, part_faults}
+use Rattle.types_names.specs.Faults.{IsSound}
+use Rattle.types_names.specs.Columns.{signals, link_signals, part_signals, path_signals, all_listed, column_of}
+use Rattle.types_names.specs.Columns.{HasColumns}
 use Rattle.types_expressions.specs.Meanings.{binary_term, unary_term, call_term, IsNameOf, IsRead, Means, Chains, Joins}
 use Rattle.types_expressions.specs.Meanings.{JoinsMore}
-use Rattle.text_names.proofs.FaultLaws.{no_faults-parts}
-use Rattle.text_names.proofs.ColumnLaws.{listed-parts}
+use Rattle.types_names.proofs.FaultLaws.{no_faults-parts}
+use Rattle.types_names.proofs.ColumnLaws.{listed-parts}
 use Rattle.types_expressions.proofs.MeaningLaws.{mean-width}
 
 unless-true : (b : Bool) (at : ℕ) → unless b at ≡ [] → b ≡ true

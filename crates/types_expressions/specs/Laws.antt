@@ -1,9 +1,9 @@
 -- Laws of what expressions mean.
 use Rattle.std.specs.Prelude.{◌≡◌, ℕ, List}
-use Rattle.grammar.specs.Trees.{Tree}
+use Rattle.parser_grammar.specs.Trees.{Tree}
 use Rattle.expressions.specs.Terms.{Term, Samples, width_of, value_of}
-use Rattle.text_names.specs.Scopes.{Scope}
-use Rattle.text_names.specs.Widths.{own_width}
+use Rattle.types_names.specs.Scopes.{Scope}
+use Rattle.types_names.specs.Widths.{own_width}
 use Rattle.types_expressions.specs.Meanings.{Means}
 
 -- What an expression means has the expression's own width.

@@ -1,9 +1,10 @@
 -- What the expressions of a text mean.
 use Rattle.std.specs.Prelude.{◌≡◌, ℕ, List, Option, Some, None}
 use Rattle.lexer.specs.declared.token.Number.{Number}
-use Rattle.grammar.specs.declared.bound.Select.{Select}
-use Rattle.grammar.specs.Trees.{Tree, number, path, concatenation, past, call, unary, chain, choice}
-use Rattle.grammar.specs.Trees.{Links, end, link, Parts, no_part, part}
+use Rattle.parser_grammar.specs.declared.bound.Select.{Select}
+use Rattle.parser_grammar.specs.Trees.{Tree, number, path, concatenation, past, call, unary, chain}
+use Rattle.parser_grammar.specs.Trees.{choice}
+use Rattle.parser_grammar.specs.Trees.{Links, end, link, Parts, no_part, part}
 use Rattle.signals.specs.declared.bits.Bits.{Bits}
 use Rattle.expressions.specs.declared.name.Origin.{Origin}
 use Rattle.expressions.specs.declared.name.Origin.TheVariants as origins
@@ -11,21 +12,21 @@ use Rattle.expressions.specs.declared.name.Name.{Name}
 use Rattle.expressions.specs.declared.slice.Slice.{Slice}
 use Rattle.expressions.specs.Terms as terms
 use Rattle.expressions.specs.Terms.{Term}
-use Rattle.text_names.specs.declared.own.Own.TheVariants.{Counter, Sequence}
-use Rattle.text_names.specs.declared.own.Meaning.{Meaning}
-use Rattle.text_names.specs.declared.own.Meaning.TheVariants.{Signal, Own as Declared}
-use Rattle.text_names.specs.declared.operator.Binary.{Binary}
-use Rattle.text_names.specs.declared.operator.Binary.TheVariants.{Arithmetic, Shift}
-use Rattle.text_names.specs.declared.operator.Binary.TheVariants.{Comparison, Connective}
-use Rattle.text_names.specs.declared.operator.Unary.{Unary}
-use Rattle.text_names.specs.declared.operator.Unary.TheVariants as unaries
-use Rattle.text_names.specs.declared.operator.Call.{Call}
-use Rattle.text_names.specs.declared.operator.Call.TheVariants as calls
-use Rattle.text_names.specs.Scopes.{Scope, path_text, meaning}
-use Rattle.text_names.specs.Widths.{binary_of, unary_of, call_of, literal_width}
-use Rattle.text_names.specs.Widths.{literal_value}
-use Rattle.text_names.specs.Widths.{high_of, low_of, ticks_of}
-use Rattle.text_names.specs.Columns.{column_of}
+use Rattle.types_names.specs.declared.own.Own.TheVariants.{Counter, Sequence}
+use Rattle.types_names.specs.declared.own.Meaning.{Meaning}
+use Rattle.types_names.specs.declared.own.Meaning.TheVariants.{Signal, Own as Declared}
+use Rattle.types_names.specs.declared.operator.Binary.{Binary}
+use Rattle.types_names.specs.declared.operator.Binary.TheVariants.{Arithmetic, Shift}
+use Rattle.types_names.specs.declared.operator.Binary.TheVariants.{Comparison, Connective}
+use Rattle.types_names.specs.declared.operator.Unary.{Unary}
+use Rattle.types_names.specs.declared.operator.Unary.TheVariants as unaries
+use Rattle.types_names.specs.declared.operator.Call.{Call}
+use Rattle.types_names.specs.declared.operator.Call.TheVariants as calls
+use Rattle.types_names.specs.Scopes.{Scope, path_text, meaning}
+use Rattle.types_names.specs.Widths.{binary_of, unary_of, call_of, literal_width}
+use Rattle.types_names.specs.Widths.{literal_value}
+use Rattle.types_names.specs.Widths.{high_of, low_of, ticks_of}
+use Rattle.types_names.specs.Columns.{column_of}
 
 -- an operator with its operands
 abbrev pub binary_term : Binary → Term → Term → Term

@@ -13,7 +13,7 @@
 //!
 //! The definitions: `specs/Meanings.antt` (which terms an expression means), `specs/Laws.antt`
 //! (what `meaning_law` says). Terms are those of `expressions`; scopes, columns, own widths and
-//! faults those of `text_names`, and the trees of a text those of `grammar`.
+//! faults those of `types_names`, and the trees of a text those of `parser_grammar`.
 //!
 //! Not promised: that memory suffices, nor what an expression with a fault means:
 //! `typed_expression` asks that there is none of the faults Y1, Y3 and Y4 in the expression, and

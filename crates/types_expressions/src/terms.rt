@@ -1,31 +1,31 @@
 //! Expressions of the text as typed expressions.
 
 ghost use Rattle.std.specs.Prelude.{◌≡◌, ◌≤◌, [], map, IfOk, IsTrue, is_some};
-ghost use Rattle.grammar.specs.ReadExpressions.{links_of, parts_of};
-ghost use Rattle.text_trees.specs.Views.{path_of, tree_of, link_of};
+ghost use Rattle.parser_grammar.specs.ReadExpressions.{links_of, parts_of};
+ghost use Rattle.parser_trees.specs.Views.{path_of, tree_of, link_of};
 ghost use Rattle.expressions.specs.declared.name.Origin.TheVariants.{Signal};
 ghost use Rattle.expressions.specs.Terms.{width_of, choose};
 ghost use Rattle.expressions.specs.Expressions.{term_of};
-ghost use Rattle.text_names.specs.declared.own.Sought.{Sought};
-ghost use Rattle.text_names.specs.Scopes.{path_text, first_byte, meaning, bits_of};
-ghost use Rattle.text_names.specs.Scopes.{is_narrow};
-ghost use Rattle.text_names.specs.Widths.{ticks_of, parts_width, high_of, low_of};
-ghost use Rattle.text_names.specs.Faults.{IsSound, has_bits, path_faults, link_faults};
-ghost use Rattle.text_names.specs.Faults.{part_faults};
-ghost use Rattle.text_names.specs.Columns.{HasColumns, column_of, is_listed, all_listed};
-ghost use Rattle.text_names.specs.Columns.{path_signals, link_signals, part_signals};
+ghost use Rattle.types_names.specs.declared.own.Sought.{Sought};
+ghost use Rattle.types_names.specs.Scopes.{path_text, first_byte, meaning, bits_of};
+ghost use Rattle.types_names.specs.Scopes.{is_narrow};
+ghost use Rattle.types_names.specs.Widths.{ticks_of, parts_width, high_of, low_of};
+ghost use Rattle.types_names.specs.Faults.{IsSound, has_bits, path_faults, link_faults};
+ghost use Rattle.types_names.specs.Faults.{part_faults};
+ghost use Rattle.types_names.specs.Columns.{HasColumns, column_of, is_listed, all_listed};
+ghost use Rattle.types_names.specs.Columns.{path_signals, link_signals, part_signals};
 ghost use Rattle.types_expressions.specs.Meanings.{IsName, IsNameOf, IsRead, Means, Chains, Joins};
 ghost use Rattle.types_expressions.specs.Meanings.{binary_term, unary_term, call_term};
-ghost use Rattle.text_names.specs.Views.{scope_of, columns_in};
+ghost use Rattle.types_names.specs.Views.{scope_of, columns_in};
 
 use expressions::{Name, Origin, Slice};
-use grammar::{Bound, Infix, Select};
+use parser_grammar::{Bound, Infix, Select};
 use std::alloc::{AllocError, Global};
-use text_names::{
+use types_names::{
     Binary, Call, Meaning, Own, Scope, SignalPaths, Unary, binary_of, call_of, low_of, number_bits,
     path_string, unary_of,
 };
-use text_trees::{ExprTree, Path};
+use parser_trees::{ExprTree, Path};
 
 /// An operator with its operands.
 fn combine(

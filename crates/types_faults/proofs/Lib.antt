@@ -1,3 +1,6 @@
 pub mod WidthLaws
 pub mod SeeLaws
 pub mod SequenceLaws
+pub mod ListingLaws
+pub mod AskedLaws
+pub mod ReadLaws

@@ -3,16 +3,16 @@ use Rattle.std.proofs.Common.{◌≡◌, ℕ, ◌+◌, ◌≤◌, min, ◌++◌,
 use Rattle.std.specs.Prelude.{nat_le}
 use Rattle.std.proofs.lemmas.Bool.Decides.{nat_tests}
 use Rattle.lexer.specs.declared.token.Token.{Token}
-use Rattle.grammar.specs.declared.operator.Infix.{Infix}
-use Rattle.grammar.specs.Trees.{Tree, concatenation, chain, choice, Links, link, Parts, part}
-use Rattle.text_names.specs.declared.own.Sought.{Sought}
-use Rattle.text_names.specs.declared.own.Sought.TheVariants.{Unknown, Wide, OutOfRange}
-use Rattle.text_names.specs.declared.operator.Binary.{Binary}
-use Rattle.text_names.specs.declared.operator.Binary.TheVariants.{Arithmetic, Shift, Comparison, Connective}
-use Rattle.text_names.specs.Scopes.{Scope}
-use Rattle.text_names.specs.Widths.{binary_of, binary_width, own_width, chain_width, parts_width}
-use Rattle.text_names.specs.Faults.{unless, wide_faults, faults, link_faults, part_faults, earlier, least}
-use Rattle.text_names.proofs.FaultLaws.{earlier-assoc, least-append}
+use Rattle.parser_grammar.specs.declared.operator.Infix.{Infix}
+use Rattle.parser_grammar.specs.Trees.{Tree, concatenation, chain, choice, Links, link, Parts, part}
+use Rattle.types_names.specs.declared.own.Sought.{Sought}
+use Rattle.types_names.specs.declared.own.Sought.TheVariants.{Unknown, Wide, OutOfRange}
+use Rattle.types_names.specs.declared.operator.Binary.{Binary}
+use Rattle.types_names.specs.declared.operator.Binary.TheVariants.{Arithmetic, Shift, Comparison, Connective}
+use Rattle.types_names.specs.Scopes.{Scope}
+use Rattle.types_names.specs.Widths.{binary_of, binary_width, own_width, chain_width, parts_width}
+use Rattle.types_names.specs.Faults.{unless, wide_faults, faults, link_faults, part_faults, earlier, least}
+use Rattle.types_names.proofs.FaultLaws.{earlier-assoc, least-append}
 use Rattle.types_faults.proofs.WidthLaws.{held-held, binary-held, sum-held, chain-held, parts-held}
 
 le-held : (w : ℕ) → nat_le (min w 129) 128 ≡ nat_le w 128

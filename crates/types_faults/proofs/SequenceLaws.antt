@@ -1,14 +1,14 @@
 -- Faults of sequences and items, part by part.
 use Rattle.std.proofs.Common.{◌≡◌, ℕ, List, Option, sym, ap, ◌∙◌}
-use Rattle.grammar.specs.declared.bound.Range.{Range}
-use Rattle.grammar.specs.declared.operator.Junction.{Junction}
-use Rattle.grammar.specs.Trees.{Tree, SequenceForm, delayed}
-use Rattle.grammar.specs.Trees.{throughout, joined, Steps, step, Others, other}
-use Rattle.text_names.specs.declared.own.Sought.{Sought}
-use Rattle.text_names.specs.Scopes.{Scope}
-use Rattle.text_names.specs.Faults.{faults, sequence_faults, step_faults, other_faults, earlier, least}
-use Rattle.text_names.proofs.FaultLaws.{earlier-assoc, least-append}
-use Rattle.text_names.proofs.Lists.{Joins}
+use Rattle.parser_grammar.specs.declared.bound.Range.{Range}
+use Rattle.parser_grammar.specs.declared.operator.Junction.{Junction}
+use Rattle.parser_grammar.specs.Trees.{Tree, SequenceForm, delayed}
+use Rattle.parser_grammar.specs.Trees.{throughout, joined, Steps, step, Others, other}
+use Rattle.types_names.specs.declared.own.Sought.{Sought}
+use Rattle.types_names.specs.Scopes.{Scope}
+use Rattle.types_names.specs.Faults.{faults, sequence_faults, step_faults, other_faults, earlier, least}
+use Rattle.types_names.proofs.FaultLaws.{earlier-assoc, least-append}
+use Rattle.types_names.proofs.Lists.{Joins}
 
 -- the least of one list and of another behind it
 pub least-joined : (xs ys total : List ℕ) (first last : Option ℕ) → Joins total xs ys → first ≡ least xs

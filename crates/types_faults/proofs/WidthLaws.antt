@@ -1,12 +1,12 @@
 -- Widths held at 129.
 use Rattle.std.proofs.Common.{◌≡◌, ℕ, ◌+◌, max, min, refl, arith}
-use Rattle.grammar.specs.Trees.{Links, end, link, Parts, no_part, part}
-use Rattle.text_names.specs.declared.operator.Binary.{Binary}
-use Rattle.text_names.specs.declared.operator.Binary.TheVariants.{Arithmetic, Shift, Comparison, Connective}
-use Rattle.text_names.specs.declared.operator.Unary.{Unary}
-use Rattle.text_names.specs.declared.operator.Unary.TheVariants as unaries
-use Rattle.text_names.specs.Scopes.{Scope}
-use Rattle.text_names.specs.Widths.{binary_of, binary_width, unary_width, own_width, chain_width, parts_width}
+use Rattle.parser_grammar.specs.Trees.{Links, end, link, Parts, no_part, part}
+use Rattle.types_names.specs.declared.operator.Binary.{Binary}
+use Rattle.types_names.specs.declared.operator.Binary.TheVariants.{Arithmetic, Shift, Comparison, Connective}
+use Rattle.types_names.specs.declared.operator.Unary.{Unary}
+use Rattle.types_names.specs.declared.operator.Unary.TheVariants as unaries
+use Rattle.types_names.specs.Scopes.{Scope}
+use Rattle.types_names.specs.Widths.{binary_of, binary_width, unary_width, own_width, chain_width, parts_width}
 
 max-held : (a b c d : ℕ) → min a 129 ≡ min c 129 → min b 129 ≡ min d 129 → min (max a b) 129 ≡ min (max c d) 129
 max-held a b c d h k = omega arith

@@ -1,21 +1,21 @@
 //! Widths and faults of expressions.
 
 ghost use Rattle.std.specs.Prelude.{◌≡◌, ◌≤◌, ◌∷◌, map, min, IfOk, ℕ, Option};
-ghost use Rattle.grammar.specs.ReadExpressions.{links_of, parts_of};
-ghost use Rattle.text_trees.specs.Views.{path_of, tree_of, link_of};
-ghost use Rattle.text_names.specs.Scopes.{bits_of, meaning};
-ghost use Rattle.text_names.specs.Widths.{binary_width, unary_width, path_width_by};
-ghost use Rattle.text_names.specs.Widths.{path_width, own_width, chain_width, parts_width};
-ghost use Rattle.text_names.specs.Widths.{high_of, low_of, unary_of};
-ghost use Rattle.text_names.specs.Faults.{has_bits, path_faults, wide_faults, faults};
-ghost use Rattle.text_names.specs.Faults.{link_faults, part_faults, earlier, least};
-ghost use Rattle.text_names.specs.Views.{scope_of};
+ghost use Rattle.parser_grammar.specs.ReadExpressions.{links_of, parts_of};
+ghost use Rattle.parser_trees.specs.Views.{path_of, tree_of, link_of};
+ghost use Rattle.types_names.specs.Scopes.{bits_of, meaning};
+ghost use Rattle.types_names.specs.Widths.{binary_width, unary_width, path_width_by};
+ghost use Rattle.types_names.specs.Widths.{path_width, own_width, chain_width, parts_width};
+ghost use Rattle.types_names.specs.Widths.{high_of, low_of, unary_of};
+ghost use Rattle.types_names.specs.Faults.{has_bits, path_faults, wide_faults, faults};
+ghost use Rattle.types_names.specs.Faults.{link_faults, part_faults, earlier, least};
+ghost use Rattle.types_names.specs.Views.{scope_of};
 
 use crate::least::earlier;
-use grammar::{Infix, Select};
+use parser_grammar::{Infix, Select};
 use std::alloc::{AllocError, Global};
-use text_names::{Binary, Scope, Sought, Unary, binary_of, bits_of, low_of, number_bits, unary_of};
-use text_trees::{ExprTree, Path};
+use types_names::{Binary, Scope, Sought, Unary, binary_of, bits_of, low_of, number_bits, unary_of};
+use parser_trees::{ExprTree, Path};
 
 /// What is seen of an expression: its own width, held at 129, and the first fault of the kind that
 /// is sought.
@@ -120,7 +120,10 @@ fn wide_fault(sought: Sought, at: usize, width: usize) -> Option<usize>
 }
 
 /// What is seen of an expression.
-#[tactic(auto, unfolding(text_names::specs::Widths::own_width, text_names::specs::Faults::faults))]
+#[tactic(
+    auto,
+    unfolding(types_names::specs::Widths::own_width, types_names::specs::Faults::faults)
+)]
 #[cycle(expressions)]
 pub(crate) fn see(
     alloc: Global,
@@ -180,7 +183,10 @@ pub(crate) fn see(
 }
 
 /// What is seen of operators with their operands behind a first one.
-#[tactic(auto, unfolding(text_names::specs::Widths::own_width, text_names::specs::Faults::faults))]
+#[tactic(
+    auto,
+    unfolding(types_names::specs::Widths::own_width, types_names::specs::Faults::faults)
+)]
 #[cycle(expressions)]
 fn see_links(
     alloc: Global,
@@ -209,7 +215,10 @@ fn see_links(
 }
 
 /// What is seen of more parts of a concatenation.
-#[tactic(auto, unfolding(text_names::specs::Widths::own_width, text_names::specs::Faults::faults))]
+#[tactic(
+    auto,
+    unfolding(types_names::specs::Widths::own_width, types_names::specs::Faults::faults)
+)]
 #[cycle(expressions)]
 fn see_parts(
     alloc: Global,

@@ -1,19 +1,19 @@
 //! Faults of items.
 
 ghost use Rattle.std.specs.Prelude.{◌≡◌, map, IfOk, option_map};
-ghost use Rattle.text_trees.specs.Views.{tree_of, boxed_of};
-ghost use Rattle.text_trees.specs.Views.{pair_of, counter_of, assertion_of, item_of};
-ghost use Rattle.text_names.specs.Faults.{optional_faults, clause_faults, counter_faults};
-ghost use Rattle.text_names.specs.Faults.{assertion_faults, item_faults, file_faults};
-ghost use Rattle.text_names.specs.Faults.{earlier, least};
-ghost use Rattle.text_names.specs.Views.{scope_of};
+ghost use Rattle.parser_trees.specs.Views.{tree_of, boxed_of};
+ghost use Rattle.parser_trees.specs.Views.{pair_of, counter_of, assertion_of, item_of};
+ghost use Rattle.types_names.specs.Faults.{optional_faults, clause_faults, counter_faults};
+ghost use Rattle.types_names.specs.Faults.{assertion_faults, item_faults, file_faults};
+ghost use Rattle.types_names.specs.Faults.{earlier, least};
+ghost use Rattle.types_names.specs.Views.{scope_of};
 
 use crate::expression::see;
 use crate::least::earlier;
 use crate::sequence::{property_fault, sequence_fault};
 use std::alloc::{AllocError, Global};
-use text_names::{Scope, Sought};
-use text_trees::{AssertionTree, CounterTree, ExprTree, ItemTree, Operands};
+use types_names::{Scope, Sought};
+use parser_trees::{AssertionTree, CounterTree, ExprTree, ItemTree, Operands};
 
 /// The first fault of an expression that may be left out.
 fn optional_fault(
@@ -35,7 +35,7 @@ fn optional_fault(
 }
 
 /// The first fault of a clause that may be left out.
-#[tactic(auto, using(text_names::proofs::FaultLaws::for_least))]
+#[tactic(auto, using(types_names::proofs::FaultLaws::for_least))]
 fn clause_fault(
     alloc: Global,
     scope: &Scope,
@@ -56,7 +56,7 @@ fn clause_fault(
 }
 
 /// The first fault of a counter.
-#[tactic(auto, using(text_names::proofs::FaultLaws::for_least))]
+#[tactic(auto, using(types_names::proofs::FaultLaws::for_least))]
 fn counter_fault(
     alloc: Global,
     scope: &Scope,
@@ -74,7 +74,7 @@ fn counter_fault(
 }
 
 /// The first fault of an assertion.
-#[tactic(auto, using(text_names::proofs::FaultLaws::for_least))]
+#[tactic(auto, using(types_names::proofs::FaultLaws::for_least))]
 fn assertion_fault(
     alloc: Global,
     scope: &Scope,

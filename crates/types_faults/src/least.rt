@@ -1,7 +1,7 @@
 //! The earlier of two places.
 
 ghost use Rattle.std.specs.Prelude.{◌≡◌};
-ghost use Rattle.text_names.specs.Faults.{earlier};
+ghost use Rattle.types_names.specs.Faults.{earlier};
 
 /// The smaller of two places, or the only one that is there.
 pub fn earlier(first: Option<usize>, second: Option<usize>) -> Option<usize>

@@ -1,18 +1,18 @@
 //! Faults of sequences.
 
 ghost use Rattle.std.specs.Prelude.{◌≡◌, map, IfOk};
-ghost use Rattle.grammar.specs.ReadSequences.{steps_of, others_of};
-ghost use Rattle.text_trees.specs.Views.{tree_of, sequence_of, delay_step_of, property_of};
-ghost use Rattle.text_names.specs.Faults.{boolean_faults, sequence_faults, step_faults};
-ghost use Rattle.text_names.specs.Faults.{other_faults, property_faults, earlier, least};
-ghost use Rattle.text_names.specs.Views.{scope_of};
+ghost use Rattle.parser_grammar.specs.ReadSequences.{steps_of, others_of};
+ghost use Rattle.parser_trees.specs.Views.{tree_of, sequence_of, delay_step_of, property_of};
+ghost use Rattle.types_names.specs.Faults.{boolean_faults, sequence_faults, step_faults};
+ghost use Rattle.types_names.specs.Faults.{other_faults, property_faults, earlier, least};
+ghost use Rattle.types_names.specs.Views.{scope_of};
 
 use crate::expression::see;
 use crate::least::earlier;
-use grammar::Range;
+use parser_grammar::Range;
 use std::alloc::{AllocError, Global};
-use text_names::{Scope, Sought};
-use text_trees::{ExprTree, PropertyTree, SequenceTree};
+use types_names::{Scope, Sought};
+use parser_trees::{ExprTree, PropertyTree, SequenceTree};
 
 /// The first fault of a boolean of a sequence, which may be the name of a named sequence.
 fn boolean_fault(
@@ -32,7 +32,7 @@ fn boolean_fault(
 }
 
 /// The first fault of a sequence.
-#[tactic(auto, unfolding(text_names::specs::Faults::sequence_faults))]
+#[tactic(auto, unfolding(types_names::specs::Faults::sequence_faults))]
 #[cycle(sequences)]
 pub(crate) fn sequence_fault(
     alloc: Global,
@@ -64,7 +64,7 @@ pub(crate) fn sequence_fault(
 }
 
 /// The first fault so far, and of what is delayed.
-#[tactic(auto, unfolding(text_names::specs::Faults::sequence_faults))]
+#[tactic(auto, unfolding(types_names::specs::Faults::sequence_faults))]
 #[cycle(sequences)]
 fn steps_fault(
     alloc: Global,
@@ -86,7 +86,7 @@ fn steps_fault(
 }
 
 /// The first fault so far, and of more sides.
-#[tactic(auto, unfolding(text_names::specs::Faults::sequence_faults))]
+#[tactic(auto, unfolding(types_names::specs::Faults::sequence_faults))]
 #[cycle(sequences)]
 fn others_fault(
     alloc: Global,
@@ -108,7 +108,7 @@ fn others_fault(
 }
 
 /// The first fault of a property.
-#[tactic(auto, using(text_names::proofs::FaultLaws::for_least))]
+#[tactic(auto, using(types_names::proofs::FaultLaws::for_least))]
 pub(crate) fn property_fault(
     alloc: Global,
     scope: &Scope,

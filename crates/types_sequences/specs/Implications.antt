@@ -1,7 +1,7 @@
 -- Implications.
-use Rattle.grammar.specs.declared.operator.Implication.{Implication}
-use Rattle.grammar.specs.declared.operator.Implication.TheVariants.{Overlapped}
-use Rattle.grammar.specs.declared.operator.Implication.TheVariants.{NonOverlapped}
+use Rattle.parser_grammar.specs.declared.operator.Implication.{Implication}
+use Rattle.parser_grammar.specs.declared.operator.Implication.TheVariants.{Overlapped}
+use Rattle.parser_grammar.specs.declared.operator.Implication.TheVariants.{NonOverlapped}
 use Rattle.types_sequences.specs.Drafts.{Draft, boolean, delay}
 
 -- The antecedent of an implication as that of |->: R |=> S is (R ##1 1) |-> S (IEEE 1800-2017,

@@ -6,7 +6,7 @@ ghost use Rattle.types_sequences.specs.Implications.{rewritten_antecedent};
 ghost use Rattle.types_sequences.specs.Views.{draft_of};
 
 use crate::draft::Draft;
-use grammar::Implication;
+use parser_grammar::Implication;
 use std::alloc::{AllocError, Global};
 
 /// The antecedent of `|->` that says what this one says before the implication.

@@ -1,13 +1,13 @@
 -- Named sequences, one by one.
 use Rattle.std.proofs.Common.{◌≡◌, ℕ, List, [], ◌∷◌, ◌++◌, map, length, refl, sym, ap, ◌∙◌, subst}
 use Rattle.std.proofs.lemmas.List.{map-append, length-map}
-use Rattle.grammar.specs.Trees.{SequenceForm, DeclarationForm, ItemForm}
+use Rattle.parser_grammar.specs.Trees.{SequenceForm, DeclarationForm, ItemForm}
 use Rattle.expressions.specs.declared.expr.Expr.{Expr}
 use Rattle.assertions.specs.declared.sequence.Boolean.{Boolean}
 use Rattle.types_sequences.specs.declared.draft.Draft.{Draft as Tree}
 use Rattle.types_sequences.specs.Drafts.{Draft}
 use Rattle.types_sequences.specs.Views.{draft_of}
-use Rattle.text_names.specs.Scopes.{Scope}
+use Rattle.types_names.specs.Scopes.{Scope}
 use Rattle.types_sequences.specs.Placed.{Extends}
 use Rattle.types_suites.specs.Readings.{Dot, outline, Reads, AllRead}
 use Rattle.types_suites.specs.Texts.{declarations_of}

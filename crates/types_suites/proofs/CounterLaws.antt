@@ -1,17 +1,17 @@
 -- Counters of a text, one by one.
 use Rattle.std.proofs.Common.{◌≡◌, ℕ, List, [], ◌∷◌, ◌++◌, Option, Some, sym, ap, ◌∙◌, subst, IsTrue}
 use Rattle.std.proofs.lemmas.List.{append-nil, append_assoc}
-use Rattle.grammar.specs.Trees as trees
-use Rattle.grammar.specs.Trees.{Tree, ItemForm, counter}
+use Rattle.parser_grammar.specs.Trees as trees
+use Rattle.parser_grammar.specs.Trees.{Tree, ItemForm, counter}
 use Rattle.expressions.specs.declared.counter.Counter.{Counter}
-use Rattle.text_names.specs.declared.own.Sought.{Sought}
-use Rattle.text_names.specs.Scopes.{Scope}
-use Rattle.text_names.specs.Faults.{faults, optional_faults, clause_faults, counter_faults, item_faults}
-use Rattle.text_names.specs.Faults.{file_faults}
-use Rattle.text_names.specs.Columns.{signals, all_listed, optional_signals, clause_signals, counter_signals}
-use Rattle.text_names.specs.Columns.{item_signals, file_signals}
-use Rattle.text_names.proofs.FaultLaws.{no_faults-parts}
-use Rattle.text_names.proofs.ColumnLaws.{listed-parts}
+use Rattle.types_names.specs.declared.own.Sought.{Sought}
+use Rattle.types_names.specs.Scopes.{Scope}
+use Rattle.types_names.specs.Faults.{faults, optional_faults, clause_faults, counter_faults, item_faults}
+use Rattle.types_names.specs.Faults.{file_faults}
+use Rattle.types_names.specs.Columns.{signals, all_listed, optional_signals, clause_signals, counter_signals}
+use Rattle.types_names.specs.Columns.{item_signals, file_signals}
+use Rattle.types_names.proofs.FaultLaws.{no_faults-parts}
+use Rattle.types_names.proofs.ColumnLaws.{listed-parts}
 use Rattle.types_expressions.proofs.TypedLaws.{IsReady}
 use Rattle.types_suites.specs.Texts.{counters_of}
 use Rattle.types_suites.specs.Suites.{IsCounter, AreCounters}

@@ -1,18 +1,18 @@
 -- What was read stays so when the list of expressions grows.
 use Rattle.std.proofs.Common.{ℕ, List, Option, Some, None}
-use Rattle.grammar.specs.Trees.{Tree, PropertyForm, plain, implication}
+use Rattle.parser_grammar.specs.Trees.{Tree, PropertyForm, plain, implication}
 use Rattle.expressions.specs.declared.expr.Expr.{Expr}
 use Rattle.assertions.specs.declared.sequence.Boolean.{Boolean}
 use Rattle.assertions.specs.declared.sequence.Boolean.TheVariants.{Listed}
 use Rattle.types_sequences.specs.Drafts.{Draft}
-use Rattle.text_names.specs.Scopes.{Scope}
+use Rattle.types_names.specs.Scopes.{Scope}
 use Rattle.types_sequences.specs.Placed.{Extends}
 use Rattle.types_suites.specs.Suites.{ReadsAntecedent, ReadsConsequent}
 use Rattle.types_suites.specs.Suites.{IsDisabledBy}
 use Rattle.types_suites.specs.Drawn.{IsDrawn}
 use Rattle.types_suites.specs.declared.drawn.Drawn.{Drawn}
 use Rattle.types_suites.proofs.ReadingLaws.{reads_grows, atom_grows}
-use Rattle.grammar.specs.Trees as trees
+use Rattle.parser_grammar.specs.Trees as trees
 
 module _ (s : Scope) (cs : List (List ℕ)) (now next : List Expr) (more : Extends now next) where
   pub antecedent_grows : (p : PropertyForm) (d : Draft Boolean) → ReadsAntecedent s cs now p d

@@ -4,8 +4,8 @@ use Rattle.std.proofs.Common.{Box, refl, sym, ap, ◌∙◌, subst, arith, strin
 use Rattle.std.specs.Prelude.{true, false, Result, Ok, Err, IfOk, OnOk}
 use Rattle.std.proofs.lemmas.List.{append-nil, append_assoc, length-append}
 use Rattle.std.specs.declared.alloc.Global.{Global}
-use Rattle.grammar.specs.Trees as trees
-use Rattle.grammar.specs.Trees.{Tree}
+use Rattle.parser_grammar.specs.Trees as trees
+use Rattle.parser_grammar.specs.Trees.{Tree}
 use Rattle.expressions.specs.declared.expr.Expr.{Expr}
 use Rattle.assertions.specs.declared.sequence.Boolean.{Boolean}
 use Rattle.assertions.specs.declared.sequence.Boolean.TheVariants.{One, Listed}
@@ -22,7 +22,7 @@ use Rattle.types_sequences.specs.Entries.{HasEntry, HasSame, SaysSame, IsUsedOrO
 use Rattle.types_sequences.specs.Placed.{IsPlaced, IsPlacedBoolean, atom_true, Extends, AllListed, Adds}
 use Rattle.types_sequences.proofs.UsedLaws.{each_used}
 use Rattle.types_sequences.proofs.PlacedLaws.{listed_on}
-use Rattle.text_names.specs.Scopes.{Scope}
+use Rattle.types_names.specs.Scopes.{Scope}
 use Rattle.types_suites.specs.declared.resolved.Resolved.{Resolved}
 use Rattle.types_suites.specs.Suites.{IsMeant, IsDisabling, IsDisablingPlace, IsAssertion, AreAssertions}
 use Rattle.types_suites.specs.Suites.{IsDisabledBy, off_places}

@@ -2,21 +2,23 @@
 use Rattle.std.proofs.Common.{◌≡◌, ◌⊎◌, inl, inr, ℕ, zero, suc, ◌+◌, ◌<◌, List, [], ◌∷◌, ◌++◌, map, length, Bool, true}
 use Rattle.std.proofs.Common.{false, Option, Some, None, refl, sym, ap, ◌∙◌, subst, arith}
 use Rattle.std.specs.Prelude.{cond, bytes_eq}
-use Rattle.grammar.specs.declared.operator.Junction.{Junction}
-use Rattle.grammar.specs.declared.operator.Junction.TheVariants as junctions
-use Rattle.grammar.specs.Trees.{Tree, path, SequenceForm, boolean, repeated, late, delayed, throughout, joined, Steps}
-use Rattle.grammar.specs.Trees.{no_step, step, Others, no_other, other, ItemForm, counter, declaration, assertion}
+use Rattle.parser_grammar.specs.declared.operator.Junction.{Junction}
+use Rattle.parser_grammar.specs.declared.operator.Junction.TheVariants as junctions
+use Rattle.parser_grammar.specs.Trees.{Tree, path, SequenceForm, boolean, repeated, late, delayed, throughout, joined}
+use Rattle.parser_grammar.specs.Trees.{Steps}
+use Rattle.parser_grammar.specs.Trees.{no_step, step, Others, no_other, other, ItemForm, counter, declaration}
+use Rattle.parser_grammar.specs.Trees.{assertion}
 use Rattle.expressions.specs.declared.expr.Expr.{Expr}
 use Rattle.assertions.specs.declared.sequence.Boolean.{Boolean}
 use Rattle.types_sequences.specs.Drafts as drafts
 use Rattle.types_sequences.specs.Drafts.{Draft, IsIn, uses, uses_at, AllDeclared}
 use Rattle.types_sequences.specs.Outlines.{map_draft}
 use Rattle.types_sequences.proofs.InLaws.{in_either, in_only}
-use Rattle.text_names.specs.declared.own.Own.{Own}
-use Rattle.text_names.specs.declared.own.Own.TheVariants as own
-use Rattle.text_names.specs.Scopes.{Scope, sequence_named, meaning_place, meaning_by, path_text, owns_from, owns}
-use Rattle.text_names.specs.Scopes.{look_up, width_in}
-use Rattle.text_names.specs.Asked.{scope_for}
+use Rattle.types_names.specs.declared.own.Own.{Own}
+use Rattle.types_names.specs.declared.own.Own.TheVariants as own
+use Rattle.types_names.specs.Scopes.{Scope, sequence_named, meaning_place, meaning_by, path_text, owns_from, owns}
+use Rattle.types_names.specs.Scopes.{look_up, width_in}
+use Rattle.types_names.specs.Asked.{scope_for}
 use Rattle.types_sequences.specs.Placed.{Extends}
 use Rattle.types_suites.specs.Texts.{declarations_of}
 use Rattle.types_suites.specs.Readings.{least_of, extra_of, joined_by, Reads, ReadsBoolean, ReadsSteps, ReadsOthers}

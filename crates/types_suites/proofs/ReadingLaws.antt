@@ -2,10 +2,10 @@
 use Rattle.std.proofs.Common.{◌≡◌, ℕ, zero, suc, List, [], ◌∷◌, ◌++◌, length, Option, Some, None, slice_get, refl, sym}
 use Rattle.std.proofs.Common.{ap, ◌∙◌, subst, IsTrue, Result, Ok, Err, IfOk, OnOk}
 use Rattle.std.proofs.lemmas.List.{append-nil, append_assoc}
-use Rattle.grammar.specs.declared.bound.Range.{Range}
-use Rattle.grammar.specs.declared.operator.Junction.{Junction}
-use Rattle.grammar.specs.Trees.{Tree, SequenceForm, boolean, repeated, late, delayed, throughout, joined, Steps}
-use Rattle.grammar.specs.Trees.{no_step, step, Others, no_other, other}
+use Rattle.parser_grammar.specs.declared.bound.Range.{Range}
+use Rattle.parser_grammar.specs.declared.operator.Junction.{Junction}
+use Rattle.parser_grammar.specs.Trees.{Tree, SequenceForm, boolean, repeated, late, delayed, throughout, joined, Steps}
+use Rattle.parser_grammar.specs.Trees.{no_step, step, Others, no_other, other}
 use Rattle.lexer.specs.declared.token.Token.{Token}
 use Rattle.expressions.specs.declared.expr.Expr.{Expr}
 use Rattle.expressions.specs.Expressions.{term_of}
@@ -13,14 +13,14 @@ use Rattle.assertions.specs.declared.sequence.Boolean.{Boolean}
 use Rattle.assertions.specs.declared.sequence.Boolean.TheVariants.{Listed}
 use Rattle.types_sequences.specs.Drafts as drafts
 use Rattle.types_sequences.specs.Drafts.{Draft}
-use Rattle.text_names.specs.declared.own.Sought.{Sought}
-use Rattle.text_names.specs.Scopes.{Scope, sequence_named}
-use Rattle.text_names.specs.Faults.{faults, boolean_faults, sequence_faults, step_faults, other_faults}
-use Rattle.text_names.specs.Columns.{HasColumns, all_listed, signals, sequence_signals, step_signals}
-use Rattle.text_names.specs.Columns.{other_signals}
+use Rattle.types_names.specs.declared.own.Sought.{Sought}
+use Rattle.types_names.specs.Scopes.{Scope, sequence_named}
+use Rattle.types_names.specs.Faults.{faults, boolean_faults, sequence_faults, step_faults, other_faults}
+use Rattle.types_names.specs.Columns.{HasColumns, all_listed, signals, sequence_signals, step_signals}
+use Rattle.types_names.specs.Columns.{other_signals}
 use Rattle.types_expressions.specs.Meanings.{Means}
-use Rattle.text_names.proofs.FaultLaws.{no_faults-parts}
-use Rattle.text_names.proofs.ColumnLaws.{listed-parts}
+use Rattle.types_names.proofs.FaultLaws.{no_faults-parts}
+use Rattle.types_names.proofs.ColumnLaws.{listed-parts}
 use Rattle.types_expressions.proofs.TypedLaws.{IsReady}
 use Rattle.types_sequences.specs.Placed.{Extends}
 use Rattle.types_suites.specs.Readings.{least_of, extra_of, IsAtom, ReadsBoolean, joined_by, Reads, ReadsSteps}

@@ -1,14 +1,14 @@
 -- Assertions whose names are resolved, one by one.
 use Rattle.std.proofs.Common.{◌≡◌, ℕ, ◌+◌, ◌<◌, List, [], ◌∷◌, ◌++◌, length, Some, sym, subst, arith}
 use Rattle.std.proofs.lemmas.List.{append-nil}
-use Rattle.grammar.specs.Trees as trees
-use Rattle.grammar.specs.Trees.{Tree, PropertyForm, plain, implication}
+use Rattle.parser_grammar.specs.Trees as trees
+use Rattle.parser_grammar.specs.Trees.{Tree, PropertyForm, plain, implication}
 use Rattle.expressions.specs.declared.expr.Expr.{Expr}
-use Rattle.grammar.specs.declared.operator.Implication.{Implication}
-use Rattle.grammar.specs.declared.operator.Implication.TheVariants.{Overlapped, NonOverlapped}
+use Rattle.parser_grammar.specs.declared.operator.Implication.{Implication}
+use Rattle.parser_grammar.specs.declared.operator.Implication.TheVariants.{Overlapped, NonOverlapped}
 use Rattle.assertions.specs.declared.sequence.Boolean.{Boolean}
 use Rattle.types_sequences.specs.Drafts.{Draft, IsIn, uses}
-use Rattle.text_names.specs.Scopes.{Scope, sequence_named}
+use Rattle.types_names.specs.Scopes.{Scope, sequence_named}
 use Rattle.types_suites.specs.declared.resolved.Resolved.{Resolved}
 use Rattle.types_sequences.specs.Placed.{Extends}
 use Rattle.types_suites.specs.Suites.{before_by, ReadsAntecedent, ReadsConsequent}

@@ -1,7 +1,7 @@
 -- Loops over the items of a text that take those of one kind.
 use Rattle.std.proofs.Common.{◌≡◌, List, [], ◌∷◌, ◌++◌, refl, sym, ap, ◌∙◌, subst}
 use Rattle.std.proofs.lemmas.List.{append-nil, append_assoc}
-use Rattle.grammar.specs.Trees.{ItemForm}
+use Rattle.parser_grammar.specs.Trees.{ItemForm}
 
 -- Of all items of a kind those that were seen, of which something holds, and those that are left.
 pub record Seen {A : Type 0} (of : List ItemForm → List A) (holds : List A → Type 0) (items left : List ItemForm) : Type

@@ -3,17 +3,19 @@ use Rattle.std.proofs.Common.{◌≡◌, ℕ, List, [], ◌∷◌, ◌++◌, Opt
 use Rattle.std.proofs.Common.{drop, slice_get}
 use Rattle.std.proofs.lemmas.Bool.{cases_Bool}
 use Rattle.std.specs.Prelude.{string_bytes}
-use Rattle.grammar.specs.Trees.{Tree, number, path, concatenation, past, call, unary, chain, choice, Links, end, link}
-use Rattle.grammar.specs.Trees.{Parts, no_part, part, SequenceForm, boolean, repeated, late, delayed, throughout}
-use Rattle.grammar.specs.Trees.{joined, Steps, no_step, step, Others, no_other, other, PropertyForm, plain, implication}
-use Rattle.grammar.specs.Trees.{ItemForm, counter, declaration, assertion}
+use Rattle.parser_grammar.specs.Trees.{Tree, number, path, concatenation, past, call, unary, chain, choice, Links, end}
+use Rattle.parser_grammar.specs.Trees.{link}
+use Rattle.parser_grammar.specs.Trees.{Parts, no_part, part, SequenceForm, boolean, repeated, late, delayed, throughout}
+use Rattle.parser_grammar.specs.Trees.{joined, Steps, no_step, step, Others, no_other, other, PropertyForm, plain}
+use Rattle.parser_grammar.specs.Trees.{implication}
+use Rattle.parser_grammar.specs.Trees.{ItemForm, counter, declaration, assertion}
 use Rattle.assertions.specs.declared.signal.Signal.{Signal}
-use Rattle.text_names.specs.declared.own.Own.{Own}
-use Rattle.text_names.specs.Scopes.{Scope, path_text, meaning_by}
-use Rattle.text_names.specs.Columns.{path_signals, signals, link_signals, part_signals, sequence_signals}
-use Rattle.text_names.specs.Columns.{step_signals, other_signals, property_signals, optional_signals}
-use Rattle.text_names.specs.Columns.{clause_signals, item_signals, file_signals, is_listed, with_path}
-use Rattle.text_names.specs.Columns.{with_paths, columns_of}
+use Rattle.types_names.specs.declared.own.Own.{Own}
+use Rattle.types_names.specs.Scopes.{Scope, path_text, meaning_by}
+use Rattle.types_names.specs.Columns.{path_signals, signals, link_signals, part_signals, sequence_signals}
+use Rattle.types_names.specs.Columns.{step_signals, other_signals, property_signals, optional_signals}
+use Rattle.types_names.specs.Columns.{clause_signals, item_signals, file_signals, is_listed, with_path}
+use Rattle.types_names.specs.Columns.{with_paths, columns_of}
 use Rattle.types_suites.specs.Signals.{IsKnown, AreKnown}
 use Rattle.types_suites.specs.Suites.{AreSignals}
 

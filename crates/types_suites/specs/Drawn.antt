@@ -1,10 +1,10 @@
 -- What the code keeps of an assertion before it is written out.
 use Rattle.std.specs.Prelude.{◌≡◌, ℕ, List, Option, Some, None, string_bytes}
-use Rattle.grammar.specs.Trees as trees
-use Rattle.grammar.specs.Trees.{PropertyForm, plain, implication}
+use Rattle.parser_grammar.specs.Trees as trees
+use Rattle.parser_grammar.specs.Trees.{PropertyForm, plain, implication}
 use Rattle.expressions.specs.declared.expr.Expr.{Expr}
 use Rattle.types_sequences.specs.Views.{draft_of}
-use Rattle.text_names.specs.Scopes.{Scope}
+use Rattle.types_names.specs.Scopes.{Scope}
 use Rattle.types_suites.specs.declared.drawn.Drawn.{Drawn}
 use Rattle.types_suites.specs.Texts.{label_text, sequence_byte, led_byte}
 use Rattle.types_suites.specs.Suites.{first_by, ReadsAntecedent, ReadsConsequent, IsDisabledBy}

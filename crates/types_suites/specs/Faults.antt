@@ -1,17 +1,18 @@
 -- Where faults of types stand in a text.
 use Rattle.std.specs.Prelude.{◌≡◌, ◌⊎◌, ℕ, ◌<◌, ◌≤◌, Bool, false, List, [], ◌∷◌, ◌++◌, Some}
 use Rattle.std.specs.Prelude.{slice_get}
-use Rattle.grammar.specs.Trees.{PropertyForm, plain, implication, DeclarationForm, AssertionForm}
-use Rattle.grammar.specs.Trees.{ItemForm}
+use Rattle.parser_grammar.specs.Trees.{PropertyForm, plain, implication, DeclarationForm}
+use Rattle.parser_grammar.specs.Trees.{AssertionForm}
+use Rattle.parser_grammar.specs.Trees.{ItemForm}
 use Rattle.assertions.specs.Segments.{AdmitsEmpty}
 use Rattle.assertions.specs.Attempts.{IsDegenerateBy}
 use Rattle.assertions.specs.Written.{Written, kernel, weight}
 use Rattle.types_sequences.specs.Drafts.{Draft, IsIn, Spells, IsCyclic}
 use Rattle.types_sequences.specs.Implications.{rewritten_antecedent}
-use Rattle.text_names.specs.declared.own.Sought.TheVariants.{Unknown, Wide, OutOfRange}
-use Rattle.text_names.specs.Scopes.{Scope}
-use Rattle.text_names.specs.Faults.{file_faults}
-use Rattle.grammar.specs.declared.operator.Implication.{Implication}
+use Rattle.types_names.specs.declared.own.Sought.TheVariants.{Unknown, Wide, OutOfRange}
+use Rattle.types_names.specs.Scopes.{Scope}
+use Rattle.types_names.specs.Faults.{file_faults}
+use Rattle.parser_grammar.specs.declared.operator.Implication.{Implication}
 use Rattle.types_suites.specs.declared.fault.TypeFault.{TypeFault}
 use Rattle.types_suites.specs.declared.fault.TypeFault.TheVariants.{UnknownName, Duplicate}
 use Rattle.types_suites.specs.declared.fault.TypeFault.TheVariants.{WiderThan128, SliceRange}

@@ -2,20 +2,21 @@
 -- 1800-2017, 16.7 to 16.9).
 use Rattle.std.specs.Prelude.{◌≡◌, ℕ, ◌-◌, List, map, Option, Some, None, slice_get}
 use Rattle.std.specs.List.{AllZip}
-use Rattle.grammar.specs.declared.bound.Bound.{Bound}
-use Rattle.grammar.specs.declared.bound.Range.{Range}
-use Rattle.grammar.specs.declared.operator.Junction.{Junction}
-use Rattle.grammar.specs.declared.operator.Junction.TheVariants.{Intersect, And, Or}
-use Rattle.grammar.specs.Trees.{Tree, SequenceForm, boolean, repeated, late, delayed, throughout}
-use Rattle.grammar.specs.Trees.{joined, Steps, no_step, step, Others, no_other, other}
-use Rattle.grammar.specs.Trees.{ItemForm}
+use Rattle.parser_grammar.specs.declared.bound.Bound.{Bound}
+use Rattle.parser_grammar.specs.declared.bound.Range.{Range}
+use Rattle.parser_grammar.specs.declared.operator.Junction.{Junction}
+use Rattle.parser_grammar.specs.declared.operator.Junction.TheVariants.{Intersect, And, Or}
+use Rattle.parser_grammar.specs.Trees.{Tree, SequenceForm, boolean, repeated, late, delayed}
+use Rattle.parser_grammar.specs.Trees.{throughout}
+use Rattle.parser_grammar.specs.Trees.{joined, Steps, no_step, step, Others, no_other, other}
+use Rattle.parser_grammar.specs.Trees.{ItemForm}
 use Rattle.expressions.specs.declared.expr.Expr.{Expr}
 use Rattle.expressions.specs.Expressions.{term_of}
 use Rattle.assertions.specs.declared.sequence.Boolean.{Boolean}
 use Rattle.assertions.specs.declared.sequence.Boolean.TheVariants.{Listed}
 use Rattle.types_sequences.specs.Drafts as drafts
 use Rattle.types_sequences.specs.Drafts.{Draft}
-use Rattle.text_names.specs.Scopes.{Scope, sequence_named}
+use Rattle.types_names.specs.Scopes.{Scope, sequence_named}
 use Rattle.types_expressions.specs.Meanings.{Means}
 use Rattle.types_suites.specs.Texts.{declarations_of}
 

@@ -1,13 +1,13 @@
 -- What the code keeps of an assertion once its names are resolved.
 use Rattle.std.specs.Prelude.{◌≡◌, ℕ, List, map, Option, string_bytes}
 use Rattle.std.specs.List.{AllZip, enumerate_from}
-use Rattle.grammar.specs.Trees as trees
+use Rattle.parser_grammar.specs.Trees as trees
 use Rattle.expressions.specs.declared.expr.Expr.{Expr}
 use Rattle.assertions.specs.declared.sequence.Boolean.{Boolean}
 use Rattle.types_sequences.specs.declared.entry.Entry.{Entry}
 use Rattle.types_sequences.specs.Drafts.{Draft}
 use Rattle.types_sequences.specs.Entries.{HasEntry, IsTable}
-use Rattle.text_names.specs.Scopes.{Scope}
+use Rattle.types_names.specs.Scopes.{Scope}
 use Rattle.types_suites.specs.declared.resolved.Resolved.{Resolved}
 use Rattle.types_suites.specs.Readings.{AllRead}
 use Rattle.types_suites.specs.Texts.{declarations_of, label_text}

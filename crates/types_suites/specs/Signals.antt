@@ -1,6 +1,6 @@
 -- Paths that the dump has.
 use Rattle.std.specs.Prelude.{◌≡◌, ℕ, List, [], ◌∷◌, Some}
-use Rattle.text_names.specs.Scopes.{Scope}
+use Rattle.types_names.specs.Scopes.{Scope}
 
 -- the dump has the path, with a width
 abbrev pub IsKnown : Scope → List ℕ → Type 0

@@ -3,13 +3,13 @@ use Rattle.std.specs.Prelude.{◌≡◌, ◌⊎◌, ℕ, Bool, false, List, [], 
 use Rattle.std.specs.Prelude.{Some, None}
 use Rattle.std.specs.Prelude.{string_bytes}
 use Rattle.std.specs.List.{AllZip, enumerate_from}
-use Rattle.grammar.specs.Trees as trees
-use Rattle.grammar.specs.Trees.{Tree, PropertyForm, plain, implication, ItemForm}
+use Rattle.parser_grammar.specs.Trees as trees
+use Rattle.parser_grammar.specs.Trees.{Tree, PropertyForm, plain, implication, ItemForm}
 use Rattle.expressions.specs.declared.expr.Expr.{Expr}
 use Rattle.expressions.specs.declared.rule.Rule.{Rule}
 use Rattle.expressions.specs.declared.counter.Counter.{Counter}
 use Rattle.expressions.specs.Expressions.{term_of}
-use Rattle.grammar.specs.declared.operator.Implication.{Implication}
+use Rattle.parser_grammar.specs.declared.operator.Implication.{Implication}
 use Rattle.assertions.specs.declared.sequence.Boolean.{Boolean}
 use Rattle.assertions.specs.declared.sequence.Boolean.TheVariants.{One, Listed}
 use Rattle.assertions.specs.declared.assertion.Assertion.{Assertion}
@@ -24,8 +24,8 @@ use Rattle.types_sequences.specs.Drafts.{Draft, Spells, IsIn}
 use Rattle.types_sequences.specs.Placed.{IsPlaced, IsPlacedBoolean, AllListed}
 use Rattle.types_sequences.specs.Leaves.{places_of, form_of}
 use Rattle.types_sequences.specs.Trimmed.{IsTrimmed}
-use Rattle.text_names.specs.Scopes.{Scope, width_in}
-use Rattle.text_names.specs.Columns.{columns_of}
+use Rattle.types_names.specs.Scopes.{Scope, width_in}
+use Rattle.types_names.specs.Columns.{columns_of}
 use Rattle.types_expressions.specs.Meanings.{Means}
 use Rattle.types_suites.specs.Options.{OptionZip}
 use Rattle.types_suites.specs.Readings.{IsAtom, Reads, AllRead}

@@ -5,11 +5,13 @@ use Rattle.std.specs.Prelude.{bytes_eq, if◌then◌else◌}
 use Rattle.std.specs.List.{list_any}
 use Rattle.std.specs.Fmt.{decimal}
 use Rattle.lexer.specs.declared.token.Token.{Token}
-use Rattle.grammar.specs.Trees.{Tree, number, path, concatenation, past, call, unary, chain, choice}
-use Rattle.grammar.specs.Trees.{SequenceForm, boolean, repeated, late, delayed, throughout, joined}
-use Rattle.grammar.specs.Trees.{CounterForm, DeclarationForm, AssertionForm, ItemForm}
-use Rattle.grammar.specs.Trees.{counter, declaration, assertion}
-use Rattle.text_names.specs.Scopes.{path_text, first_byte}
+use Rattle.parser_grammar.specs.Trees.{Tree, number, path, concatenation, past, call, unary, chain}
+use Rattle.parser_grammar.specs.Trees.{choice}
+use Rattle.parser_grammar.specs.Trees.{SequenceForm, boolean, repeated, late, delayed, throughout}
+use Rattle.parser_grammar.specs.Trees.{joined}
+use Rattle.parser_grammar.specs.Trees.{CounterForm, DeclarationForm, AssertionForm, ItemForm}
+use Rattle.parser_grammar.specs.Trees.{counter, declaration, assertion}
+use Rattle.types_names.specs.Scopes.{path_text, first_byte}
 
 -- the items of each kind, in the order of the text
 abbrev pub declarations_of : List ItemForm → List DeclarationForm

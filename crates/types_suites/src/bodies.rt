@@ -1,20 +1,20 @@
 //! The named sequences of a text.
 
 ghost use Rattle.std.specs.Prelude.{◌≡◌, [], map, length, IfOk, OnOk, IsTrue};
-ghost use Rattle.text_trees.specs.Views.{item_of};
+ghost use Rattle.parser_trees.specs.Views.{item_of};
 ghost use Rattle.types_sequences.specs.Views.{draft_of};
-ghost use Rattle.text_names.specs.declared.own.Sought.{Sought};
-ghost use Rattle.text_names.specs.Faults.{file_faults};
-ghost use Rattle.text_names.specs.Columns.{all_listed, file_signals};
-ghost use Rattle.text_names.specs.Views.{scope_of, columns_in};
+ghost use Rattle.types_names.specs.declared.own.Sought.{Sought};
+ghost use Rattle.types_names.specs.Faults.{file_faults};
+ghost use Rattle.types_names.specs.Columns.{all_listed, file_signals};
+ghost use Rattle.types_names.specs.Views.{scope_of, columns_in};
 ghost use Rattle.types_sequences.specs.Placed.{Extends};
 ghost use Rattle.types_suites.specs.Readings.{AllRead};
 ghost use Rattle.types_suites.specs.Texts.{declarations_of};
 
 use crate::drafts::draft_of;
 use std::alloc::{AllocError, Global};
-use text_names::{Scope, SignalPaths};
-use text_trees::ItemTree;
+use types_names::{Scope, SignalPaths};
+use parser_trees::ItemTree;
 use types_sequences::Draft;
 
 /// What the named sequences say, in the order of the text, their expressions typed and put behind

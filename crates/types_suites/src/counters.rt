@@ -1,21 +1,21 @@
 //! Counters of the text with their expressions typed.
 
 ghost use Rattle.std.specs.Prelude.{◌≡◌, ◌≤◌, [], map, option_map, IfOk, IsTrue};
-ghost use Rattle.text_trees.specs.Views.{boxed_of, pair_of, counter_of, item_of};
-ghost use Rattle.text_names.specs.declared.own.Sought.{Sought};
-ghost use Rattle.text_names.specs.Scopes.{width_in};
-ghost use Rattle.text_names.specs.Faults.{optional_faults, clause_faults, counter_faults};
-ghost use Rattle.text_names.specs.Faults.{file_faults};
-ghost use Rattle.text_names.specs.Columns.{all_listed, optional_signals, clause_signals};
-ghost use Rattle.text_names.specs.Columns.{counter_signals, file_signals};
-ghost use Rattle.text_names.specs.Views.{scope_of, columns_in};
+ghost use Rattle.parser_trees.specs.Views.{boxed_of, pair_of, counter_of, item_of};
+ghost use Rattle.types_names.specs.declared.own.Sought.{Sought};
+ghost use Rattle.types_names.specs.Scopes.{width_in};
+ghost use Rattle.types_names.specs.Faults.{optional_faults, clause_faults, counter_faults};
+ghost use Rattle.types_names.specs.Faults.{file_faults};
+ghost use Rattle.types_names.specs.Columns.{all_listed, optional_signals, clause_signals};
+ghost use Rattle.types_names.specs.Columns.{counter_signals, file_signals};
+ghost use Rattle.types_names.specs.Views.{scope_of, columns_in};
 ghost use Rattle.types_suites.specs.Texts.{counters_of};
 ghost use Rattle.types_suites.specs.Suites.{IsCondition, IsRule, IsCounter, AreCounters};
 
 use expressions::Rule;
 use std::alloc::{AllocError, Global};
-use text_names::{Scope, SignalPaths};
-use text_trees::{CounterTree, ExprTree, ItemTree, Operands};
+use types_names::{Scope, SignalPaths};
+use parser_trees::{CounterTree, ExprTree, ItemTree, Operands};
 use types_expressions::typed_expression;
 
 /// The clauses of a counter that have two operands, in boxes, which are let go of by one call.

@@ -1,26 +1,26 @@
 //! Sequences of the text with their expressions typed.
 
 ghost use Rattle.std.specs.Prelude.{◌≡◌, [], map, length, IfOk, OnOk, IsTrue};
-ghost use Rattle.grammar.specs.ReadSequences.{steps_of, others_of};
-ghost use Rattle.text_trees.specs.Views.{tree_of, sequence_of, delay_step_of};
+ghost use Rattle.parser_grammar.specs.ReadSequences.{steps_of, others_of};
+ghost use Rattle.parser_trees.specs.Views.{tree_of, sequence_of, delay_step_of};
 ghost use Rattle.assertions.specs.declared.sequence.Boolean.TheVariants.{Listed};
 ghost use Rattle.types_sequences.specs.Drafts.{name, delay, lead, repeat, throughout};
 ghost use Rattle.types_sequences.specs.Views.{draft_of};
-ghost use Rattle.text_names.specs.declared.own.Sought.{Sought};
-ghost use Rattle.text_names.specs.Scopes.{sequence_named};
-ghost use Rattle.text_names.specs.Faults.{IsSound, boolean_faults, sequence_faults};
-ghost use Rattle.text_names.specs.Faults.{step_faults, other_faults};
-ghost use Rattle.text_names.specs.Columns.{HasColumns, all_listed, sequence_signals};
-ghost use Rattle.text_names.specs.Columns.{step_signals, other_signals};
-ghost use Rattle.text_names.specs.Views.{scope_of, columns_in};
+ghost use Rattle.types_names.specs.declared.own.Sought.{Sought};
+ghost use Rattle.types_names.specs.Scopes.{sequence_named};
+ghost use Rattle.types_names.specs.Faults.{IsSound, boolean_faults, sequence_faults};
+ghost use Rattle.types_names.specs.Faults.{step_faults, other_faults};
+ghost use Rattle.types_names.specs.Columns.{HasColumns, all_listed, sequence_signals};
+ghost use Rattle.types_names.specs.Columns.{step_signals, other_signals};
+ghost use Rattle.types_names.specs.Views.{scope_of, columns_in};
 ghost use Rattle.types_suites.specs.Readings.{least_of, extra_of, IsAtom, ReadsBoolean, Reads};
 ghost use Rattle.types_suites.specs.Readings.{joined_by, ReadsSteps, ReadsOthers};
 ghost use Rattle.types_sequences.specs.Placed.{Extends};
 
-use grammar::{Junction, Range};
+use parser_grammar::{Junction, Range};
 use std::alloc::{AllocError, Global};
-use text_names::{Scope, SignalPaths};
-use text_trees::{ExprTree, SequenceTree};
+use types_names::{Scope, SignalPaths};
+use parser_trees::{ExprTree, SequenceTree};
 use types_expressions::typed_expression;
 use types_sequences::Draft;
 

@@ -1,14 +1,14 @@
 //! Assertions with their sides as drafts.
 
 ghost use Rattle.std.specs.Prelude.{◌≡◌, ◌<◌, [], IfOk, OnOk, IsTrue, option_map};
-ghost use Rattle.text_trees.specs.Views.{boxed_of, property_of, assertion_of};
+ghost use Rattle.parser_trees.specs.Views.{boxed_of, property_of, assertion_of};
 ghost use Rattle.types_sequences.specs.Views.{draft_of};
-ghost use Rattle.text_names.specs.declared.own.Sought.{Sought};
-ghost use Rattle.text_names.specs.Columns.{all_listed, property_signals, optional_signals};
-ghost use Rattle.text_names.specs.Columns.{assertion_signals};
-ghost use Rattle.text_names.specs.Faults.{property_faults, optional_faults};
-ghost use Rattle.text_names.specs.Faults.{assertion_faults};
-ghost use Rattle.text_names.specs.Views.{scope_of, columns_in};
+ghost use Rattle.types_names.specs.declared.own.Sought.{Sought};
+ghost use Rattle.types_names.specs.Columns.{all_listed, property_signals, optional_signals};
+ghost use Rattle.types_names.specs.Columns.{assertion_signals};
+ghost use Rattle.types_names.specs.Faults.{property_faults, optional_faults};
+ghost use Rattle.types_names.specs.Faults.{assertion_faults};
+ghost use Rattle.types_names.specs.Views.{scope_of, columns_in};
 ghost use Rattle.types_sequences.specs.Placed.{Extends};
 ghost use Rattle.types_suites.specs.Suites.{first_by, ReadsAntecedent, ReadsConsequent};
 ghost use Rattle.types_suites.specs.Suites.{IsDisabledBy};
@@ -18,8 +18,8 @@ use crate::bytes::sequence_at;
 use crate::drafts::{atom, draft_of};
 use crate::label::label_string;
 use std::alloc::{AllocError, Global};
-use text_names::{Scope, SignalPaths};
-use text_trees::{AssertionTree, ExprTree, PropertyTree};
+use types_names::{Scope, SignalPaths};
+use parser_trees::{AssertionTree, ExprTree, PropertyTree};
 use types_sequences::{Draft, rewrite_antecedent};
 
 /// An assertion with its sides as drafts: the antecedent of `|=>` as that of `|->`, and 1 where a

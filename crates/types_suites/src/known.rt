@@ -1,13 +1,13 @@
 //! The signals of a suite, known to the dump.
 
 ghost use Rattle.std.specs.Prelude.{IfOk};
-ghost use Rattle.text_names.specs.Views.{scope_of, columns_in};
+ghost use Rattle.types_names.specs.Views.{scope_of, columns_in};
 ghost use Rattle.types_suites.specs.Signals.{AreKnown};
 ghost use Rattle.types_suites.specs.Suites.{AreSignals};
 
 use assertions::Signal;
 use std::alloc::{AllocError, Global};
-use text_names::{Scope, SignalPaths};
+use types_names::{Scope, SignalPaths};
 
 /// The paths of the columns with their widths.
 pub fn signals_of(

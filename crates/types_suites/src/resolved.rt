@@ -1,24 +1,24 @@
 //! Assertions with the entries of their sides.
 
 ghost use Rattle.std.specs.Prelude.{◌≡◌, ◌<◌, ℕ, [], true, map, length, Some, IfOk, OnOk, IsTrue};
-ghost use Rattle.grammar.specs.Trees.{Tree};
-ghost use Rattle.text_trees.specs.Views.{assertion_of, item_of};
+ghost use Rattle.parser_grammar.specs.Trees.{Tree};
+ghost use Rattle.parser_trees.specs.Views.{assertion_of, item_of};
 ghost use Rattle.types_sequences.specs.Drafts.{IsIn, uses};
 ghost use Rattle.types_sequences.specs.Entries.{Bodies, HasEntry, IsTable, has_entry};
 ghost use Rattle.types_sequences.specs.Views.{draft_of};
-ghost use Rattle.text_names.specs.declared.own.Sought.{Sought};
-ghost use Rattle.text_names.specs.Scopes.{sequence_named};
-ghost use Rattle.text_names.specs.Columns.{all_listed, assertion_signals, file_signals};
-ghost use Rattle.text_names.specs.Faults.{assertion_faults, file_faults};
-ghost use Rattle.text_names.specs.Views.{scope_of, columns_in};
+ghost use Rattle.types_names.specs.declared.own.Sought.{Sought};
+ghost use Rattle.types_names.specs.Scopes.{sequence_named};
+ghost use Rattle.types_names.specs.Columns.{all_listed, assertion_signals, file_signals};
+ghost use Rattle.types_names.specs.Faults.{assertion_faults, file_faults};
+ghost use Rattle.types_names.specs.Views.{scope_of, columns_in};
 ghost use Rattle.types_sequences.specs.Placed.{Extends};
 ghost use Rattle.types_suites.specs.Texts.{assertions_of};
 ghost use Rattle.types_suites.specs.Resolved.{IsResolved, AreResolved};
 
 use crate::drawn::drawn_of;
 use std::alloc::{AllocError, Global};
-use text_names::{Scope, SignalPaths};
-use text_trees::{AssertionTree, ItemTree};
+use types_names::{Scope, SignalPaths};
+use parser_trees::{AssertionTree, ItemTree};
 use types_sequences::{Draft, Entry, entry_of};
 
 /// An assertion with the entries of its sides, names written out.

@@ -4,3 +4,4 @@ pub mod VerifyLaws
 pub mod LimitLaws
 pub mod LimitFaultLaws
 pub mod ShortLaws
+pub mod LifeLaws

@@ -1,23 +1,23 @@
 -- The exits of the verifier.
 use Rattle.std.proofs.Common.{◌≡◌, ◌⊎◌, inl, inr, ℕ, ◌+◌, ◌≤◌, List, [], ◌++◌, map, Some, None}
 use Rattle.std.proofs.Common.{refl, sym, ap, ◌∙◌, subst, arith}
-use Rattle.inference.specs.declared.refusal.Refusal.{Refusal}
-use Rattle.inference.specs.declared.refusal.Refusal.TheVariants.{Memory}
-use Rattle.inference.specs.Rules.{sample_rules}
-use Rattle.inference.specs.Inference.{Found, found, code_faults}
-use Rattle.inference.specs.Order.{IsIn, IsFirst, IsFirstRefusal, first_of}
-use Rattle.inference.specs.Scans.{IsFirstOf}
-use Rattle.inference.specs.Sections.{section_faults}
+use Rattle.verifier_inference.specs.declared.refusal.Refusal.{Refusal}
+use Rattle.verifier_inference.specs.declared.refusal.Refusal.TheVariants.{Memory}
+use Rattle.verifier_inference.specs.Rules.{sample_rules}
+use Rattle.verifier_inference.specs.Inference.{Found, found, code_faults}
+use Rattle.verifier_inference.specs.Order.{IsIn, IsFirst, IsFirstRefusal, first_of}
+use Rattle.verifier_inference.specs.Scans.{IsFirstOf}
+use Rattle.verifier_inference.specs.Sections.{section_faults}
 use Rattle.bytecode.specs.Instructions.{frame_of}
 use Rattle.bytecode.specs.Values.{ProgramData}
 use Rattle.verifier.specs.Programs.{header_refusals, limit_refusals, least_limits, part_faults}
 use Rattle.verifier.specs.Programs.{all_faults, HasRoom}
-use Rattle.inference.proofs.OrderLaws.{in_append, in_left}
-use Rattle.inference.proofs.ScanLaws.{head_of}
-use Rattle.inference.proofs.BlockLaws.{none_first}
+use Rattle.verifier_inference.proofs.OrderLaws.{in_append, in_left}
+use Rattle.verifier_inference.proofs.ScanLaws.{head_of}
+use Rattle.verifier_inference.proofs.BlockLaws.{none_first}
 use Rattle.verifier.proofs.HeaderLaws.{header_climbs, header_clear, head_first, part_small}
-use Rattle.inference.proofs.CodeLaws.{AllIn, AllFrom, all_found, all_code, all_section, from_in}
-use Rattle.inference.proofs.CodeLaws.{from_weaker}
+use Rattle.verifier_inference.proofs.CodeLaws.{AllIn, AllFrom, all_found, all_code, all_section, from_in}
+use Rattle.verifier_inference.proofs.CodeLaws.{from_weaker}
 
 first_below : (x : Found) (xs ys : List Found) → AllFrom (x.section + 1) ys → IsFirst x xs → IsFirst x (xs ++ ys)
 first_below x xs ys later f =

@@ -2,8 +2,8 @@
 use Rattle.std.specs.Prelude.{◌≡◌, ◌↔◌, ℕ, List, []}
 use Rattle.bytecode.specs.Values.{ProgramData}
 use Rattle.bytecode.specs.Instructions.{frame_of}
-use Rattle.inference.specs.Rules.{sample_rules}
-use Rattle.inference.specs.Typing.{IsTyped, AreShort, longest_list}
+use Rattle.verifier_inference.specs.Rules.{sample_rules}
+use Rattle.verifier_inference.specs.Typing.{IsTyped, AreShort, longest_list}
 use Rattle.verifier.specs.Programs.{part_faults, all_faults, least_stack, IsWellFormed, HasRoom}
 use Rattle.verifier.specs.Programs.{IsAccepted}
 

@@ -1,8 +1,8 @@
 //! Which programs are accepted.
 
 ghost use Rattle.std.specs.Prelude.{◌≡◌, ◌⊎◌, ◌++◌, List, [], IfOk, OnOk, IfErr};
-ghost use Rattle.inference.specs.declared.refusal.Refusal.{Refusal};
-ghost use Rattle.inference.specs.Order.{first_of, IsFirstRefusal};
+ghost use Rattle.verifier_inference.specs.declared.refusal.Refusal.{Refusal};
+ghost use Rattle.verifier_inference.specs.Order.{first_of, IsFirstRefusal};
 ghost use Rattle.bytecode.specs.Programs.{data_of};
 ghost use Rattle.verifier.specs.Programs.{sample_faults, part_faults, all_faults, least_stack};
 ghost use Rattle.verifier.specs.Programs.{least_limits};
@@ -13,7 +13,7 @@ use crate::least::LeastLimits;
 use crate::limits::limits_of;
 use crate::verified::Verified;
 use bytecode::{Limits, Program};
-use inference::{Frame, Pool, Refusal, Side, infer, section_fault};
+use verifier_inference::{Frame, Pool, Refusal, Side, infer, section_fault};
 use std::alloc::Global;
 
 /// The longest list of the sample code, or its first fault.

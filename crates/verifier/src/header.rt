@@ -1,16 +1,16 @@
 //! The header's faults.
 
 ghost use Rattle.std.specs.Prelude.{◌≡◌, ◌++◌, List, length};
-ghost use Rattle.inference.specs.declared.refusal.Refusal.{Refusal};
-ghost use Rattle.inference.specs.Order.{first_of};
-ghost use Rattle.inference.specs.Sections.{size_of};
+ghost use Rattle.verifier_inference.specs.declared.refusal.Refusal.{Refusal};
+ghost use Rattle.verifier_inference.specs.Order.{first_of};
+ghost use Rattle.verifier_inference.specs.Sections.{size_of};
 ghost use Rattle.bytecode.specs.Instructions.{frame_of};
 ghost use Rattle.bytecode.specs.Programs.{data_of};
 ghost use Rattle.bytecode.specs.Views.{section_data};
 ghost use Rattle.verifier.specs.Programs.{disable_faults, over, header_refusals};
 
 use bytecode::{Program, Section};
-use inference::{Field, Refusal, capped_size};
+use verifier_inference::{Field, Refusal, capped_size};
 
 /// The fault of a disabling atom that isn't there.
 fn disable_fault(disable: Option<u8>, atoms: u8) -> Option<Refusal>

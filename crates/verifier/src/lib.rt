@@ -11,8 +11,8 @@
 //! ```
 //!
 //! The definitions: what is accepted, all faults and the least limits in `specs/Programs.antt` and
-//! `specs/Limits.antt`; typing, faults of code and their order in `inference`; the table of
-//! instructions in `bytecode`. The laws of `verifying_law` tie the two: no fault stands exactly
+//! `specs/Limits.antt`; typing, faults of code and their order in `verifier_inference`; the table
+//! of instructions in `bytecode`. The laws of `verifying_law` tie the two: no fault stands exactly
 //! where a program is accepted, and the least stack is the longest list of any table.
 //!
 //! Not promised: that memory suffices to verify. A `Verified` can't be made but by `verify`.
@@ -28,7 +28,7 @@ mod paths;
 mod verified;
 
 pub use accept::{least_limits, verify};
-pub use inference::{Field, Pool, Refusal};
+pub use verifier_inference::{Field, Pool, Refusal};
 pub use laws::verifying_law;
 pub use least::LeastLimits;
 pub use lives::Lives;

@@ -1,10 +1,5 @@
-pub mod States
-pub mod Standing
-pub mod Opening
-pub mod Floors
-pub mod Wanted
+pub mod Between
+pub mod Taking
+pub mod Tallied
+pub mod Reports
 pub mod Faults
-pub mod Jobs
-pub mod Cores
-pub mod Values
-pub mod Following

@@ -1,52 +1,40 @@
-//! The core: monitors at work, step by step.
+//! The report of a job, by 1 to 64 workers, and the report of one program.
 //!
-//! A job has verified programs, the dump that they run over, and the ticks of one clock. A core has
-//! a window over the trace, a monitor for each program, the list of those that wait, each worker's
-//! hand and done list, and the board of published batches. Its steps are the atomic actions of
-//! workers: claim the front monitor, advance it, publish its batch; and those that open a round
-//! (the next window) and end it (done lists back to waiting). Each answers `Done` where the state
-//! is the next one, `Refused` where there is no next one, and `Memory` where there is one; with the
-//! last two nothing changed. A step that advances makes its room first, and takes no memory after.
+//! The trace is run window by window. In a round each monitor is claimed by one of the workers,
+//! each in a thread of its own, runs through the window and publishes its batch on the round's
+//! board. The batches are taken into the lines in the making, and let go with the board: what is
+//! kept is counts and failures. After the last clock the attempts that are still live are open. The
+//! totals of the last line are those of the workers' tally.
 //!
 //! ```text
 //! let job = Job::new(alloc, programs, dump, "top.clk")?;
-//! let mut core = Core::new(alloc, &job, 1, 1024)?;
-//! core.step(alloc, Step::Slide);            // Done: the next window
-//! core.step(alloc, Step::Claim(0));         // Done: the front monitor is in the worker's hand
-//! core.step(alloc, Step::Advance(0, 10));   // Done, or Refused where fewer clocks are left
-//! core.step(alloc, Step::Publish(0));       // Done at the window's end
-//! core.step(alloc, Step::Gather);           // Done once nothing waits and all hands are empty
+//! let report = run(&rt, alloc, &job, 4, 1024, &gate)?;
+//! // or, of one program:
+//! let report = report_run(&rt, alloc, dump, verified, 4, 1024, &gate)?;
 //! ```
 //!
-//! The definitions: `specs/Jobs.antt` and `specs/Wanted.antt` (what a job holds, and why there is
-//! none), `specs/States.antt` (states, and the next one of each step), `specs/Values.antt` (a core
-//! to its users, and why there is none), `specs/Cores.antt` (how it begins), and
-//! `specs/Following.antt` (what every core has: each monitor in the checked machine's state over
-//! the trace's first rows, and each batch that of its monitor for its clocks). Behind them are
-//! `specs/Standing.antt` and `specs/Floors.antt`. Batches are those of `batches`, the checked
-//! machine that of `checked_machine`.
+//! The faults of `run` are C3 of the window's size, then U1 of the number of workers, then U2 where
+//! memory was refused. Those of `report_run` are C1 and C2 of the clock, then C4 and C5 of the
+//! signals in their order, and want of memory.
 //!
-//! Not promised: that any monitor is ever claimed, or that a foreign program means anything.
+//! The definitions: the report of a job over the contents of its dump in `specs/Reports.antt`, a
+//! run between two rounds in `specs/Between.antt`, what workers and lines count in
+//! `specs/Tallied.antt`. The report of a program is that of `machine_runs`, in its
+//! `specs/Reported.antt`. That a round is a list of steps of the core is a law of `laws_workers`.
+//!
+//! Not promised: that the call returns, that two workers were at work at once, who ran which
+//! monitor, and that memory suffices.
 #![tactic(auto)]
 
-mod against;
-mod cores;
-mod floor;
-mod job;
-mod job_fault;
-mod look;
-mod monitor;
+mod lines;
 mod opening;
-mod order;
-mod run_fault;
-mod step;
-mod wanted;
-mod worker;
+mod report;
+mod rounds_run;
+mod runs;
+mod taking;
+mod totals;
 
-pub use cores::Core;
-pub use job::Job;
-pub use job_fault::JobFault;
-pub use monitor::Monitor;
-pub use opening::{monitors_of, window_of};
-pub use run_fault::RunFault;
-pub use step::{Reply, Step};
+pub use opening::first_monitors;
+pub use report::report_run;
+pub use workers_rounds::work::{Gate, NoGate};
+pub use runs::run;

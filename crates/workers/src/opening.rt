@@ -1,71 +1,78 @@
-//! What a core begins with.
+//! What a run begins with.
 
-ghost use Rattle.std.specs.Prelude.{◌≡◌, ℕ, None, Some, IfOk, [], map, replicate, slice_get};
-ghost use Rattle.std.specs.List.{range_with_len};
-ghost use Rattle.workers.specs.States.{WorkerState};
-ghost use Rattle.workers.specs.declared.monitor.Monitor.{Monitor};
-ghost use Rattle.workers.specs.Standing.{monitor_state};
-ghost use Rattle.workers.specs.Floors.{worker_state};
-ghost use Rattle.workers.specs.Opening.{IsNew, part_of, parts_from, opened_monitor};
-ghost use Rattle.workers.specs.Cores.{IsFirstWindow};
+ghost use Rattle.std.specs.Prelude.{◌≡◌, ℕ, [], All, IfOk, Some, length, map, vec_len};
+ghost use Rattle.std.specs.Prelude.{slice_get};
+ghost use Rattle.workers_tally.specs.Shares.{IsFresh};
+ghost use Rattle.workers_bench.specs.Monitors.{IsAt};
+ghost use Rattle.workers_bench.specs.Hands.{numbers};
+ghost use Rattle.workers.specs.Taking.{monitor_of};
+ghost use Rattle.workers_rounds.specs.Runs.{upto, IsMember};
+ghost use Rattle.workers_rounds.specs.Adding.{added_by};
+ghost use Rattle.workers_lines.specs.declared.line_so_far.LineSoFar.{LineSoFar};
+ghost use Rattle.workers_lines.specs.Taken.{TookIn};
 
-use crate::job::Job;
-use crate::monitor::Monitor;
-use crate::wanted::signals_of;
-use crate::worker::Worker;
-use cycle_window::{Columns, Window, WindowFault};
+use workers_bench::Numbered;
+use workers_lines::LineSoFar;
+use workers_rounds::round::Member;
 use std::alloc::{AllocError, Global};
-use verifier::Verified;
+use workers_tally::{Share, Tallying};
+use workers_core::{Job, Monitor, monitors_of};
 
-/// An empty window before the first clock, over the rows of all programs' signals.
-pub fn window_of<'j>(alloc: Global, job: &'j Job, size: usize) -> Result<Window<'j>, WindowFault>
-    ensures { IfOk result (IsFirstWindow job.now size) }
+/// Monitors with their numbers.
+fn numbered(alloc: Global, monitors: Vec<Monitor>) -> Result<Vec<Numbered>, AllocError>
+    ensures order { IfOk result (λ all. numbers all.items ≡ upto 0 (vec_len monitors)) }
+    ensures count { IfOk result (λ all. vec_len all ≡ vec_len monitors) }
+    ensures monitors { IfOk result (λ all. map monitor_of all.items ≡ monitors.items) }
 {
-    let signals = signals_of(alloc, job.programs.as_slice())?;
-    let columns = Columns::bind(alloc, &job.dump, &job.clocks, signals.as_slice())?;
-    Window::new(alloc, size, columns)
+    let mut all = Vec::with_capacity(alloc, monitors.len())?;
+    for monitor in monitors {
+        let number = all.len();
+        let Ok(monitor) = Box::new(alloc, monitor) else {
+            return Err(AllocError);
+        };
+        all.push_reserved(Numbered { number, monitor });
+    }
+    Ok(all)
 }
 
-/// A monitor of each program, in order, each with its part of a row of all signals.
-pub fn monitors_of(alloc: Global, programs: &[Verified]) -> Result<Vec<Monitor>, AllocError>
-    ensures opened { IfOk result (λ ms.
-        map monitor_state ms.items ≡ map opened_monitor programs.now) }
-    ensures parts { IfOk result (λ ms. map part_of ms.items ≡ parts_from 0 programs.now) }
-    ensures new { IfOk result (λ ms. (i : ℕ) (m : Monitor) → slice_get ms.items i ≡ Some m
-        → IsNew m) }
+/// The job's monitors before their first clock, each with its number, in source order.
+pub fn first_monitors(alloc: Global, job: &Job) -> Result<Vec<Numbered>, AllocError>
+    ensures order { IfOk result (λ all.
+        numbers all.items ≡ upto 0 (length job.now.programs.items)) }
+    ensures count { IfOk result (λ all. vec_len all ≡ length job.now.programs.items) }
+    ensures start { IfOk result (λ all. All (IsAt job.now 0) all.items) }
 {
-    let mut monitors = Vec::with_capacity(alloc, programs.len())?;
-    let mut from = 0;
-    for verified in programs {
-        let monitor = Monitor::new(alloc, verified, from)?;
-        from = monitor.to;
-        monitors.push(monitor)?;
-    }
-    Ok(monitors)
+    let monitors = monitors_of(alloc, job.programs())?;
+    let all = numbered(alloc, monitors)?;
+    Ok(all)
 }
 
-/// The numbers below one, in order.
-pub(crate) fn numbers_below(alloc: Global, count: usize) -> Result<Vec<usize>, AllocError>
-    ensures { IfOk result (λ ns. ns.items ≡ range_with_len 0 count) }
+/// The workers of a run, each with its share.
+pub(crate) fn members_of<L: Tallying>(
+    alloc: Global,
+    shares: Vec<Share<L>>,
+) -> Result<Vec<Member<L>>, AllocError>
+    requires { All IsFresh shares.items }
+    ensures count { IfOk result (λ all. vec_len all ≡ vec_len shares) }
+    ensures members { IfOk result (λ all. All IsMember all.items) }
+    ensures none { (k : ℕ) → IfOk result (λ all. added_by k all.items ≡ 0) }
 {
-    let mut numbers = Vec::with_capacity(alloc, count)?;
-    for number in 0..count {
-        numbers.push(number)?;
+    let mut all = Vec::with_capacity(alloc, shares.len())?;
+    for share in shares {
+        all.push_reserved(Member { share, claims: 0 });
     }
-    Ok(numbers)
+    Ok(all)
 }
 
-/// So many workers, who have no monitor.
-pub(crate) fn idle_workers(alloc: Global, count: usize) -> Result<Vec<Worker>, AllocError>
-    ensures { IfOk result (λ ws. map worker_state ws.items
-        ≡ replicate count (record { hand = None; done = [] })) }
+/// So many lines of which nothing was taken in.
+pub(crate) fn blank_lines(alloc: Global, count: usize) -> Result<Vec<LineSoFar>, AllocError>
+    ensures long { IfOk result (λ ls. vec_len ls ≡ count) }
+    ensures none { IfOk result (λ ls. (i : ℕ) (l : LineSoFar)
+        → slice_get ls.items i ≡ Some l → TookIn l []) }
 {
-    let mut workers = Vec::with_capacity(alloc, count)?;
-    for _worker in 0..count {
-        workers.push(Worker {
-            hand: None,
-            done: Vec::new(alloc),
-        })?;
+    let mut lines = Vec::with_capacity(alloc, count)?;
+    for _monitor in 0..count {
+        lines.push(LineSoFar::new(alloc))?;
     }
-    Ok(workers)
+    Ok(lines)
 }

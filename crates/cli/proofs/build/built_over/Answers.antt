@@ -1,9 +1,9 @@
-use Rattle.text_trees.specs.Views.{items_of}
-use Rattle.outcomes.specs.Faults.{type_fault}
+use Rattle.parser_trees.specs.Views.{items_of}
+use Rattle.cli_faults.specs.Faults.{type_fault}
 use Rattle.cli.specs.Reported.{SaysSuite}
 use Rattle.cli.specs.Builds.{IsSpelledProgram, WhyNoProgram, IsBuilt, WhyNotBuilt}
 use Rattle.cli.proofs.ProgramLaws.{all_fit}
-use Rattle.outcomes.proofs.FaultLaws.{err_is}
+use Rattle.cli_faults.proofs.FaultLaws.{err_is}
 use Rattle.cli.proofs.BuildLaws.{ok_kept, err_kept, without_types, without_program}
 use Rattle.cli.proofs.build.built_over.Goals as goal
 

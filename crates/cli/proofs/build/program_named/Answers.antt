@@ -1,12 +1,12 @@
 use Rattle.std.proofs.Common.{◌≡◌, subst}
 use Rattle.std.specs.Prelude.{IsTrue}
 use Rattle.bytecode.specs.Values.{ProgramData, fits_program}
-use Rattle.program_files.specs.Spelling.{spelling}
+use Rattle.bytecode_files.specs.Spelling.{spelling}
 use Rattle.compiler.specs.Conditions.{IsFit}
 use Rattle.compiler.proofs.ListLaws.{all-at}
-use Rattle.outcomes.specs.Faults.{compile_fault}
+use Rattle.cli_faults.specs.Faults.{compile_fault}
 use Rattle.cli.specs.Builds.{WhyNoProgram}
-use Rattle.outcomes.proofs.FaultLaws.{err_is}
+use Rattle.cli_faults.proofs.FaultLaws.{err_is}
 use Rattle.cli.proofs.BuildLaws.{unnamed}
 use Rattle.cli.proofs.build.program_named.Goals as goal
 

@@ -1,13 +1,13 @@
 use Rattle.std.proofs.Common.{List, ℕ, subst, string_bytes}
-use Rattle.text_trees.specs.Views.{items_of}
+use Rattle.parser_trees.specs.Views.{items_of}
 use Rattle.vcd_reader.specs.Held.{variables_of}
 use Rattle.cycle_window.specs.Bound.{IsClock, IsClockFault}
 use Rattle.cycle_window.specs.Held.{code_in}
-use Rattle.outcomes.specs.Faults.{type_fault, window_fault}
+use Rattle.cli_faults.specs.Faults.{type_fault, window_fault}
 use Rattle.cli.specs.Reported.{SaysSuite}
 use Rattle.cli.specs.Outcomes.{WhyNoneByPrograms}
 use Rattle.cli.proofs.TextLaws.{are_named, untyped, unclocked, none_by_programs}
-use Rattle.outcomes.proofs.FaultLaws.{err_is}
+use Rattle.cli_faults.proofs.FaultLaws.{err_is}
 use Rattle.cli.proofs.ProgramLaws.{all_watched, clock_of, all_fit}
 use Rattle.cli.proofs.checked.timed_suite.Goals as goal
 

@@ -1,10 +1,10 @@
-use Rattle.text_trees.specs.Views.{items_of}
+use Rattle.parser_trees.specs.Views.{items_of}
 use Rattle.vcd_reader.specs.Held.{variables_of}
-use Rattle.outcomes.specs.Faults.{type_fault, window_fault}
+use Rattle.cli_faults.specs.Faults.{type_fault, window_fault}
 use Rattle.cli.specs.Reported.{SaysSuite}
 use Rattle.cli.specs.Outcomes.{WhyNoReport}
 use Rattle.cli.proofs.TextLaws.{are_named, untyped, unclocked}
-use Rattle.outcomes.proofs.FaultLaws.{err_is}
+use Rattle.cli_faults.proofs.FaultLaws.{err_is}
 use Rattle.cli.proofs.run.report_judged.Goals as goal
 
 pub report_by_judge-requires-clause-named : goal.report_by_judge-requires-clause-named

@@ -1,10 +1,10 @@
 use Rattle.std.proofs.Common.{◌∙◌, Ok, map, sym, ap}
 use Rattle.lexer.specs.Cutting.{cut_of}
-use Rattle.outcomes.specs.Faults.{parse_fault}
+use Rattle.cli_faults.specs.Faults.{parse_fault}
 use Rattle.cli.specs.Reported.{AreTokens}
 use Rattle.cli.specs.Outcomes.{WhyNoItems}
 use Rattle.cli.proofs.TextLaws.{unparsed}
-use Rattle.outcomes.proofs.FaultLaws.{err_is}
+use Rattle.cli_faults.proofs.FaultLaws.{err_is}
 use Rattle.cli.proofs.text.file_of.Goals as goal
 
 pub returns-in_err-parse-clause-err : goal.returns-in_err-parse-clause-err

@@ -1,5 +1,5 @@
-use Rattle.outcomes.specs.Faults.{window_fault}
-use Rattle.outcomes.proofs.FaultLaws.{err_is}
+use Rattle.cli_faults.specs.Faults.{window_fault}
+use Rattle.cli_faults.proofs.FaultLaws.{err_is}
 use Rattle.cli_code.specs.Outcomes.{WhyNoRunReport}
 use Rattle.cli_code.proofs.RunLaws.{unbound}
 use Rattle.cli_code.proofs.run.report_of.Goals as goal

@@ -2,8 +2,8 @@ use Rattle.std.proofs.Common.{refl, subst}
 use Rattle.verdicts.specs.Shown.{data_of}
 use Rattle.verdicts.specs.Texts.{report_text}
 use Rattle.verdicts.specs.Written.{WhyUnwritten}
-use Rattle.outcomes.specs.Runs.{run_of}
-use Rattle.outcomes.proofs.FaultLaws.{err_is}
+use Rattle.cli_faults.specs.Runs.{run_of}
+use Rattle.cli_faults.proofs.FaultLaws.{err_is}
 use Rattle.cli_code.specs.Outcomes.{WhyRunFails}
 use Rattle.cli_code.proofs.RunLaws.{refused_run}
 use Rattle.cli_code.proofs.run.run_through.Goals as goal

@@ -1,5 +1,5 @@
-use Rattle.outcomes.specs.Faults.{code_fault}
-use Rattle.outcomes.proofs.FaultLaws.{err_is}
+use Rattle.cli_faults.specs.Faults.{code_fault}
+use Rattle.cli_faults.proofs.FaultLaws.{err_is}
 use Rattle.cli_code.specs.Upgrades.{WhyNotUpgraded}
 use Rattle.cli_code.proofs.CodeLaws.{not_upgraded}
 use Rattle.cli_code.proofs.upgrade.upgrade_code.Goals as goal

@@ -1,7 +1,7 @@
 use Rattle.bytecode.specs.Programs.{data_of}
-use Rattle.outcomes.specs.Faults.{code_fault, refusal_fault}
-use Rattle.outcomes.specs.Codes.{Spells, WhyNotAccepted}
-use Rattle.outcomes.proofs.FaultLaws.{err_is}
+use Rattle.cli_faults.specs.Faults.{code_fault, refusal_fault}
+use Rattle.cli_faults.specs.Codes.{Spells, WhyNotAccepted}
+use Rattle.cli_faults.proofs.FaultLaws.{err_is}
 use Rattle.cli_code.proofs.CodeLaws.{not_spelled}
 use Rattle.cli_code.proofs.VerifyLaws.{refused_code}
 use Rattle.cli_code.proofs.verify.verified_of.Goals as goal

@@ -2,9 +2,9 @@ use Rattle.std.proofs.Common.{subst}
 use Rattle.bytecode.specs.declared.limits.Limits.{Limits}
 use Rattle.verdicts.specs.Written.{WhyUnwritten}
 use Rattle.cli_code.specs.Limits.{limits_text}
-use Rattle.outcomes.specs.Faults.{report_fault}
+use Rattle.cli_faults.specs.Faults.{report_fault}
 use Rattle.cli_code.specs.Verifications.{WhyNotTold, verification_of}
-use Rattle.outcomes.proofs.FaultLaws.{err_is}
+use Rattle.cli_faults.proofs.FaultLaws.{err_is}
 use Rattle.cli_code.proofs.VerifyLaws.{unwritten_line}
 use Rattle.cli_code.proofs.verify.verify_code.Goals as goal
 

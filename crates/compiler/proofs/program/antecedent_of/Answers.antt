@@ -1,8 +1,8 @@
 use Rattle.std.proofs.Common.{ap, arith}
 use Rattle.bytecode.specs.Values.{SectionData}
 use Rattle.bytecode.specs.Views.{section_data}
-use Rattle.inference.specs.Sections.{size_of}
-use Rattle.positions.proofs.Firsts.{law-as_long}
+use Rattle.verifier_inference.specs.Sections.{size_of}
+use Rattle.compiler_positions.proofs.Firsts.{law-as_long}
 use Rattle.compiler.proofs.program.antecedent_of.Goals as goal
 
 pub returns-in_ok-accepting_first-clause-short : goal.returns-in_ok-accepting_first-clause-short

@@ -1,15 +1,15 @@
 use Rattle.std.proofs.Common.{◌≡◌, ◌∙◌, ◌+◌, ℕ, suc, List, map, length, Option, Some, refl, sym, ap, subst, arith}
 use Rattle.lexer.specs.declared.token.Token.{Token}
-use Rattle.grammar.specs.Terminals.{is}
-use Rattle.grammar.specs.declared.operator.Infix.{Infix}
-use Rattle.grammar.specs.Operators.{infix_of, is_infix}
-use Rattle.grammar.specs.Readers.{Reader, lead}
-use Rattle.grammar.specs.declared.terminal.Terminal.TheVariants.{Comma}
-use Rattle.grammar.specs.Trees.{Tree}
-use Rattle.grammar.specs.ReadExpressions.{links, link_reader, operand, expression}
-use Rattle.text_trees.specs.declared.expression.ExprTree.{ExprTree}
+use Rattle.parser_grammar.specs.Terminals.{is}
+use Rattle.parser_grammar.specs.declared.operator.Infix.{Infix}
+use Rattle.parser_grammar.specs.Operators.{infix_of, is_infix}
+use Rattle.parser_grammar.specs.Readers.{Reader, lead}
+use Rattle.parser_grammar.specs.declared.terminal.Terminal.TheVariants.{Comma}
+use Rattle.parser_grammar.specs.Trees.{Tree}
+use Rattle.parser_grammar.specs.ReadExpressions.{links, link_reader, operand, expression}
+use Rattle.parser_trees.specs.declared.expression.ExprTree.{ExprTree}
 use Rattle.parser_expressions.specs.declared.stop.Stop.{Stop}
-use Rattle.text_trees.specs.Views.{tree_of, link_of}
+use Rattle.parser_trees.specs.Views.{tree_of, link_of}
 use Rattle.parser_expressions.specs.Views.{Fails}
 use Rattle.parser_expressions.proofs.Steps.{failing, gives-as, climb-zero, prefixed-nil, prefixed-number}
 use Rattle.parser_expressions.proofs.Steps.{prefixed-named, prefixed-unary, prefixed-opening, prefixed-brace}

@@ -1,9 +1,9 @@
 use Rattle.std.proofs.Common.{List, length, sym, ap, subst, arith}
 use Rattle.lexer.specs.declared.token.Token.{Token}
-use Rattle.grammar.specs.Terminals.{is}
-use Rattle.grammar.specs.Readers.{pick}
-use Rattle.grammar.specs.declared.terminal.Terminal.TheVariants.{Dot}
-use Rattle.grammar.specs.ReadExpressions.{members, word_of}
+use Rattle.parser_grammar.specs.Terminals.{is}
+use Rattle.parser_grammar.specs.Readers.{pick}
+use Rattle.parser_grammar.specs.declared.terminal.Terminal.TheVariants.{Dot}
+use Rattle.parser_grammar.specs.ReadExpressions.{members, word_of}
 use Rattle.parser_expressions.proofs.LoopLaws.{Turns, turns-init, turns-stop, turns-fail, turns-next, expect-lead}
 use Rattle.parser_expressions.proofs.expression.read_members.Goals as goal
 

@@ -1,8 +1,8 @@
 use Rattle.std.proofs.Common.{◌≤◌, length}
-use Rattle.grammar.specs.declared.terminal.Terminal.TheVariants.{Dot}
-use Rattle.grammar.specs.Terminals.{is}
-use Rattle.grammar.specs.Readers.{pick}
-use Rattle.grammar.specs.ReadExpressions.{word_of}
+use Rattle.parser_grammar.specs.declared.terminal.Terminal.TheVariants.{Dot}
+use Rattle.parser_grammar.specs.Terminals.{is}
+use Rattle.parser_grammar.specs.Readers.{pick}
+use Rattle.parser_grammar.specs.ReadExpressions.{word_of}
 use Rattle.parser_expressions.proofs.LoopLaws.{Turns}
 use Rattle.parser_expressions.proofs.expression.read_members.Given as goal
 

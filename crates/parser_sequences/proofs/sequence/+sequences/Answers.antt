@@ -1,14 +1,14 @@
 use Rattle.std.proofs.Common.{◌∙◌, List, map, length, sym, ap, subst, arith}
 use Rattle.std.proofs.lemmas.Option.{same_Some}
 use Rattle.lexer.specs.declared.token.Token.{Token}
-use Rattle.grammar.specs.Terminals.{is}
-use Rattle.grammar.specs.declared.terminal.Terminal.TheVariants.{Delay, Intersect, And, Or}
-use Rattle.grammar.specs.declared.bound.Range.{Range}
-use Rattle.grammar.specs.Trees.{SequenceForm}
-use Rattle.grammar.specs.ReadSequences.{sequences, late_part, delayed_behind, during_with, conjunction_with}
-use Rattle.grammar.specs.ReadSequences.{intersection_with}
-use Rattle.text_trees.specs.declared.sequence.SequenceTree.{SequenceTree}
-use Rattle.text_trees.specs.Views.{sequence_of, delay_step_of}
+use Rattle.parser_grammar.specs.Terminals.{is}
+use Rattle.parser_grammar.specs.declared.terminal.Terminal.TheVariants.{Delay, Intersect, And, Or}
+use Rattle.parser_grammar.specs.declared.bound.Range.{Range}
+use Rattle.parser_grammar.specs.Trees.{SequenceForm}
+use Rattle.parser_grammar.specs.ReadSequences.{sequences, late_part, delayed_behind, during_with, conjunction_with}
+use Rattle.parser_grammar.specs.ReadSequences.{intersection_with}
+use Rattle.parser_trees.specs.declared.sequence.SequenceTree.{SequenceTree}
+use Rattle.parser_trees.specs.Views.{sequence_of, delay_step_of}
 use Rattle.parser_expressions.proofs.Steps.{failing, gives-as}
 use Rattle.parser_sequences.proofs.Steps.{alternatives-fails, alternatives-ok, behind-deep, behind-fail2}
 use Rattle.parser_sequences.proofs.Steps.{behind-fails, behind-ok, behind-tail, body-deep, body-fail1, body-fail2}

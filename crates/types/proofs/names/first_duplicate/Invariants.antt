@@ -1,6 +1,6 @@
 use Rattle.std.proofs.Common.{◌≡◌, ◌≤◌, map, drop}
-use Rattle.text_trees.specs.Views.{item_of}
-use Rattle.text_names.specs.Faults.{earlier, least}
+use Rattle.parser_trees.specs.Views.{item_of}
+use Rattle.types_names.specs.Faults.{earlier, least}
 use Rattle.types_suites.specs.Texts.{names_from, repeated_names, duplicates}
 use Rattle.types.proofs.NameLaws.{texts_of}
 use Rattle.types.proofs.names.first_duplicate.Given as goal

@@ -1,5 +1,5 @@
 use Rattle.std.proofs.Common.{◌≡◌, drop}
-use Rattle.text_names.specs.Faults.{earlier, least}
+use Rattle.types_names.specs.Faults.{earlier, least}
 use Rattle.types.specs.Sides.{places_where, is_empty}
 use Rattle.types.proofs.side.first_empty.Given as goal
 

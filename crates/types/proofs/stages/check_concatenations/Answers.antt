@@ -1,6 +1,6 @@
 use Rattle.std.proofs.Common.{map, sym, ◌∙◌}
-use Rattle.text_trees.specs.Views.{item_of}
-use Rattle.text_names.specs.Views.{scope_of}
+use Rattle.parser_trees.specs.Views.{item_of}
+use Rattle.types_names.specs.Views.{scope_of}
 use Rattle.types.proofs.StageLaws.{first_3, refused_memory}
 use Rattle.types.proofs.stages.check_concatenations.Goals as goal
 

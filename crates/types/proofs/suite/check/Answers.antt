@@ -1,9 +1,9 @@
 use Rattle.std.proofs.Common.{◌≡◌, ℕ, List, Option, sym, ap, ◌∙◌, map, subst, IfOk, IfErr}
-use Rattle.grammar.specs.Trees.{ItemForm}
-use Rattle.text_trees.specs.Views.{item_of, items_of}
-use Rattle.text_names.specs.Scopes.{Scope, sequence_named}
-use Rattle.text_names.specs.Asked.{scope_for}
-use Rattle.text_names.specs.Views.{scope_of}
+use Rattle.parser_grammar.specs.Trees.{ItemForm}
+use Rattle.parser_trees.specs.Views.{item_of, items_of}
+use Rattle.types_names.specs.Scopes.{Scope, sequence_named}
+use Rattle.types_names.specs.Asked.{scope_for}
+use Rattle.types_names.specs.Views.{scope_of}
 use Rattle.types_suites.specs.Faults.{IsFaultless, IsTypeFault}
 use Rattle.types_suites.specs.Suites.{IsSuite}
 use Rattle.types_suites.proofs.OutlineLaws.{named_below}

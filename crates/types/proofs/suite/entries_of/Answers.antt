@@ -1,9 +1,9 @@
 use Rattle.std.proofs.Common.{length, map, sym, ap, ◌∙◌}
 use Rattle.std.proofs.lemmas.List.{length-map}
-use Rattle.grammar.specs.Trees.{DeclarationForm}
-use Rattle.text_trees.specs.Views.{item_of}
+use Rattle.parser_grammar.specs.Trees.{DeclarationForm}
+use Rattle.parser_trees.specs.Views.{item_of}
 use Rattle.types_sequences.specs.Views.{draft_of}
-use Rattle.text_names.specs.Views.{scope_of, columns_in}
+use Rattle.types_names.specs.Views.{scope_of, columns_in}
 use Rattle.types_suites.specs.Texts.{declarations_of}
 use Rattle.types.specs.Cycles.{AreOutlined}
 use Rattle.types_suites.proofs.BodyLaws.{bodies_in, outlined, body_count}

@@ -1,7 +1,7 @@
 use Rattle.std.proofs.Common.{length, map, ap, arith}
-use Rattle.text_trees.specs.Views.{item_of}
-use Rattle.text_names.specs.Views.{scope_of, columns_in}
-use Rattle.text_names.proofs.ColumnLaws.{columns-all}
+use Rattle.parser_trees.specs.Views.{item_of}
+use Rattle.types_names.specs.Views.{scope_of, columns_in}
+use Rattle.types_names.proofs.ColumnLaws.{columns-all}
 use Rattle.types.specs.Sides.{sides_in, consequents_in}
 use Rattle.types.specs.Sides.{AreWeighed}
 use Rattle.types_suites.specs.Readings.{outlines_of}

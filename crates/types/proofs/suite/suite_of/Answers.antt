@@ -1,7 +1,7 @@
 use Rattle.std.proofs.Common.{ℕ, List, map, subst}
-use Rattle.text_trees.specs.Views.{item_of}
-use Rattle.text_names.specs.Views.{scope_of, columns_in}
-use Rattle.text_names.proofs.ColumnLaws.{columns-all}
+use Rattle.parser_trees.specs.Views.{item_of}
+use Rattle.types_names.specs.Views.{scope_of, columns_in}
+use Rattle.types_names.proofs.ColumnLaws.{columns-all}
 use Rattle.types_suites.specs.Readings.{AllRead}
 use Rattle.types_suites.specs.Resolved.{AreResolved}
 use Rattle.types_suites.specs.Suites.{AreSignals, AreCounters, AreAssertions}

@@ -1,15 +1,15 @@
 use Rattle.std.proofs.Common.{rules, length, sym, ap, ◌∙◌, refl}
 use Rattle.std.proofs.lemmas.Bool.{eqb-true, eqb-false}
-use Rattle.text_trees.specs.declared.expression.ExprTree.TheViews.{the_lemmas}
-use Rattle.text_trees.specs.Views.{tree_of}
+use Rattle.parser_trees.specs.declared.expression.ExprTree.TheViews.{the_lemmas}
+use Rattle.parser_trees.specs.Views.{tree_of}
 use Rattle.expressions.specs.Terms as terms
 use Rattle.expressions.specs.Terms.{Term}
 use Rattle.expressions.specs.Expressions.{term_of}
 use Rattle.types_expressions.specs.Meanings.{binary_term, unary_term, call_term}
-use Rattle.text_names.specs.Views.{scope_of, columns_in}
-use Rattle.text_names.proofs.Lists.{links-at, links-end, parts-at, parts-end, when_ok}
-use Rattle.text_names.proofs.TreeSteps.{is-Number, is-Path, is-Concatenation, is-Past, is-Call, is-Unary}
-use Rattle.text_names.proofs.TreeSteps.{is-Chain, is-Choice}
+use Rattle.types_names.specs.Views.{scope_of, columns_in}
+use Rattle.types_names.proofs.Lists.{links-at, links-end, parts-at, parts-end, when_ok}
+use Rattle.types_names.proofs.TreeSteps.{is-Number, is-Path, is-Concatenation, is-Past, is-Call, is-Unary}
+use Rattle.types_names.proofs.TreeSteps.{is-Chain, is-Choice}
 use Rattle.types_expressions.proofs.TypedLaws.{ready-concatenation, ready-past, ready-call, ready-unary, ready-chain}
 use Rattle.types_expressions.proofs.TypedLaws.{ready-choice, ready-link, ready-part, path-sound, path-listed}
 use Rattle.types_expressions.proofs.TypedLaws.{room-for-part, narrow-step, first-narrow, means-number, means-path}

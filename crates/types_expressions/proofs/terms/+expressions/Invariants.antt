@@ -1,14 +1,14 @@
 use Rattle.std.proofs.Common.{◌≡◌, ◌≤◌, [], map, drop, IsTrue}
-use Rattle.grammar.specs.ReadExpressions.{links_of, parts_of}
-use Rattle.text_trees.specs.Views.{tree_of, link_of}
+use Rattle.parser_grammar.specs.ReadExpressions.{links_of, parts_of}
+use Rattle.parser_trees.specs.Views.{tree_of, link_of}
 use Rattle.expressions.specs.Terms.{Term, width_of}
 use Rattle.expressions.specs.Expressions.{term_of}
-use Rattle.text_names.specs.declared.own.Sought.{Sought}
-use Rattle.text_names.specs.Widths.{parts_width}
-use Rattle.text_names.specs.Faults.{link_faults, part_faults}
-use Rattle.text_names.specs.Columns.{all_listed, link_signals, part_signals}
+use Rattle.types_names.specs.declared.own.Sought.{Sought}
+use Rattle.types_names.specs.Widths.{parts_width}
+use Rattle.types_names.specs.Faults.{link_faults, part_faults}
+use Rattle.types_names.specs.Columns.{all_listed, link_signals, part_signals}
 use Rattle.types_expressions.specs.Meanings.{Chains, JoinsMore}
-use Rattle.text_names.specs.Views.{scope_of, columns_in}
+use Rattle.types_names.specs.Views.{scope_of, columns_in}
 use Rattle.types_expressions.proofs.terms.+expressions.Given as goal
 
 abbrev pub invariant-chain-loop-link : goal.invariant-chain-loop-link

@@ -1,6 +1,6 @@
 use Rattle.std.proofs.Common.{sym}
-use Rattle.text_names.specs.Views.{columns_in}
-use Rattle.text_names.proofs.ColumnLaws.{column-there}
+use Rattle.types_names.specs.Views.{columns_in}
+use Rattle.types_names.proofs.ColumnLaws.{column-there}
 use Rattle.types_expressions.proofs.terms.signal_name.Goals as goal
 
 pub unreachable-requires : goal.unreachable-requires

@@ -1,8 +1,8 @@
-use Rattle.text_trees.specs.Views.{path_of}
-use Rattle.text_names.specs.declared.own.Sought.TheVariants.{Unknown, OutOfRange}
-use Rattle.text_names.specs.Scopes.{path_text, first_byte, meaning, bits_of}
-use Rattle.text_names.specs.Columns.{column_of}
-use Rattle.text_names.specs.Views.{scope_of, columns_in}
+use Rattle.parser_trees.specs.Views.{path_of}
+use Rattle.types_names.specs.declared.own.Sought.TheVariants.{Unknown, OutOfRange}
+use Rattle.types_names.specs.Scopes.{path_text, first_byte, meaning, bits_of}
+use Rattle.types_names.specs.Columns.{column_of}
+use Rattle.types_names.specs.Views.{scope_of, columns_in}
 use Rattle.types_expressions.proofs.TypedLaws.{known-path, has-bits, read-whole, read-part}
 use Rattle.types_expressions.proofs.terms.typed_path.Goals as goal
 

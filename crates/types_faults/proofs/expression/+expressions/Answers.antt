@@ -1,9 +1,9 @@
 use Rattle.std.proofs.Common.{◌+◌, map, drop, arith}
-use Rattle.grammar.specs.ReadExpressions.{links_of, parts_of}
-use Rattle.text_trees.specs.Views.{tree_of, link_of}
-use Rattle.text_names.specs.Views.{scope_of}
-use Rattle.text_names.proofs.Lists.{links-at, parts-at, when_ok}
-use Rattle.text_names.proofs.TreeSteps.{is-Concatenation, is-Chain, is-Choice}
+use Rattle.parser_grammar.specs.ReadExpressions.{links_of, parts_of}
+use Rattle.parser_trees.specs.Views.{tree_of, link_of}
+use Rattle.types_names.specs.Views.{scope_of}
+use Rattle.types_names.proofs.Lists.{links-at, parts-at, when_ok}
+use Rattle.types_names.proofs.TreeSteps.{is-Concatenation, is-Chain, is-Choice}
 use Rattle.types_faults.proofs.SeeLaws.{width-concatenation, width-chain, fault-concatenation, fault-chain}
 use Rattle.types_faults.proofs.SeeLaws.{fault-choice, link-step, part-step, link-fault-step, part-fault-step}
 use Rattle.types_faults.proofs.SeeLaws.{small-step}

@@ -1,9 +1,9 @@
 use Rattle.std.proofs.Common.{◌+◌, map, drop, ap}
-use Rattle.grammar.specs.Trees as trees
-use Rattle.text_trees.specs.Views.{item_of}
-use Rattle.text_names.specs.Faults.{file_faults, item_faults}
-use Rattle.text_names.specs.Views.{scope_of}
-use Rattle.text_names.proofs.Lists.{at, Joins}
+use Rattle.parser_grammar.specs.Trees as trees
+use Rattle.parser_trees.specs.Views.{item_of}
+use Rattle.types_names.specs.Faults.{file_faults, item_faults}
+use Rattle.types_names.specs.Views.{scope_of}
+use Rattle.types_names.proofs.Lists.{at, Joins}
 use Rattle.types_faults.proofs.SequenceLaws.{least-step}
 use Rattle.types_faults.proofs.fault.first_fault.Goals as goal
 

@@ -1,7 +1,7 @@
 use Rattle.std.proofs.Common.{◌≡◌, map, drop}
-use Rattle.text_trees.specs.Views.{item_of}
-use Rattle.text_names.specs.Faults.{file_faults, earlier, least}
-use Rattle.text_names.specs.Views.{scope_of}
+use Rattle.parser_trees.specs.Views.{item_of}
+use Rattle.types_names.specs.Faults.{file_faults, earlier, least}
+use Rattle.types_names.specs.Views.{scope_of}
 use Rattle.types_faults.proofs.fault.first_fault.Given as goal
 
 abbrev pub invariant-loop-item : goal.invariant-loop-item

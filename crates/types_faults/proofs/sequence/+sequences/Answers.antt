@@ -1,9 +1,9 @@
 use Rattle.std.proofs.Common.{ap, ◌∙◌}
-use Rattle.text_trees.specs.Views.{sequence_of}
-use Rattle.text_names.specs.Faults.{earlier}
-use Rattle.text_names.specs.Views.{scope_of}
-use Rattle.text_names.proofs.Lists.{steps-at, others-at, when_ok}
-use Rattle.text_names.proofs.TreeSteps.{is-Delayed, is-Throughout, is-Joined}
+use Rattle.parser_trees.specs.Views.{sequence_of}
+use Rattle.types_names.specs.Faults.{earlier}
+use Rattle.types_names.specs.Views.{scope_of}
+use Rattle.types_names.proofs.Lists.{steps-at, others-at, when_ok}
+use Rattle.types_names.proofs.TreeSteps.{is-Delayed, is-Throughout, is-Joined}
 use Rattle.types_faults.proofs.SequenceLaws.{least-joined, least-step, faults-delayed, faults-throughout}
 use Rattle.types_faults.proofs.SequenceLaws.{faults-joined, faults-step, faults-other}
 use Rattle.types_faults.proofs.sequence.+sequences.Goals as goal

@@ -1,12 +1,12 @@
 use Rattle.std.proofs.Common.{◌≡◌, ◌+◌, ◌∷◌, [], List, map, drop, refl, sym, ap, ◌∙◌, subst}
-use Rattle.grammar.specs.Trees as trees
+use Rattle.parser_grammar.specs.Trees as trees
 use Rattle.assertions.specs.declared.sequence.Boolean.{Boolean}
 use Rattle.types_sequences.specs.Drafts.{Draft}
 use Rattle.types_sequences.specs.Views.{draft_of}
-use Rattle.text_trees.specs.declared.item.ItemTree.{ItemTree}
-use Rattle.text_trees.specs.Views.{counter_of, declaration_of, assertion_of, item_of}
-use Rattle.text_names.specs.Views.{scope_of, columns_in}
-use Rattle.text_names.proofs.Lists.{at, past_end}
+use Rattle.parser_trees.specs.declared.item.ItemTree.{ItemTree}
+use Rattle.parser_trees.specs.Views.{counter_of, declaration_of, assertion_of, item_of}
+use Rattle.types_names.specs.Views.{scope_of, columns_in}
+use Rattle.types_names.proofs.Lists.{at, past_end}
 use Rattle.types_suites.specs.Readings.{AllRead}
 use Rattle.types_suites.specs.Texts.{declarations_of}
 use Rattle.types_suites.proofs.CounterLaws.{ready-item}

@@ -1,9 +1,9 @@
 use Rattle.std.proofs.Common.{◌≡◌, ◌+◌, ◌∷◌, [], ◌++◌, ℕ, List, map, drop, refl, sym, ap, ◌∙◌}
 use Rattle.std.proofs.lemmas.List.{map-append}
-use Rattle.grammar.specs.Trees as trees
-use Rattle.text_trees.specs.declared.item.ItemTree.{ItemTree}
-use Rattle.text_trees.specs.Views.{counter_of, declaration_of, assertion_of, item_of}
-use Rattle.text_names.proofs.Lists.{at, past_end}
+use Rattle.parser_grammar.specs.Trees as trees
+use Rattle.parser_trees.specs.declared.item.ItemTree.{ItemTree}
+use Rattle.parser_trees.specs.Views.{counter_of, declaration_of, assertion_of, item_of}
+use Rattle.types_names.proofs.Lists.{at, past_end}
 use Rattle.types_suites.specs.Texts.{declarations_of}
 use Rattle.types_suites.proofs.SeenLaws.{seen_start, seen_skip, seen_more, seen_all}
 use Rattle.types_suites.proofs.bodies.name_bytes.Goals as goal

@@ -1,9 +1,9 @@
 use Rattle.std.proofs.Common.{◌≡◌, ◌+◌, ◌∷◌, map, drop, refl, ap, ◌∙◌}
-use Rattle.grammar.specs.Trees as trees
-use Rattle.text_trees.specs.declared.item.ItemTree.{ItemTree}
-use Rattle.text_trees.specs.Views.{counter_of, declaration_of, assertion_of, item_of}
-use Rattle.text_names.specs.Views.{scope_of, columns_in}
-use Rattle.text_names.proofs.Lists.{at, past_end}
+use Rattle.parser_grammar.specs.Trees as trees
+use Rattle.parser_trees.specs.declared.item.ItemTree.{ItemTree}
+use Rattle.parser_trees.specs.Views.{counter_of, declaration_of, assertion_of, item_of}
+use Rattle.types_names.specs.Views.{scope_of, columns_in}
+use Rattle.types_names.proofs.Lists.{at, past_end}
 use Rattle.types_suites.proofs.CounterLaws.{ready-item, completes_start, completes_skip, completes_more, completes_all}
 use Rattle.types_suites.proofs.counters.counters_of.Goals as goal
 

@@ -1,6 +1,6 @@
 use Rattle.std.proofs.Common.{map, drop}
-use Rattle.text_trees.specs.Views.{item_of}
-use Rattle.text_names.specs.Views.{scope_of, columns_in}
+use Rattle.parser_trees.specs.Views.{item_of}
+use Rattle.types_names.specs.Views.{scope_of, columns_in}
 use Rattle.types_suites.proofs.CounterLaws.{AreReadyItems, Completes}
 use Rattle.types_suites.proofs.counters.counters_of.Given as goal
 

@@ -1,5 +1,5 @@
-use Rattle.text_trees.specs.Views.{counter_of}
-use Rattle.text_names.specs.Views.{scope_of, columns_in}
+use Rattle.parser_trees.specs.Views.{counter_of}
+use Rattle.types_names.specs.Views.{scope_of, columns_in}
 use Rattle.types_suites.proofs.CounterLaws.{ready-counter}
 use Rattle.types_suites.proofs.counters.rules_of.Goals as goal
 

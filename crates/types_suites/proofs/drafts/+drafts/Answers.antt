@@ -1,11 +1,11 @@
 use Rattle.std.proofs.Common.{rules, refl}
-use Rattle.text_trees.specs.declared.sequence.SequenceTree.TheViews.{the_lemmas}
-use Rattle.text_trees.specs.Views.{sequence_of}
+use Rattle.parser_trees.specs.declared.sequence.SequenceTree.TheViews.{the_lemmas}
+use Rattle.parser_trees.specs.Views.{sequence_of}
 use Rattle.assertions.specs.declared.sequence.Boolean.TheVariants.{Listed}
 use Rattle.types_sequences.specs.Views.{draft_of}
-use Rattle.text_names.specs.Views.{scope_of, columns_in}
-use Rattle.text_names.proofs.Lists.{steps-at, steps-end, others-at, others-end, when_ok}
-use Rattle.text_names.proofs.TreeSteps.{is-Boolean, is-Repeated, is-Late, is-Delayed, is-Throughout, is-Joined}
+use Rattle.types_names.specs.Views.{scope_of, columns_in}
+use Rattle.types_names.proofs.Lists.{steps-at, steps-end, others-at, others-end, when_ok}
+use Rattle.types_names.proofs.TreeSteps.{is-Boolean, is-Repeated, is-Late, is-Delayed, is-Throughout, is-Joined}
 use Rattle.types_suites.proofs.ReadingLaws.{when_both, extends_same, extends_on, atom_grows, ready-boolean}
 use Rattle.types_suites.proofs.ReadingLaws.{ready-repeated, ready-late, ready-delayed, ready-throughout, ready-joined}
 use Rattle.types_suites.proofs.ReadingLaws.{ready-step, ready-other, reads-boolean, reads-repeated, reads-late}

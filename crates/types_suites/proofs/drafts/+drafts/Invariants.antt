@@ -1,11 +1,11 @@
 use Rattle.std.proofs.Common.{map, drop, List}
-use Rattle.grammar.specs.ReadSequences.{steps_of, others_of}
-use Rattle.text_trees.specs.Views.{sequence_of, delay_step_of}
+use Rattle.parser_grammar.specs.ReadSequences.{steps_of, others_of}
+use Rattle.parser_trees.specs.Views.{sequence_of, delay_step_of}
 use Rattle.expressions.specs.declared.expr.Expr.{Expr}
 use Rattle.assertions.specs.declared.sequence.Boolean.{Boolean}
 use Rattle.types_sequences.specs.Drafts.{Draft}
 use Rattle.types_sequences.specs.Views.{draft_of}
-use Rattle.text_names.specs.Views.{scope_of, columns_in}
+use Rattle.types_names.specs.Views.{scope_of, columns_in}
 use Rattle.types_suites.specs.Readings.{ReadsSteps, ReadsOthers}
 use Rattle.types_sequences.specs.Placed.{Extends}
 use Rattle.types_suites.proofs.ReadingLaws.{AreReadySteps, AreReadyOthers}

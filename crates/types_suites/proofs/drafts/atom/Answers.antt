@@ -1,6 +1,6 @@
 use Rattle.std.proofs.Common.{arith}
-use Rattle.text_trees.specs.Views.{tree_of}
-use Rattle.text_names.specs.Views.{scope_of, columns_in}
+use Rattle.parser_trees.specs.Views.{tree_of}
+use Rattle.types_names.specs.Views.{scope_of, columns_in}
 use Rattle.types_suites.proofs.ReadingLaws.{new_atom}
 use Rattle.types_suites.proofs.drafts.atom.Goals as goal
 

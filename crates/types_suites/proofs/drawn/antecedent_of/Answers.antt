@@ -1,9 +1,9 @@
-use Rattle.text_trees.specs.Views.{sequence_of}
-use Rattle.text_names.specs.Views.{scope_of, columns_in}
-use Rattle.text_names.specs.Faults.{sequence_faults}
-use Rattle.text_names.specs.Columns.{sequence_signals}
-use Rattle.text_names.proofs.FaultLaws.{no_faults-parts}
-use Rattle.text_names.proofs.ColumnLaws.{listed-parts}
+use Rattle.parser_trees.specs.Views.{sequence_of}
+use Rattle.types_names.specs.Views.{scope_of, columns_in}
+use Rattle.types_names.specs.Faults.{sequence_faults}
+use Rattle.types_names.specs.Columns.{sequence_signals}
+use Rattle.types_names.proofs.FaultLaws.{no_faults-parts}
+use Rattle.types_names.proofs.ColumnLaws.{listed-parts}
 use Rattle.types_suites.proofs.drawn.antecedent_of.Goals as goal
 
 pub draft_of-requires-clause-sound : goal.draft_of-requires-clause-sound

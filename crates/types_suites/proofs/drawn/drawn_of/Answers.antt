@@ -1,11 +1,11 @@
 use Rattle.std.specs.Prelude.{option_map}
-use Rattle.text_trees.specs.Views.{boxed_of, property_of}
+use Rattle.parser_trees.specs.Views.{boxed_of, property_of}
 use Rattle.types_sequences.specs.Views.{draft_of}
-use Rattle.text_names.specs.Views.{scope_of, columns_in}
-use Rattle.text_names.specs.Faults.{optional_faults, property_faults}
-use Rattle.text_names.specs.Columns.{optional_signals, property_signals}
-use Rattle.text_names.proofs.FaultLaws.{no_faults-parts}
-use Rattle.text_names.proofs.ColumnLaws.{listed-parts}
+use Rattle.types_names.specs.Views.{scope_of, columns_in}
+use Rattle.types_names.specs.Faults.{optional_faults, property_faults}
+use Rattle.types_names.specs.Columns.{optional_signals, property_signals}
+use Rattle.types_names.proofs.FaultLaws.{no_faults-parts}
+use Rattle.types_names.proofs.ColumnLaws.{listed-parts}
 use Rattle.types_suites.proofs.ReadingLaws.{extends_on}
 use Rattle.types_suites.proofs.DrawnLaws.{antecedent_grows, disabled_grows}
 use Rattle.types_suites.proofs.drawn.drawn_of.Goals as goal

@@ -1,7 +1,7 @@
 use Rattle.std.proofs.Common.{◌∷◌, ◌++◌, List, [], take, sym, ◌∙◌, subst, add-one}
 use Rattle.std.proofs.lemmas.Option.{none-some}
 use Rattle.assertions.specs.declared.signal.Signal.{Signal}
-use Rattle.text_names.specs.Views.{scope_of, columns_in}
+use Rattle.types_names.specs.Views.{scope_of, columns_in}
 use Rattle.types_suites.specs.Signals.{AreKnown}
 use Rattle.types_suites.specs.Suites.{AreSignals}
 use Rattle.types_suites.proofs.SignalLaws.{take_next, drop_next, signal_more}

@@ -1,5 +1,5 @@
 use Rattle.std.proofs.Common.{take, drop}
-use Rattle.text_names.specs.Views.{scope_of, columns_in}
+use Rattle.types_names.specs.Views.{scope_of, columns_in}
 use Rattle.types_suites.specs.Signals.{AreKnown}
 use Rattle.types_suites.specs.Suites.{AreSignals}
 use Rattle.types_suites.proofs.known.signals_of.Given as goal

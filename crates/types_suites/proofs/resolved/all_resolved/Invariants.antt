@@ -1,7 +1,7 @@
 use Rattle.std.proofs.Common.{map, drop}
-use Rattle.text_trees.specs.Views.{item_of}
+use Rattle.parser_trees.specs.Views.{item_of}
 use Rattle.types_sequences.specs.Entries.{Bodies, IsTable}
-use Rattle.text_names.specs.Views.{scope_of, columns_in}
+use Rattle.types_names.specs.Views.{scope_of, columns_in}
 use Rattle.types_sequences.specs.Placed.{Extends}
 use Rattle.types_suites.specs.Texts.{assertions_of}
 use Rattle.types_suites.specs.Resolved.{AreResolved}

@@ -1,5 +1,5 @@
 use Rattle.assertions.specs.Shapes.{written_form}
-use Rattle.text_names.proofs.Lists.{when_ok}
+use Rattle.types_names.proofs.Lists.{when_ok}
 use Rattle.types_suites.proofs.MadeLaws.{ok_both, on_ok_map, side_of, used_by, list_by}
 use Rattle.types_suites.proofs.typed_assertions.side_of.Goals as goal
 

@@ -1,9 +1,9 @@
 use Rattle.std.proofs.Common.{◌≡◌, ◌+◌, List, ◌∷◌, drop, ap, sym, ◌∙◌, arith}
 use Rattle.bytecode.specs.declared.block_instr.BlockInstr.{BlockInstr}
-use Rattle.inference.specs.Sections.{size_of}
+use Rattle.verifier_inference.specs.Sections.{size_of}
 use Rattle.verifier.specs.Limits.{path_sum}
-use Rattle.inference.specs.Views.{blocks_of}
-use Rattle.inference.proofs.SectionLaws.{blocks_at}
+use Rattle.verifier_inference.specs.Views.{blocks_of}
+use Rattle.verifier_inference.proofs.SectionLaws.{blocks_at}
 use Rattle.verifier.proofs.paths.path_sum.Goals as goal
 
 pub block_path-requires : goal.block_path-requires

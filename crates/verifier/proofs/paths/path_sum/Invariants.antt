@@ -1,7 +1,7 @@
 use Rattle.std.proofs.Common.{◌≡◌, ◌+◌, ◌≤◌, drop}
-use Rattle.inference.specs.Sections.{size_of}
+use Rattle.verifier_inference.specs.Sections.{size_of}
 use Rattle.verifier.specs.Limits.{path_sum}
-use Rattle.inference.specs.Views.{blocks_of}
+use Rattle.verifier_inference.specs.Views.{blocks_of}
 use Rattle.verifier.proofs.paths.path_sum.Given as goal
 
 abbrev pub invariant-each : goal.invariant-each

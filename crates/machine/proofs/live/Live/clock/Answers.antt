@@ -3,15 +3,15 @@ use Rattle.std.proofs.Math.ListN.{length-map}
 use Rattle.bytecode.specs.Programs.{data_of}
 use Rattle.bytecode.specs.Values.{ProgramData}
 use Rattle.verifier.specs.Limits.{path_sum}
-use Rattle.checked_machine.specs.Outcomes.{Ran, done}
-use Rattle.checked_machine.specs.Clocks.{Attempt, Obligation, Visits, visit_attempts, visit_obligations, disable_all}
-use Rattle.checked_machine.specs.Bounds.{Rises}
-use Rattle.checked_machine.proofs.Parts.{began, since, IsRunning, IsOwed}
+use Rattle.machine_definition.specs.Outcomes.{Ran, done}
+use Rattle.machine_definition.specs.Clocks.{Attempt, Obligation, Visits, visit_attempts, visit_obligations, disable_all}
+use Rattle.machine_definition.specs.Bounds.{Rises}
+use Rattle.machine_definition.proofs.Parts.{began, since, IsRunning, IsOwed}
 use Rattle.machine.specs.Live.{attempts_in, obligations_in, standing_of, OpenedLately}
-use Rattle.attempt_pool.specs.Pooled.{Pooled}
-use Rattle.visits.specs.declared.attempt.AttemptRecord.{AttemptRecord}
-use Rattle.visits.specs.declared.obligation.ObligationRecord.{ObligationRecord}
-use Rattle.visits.specs.Records.{attempt_of, obligation_of}
+use Rattle.machine_pool.specs.Pooled.{Pooled}
+use Rattle.machine_visits.specs.declared.attempt.AttemptRecord.{AttemptRecord}
+use Rattle.machine_visits.specs.declared.obligation.ObligationRecord.{ObligationRecord}
+use Rattle.machine_visits.specs.Records.{attempt_of, obligation_of}
 use Rattle.machine.proofs.LessLaws.{visit_attempts-less, visit_obligations-less, settle_all-less, disable_all-less}
 use Rattle.machine.proofs.ClockLaws as laws
 use Rattle.machine.proofs.live.Live.clock.Goals as goal

@@ -1,17 +1,17 @@
 use Rattle.std.proofs.Common.{◌≡◌, ◌-◌, ◌∷◌, ◌++◌, length, List, map, take, refl, sym, ap, ◌∙◌, subst, arith}
 use Rattle.bytecode.specs.Programs.{data_of}
-use Rattle.checked_machine.specs.Machine.{with_row}
-use Rattle.history_ring.specs.History.{pushed}
-use Rattle.sample_code.specs.Memory.{AreRows}
-use Rattle.sample_code.specs.Runs.{HasRun}
-use Rattle.sample_code.proofs.RowLaws.{AreRows-pushed}
+use Rattle.machine_definition.specs.Machine.{with_row}
+use Rattle.machine_ring.specs.History.{pushed}
+use Rattle.machine_samples.specs.Memory.{AreRows}
+use Rattle.machine_samples.specs.Runs.{HasRun}
+use Rattle.machine_samples.proofs.RowLaws.{AreRows-pushed}
 use Rattle.machine.specs.Live.{standing_of, HasAdvanced}
 use Rattle.machine.specs.Memory.{state_of}
 use Rattle.machine.proofs.RowLaws.{whole-row}
 use Rattle.std.proofs.Math.ListN.{length-map}
-use Rattle.checked_machine.specs.Outcomes.{done}
-use Rattle.sample_code.specs.Memory.{AreValues}
-use Rattle.visits.specs.Records.{attempt_of}
+use Rattle.machine_definition.specs.Outcomes.{done}
+use Rattle.machine_definition.specs.Values.{AreValues}
+use Rattle.machine_visits.specs.Records.{attempt_of}
 use Rattle.machine.proofs.VecLaws.{vec-long, refilled}
 use Rattle.machine.proofs.MemoryLaws as laws
 use Rattle.machine.proofs.memory.Memory.clock.Goals as goal

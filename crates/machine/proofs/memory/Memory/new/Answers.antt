@@ -4,13 +4,14 @@ use Rattle.std.proofs.Math.ListN.{length-replicate}
 use Rattle.std.specs.Prelude.{slice_index}
 use Rattle.bytecode.specs.Programs.{data_of}
 use Rattle.bytecode.specs.Instructions.{frame_of}
-use Rattle.history_ring.specs.History.{cleared}
-use Rattle.attempt_pool.specs.Pooled.{Pooled}
-use Rattle.visits.specs.declared.attempt.AttemptRecord.{AttemptRecord}
-use Rattle.visits.specs.declared.obligation.ObligationRecord.{ObligationRecord}
-use Rattle.sample_code.specs.Memory.{AreRows, AreValues}
-use Rattle.sample_code.proofs.RowLaws.{AreRows-cleared}
-use Rattle.checked_machine.specs.Bounds.{IsReached}
+use Rattle.machine_ring.specs.History.{cleared}
+use Rattle.machine_pool.specs.Pooled.{Pooled}
+use Rattle.machine_visits.specs.declared.attempt.AttemptRecord.{AttemptRecord}
+use Rattle.machine_visits.specs.declared.obligation.ObligationRecord.{ObligationRecord}
+use Rattle.machine_samples.specs.Memory.{AreRows}
+use Rattle.machine_definition.specs.Values.{AreValues}
+use Rattle.machine_samples.proofs.RowLaws.{AreRows-cleared}
+use Rattle.machine_definition.specs.Bounds.{IsReached}
 use Rattle.machine.specs.Live.{attempts_in, obligations_in}
 use Rattle.machine.proofs.VecLaws.{vec-long}
 use Rattle.machine.proofs.memory.Memory.new.Goals as goal

@@ -1,3 +1,0 @@
-pub mod SampleLaws
-pub mod Samples
-pub mod Decides

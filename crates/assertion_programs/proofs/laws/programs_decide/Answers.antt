@@ -1,5 +1,0 @@
-use Rattle.assertion_programs.proofs.Decides.{programs-decide}
-use Rattle.assertion_programs.proofs.laws.programs_decide.Goals as goal
-
-pub returns : goal.returns
-returns c = programs-decide

@@ -1,5 +1,0 @@
-pub mod OneReport
-pub mod TokenLaws
-pub mod ItemLaws
-pub mod Unrefused
-pub mod CauseLaws

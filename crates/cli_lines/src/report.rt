@@ -1,0 +1,54 @@
+//! The report on a suite by several workers.
+
+ghost use Rattle.std.specs.Prelude.{◌≡◌, ◌≤◌, ℕ, List, IfOk, IfErr};
+ghost use Rattle.std.specs.List.{AllByRecursion};
+ghost use Rattle.vcd_reader.specs.Dump.{Contents};
+ghost use Rattle.vcd_reader.specs.Held.{HoldsContents, variables_of};
+ghost use Rattle.cycle_window.specs.Held.{AreClocksOf, code_in};
+ghost use Rattle.verdicts.specs.Shown.{data_of};
+ghost use Rattle.compiler.specs.Conditions.{IsFit};
+ghost use Rattle.cli_lines.specs.Lines.{IsWatched, AreVariables, rows_at, IsReportOf};
+ghost use Rattle.cli_lines.specs.Faults.{WhyNoLines};
+
+use crate::fault::LinesFault;
+use crate::job::suite_job;
+use crate::lines::want_of_memory;
+use assertions::Suite;
+use cycle_window::Clocks;
+use std::alloc::Global;
+use std::sync::Wait;
+use std::thread::Threads;
+use workers::{Gate, run};
+use vcd_reader::Dump;
+use verdicts::Report;
+
+/// The report on all assertions of a suite, by 1 to 64 workers through windows of so many clocks, 1
+/// to 65,536. Neither the number of workers nor the size nor the gate changes it.
+pub fn suite_report<G: Gate + Sync, R: Threads + Wait + Sync>(
+    rt: &R,
+    alloc: Global,
+    dump: Dump,
+    clocks: Clocks,
+    suite: &Suite,
+    workers: usize,
+    size: usize,
+    gate: &G,
+) -> Result<Report, LinesFault>
+    requires workers { (1 ≤ workers) × (workers ≤ 64) }
+    requires size { (1 ≤ size) × (size ≤ 65536) }
+    requires clocks { AreClocksOf dump clocks }
+    requires watched { AllByRecursion (IsWatched (variables_of dump)) suite.now.names.items }
+    requires fit { AllByRecursion (IsFit suite.now) suite.now.assertions.items }
+    ensures report { (c : Contents) (signals : List ℕ) → HoldsContents dump c
+        → AreVariables c suite.now signals
+        → IfOk result (λ r. IsReportOf suite.now (rows_at c signals (code_in clocks))
+        (data_of r)) }
+    ensures refused { IfErr result (WhyNoLines suite.now) }
+{
+    let job = suite_job(alloc, dump, clocks, suite)?;
+    // An arm knows that it is want of memory, as `want_of_memory` asks; a `From` can't ask it.
+    match run(rt, alloc, &job, workers, size, gate) {
+        Ok(report) => Ok(report),
+        Err(fault) => Err(want_of_memory(fault)),
+    }
+}

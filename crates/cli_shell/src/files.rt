@@ -1,0 +1,75 @@
+//! Files by their paths, and what is wrong with them.
+
+use cli_faults::Fault;
+use std::alloc::Global;
+use std::fs::{File, Files};
+use std::io::{ErrorKind, Read};
+use std::{fs, io};
+
+/// The fault of a file that could not be opened, read or made.
+fn file_fault(alloc: Global, path: &str, error: io::Error) -> Fault<'static> {
+    if error.kind() == ErrorKind::OutOfMemory {
+        return Fault::Memory;
+    }
+    match String::from_str(alloc, path) {
+        Ok(path) => Fault::File(path),
+        Err(_) => Fault::Memory,
+    }
+}
+
+/// An opened file.
+pub fn open<R: Files + AllocGlobal>(rt: &R, path: &str) -> Result<R::File, Fault<'static>> {
+    match File::open(rt, path) {
+        Ok(file) => Ok(file),
+        Err(error) => Err(file_fault(rt.alloc(), path, error)),
+    }
+}
+
+/// All of an opened file.
+pub(crate) fn read_opened<F: Read>(
+    alloc: Global,
+    file: &mut F,
+    path: &str,
+) -> Result<Vec<u8>, Fault<'static>> {
+    let mut bytes = Vec::new(alloc);
+    match file.read_to_end(&mut bytes) {
+        Ok(_) => Ok(bytes),
+        Err(error) => Err(file_fault(alloc, path, error)),
+    }
+}
+
+/// All of a file.
+pub fn read_bytes<R: Files + AllocGlobal>(rt: &R, path: &str) -> Result<Vec<u8>, Fault<'static>> {
+    match fs::read(rt, path) {
+        Ok(bytes) => Ok(bytes),
+        Err(error) => Err(file_fault(rt.alloc(), path, error)),
+    }
+}
+
+/// The bytes of a file as text; N2 where they are no UTF-8.
+pub(crate) fn text_of(alloc: Global, bytes: Vec<u8>, path: &str) -> Result<String, Fault<'static>> {
+    match String::from_utf8(bytes) {
+        Ok(text) => Ok(text),
+        Err(_) => Err(Fault::NotText(String::from_str(alloc, path)?)),
+    }
+}
+
+/// All of a file, as text; N2 where it is no UTF-8.
+pub(crate) fn read_text<R: Files + AllocGlobal>(
+    rt: &R,
+    path: &str,
+) -> Result<String, Fault<'static>> {
+    text_of(rt.alloc(), read_bytes(rt, path)?, path)
+}
+
+/// Makes a file of these bytes, or puts them in the place of what it held.
+pub fn write_bytes<R: Files + AllocGlobal>(
+    rt: &R,
+    path: &str,
+    bytes: &[u8],
+) -> Result<(), Fault<'static>> {
+    match fs::write(rt, path, bytes) {
+        Ok(()) => Ok(()),
+        Err(error) => Err(file_fault(rt.alloc(), path, error)),
+    }
+}

@@ -1,0 +1,61 @@
+-- The subcommand that words name.
+use Rattle.std.proofs.Common.{◌≡◌, ◌∙◌, refl, sym, ap, ap₂, Bool, true, false, not, List, Option, Some, None}
+use Rattle.std.proofs.Common.{option_map}
+use Rattle.std.specs.Prelude.{unwrap_or}
+use Rattle.std.proofs.lemmas.Option.{none-some}
+use Rattle.clap.proofs.WalkLemmas.{both}
+use Rattle.clap.specs.Words.{AddsArg, AddsSubcommand, App, HasMatchesOf, Row, Rule, Text, app_of, is_simple, rule_of}
+use Rattle.clap.specs.Words.{subcommand_of, subcommand_name_of, subcommand_rows_of, with_rule, with_subcommand}
+use Rattle.clap.specs.declared.builder.arg.Arg.{Arg}
+use Rattle.clap.specs.declared.builder.command.Command.{Command}
+use Rattle.clap.specs.declared.parser.matches.ArgMatches.{ArgMatches}
+use Rattle.cli_words.specs.declared.request.Request.{Request}
+use Rattle.cli_words.specs.Words.{IsRequest, IsNamed, IsAsked, svamon_app}
+
+pub not-is : (b : Bool) → not b ≡ true → b ≡ false
+not-is b h = elim b as (λ v. not v ≡ true → v ≡ false) [ true ↦ λ k. sym k | false ↦ λ k. sym (ap not k) ] h
+
+-- a command of one more subcommand, which has no settings of its own
+pub one_more : (old sub new : Command) (a s : App) → AddsSubcommand old sub new → app_of old ≡ a → app_of sub ≡ s
+    → s.top.is_plain ≡ true → app_of new ≡ with_subcommand a s.top
+one_more old sub new a s adds before is plain =
+    let sub_plain : (app_of sub).top.is_plain ≡ true = ap (λ (x : App). x.top.is_plain) is ∙ plain in
+    adds.shape (not-is _ (both _ _ (both _ _ (both _ _ sub_plain).1).1).0)
+    ∙ ap₂ with_subcommand before (ap (λ (x : App). x.top) is)
+
+-- a command of one more option, which is its own
+pub one_option : (old new : Command) (o : Arg) (a : App) (r : Rule) → AddsArg old o new → app_of old ≡ a → rule_of o ≡ r
+    → o.global ≡ false → app_of new ≡ with_rule a r
+one_option old new o a r adds before is local = adds.shape local ∙ ap₂ with_rule before is
+
+map_map : {A B C : Type 0} (f : A → B) (g : B → C) (o : Option A) → option_map g (option_map f o)
+    ≡ option_map (λ a. g (f a)) o
+map_map f g None = refl
+map_map f g (Some a) = refl
+
+pair_of : (o : Option (Text × List Row)) (n : Text) (rs : List Row)
+    → option_map (λ p. p.0) o ≡ Some n → option_map (λ p. p.1) o ≡ Some rs → o ≡ Some (n, rs)
+pair_of None n rs e f = absurd (none-some _ e)
+pair_of (Some p) n rs e f =
+    ap₂ (λ (a : Text) (b : List Row). Some (a, b)) (ap (λ (o : Option Text). unwrap_or o n) e)
+    (ap (λ (o : Option (List Row)). unwrap_or o rs) f)
+
+-- the words ask for the request that the rows of the entered command give
+pub asked : (a : App) (words : List Text) (m : ArgMatches) (r : Request) → HasMatchesOf a words m → a ≡ svamon_app
+    → IsNamed m r → IsAsked words r
+asked a words m r has is named = record {
+  rows = named.rows;
+  named = ap (λ (b : App). subcommand_of b words) (sym is) ∙ sym (has (ap is_simple is)).1 ∙ named.entered;
+  given = named.given;
+}
+
+-- the request of the command that was entered, by its rows
+pub entered : (m : ArgMatches) (n : Text) (rs : List Row) → subcommand_name_of m ≡ Some n
+    → option_map (λ p. p.1) (subcommand_rows_of m) ≡ Some rs → (r : Request) → IsRequest n rs r → IsNamed m r
+entered m n rs name rows r said = record {
+  rows = rs;
+  entered =
+      pair_of (subcommand_rows_of m) n rs (map_map _ _ _ ∙ name) rows
+      ∙ ap (λ (t : Text). Some (t, rs)) (sym said.command);
+  given = said.given;
+}

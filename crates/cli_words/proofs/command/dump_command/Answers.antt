@@ -1,0 +1,11 @@
+use Rattle.std.proofs.Common.{rules, ◌≡◌, refl}
+use Rattle.std.proofs.lemmas.Result.{IfOk-weaker}
+use Rattle.clap.specs.Words.{app_of, new_app}
+use Rattle.cli_words.proofs.CommandLaws.{one_option}
+use Rattle.cli_words.proofs.command.dump_command.Goals as goal
+
+pub returns : goal.returns
+returns c =
+    let top : app_of c.about.result ≡ new_app c.args.name.now = search rules in
+    let dump = one_option _ _ _ _ _ c.in_ok-arg.ensures top c.file_option.ensures.rule c.file_option.ensures.local in
+    IfOk-weaker c.arg-2.result _ _ (λ r h. one_option _ r _ _ _ h dump refl c.requires) c.arg-2.ensures

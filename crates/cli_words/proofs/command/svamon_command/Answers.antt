@@ -1,0 +1,19 @@
+use Rattle.std.proofs.Common.{◌∙◌, ap, refl}
+use Rattle.std.proofs.lemmas.Result.{IfOk-weaker}
+use Rattle.clap.specs.Words.{App, with_subcommand}
+use Rattle.cli_words.specs.Words.{run_app, judge_app, rules_app, upgrade_app}
+use Rattle.cli_words.proofs.command.svamon_command.Goals as goal
+
+pub returns : goal.returns
+returns c =
+    let four =
+    c.in_ok-svamon-2.ensures run_app c.run_command.ensures refl
+    ∙ ap (λ (a : App). with_subcommand a run_app.top) c.in_ok-svamon.ensures in
+    let five =
+    c.in_ok-svamon-3.ensures judge_app c.judge_command.ensures refl
+    ∙ ap (λ (a : App). with_subcommand a judge_app.top) four in
+    let six =
+    c.in_ok-svamon-4.ensures rules_app c.rules_command.ensures refl
+    ∙ ap (λ (a : App). with_subcommand a rules_app.top) five in
+    IfOk-weaker c.with_subcommand-4.result _ _ (λ r h. h ∙ ap (λ (a : App). with_subcommand a upgrade_app.top) six)
+    (c.with_subcommand-4.ensures upgrade_app c.upgrade_command.ensures refl)

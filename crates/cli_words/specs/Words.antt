@@ -1,0 +1,173 @@
+-- svamon's command line, in the words of `clap`, which reads it: a command has a name, its rules
+-- (options) and subcommands; `subcommand_of` says which subcommand words name, and with which
+-- rows (an option's id, and the values behind it or else its defaults).
+use Rattle.std.specs.Prelude.{◌≡◌, ℕ, ◌≤◌, List, [], ◌∷◌, Option, Some, Ok, true, codes}
+use Rattle.std.specs.Prelude.{String, string_bytes}
+use Rattle.std.specs.Global.{Global}
+use Rattle.std.specs.Option.{option_map}
+use Rattle.std.specs.Str.Parse.{ParsesUnsigned}
+use Rattle.clap.specs.Words.{App, Row, Rule, Text, first_of, new_app, new_rule, one_of}
+use Rattle.clap.specs.Words.{subcommand_of, subcommand_rows_of, with_rule, with_subcommand}
+use Rattle.clap.specs.declared.parser.matches.ArgMatches.{ArgMatches}
+use Rattle.clap.specs.declared.builder.value_parser.ValueParser.TheVariants.{Unsigned}
+use Rattle.cli_words.specs.declared.request.Request.{Request}
+use Rattle.cli_words.specs.declared.request.Request.TheVariants.{Check, Build, Verify}
+use Rattle.cli_words.specs.declared.request.Request.TheVariants.{Run, Judge, Rules, Upgrade}
+
+-- an option `--name`, of one value
+abbrev pub option_rule : Text → Rule
+option_rule name = record (new_rule name) { long = Some name; value_names = 1 }
+
+-- a file, which has to be given
+abbrev pub file_rule : Text → Rule
+file_rule name = record (option_rule name) { required = true }
+
+-- a file that a word alone names, which has to be given
+abbrev pub word_rule : Text → Rule
+word_rule name = record (new_rule name) { value_names = 1; required = true }
+
+-- a port file, which may be left out
+abbrev pub axi_rule : Rule
+axi_rule = option_rule (codes "axi")
+
+-- an option with a number from 1 to the most, and the default where it isn't given
+abbrev pub number_rule : Text → Text → ℕ → Rule
+number_rule name default most = record (option_rule name) {
+  defaults = default ∷ [];
+  parser = Some (Unsigned 1 most);
+}
+
+-- the number of workers, 1 to 64, 4 where it isn't given
+abbrev pub workers_rule : Rule
+workers_rule = number_rule (codes "workers") (codes "4") 64
+
+-- a window's size, 1 to 65,536, 1,024 where it isn't given
+abbrev pub window_rule : Rule
+window_rule = number_rule (codes "window") (codes "1024") 65536
+
+-- a command with an option for the dump, and one for another file
+abbrev pub dump_app : Text → Text → App
+dump_app name other =
+    with_rule (with_rule (new_app name) (file_rule (codes "vcd"))) (file_rule other)
+
+-- a command that reads a dump, a text and ports
+abbrev pub text_app : Text → App
+text_app name = with_rule (dump_app name (codes "sva")) axi_rule
+
+abbrev pub check_app : App
+check_app = with_rule (with_rule (text_app (codes "check")) workers_rule) window_rule
+
+abbrev pub build_app : App
+build_app =
+    with_rule (with_rule (text_app (codes "build")) (file_rule (codes "name")))
+    (file_rule (codes "out"))
+
+abbrev pub verify_app : App
+verify_app = with_rule (new_app (codes "verify")) (word_rule (codes "code"))
+
+abbrev pub run_app : App
+run_app =
+    with_rule (with_rule (dump_app (codes "run") (codes "code")) workers_rule) window_rule
+
+abbrev pub judge_app : App
+judge_app = text_app (codes "judge")
+
+abbrev pub rules_app : App
+rules_app = with_rule (new_app (codes "rules")) (file_rule (codes "axi"))
+
+abbrev pub upgrade_app : App
+upgrade_app =
+    with_rule (with_rule (new_app (codes "upgrade")) (word_rule (codes "code")))
+    (file_rule (codes "out"))
+
+-- `svamon`, which wants a subcommand
+abbrev pub svamon_top : App
+svamon_top = record (new_app (codes "svamon")) {
+  top = record (new_app (codes "svamon")).top { subcommand_required = true };
+}
+
+-- with the first three of its commands
+abbrev pub first_app : App
+first_app =
+    let first_two = with_subcommand (with_subcommand svamon_top check_app.top) build_app.top in
+    with_subcommand first_two verify_app.top
+
+abbrev pub svamon_app : App
+svamon_app =
+    let first_two = with_subcommand (with_subcommand svamon_top check_app.top) build_app.top in
+    let first_four = with_subcommand (with_subcommand first_two verify_app.top) run_app.top in
+    let first_six = with_subcommand (with_subcommand first_four judge_app.top) rules_app.top in
+    with_subcommand first_six upgrade_app.top
+
+-- what the rows give for an option, which is there or not
+abbrev pub Gives : Text → List Row → Option (String Global) → Type 0
+Gives name rows given = first_of name rows ≡ option_map string_bytes given
+
+-- the number from 1 to a limit that the rows give for an option, in decimal digits
+pub record IsNumber (name : Text) (limit : ℕ) (rows : List Row) (number : ℕ) : Type 0 where
+  pub text : Text
+  pub given : one_of name rows ≡ Some text
+  pub digits : ParsesUnsigned {E = Unit {0}} 64 10 text (Ok number)
+  pub least : 1 ≤ number
+  pub most : number ≤ limit
+
+-- how many workers there are to be, and how many clocks a window is to have
+abbrev pub HasTeam : List Row → ℕ → ℕ → Type 0
+HasTeam rows workers window =
+    IsNumber (codes "workers") 64 rows workers × IsNumber (codes "window") 65536 rows window
+
+-- a dump, a text, and ports if there are any
+abbrev pub HasText : List Row → String Global → String Global → Option (String Global) → Type 0
+HasText rows vcd sva axi =
+    Gives (codes "vcd") rows (Some vcd) × Gives (codes "sva") rows (Some sva)
+    × Gives (codes "axi") rows axi
+
+-- an assertion's name, and the file to write
+abbrev pub HasOutput : List Row → String Global → String Global → Type 0
+HasOutput rows name out =
+    Gives (codes "name") rows (Some name) × Gives (codes "out") rows (Some out)
+
+-- a dump, and a program to run over it
+abbrev pub HasProgram : List Row → String Global → String Global → Type 0
+HasProgram rows vcd code =
+    Gives (codes "vcd") rows (Some vcd) × Gives (codes "code") rows (Some code)
+
+-- the command that makes such a request
+abbrev pub command_of : Request → Text
+command_of (Check vcd sva axi workers window) = codes "check"
+command_of (Build vcd sva axi name out) = codes "build"
+command_of (Verify code) = codes "verify"
+command_of (Run vcd code workers window) = codes "run"
+command_of (Judge vcd sva axi) = codes "judge"
+command_of (Rules axi) = codes "rules"
+command_of (Upgrade code out) = codes "upgrade"
+
+-- the request has what the rows of its command give
+abbrev pub IsGiven : List Row → Request → Type 0
+IsGiven rows (Check vcd sva axi workers window) =
+    HasText rows vcd sva axi × HasTeam rows workers window
+IsGiven rows (Build vcd sva axi name out) = HasText rows vcd sva axi × HasOutput rows name out
+IsGiven rows (Verify code) = Gives (codes "code") rows (Some code)
+IsGiven rows (Run vcd code workers window) =
+    HasProgram rows vcd code × HasTeam rows workers window
+IsGiven rows (Judge vcd sva axi) = HasText rows vcd sva axi
+IsGiven rows (Rules axi) = Gives (codes "axi") rows (Some axi)
+IsGiven rows (Upgrade code out) =
+    Gives (codes "code") rows (Some code) × Gives (codes "out") rows (Some out)
+
+-- a request of the command of this name, by its rows
+pub record IsRequest (name : Text) (rows : List Row) (request : Request) : Type 0 where
+  pub command : command_of request ≡ name
+  pub given : IsGiven rows request
+
+-- the command that was entered makes this request, of its rows
+pub record IsNamed (matches : ArgMatches) (request : Request) : Type 0 where
+  pub rows : List Row
+  pub entered : subcommand_rows_of matches ≡ Some (command_of request, rows)
+  pub given : IsGiven rows request
+
+-- the words ask for this: they name its command, with these rows
+pub record IsAsked (words : List Text) (request : Request) : Type 0 where
+  pub rows : List Row
+  pub named : subcommand_of svamon_app words ≡ Some (command_of request, rows)
+  pub given : IsGiven rows request

@@ -1,0 +1,215 @@
+//! The commands and their options.
+
+ghost use Rattle.std.specs.Prelude.{◌≡◌, Some, IfOk, true, false, codes};
+ghost use Rattle.clap.specs.Words.{App, app_of, rule_of, new_app, with_rule, with_subcommand};
+ghost use Rattle.clap.specs.declared.builder.value_parser.ValueParser.TheVariants.{Unsigned};
+ghost use Rattle.cli_words.specs.Words.{file_rule, word_rule, axi_rule, workers_rule};
+ghost use Rattle.cli_words.specs.Words.{window_rule};
+ghost use Rattle.cli_words.specs.Words.{text_app, check_app, build_app, verify_app, run_app};
+ghost use Rattle.cli_words.specs.Words.{judge_app, rules_app, upgrade_app, first_app};
+ghost use Rattle.cli_words.specs.Words.{svamon_app};
+
+use clap::{Arg, Command, value_parser};
+use std::alloc::{AllocError, Global};
+
+/// An option with one value that has to be there.
+fn named_option<'a>(alloc: Global, name: &'a str, value: &'a str, help: &'a str) -> Arg<'a>
+    ensures rule { rule_of result ≡ file_rule name.entry.now }
+    ensures local { result.global ≡ false }
+{
+    Arg::new(alloc, name)
+        .long(name)
+        .value_name(value)
+        .required(true)
+        .help(help)
+}
+
+/// An option with a file that has to be there.
+fn file_option<'a>(alloc: Global, name: &'a str, help: &'a str) -> Arg<'a>
+    ensures rule { rule_of result ≡ file_rule name.entry.now }
+    ensures local { result.global ≡ false }
+{
+    named_option(alloc, name, "FILE", help)
+}
+
+/// A file that is named by a word alone, which has to be there.
+fn file_word<'a>(alloc: Global, name: &'a str, help: &'a str) -> Arg<'a>
+    ensures rule { rule_of result ≡ word_rule name.entry.now }
+    ensures local { result.global ≡ false }
+{
+    Arg::new(alloc, name)
+        .value_name("FILE")
+        .required(true)
+        .help(help)
+}
+
+/// The option for a port file, which may be left out.
+fn axi_option<'a>(alloc: Global) -> Arg<'a>
+    ensures rule { rule_of result ≡ axi_rule }
+    ensures local { result.global ≡ false }
+{
+    Arg::new(alloc, "axi").long("axi").value_name("FILE").help(
+        "A port file, whose ports' rules stand behind the assertions",
+    )
+}
+
+/// The option with a number from 1 to 64 as its value.
+fn within_teams<'a>(option: Arg<'a>) -> Arg<'a>
+    ensures { result ≡ record option.entry { value_parser = Some (Unsigned 1 64) } }
+{
+    option.value_parser(value_parser!(u64).range(1..65))
+}
+
+/// The option with a number from 1 to 65,536 as its value.
+fn within_sizes<'a>(option: Arg<'a>) -> Arg<'a>
+    ensures { result ≡ record option.entry { value_parser = Some (Unsigned 1 65536) } }
+{
+    option.value_parser(value_parser!(u64).range(1..65537))
+}
+
+fn workers_option<'a>(alloc: Global) -> Arg<'a>
+    ensures rule { rule_of result ≡ workers_rule }
+    ensures local { result.global ≡ false }
+{
+    let option = Arg::new(alloc, "workers")
+        .long("workers")
+        .value_name("WORKERS")
+        .default_value("4")
+        .help("How many workers there are, each a thread, from 1 to 64");
+    within_teams(option)
+}
+
+fn window_option<'a>(alloc: Global) -> Arg<'a>
+    ensures rule { rule_of result ≡ window_rule }
+    ensures local { result.global ≡ false }
+{
+    let option = Arg::new(alloc, "window")
+        .long("window")
+        .value_name("CLOCKS")
+        .default_value("1024")
+        .help("How many clocks a window holds, from 1 to 65,536");
+    within_sizes(option)
+}
+
+/// A command that reads a dump and another file.
+fn dump_command<'a>(
+    alloc: Global,
+    name: &'a str,
+    about: &'a str,
+    file: Arg<'a>,
+) -> Result<Command<'a>, AllocError>
+    requires { file.global ≡ false }
+    ensures { IfOk result (λ c. app_of c
+        ≡ with_rule (with_rule (new_app name.entry.now) (file_rule (codes "vcd")))
+        (rule_of file.entry)) }
+{
+    Command::new(alloc, name)
+        .about(about)
+        .arg(file_option(alloc, "vcd", "The dump, in VCD"))?
+        .arg(file)
+}
+
+/// A command that reads a dump, a text and, if they are named, ports.
+fn text_command<'a>(alloc: Global, name: &'a str, about: &'a str) -> Result<Command<'a>, AllocError>
+    ensures { IfOk result (λ c. app_of c ≡ text_app name.entry.now) }
+{
+    dump_command(
+        alloc,
+        name,
+        about,
+        file_option(alloc, "sva", "The assertions"),
+    )?
+    .arg(axi_option(alloc))
+}
+
+fn check_command<'a>(alloc: Global) -> Result<Command<'a>, AllocError>
+    ensures { IfOk result (λ c. app_of c ≡ check_app) }
+{
+    let about = "Judges assertions over a dump and prints the report";
+    text_command(alloc, "check", about)?
+        .arg(workers_option(alloc))?
+        .arg(window_option(alloc))
+}
+
+fn build_command<'a>(alloc: Global) -> Result<Command<'a>, AllocError>
+    ensures { IfOk result (λ c. app_of c ≡ build_app) }
+{
+    text_command(alloc, "build", "Writes the bytecode of one assertion")?
+        .arg(named_option(alloc, "name", "NAME", "The assertion's name"))?
+        .arg(file_option(alloc, "out", "The file to write"))
+}
+
+fn verify_command<'a>(alloc: Global) -> Result<Command<'a>, AllocError>
+    ensures { IfOk result (λ c. app_of c ≡ verify_app) }
+{
+    Command::new(alloc, "verify")
+        .about("Verifies a program and prints the limits that it declares")
+        .arg(file_word(alloc, "code", "The program, in bytecode"))
+}
+
+fn run_command<'a>(alloc: Global) -> Result<Command<'a>, AllocError>
+    ensures { IfOk result (λ c. app_of c ≡ run_app) }
+{
+    let about = "Runs a program over a dump and prints the report";
+    let code = file_option(alloc, "code", "The program, in bytecode");
+    dump_command(alloc, "run", about, code)?
+        .arg(workers_option(alloc))?
+        .arg(window_option(alloc))
+}
+
+fn judge_command<'a>(alloc: Global) -> Result<Command<'a>, AllocError>
+    ensures { IfOk result (λ c. app_of c ≡ judge_app) }
+{
+    text_command(alloc, "judge", "Prints the same report by the slow judge")
+}
+
+fn rules_command<'a>(alloc: Global) -> Result<Command<'a>, AllocError>
+    ensures { IfOk result (λ c. app_of c ≡ rules_app) }
+{
+    Command::new(alloc, "rules")
+        .about("Prints the rules of the ports of a port file")
+        .arg(file_option(alloc, "axi", "The port file"))
+}
+
+fn upgrade_command<'a>(alloc: Global) -> Result<Command<'a>, AllocError>
+    ensures { IfOk result (λ c. app_of c ≡ upgrade_app) }
+{
+    Command::new(alloc, "upgrade")
+        .about("Writes a program anew in version 2 of the bytecode")
+        .arg(file_word(alloc, "code", "The program, in bytecode of version 1 or 2"))?
+        .arg(file_option(alloc, "out", "The file to write"))
+}
+
+/// The command with one more subcommand, if that could be made.
+fn with_subcommand<'a>(
+    command: Command<'a>,
+    subcommand: Result<Command<'a>, AllocError>,
+) -> Result<Command<'a>, AllocError>
+    ensures { (s : App) → IfOk subcommand.entry (λ c. app_of c ≡ s) → s.top.is_plain ≡ true
+        → IfOk result (λ c. app_of c ≡ with_subcommand (app_of command.entry) s.top) }
+{
+    command.subcommand(subcommand?)
+}
+
+/// svamon with its first three commands.
+fn first_commands<'a>(alloc: Global) -> Result<Command<'a>, AllocError>
+    ensures { IfOk result (λ c. app_of c ≡ first_app) }
+{
+    let svamon = Command::new(alloc, "svamon")
+        .about("Checks SystemVerilog assertions over recorded waveforms")
+        .subcommand_required(true);
+    let svamon = with_subcommand(svamon, check_command(alloc))?;
+    let svamon = with_subcommand(svamon, build_command(alloc))?;
+    with_subcommand(svamon, verify_command(alloc))
+}
+
+/// svamon's commands.
+pub(crate) fn svamon_command<'a>(alloc: Global) -> Result<Command<'a>, AllocError>
+    ensures { IfOk result (λ c. app_of c ≡ svamon_app) }
+{
+    let svamon = first_commands(alloc)?;
+    let svamon = with_subcommand(svamon, run_command(alloc))?;
+    let svamon = with_subcommand(svamon, judge_command(alloc))?;
+    let svamon = with_subcommand(svamon, rules_command(alloc))?;
+    with_subcommand(svamon, upgrade_command(alloc))
+}

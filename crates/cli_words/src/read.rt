@@ -1,0 +1,145 @@
+//! From words to a request.
+
+ghost use Rattle.std.specs.Prelude.{IfOk, Some, codes, map};
+ghost use Rattle.clap.specs.Words.{found_of, rows_of};
+ghost use Rattle.cli_words.specs.Words.{Gives, IsNumber, IsRequest, IsNamed, IsAsked};
+
+use crate::command::svamon_command;
+use crate::fault::WordsFault;
+use crate::request::Request;
+use clap::ArgMatches;
+use std::alloc::Global;
+
+/// The text of an option that may be left out.
+fn option_of(alloc: Global, options: &ArgMatches, name: &str) -> Result<Option<String>, WordsFault>
+    ensures { IfOk result (Gives name.now (rows_of (found_of options.now))) }
+{
+    match options.get_str(name) {
+        Some(text) => Ok(Some(String::from_str(alloc, text)?)),
+        None => Ok(None),
+    }
+}
+
+/// The text of an option that has to be there: `clap` refuses words that lack it.
+fn text_of(alloc: Global, options: &ArgMatches, name: &str) -> Result<String, WordsFault>
+    ensures { IfOk result (λ t. Gives name.now (rows_of (found_of options.now)) (Some t)) }
+{
+    match option_of(alloc, options, name)? {
+        Some(text) => Ok(text),
+        None => Err(WordsFault::OutOfMemory),
+    }
+}
+
+/// The number of an option: `clap` refuses any that is no number or out of range.
+fn number_of(options: &ArgMatches, name: &str, most: u64) -> Result<u64, WordsFault>
+    ensures { IfOk result (IsNumber name.now most (rows_of (found_of options.now))) }
+{
+    match options.get_one::<u64>(name) {
+        Some(number) => {
+            if 1 <= number && number <= most {
+                return Ok(number);
+            }
+            Err(WordsFault::OutOfMemory)
+        }
+        None => Err(WordsFault::OutOfMemory),
+    }
+}
+
+fn check_request(alloc: Global, options: &ArgMatches) -> Result<Request, WordsFault>
+    ensures { IfOk result (IsRequest (codes "check") (rows_of (found_of options.now))) }
+{
+    let workers = number_of(options, "workers", 64)?;
+    let window = number_of(options, "window", 65536)?;
+    Ok(Request::Check {
+        vcd: text_of(alloc, options, "vcd")?,
+        sva: text_of(alloc, options, "sva")?,
+        axi: option_of(alloc, options, "axi")?,
+        workers,
+        window,
+    })
+}
+
+fn build_request(alloc: Global, options: &ArgMatches) -> Result<Request, WordsFault>
+    ensures { IfOk result (IsRequest (codes "build") (rows_of (found_of options.now))) }
+{
+    Ok(Request::Build {
+        vcd: text_of(alloc, options, "vcd")?,
+        sva: text_of(alloc, options, "sva")?,
+        axi: option_of(alloc, options, "axi")?,
+        name: text_of(alloc, options, "name")?,
+        out: text_of(alloc, options, "out")?,
+    })
+}
+
+fn verify_request(alloc: Global, options: &ArgMatches) -> Result<Request, WordsFault>
+    ensures { IfOk result (IsRequest (codes "verify") (rows_of (found_of options.now))) }
+{
+    Ok(Request::Verify {
+        code: text_of(alloc, options, "code")?,
+    })
+}
+
+fn run_request(alloc: Global, options: &ArgMatches) -> Result<Request, WordsFault>
+    ensures { IfOk result (IsRequest (codes "run") (rows_of (found_of options.now))) }
+{
+    let workers = number_of(options, "workers", 64)?;
+    let window = number_of(options, "window", 65536)?;
+    Ok(Request::Run {
+        vcd: text_of(alloc, options, "vcd")?,
+        code: text_of(alloc, options, "code")?,
+        workers,
+        window,
+    })
+}
+
+fn judge_request(alloc: Global, options: &ArgMatches) -> Result<Request, WordsFault>
+    ensures { IfOk result (IsRequest (codes "judge") (rows_of (found_of options.now))) }
+{
+    Ok(Request::Judge {
+        vcd: text_of(alloc, options, "vcd")?,
+        sva: text_of(alloc, options, "sva")?,
+        axi: option_of(alloc, options, "axi")?,
+    })
+}
+
+fn rules_request(alloc: Global, options: &ArgMatches) -> Result<Request, WordsFault>
+    ensures { IfOk result (IsRequest (codes "rules") (rows_of (found_of options.now))) }
+{
+    Ok(Request::Rules {
+        axi: text_of(alloc, options, "axi")?,
+    })
+}
+
+fn upgrade_request(alloc: Global, options: &ArgMatches) -> Result<Request, WordsFault>
+    ensures { IfOk result (IsRequest (codes "upgrade") (rows_of (found_of options.now))) }
+{
+    let out = text_of(alloc, options, "out")?;
+    Ok(Request::Upgrade {
+        code: text_of(alloc, options, "code")?,
+        out,
+    })
+}
+
+/// What the command that was entered asks for.
+fn request_of(alloc: Global, matches: &ArgMatches) -> Result<Request, WordsFault>
+    ensures { IfOk result (IsNamed matches.now) }
+{
+    match matches.subcommand() {
+        Some(("check", options)) => check_request(alloc, options),
+        Some(("build", options)) => build_request(alloc, options),
+        Some(("verify", options)) => verify_request(alloc, options),
+        Some(("run", options)) => run_request(alloc, options),
+        Some(("judge", options)) => judge_request(alloc, options),
+        Some(("rules", options)) => rules_request(alloc, options),
+        Some(("upgrade", options)) => upgrade_request(alloc, options),
+        _ => Err(WordsFault::OutOfMemory),
+    }
+}
+
+/// What the words of a command line ask for; the first is the program's name.
+pub fn read_words(alloc: Global, words: &[&str]) -> Result<Request, WordsFault>
+    ensures { IfOk result (IsAsked (map (λ w. w.now) words.now)) }
+{
+    let matches = svamon_command(alloc)?.try_get_matches_from(words)?;
+    request_of(alloc, &matches)
+}

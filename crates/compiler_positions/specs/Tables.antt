@@ -1,0 +1,235 @@
+-- A sequence's positions as a table of guarded edges.
+use Rattle.std.specs.Prelude.{◌≡◌, ◌⊎◌, ◌↔◌, ℕ, zero, suc, ◌+◌, ◌*◌, ◌-◌, ◌/◌, ◌%◌, ◌<◌, ◌==◌}
+use Rattle.std.specs.Prelude.{nat_lt, nat_le, min, Bool, true, false, ◌&&◌, ◌||◌, IsTrue}
+use Rattle.std.specs.Prelude.{if◌then◌else◌, List, [], ◌∷◌, ◌++◌, map}
+use Rattle.std.specs.List.{flat_map}
+use Rattle.compiler_positions.specs.Plans.{Plan, tick, skip, any, all, pair, under, loop, link}
+use Rattle.compiler_positions.specs.States.{State, First, Ends, Steps, Nullable}
+
+-- What a position may do at a tick: where each wanted boolean is true, it goes on to each of these,
+-- and accepts or not.
+pub record Edge (B : Type 0) : Type 0 where
+  pub wanted : List B
+  pub enters : List ℕ
+  pub accepts : Bool
+
+-- Positions 0 up to size, with their edges; those that begin; whether an empty match is there.
+pub record Table (B : Type 0) : Type 0 where
+  pub size : ℕ
+  pub row : ℕ → List (Edge B)
+  pub starts : List ℕ
+  pub empty : Bool
+
+abbrev pub SomeOf : {A : Type 0} → (A → Type 0) → List A → Type 0
+SomeOf P [] = ⊥
+SomeOf P (x ∷ xs) = P x ⊎ SomeOf P xs
+
+abbrev pub EachOf : {A : Type 0} → (A → Type 0) → List A → Type 0
+EachOf P [] = Unit {0}
+EachOf P (x ∷ xs) = P x × EachOf P xs
+
+abbrev pub Has : List ℕ → ℕ → Type 0
+Has xs q = SomeOf (λ x. x ≡ q) xs
+
+-- each boolean that the edge wants is true at tick i
+abbrev pub Fires : {B : Type 0} → (B → ℕ → Bool) → ℕ → Edge B → Type 0
+Fires holds i e = EachOf (λ b. IsTrue (holds b i)) e.wanted
+
+-- at tick i position p goes on to q; it accepts
+abbrev pub Enters : {B : Type 0} → (B → ℕ → Bool) → Table B → ℕ → ℕ → ℕ → Type 0
+Enters holds t p i q = SomeOf (λ e. Fires holds i e × Has e.enters q) (t.row p)
+
+abbrev pub Accepts : {B : Type 0} → (B → ℕ → Bool) → Table B → ℕ → ℕ → Type 0
+Accepts holds t p i = SomeOf (λ e. Fires holds i e × (e.accepts ≡ true)) (t.row p)
+
+-- Edges lead to later positions.
+pub record IsRising {B : Type 0} (t : Table B) : Type 0 where
+  pub starts : (q : ℕ) → Has t.starts q → q < t.size
+  pub enters : (p q : ℕ) → p < t.size → SomeOf (λ (e : Edge B). Has e.enters q) (t.row p) →
+      (p < q) × (q < t.size)
+
+-- The table's positions are the plan's states by their numbers.
+pub record Spells {B : Type 0} (r : Plan B) (t : Table B) : Type 0 where
+  pub number : State r → ℕ
+  pub below : (x : State r) → number x < t.size
+  pub state : (p : ℕ) → p < t.size → (x : State r) × (number x ≡ p)
+  pub rises : (holds : B → ℕ → Bool) (x y : State r) (i : ℕ) →
+      Steps holds r x i y → number x < number y
+  pub starts : (q : ℕ) → Has t.starts q ↔ ((x : State r) × (number x ≡ q) × First r x)
+  pub enters : (holds : B → ℕ → Bool) (x : State r) (i q : ℕ) →
+      Enters holds t (number x) i q ↔ ((y : State r) × (number y ≡ q) × Steps holds r x i y)
+  pub accepts : (holds : B → ℕ → Bool) (x : State r) (i : ℕ) →
+      Accepts holds t (number x) i ↔ Ends holds r x i
+  pub empty : IsTrue t.empty ↔ Nullable r
+
+-- positions moved up
+abbrev pub shift : ℕ → List ℕ → List ℕ
+shift n qs = map (λ q. n + q) qs
+
+abbrev pub shifted : {B : Type 0} → ℕ → Edge B → Edge B
+shifted n e = record { wanted = e.wanted; enters = shift n e.enters; accepts = e.accepts }
+
+abbrev pub picked : {A : Type 0} → Bool → List A → List A
+picked true xs = xs
+picked false xs = []
+
+-- so many numbers from the first one on
+abbrev pub numbers : ℕ → ℕ → List ℕ
+numbers first zero = []
+numbers first (suc count) = first ∷ numbers (first + 1) count
+
+abbrev pub tick_table : {B : Type 0} → B → Table B
+tick_table b = record {
+  size = 1;
+  row = λ p. record { wanted = b ∷ []; enters = []; accepts = true } ∷ [];
+  starts = 0 ∷ [];
+  empty = false;
+}
+
+abbrev pub skip_table : {B : Type 0} → Table B
+skip_table = record { size = 0; row = λ p. []; starts = []; empty = true }
+
+-- the positions of both, side by side
+abbrev pub any_table : {B : Type 0} → Table B → Table B → Table B
+any_table t u = record {
+  size = t.size + u.size;
+  row = λ p. if nat_lt p t.size then t.row p else map (shifted t.size) (u.row (p - t.size));
+  starts = t.starts ++ shift t.size u.starts;
+  empty = t.empty || u.empty;
+}
+
+abbrev pub wanting : {B : Type 0} → B → Edge B → Edge B
+wanting b e = record { wanted = b ∷ e.wanted; enters = e.enters; accepts = e.accepts }
+
+abbrev pub under_table : {B : Type 0} → B → Table B → Table B
+under_table b t = record {
+  size = t.size;
+  row = λ p. map (wanting b) (t.row p);
+  starts = t.starts;
+  empty = t.empty;
+}
+
+-- The positions of t, then those of g, then those of u. What ends a match of t goes on to the first
+-- of g, or past an empty g to the first of u; and where it may fuse, it does what the first of u do
+-- at the same tick.
+abbrev pub onward : {B : Type 0} → Table B → Table B → Table B → List ℕ
+onward t g u = shift t.size g.starts ++ picked g.empty (shift (t.size + g.size) u.starts)
+
+abbrev pub leading : {B : Type 0} → Bool → Table B → Table B → Table B → Edge B → Edge B
+leading follows t g u e = record {
+  wanted = e.wanted;
+  enters = e.enters ++ picked (e.accepts && follows) (onward t g u);
+  accepts = e.accepts && (follows && (g.empty && u.empty));
+}
+
+abbrev pub joined : {B : Type 0} → ℕ → Edge B → Edge B → Edge B
+joined n e f =
+    record { wanted = e.wanted ++ f.wanted; enters = shift n f.enters; accepts = f.accepts }
+
+abbrev pub fusing : {B : Type 0} → Bool → Table B → Table B → Table B → Edge B → List (Edge B)
+fusing fuses t g u e =
+    picked (e.accepts && fuses) (map (joined (t.size + g.size) e) (flat_map u.row u.starts))
+
+abbrev pub crossing : {B : Type 0} → Table B → Table B → Table B → Edge B → Edge B
+crossing t g u e = record {
+  wanted = e.wanted;
+  enters = shift t.size e.enters ++ picked e.accepts (shift (t.size + g.size) u.starts);
+  accepts = e.accepts && u.empty;
+}
+
+abbrev pub link_table : {B : Type 0} → Bool → Bool → Table B → Table B → Table B → Table B
+link_table fuses follows t g u = record {
+  size = t.size + g.size + u.size;
+  row = λ p.
+      if nat_lt p t.size
+      then flat_map (λ e. leading follows t g u e ∷ fusing fuses t g u e) (t.row p)
+      else (
+      if nat_lt p (t.size + g.size)
+      then map (crossing t g u) (g.row (p - t.size))
+      else map (shifted (t.size + g.size)) (u.row (p - (t.size + g.size)))
+      );
+  starts = t.starts ++ picked (follows && t.empty) (onward t g u);
+  empty = follows && (t.empty && (g.empty && u.empty));
+}
+
+-- So many copies of t. What ends a match in one goes on to the first of the next, or of any later
+-- one past empty matches.
+abbrev pub copies : {B : Type 0} → Table B → ℕ → ℕ → List ℕ
+copies t first most =
+    flat_map (λ c. shift (c * t.size) t.starts)
+    (numbers first (if t.empty then most - first else min 1 (most - first)))
+
+abbrev pub looping : {B : Type 0} → Table B → ℕ → ℕ → ℕ → Edge B → Edge B
+looping t least most c e = record {
+  wanted = e.wanted;
+  enters = shift (c * t.size) e.enters ++ picked e.accepts (copies t (c + 1) most);
+  accepts = e.accepts && (nat_le least most && (nat_le least (c + 1) || t.empty));
+}
+
+abbrev pub loop_table : {B : Type 0} → Table B → ℕ → ℕ → Table B
+loop_table t least most = record {
+  size = most * t.size;
+  row = λ p. map (looping t least most (p / t.size)) (t.row (p % t.size));
+  starts = copies t 0 most;
+  empty = nat_le least most && (least == 0 || t.empty);
+}
+
+-- The pairs, then the positions of t alone, then those of u alone: each where the other has ended.
+abbrev pub products : ℕ → List ℕ → List ℕ → List ℕ
+products size xs ys = flat_map (λ x. shift (x * size) ys) xs
+
+abbrev pub paired : {B : Type 0} → Table B → Table B → Edge B → Edge B → Edge B
+paired t u e f = record {
+  wanted = e.wanted ++ f.wanted;
+  enters =
+      products u.size e.enters f.enters
+      ++ (picked f.accepts (shift (t.size * u.size) e.enters)
+      ++ picked e.accepts (shift (t.size * u.size + t.size) f.enters));
+  accepts = e.accepts && f.accepts;
+}
+
+abbrev pub all_table : {B : Type 0} → Table B → Table B → Table B
+all_table t u = record {
+  size = t.size * u.size + t.size + u.size;
+  row = λ p.
+      if nat_lt p (t.size * u.size)
+      then flat_map (λ e. map (paired t u e) (u.row (p % u.size))) (t.row (p / u.size))
+      else (
+      if nat_lt p (t.size * u.size + t.size)
+      then map (shifted (t.size * u.size)) (t.row (p - t.size * u.size))
+      else map (shifted (t.size * u.size + t.size)) (u.row (p - (t.size * u.size + t.size)))
+      );
+  starts =
+      products u.size t.starts u.starts
+      ++ (picked u.empty (shift (t.size * u.size) t.starts)
+      ++ picked t.empty (shift (t.size * u.size + t.size) u.starts));
+  empty = t.empty && u.empty;
+}
+
+-- The pairs alone: each goes on where both do, and accepts where both do.
+abbrev pub coupled : {B : Type 0} → ℕ → Edge B → Edge B → Edge B
+coupled size e f = record {
+  wanted = e.wanted ++ f.wanted;
+  enters = products size e.enters f.enters;
+  accepts = e.accepts && f.accepts;
+}
+
+abbrev pub pair_table : {B : Type 0} → Table B → Table B → Table B
+pair_table t u = record {
+  size = t.size * u.size;
+  row = λ p. flat_map (λ e. map (coupled u.size e) (u.row (p % u.size))) (t.row (p / u.size));
+  starts = products u.size t.starts u.starts;
+  empty = t.empty && u.empty;
+}
+
+-- the table of a plan
+abbrev pub table_of : {B : Type 0} → Plan B → Table B
+table_of (tick b) = tick_table b
+table_of skip = skip_table
+table_of (any r s) = any_table (table_of r) (table_of s)
+table_of (all r s) = all_table (table_of r) (table_of s)
+table_of (pair r s) = pair_table (table_of r) (table_of s)
+table_of (under b r) = under_table b (table_of r)
+table_of (loop r least most) = loop_table (table_of r) least most
+table_of (link fuses follows r g s) =
+    link_table fuses follows (table_of r) (table_of g) (table_of s)

@@ -1,0 +1,15 @@
+pub mod OneReport
+pub mod TokenLaws
+pub mod ItemLaws
+pub mod Unrefused
+pub mod CauseLaws
+pub mod AttemptLaws
+pub mod PairLaws
+pub mod SpelledLaws
+pub mod CountLaws
+pub mod SameLaws
+pub mod MovedTrees
+pub mod MovedFiles
+pub mod MovedReadings
+pub mod MovedSuites
+pub mod MovedFaults

@@ -1,0 +1,46 @@
+-- Why an assertion of a text has no program, by what the text says.
+use Rattle.std.specs.Prelude.{◌≡◌, ℕ, List, Some, slice_get}
+use Rattle.parser_grammar.specs.Trees.{AssertionForm, ItemForm}
+use Rattle.types_names.specs.Scopes.{Scope}
+use Rattle.types_suites.specs.Texts.{assertions_of, label_text}
+use Rattle.compiler.specs.declared.fault.CompileFault.{CompileFault}
+use Rattle.compiler.specs.declared.fault.CompileFault.TheVariants.{TooManyAtoms, CodeTooLong}
+use Rattle.laws_suites.specs.Small.{HasManyBooleans, IsSmallText}
+use Rattle.vcd_reader.specs.Dump.{Contents}
+use Rattle.cli_faults.specs.declared.fault.Fault.TheVariants.{Compile}
+use Rattle.cli.specs.Named.{scope_over}
+use Rattle.cli.specs.Reported.{HasItems}
+use Rattle.cli.specs.Outcomes.{IsNotCompiled}
+use Rattle.cli.specs.Builds.{SaysNone}
+
+-- K1: over 127 booleans are written. K2: the assertion isn't small. The slots of K3 and the texts
+-- of K4 are those of the suite, whose clauses name them.
+abbrev pub IsCause : Scope → List ItemForm → AssertionForm → CompileFault → Type 0
+IsCause s items a TooManyAtoms = HasManyBooleans s items a
+IsCause s items a CodeTooLong = IsSmallText s items a → ⊥
+IsCause s items a fault = Unit {0}
+
+-- It stands of the assertion at a place among those of the text.
+pub record HasCause (c : Contents) (text : List ℕ) (place : ℕ) (fault : CompileFault) : Type 0 where
+  pub items : List ItemForm
+  pub spelled : HasItems text items
+  pub assertion : AssertionForm
+  pub is : slice_get (assertions_of items) place ≡ Some assertion
+  pub cause : IsCause (scope_over c.variables items) items assertion fault
+
+-- Some assertion of a text that isn't compiled has the cause.
+abbrev pub FaultsHaveCauses : Type 0
+FaultsHaveCauses =
+    (c : Contents) (text : List ℕ) (fault : CompileFault) → IsNotCompiled c text fault →
+    (place : ℕ) × HasCause c text place fault
+
+-- The cause of a build's fault stands of an assertion of the name.
+pub record HasNamedCause (c : Contents) (text name : List ℕ) (fault : CompileFault) : Type 0 where
+  pub place : ℕ
+  pub has : HasCause c text place fault
+  pub named : label_text place has.assertion.label ≡ name
+
+abbrev pub BuildFaultsHaveCauses : Type 0
+BuildFaultsHaveCauses =
+    (c : Contents) (text name : List ℕ) (fault : CompileFault) →
+    SaysNone c text name (Compile fault) → HasNamedCause c text name fault

@@ -1,0 +1,4 @@
+pub mod Laws
+pub mod Causes
+pub mod Same
+pub mod Suites

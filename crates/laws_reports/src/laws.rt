@@ -1,0 +1,30 @@
+//! Laws of suites and reports, each a call that does nothing.
+
+ghost use Rattle.laws_reports.specs.Causes.{FaultsHaveCauses, BuildFaultsHaveCauses};
+ghost use Rattle.laws_reports.specs.Laws.{ReportsAreOne, ReportsAreNotRefused};
+ghost use Rattle.laws_reports.specs.Suites.{SuitesAreOne};
+
+/// Any two suites that a text may be said to say over one scope say the same.
+pub fn suites_law()
+    ensures { SuitesAreOne }
+{}
+
+/// The bytes of a dump and the bytes of a text have at most one report.
+pub fn report_law()
+    ensures { ReportsAreOne }
+{}
+
+/// A text that has a report over a dump is refused by nothing but want of memory.
+pub fn refusal_law()
+    ensures { ReportsAreNotRefused }
+{}
+
+/// Where a text isn't compiled, the cause stands of one of its assertions, and where a build has no
+/// program, of one of the name.
+pub fn cause_law()
+    ensures check { FaultsHaveCauses }
+    ensures build { BuildFaultsHaveCauses }
+{
+    compiler::small_law();
+    laws_suites::small_law();
+}

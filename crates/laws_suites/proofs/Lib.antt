@@ -1,0 +1,14 @@
+pub mod WordLaws
+pub mod PathLaws
+pub mod NameLaws
+pub mod KnownLaws
+pub mod EmptyLaws
+pub mod FitLaws
+pub mod MeasureLaws
+pub mod TrimmedLaws
+pub mod TreeLaws
+pub mod LeafLaws
+pub mod SmallLaws
+pub mod LevelLaws
+pub mod DepthLaws
+pub mod FileLaws

@@ -1,0 +1,5 @@
+pub mod Laws
+pub mod WrittenOut
+pub mod Small
+pub mod TextTrees
+pub mod Depths

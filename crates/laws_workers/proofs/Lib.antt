@@ -1,0 +1,9 @@
+pub mod Cuts
+pub mod Meaning
+pub mod ListLaws
+pub mod OwnedLaws
+pub mod GatherLaws
+pub mod MonitorLaws
+pub mod TurnLaws
+pub mod RoundLaws
+pub mod OpeningLaws

@@ -1,0 +1,5 @@
+pub mod Headline
+pub mod Steps
+pub mod Rounds
+pub mod Owners
+pub mod RoundTheorems

@@ -1,0 +1,24 @@
+//! Laws of rounds, each a call that does nothing.
+
+ghost use Rattle.laws_workers.specs.RoundTheorems.{RoundsAreSteps, CoresRestAtFirst};
+ghost use Rattle.laws_workers.specs.RoundTheorems.{OwnersAreDealt, DealtHaveOwners};
+
+/// A round is a list of the core's steps, whichever workers run the monitors.
+pub fn round_law()
+    ensures { RoundsAreSteps }
+{}
+
+/// Rounds may begin where a core does.
+pub fn opening_law()
+    ensures { CoresRestAtFirst }
+{}
+
+/// What each worker of a round owns rises, and together it is all monitors, each once.
+pub fn owned_law()
+    ensures { OwnersAreDealt }
+{}
+
+/// Rising lists that together are all monitors, each once, are what some round's workers own.
+pub fn owners_law()
+    ensures { DealtHaveOwners }
+{}

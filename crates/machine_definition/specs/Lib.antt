@@ -1,0 +1,11 @@
+pub mod Outcomes
+pub mod Blocks
+pub mod Samples
+pub mod Clocks
+pub mod Machine
+pub mod Runs
+pub mod Bounds
+pub mod Laws
+pub mod Worked
+pub mod Awaited
+pub mod Values

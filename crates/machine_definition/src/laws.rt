@@ -1,0 +1,27 @@
+//! Laws of the checked machine, each a call that does nothing.
+
+ghost use Rattle.machine_definition.specs.Laws.{NeverTraps, FewAreLive};
+ghost use Rattle.machine_definition.specs.Awaited.{KeepsAwaitedTicks};
+ghost use Rattle.machine_definition.specs.Worked.{TwoPositionsRun, FirstPositionsRun};
+
+/// A verified program meets no trap over any rows, and what stands between its clocks is bounded.
+pub fn never_traps()
+    ensures reached { NeverTraps }
+    ensures few { FewAreLive }
+{}
+
+/// A run of three clocks, worked out by hand.
+pub fn worked_run()
+    ensures { TwoPositionsRun }
+{}
+
+/// Another, of a program that accepts first.
+pub fn worked_first_run()
+    ensures { FirstPositionsRun }
+{}
+
+/// The set of all ticks at which an attempt accepted says the same as the list of those whose
+/// obligation is still open.
+pub fn awaited_ticks_law()
+    ensures { KeepsAwaitedTicks }
+{}

@@ -1,0 +1,33 @@
+//! Runs of a program: what a monitor decides over clocks, in batches, and what is reported of it.
+//!
+//! A program names a clock and its signals. Its rows are the values of the signals at each tick of
+//! the clock. A batch names its monitor, the clocks a up to b (b is not in it), and all attempts
+//! that the checked machine decides at those clocks, by clock, then start. Batches of runs of
+//! clocks that meet are, joined, the batch of the longer run: so the size of windows changes
+//! nothing. A program's line counts what was decided over all rows, and the attempts that failed;
+//! those that are still live after the last clock are counted as open. Its report has that line.
+//!
+//! There is no report where the clock (C1, C2), then a signal (C4, C5, in their order), then the
+//! size of the windows (C3) is not as it should be.
+//!
+//! ```text
+//! let batch = Batch { monitor: 0, first: 0, end: 10, decided };
+//! batches_law();     // does nothing; what it ensures holds of all programs and rows
+//! batches_join();    // so does this: batches that meet, joined, are the batch of all their clocks
+//! ```
+//!
+//! The definitions: the report over the contents of a dump, and why there is none, in
+//! `specs/Reported.antt`; the line of a program over rows in `specs/Lines.antt`; runs between two
+//! clocks and their batch in `specs/Batches.antt`; that rows may be cut anywhere in
+//! `specs/Laws.antt`. What a program decides over rows is that of `machine_definition`, in its
+//! `specs/Runs.antt`; ticks and rows are those of `cycle_window`, and reports those of `verdicts`.
+//!
+//! Not promised: that a `Batch` that anybody makes is right (`workers_core` says which are), or
+//! that a program of unknown origin means anything.
+#![tactic(auto)]
+
+mod batch;
+mod laws;
+
+pub use batch::Batch;
+pub use laws::{batches_join, batches_law};

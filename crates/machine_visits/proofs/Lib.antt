@@ -1,0 +1,4 @@
+pub mod RunLaws
+pub mod SetLaws
+pub mod BitLaws
+pub mod MarkLaws

@@ -1,0 +1,9 @@
+use Rattle.std.proofs.Common.{◌≡◌, map, drop}
+use Rattle.std.specs.List.{list_any}
+use Rattle.std.specs.Str.{bytes_eq}
+use Rattle.parser_grammar.proofs.terminal.is_one_of.Given as goal
+
+abbrev pub invariant-loop-word : goal.invariant-loop-word
+invariant-loop-word l =
+    list_any (bytes_eq l.text) (map (λ w. w.now) l.words)
+    ≡ list_any (bytes_eq l.text) (map (λ w. w.now) (drop l.word-index l.words))

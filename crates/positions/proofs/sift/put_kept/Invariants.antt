@@ -1,8 +1,0 @@
-use Rattle.std.proofs.Common.{◌≡◌, ◌++◌, take}
-use Rattle.positions.specs.Living.{sift}
-use Rattle.positions.specs.Rows.{marked}
-use Rattle.positions.proofs.sift.put_kept.Given as goal
-
-abbrev pub invariant-loop-position : goal.invariant-loop-position
-invariant-loop-position l =
-    l.list.items ≡ l.fn.list.items ++ sift (marked l.marks) (take l.position-index l.positions)

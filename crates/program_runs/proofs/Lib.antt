@@ -1,5 +1,0 @@
-pub mod BatchLaws
-pub mod CutLaws
-pub mod CountLaws
-pub mod RowLaws
-pub mod BoundLaws

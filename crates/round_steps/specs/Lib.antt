@@ -1,4 +1,0 @@
-pub mod Steps
-pub mod Rounds
-pub mod Owners
-pub mod Laws

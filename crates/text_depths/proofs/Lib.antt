@@ -1,3 +1,0 @@
-pub mod LevelLaws
-pub mod DepthLaws
-pub mod FileLaws

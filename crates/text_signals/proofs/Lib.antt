@@ -1,3 +1,0 @@
-pub mod ListingLaws
-pub mod AskedLaws
-pub mod ReadLaws

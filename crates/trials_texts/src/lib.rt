@@ -1,0 +1,26 @@
+//! Tests of what reads a text, from `parser` to `types`, on happy paths: what no table of a program
+//! `oracle_*` reaches by itself. What tokens are is tried in `trials_texts`.
+//!
+//! A text is cut and read, and then looked at: which items a file has, which fault of names and
+//! widths stands where, what a name stands for, which columns a text reads, and what its suite has.
+//!
+//! ```text
+//! let tokens = lex(rt.alloc(), "counter n [2]; assert property (@(posedge c) n[2]);")?;
+//! let file = parse(rt.alloc(), tokens.as_slice())?;
+//! let scope = scope_for(rt.alloc(), &names, &file.items)?;
+//! let fault = first_fault(rt.alloc(), &scope, Sought::OutOfRange, &file.items)?;
+//! ```
+//!
+//! `rt test` in this crate proves the tests and runs them. The definitions that the contracts cite
+//! stand in the crates that are tested: of trees in `parser_grammar`, of names and widths in
+//! `types_names`, of suites in `types_suites`, each in its `specs/`.
+//!
+//! Not promised: that each fault of a text occurs here; this crate has no public functions.
+#![tactic(auto)]
+
+#[cfg(test)]
+mod scopes;
+#[cfg(test)]
+mod suites;
+#[cfg(test)]
+mod texts;

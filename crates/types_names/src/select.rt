@@ -1,0 +1,16 @@
+//! Selects of bits.
+
+ghost use Rattle.std.specs.Prelude.{◌≡◌};
+ghost use Rattle.types_names.specs.Widths.{low_of};
+
+use parser_grammar::Select;
+
+/// The low bit of a select.
+pub fn low_of(select: Select) -> u128
+    ensures { result ≡ low_of select }
+{
+    match select.low {
+        Some(low) => low.value,
+        None => select.high.value,
+    }
+}

@@ -1,3 +1,0 @@
-pub mod Tallied
-pub mod Failures
-pub mod Lines

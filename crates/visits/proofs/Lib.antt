@@ -1,5 +1,0 @@
-pub mod RunLaws
-pub mod SetLaws
-pub mod BitLaws
-pub mod MarkLaws
-pub mod LifeLaws

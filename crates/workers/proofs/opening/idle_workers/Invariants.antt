@@ -1,8 +1,0 @@
-use Rattle.std.proofs.Common.{◌≡◌, [], None, map, replicate}
-use Rattle.workers.specs.Floors.{worker_state}
-use Rattle.workers.proofs.opening.idle_workers.Given as goal
-
--- the workers so far
-abbrev pub invariant-loop-worker : goal.invariant-loop-worker
-invariant-loop-worker l =
-    map worker_state l.workers.items ≡ replicate l._worker (record { hand = None; done = [] })

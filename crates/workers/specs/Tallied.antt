@@ -1,0 +1,39 @@
+-- How many attempts of a kind lines have, and workers added: kind 0 are those that hold, 1 those
+-- that are vacuous, 2 those that fail, and each other number those that are disabled.
+use Rattle.std.specs.Prelude.{◌≡◌, ℕ, zero, suc, List, [], ◌∷◌}
+use Rattle.std.specs.List.{sum_by}
+use Rattle.verdicts.specs.declared.line.Counts.{Counts}
+use Rattle.verdicts.specs.declared.line.Line.{Line}
+use Rattle.workers_lines.specs.declared.line_so_far.LineSoFar.{LineSoFar}
+use Rattle.workers_tally.specs.declared.tally.Share.{Share}
+use Rattle.workers_tally.specs.Shares.{each_capped}
+use Rattle.workers_rounds.specs.declared.round.Member.{Member}
+use Rattle.workers_rounds.specs.Adding.{amount_of, added_by}
+
+abbrev pub count_in : ℕ → Counts → ℕ
+count_in zero c = c.holds
+count_in (suc zero) c = c.vacuous
+count_in (suc (suc zero)) c = c.fails
+count_in (suc (suc (suc k))) c = c.disabled
+
+-- what lines in the making took in
+abbrev pub told_by : ℕ → List LineSoFar → ℕ
+told_by k ls = sum_by (λ (l : LineSoFar). count_in k l.counts) ls
+
+-- what lines say
+abbrev pub said_by : ℕ → List Line → ℕ
+said_by k ls = sum_by (λ (l : Line). count_in k l.counts) ls
+
+-- the four numbers are those of the lines, each held at the largest number
+abbrev pub AreTotals : List ℕ → List Line → Type 0
+AreTotals totals ls =
+    totals ≡ each_capped (said_by 0 ls ∷ said_by 1 ls ∷ said_by 2 ls ∷ said_by 3 ls ∷ [])
+
+module _ {L : Type 0} where
+  -- what all these shares have
+  abbrev pub shared_by : ℕ → List (Share L) → ℕ
+  shared_by k ss = sum_by (λ (s : Share L). amount_of k s) ss
+
+  -- the workers added what the lines took in, kind by kind
+  abbrev pub AreTallied : List (Member L) → List LineSoFar → Type 0
+  AreTallied ms ls = (k : ℕ) → added_by k ms ≡ told_by k ls

@@ -1,0 +1,118 @@
+//! The report of one program.
+
+ghost use Rattle.std.specs.Prelude.{◌≡◌, ◌∷◌, ◌≤◌, [], List, IfOk, IfErr, map};
+ghost use Rattle.bytecode.specs.Values.{ProgramData};
+ghost use Rattle.vcd_reader.specs.Variables.{Declared};
+ghost use Rattle.vcd_reader.specs.Dump.{Contents};
+ghost use Rattle.vcd_reader.specs.Held.{HoldsContents, variables_of};
+ghost use Rattle.cycle_window.specs.declared.fault.WindowFault.TheVariants as faults;
+ghost use Rattle.cycle_window.specs.Bound.{IsClock, IsClockFault, IsSignalFault};
+ghost use Rattle.cycle_window.specs.Held.{code_in, AreClocksOf};
+ghost use Rattle.verdicts.specs.Shown.{data_of};
+ghost use Rattle.machine_runs.specs.Lines.{attempts_of};
+ghost use Rattle.machine_runs.specs.Reported.{HasSignals, Reports, WhyNoRun, wanted_slot};
+ghost use Rattle.workers_core.specs.declared.run_fault.RunFault.TheVariants as runs;
+ghost use Rattle.workers_core.specs.Wanted.{WhyUnfit};
+ghost use Rattle.workers.specs.Faults.{IsOfSignals};
+
+use crate::runs::run;
+use cycle_window::{Clocks, WindowFault};
+use workers_rounds::work::Gate;
+use std::alloc::Global;
+use std::sync::Wait;
+use std::thread::Threads;
+use vcd_reader::Dump;
+use verdicts::Report;
+use verifier::Verified;
+use workers_core::{Job, JobFault, RunFault};
+
+/// The clock that a program names.
+fn clocks_of(alloc: Global, dump: &Dump, verified: &Verified) -> Result<Clocks, WindowFault>
+    ensures clock { IfOk result (λ k.
+        IsClock (variables_of dump.now) verified.now.header.clock (code_in k)) }
+    ensures ticks { IfOk result (AreClocksOf dump.now) }
+    ensures fault { IfErr result
+        (IsClockFault (variables_of dump.now) verified.now.header.clock) }
+{
+    Clocks::of(alloc, dump, verified.program().clock.as_str())
+}
+
+/// The fault of a job of one program, on a clock that is there.
+fn signal_fault(fault: JobFault) -> WindowFault
+    requires { IsOfSignals fault }
+    ensures { (vs : List Declared) (p : ProgramData) → WhyUnfit vs (p ∷ []) fault
+        → IsSignalFault vs (map wanted_slot p.signals) result }
+{
+    match fault {
+        JobFault::NoSignal(path) => WindowFault::NoSignal(path),
+        JobFault::SignalWidth(path) => WindowFault::SignalWidth(path),
+        JobFault::Memory => WindowFault::Memory,
+        _ => unreachable!(),
+    }
+}
+
+/// The job of one program, at the ticks of these clocks of the dump.
+fn job_of(alloc: Global, dump: Dump, verified: Verified, clocks: Clocks) -> Result<Job, WindowFault>
+    requires { AreClocksOf dump clocks }
+    ensures programs { IfOk result (λ j. j.programs.items ≡ verified ∷ []) }
+    ensures dump { IfOk result (λ j. j.dump ≡ dump) }
+    ensures clocks { IfOk result (λ j. j.clocks ≡ clocks) }
+    ensures fits { IfOk result (λ _. HasSignals (variables_of dump) verified) }
+    ensures fault { IfErr result
+        (IsSignalFault (variables_of dump) (map wanted_slot verified.signals)) }
+{
+    let mut programs = Vec::new(alloc);
+    programs.push(verified)?;
+    // An arm knows that it is a fault of signals, as `signal_fault` asks; a `From` can't ask it.
+    match Job::over(alloc, programs, dump, clocks) {
+        Ok(job) => Ok(job),
+        Err(fault) => Err(signal_fault(fault)),
+    }
+}
+
+/// The fault of a run of an allowed number of workers, through windows of an allowed size.
+fn want_of_memory(fault: RunFault) -> WindowFault
+    requires { fault ≡ runs.Memory }
+    ensures { result ≡ faults.Memory }
+{
+    match fault {
+        RunFault::Memory => WindowFault::Memory,
+        _ => unreachable!(),
+    }
+}
+
+/// The report of a verified program over a dump, on the clock that it names, by 1 to 64 workers
+/// through windows of so many clocks, 1 to 65,536. Neither the number of workers nor the size nor
+/// the gate changes it.
+///
+/// # Errors
+///
+/// C1 and C2 of the clock, C4 and C5 of the first signal that has one, and want of memory.
+pub fn report_run<G: Gate + Sync, R: Threads + Wait + Sync>(
+    rt: &R,
+    alloc: Global,
+    dump: Dump,
+    verified: Verified,
+    workers: usize,
+    size: usize,
+    gate: &G,
+) -> Result<Report, WindowFault>
+    requires workers { (1 ≤ workers) × (workers ≤ 64) }
+    requires size { (1 ≤ size) × (size ≤ 65536) }
+    ensures report { (c : Contents) → HoldsContents dump c
+        → IfOk result (λ r. Reports c verified (data_of r)) }
+    // One attempt begins at each clock, and each is counted once.
+    ensures count { IfOk result (λ r. attempts_of r.total ≡ r.clocks) }
+    // The first cause that stands.
+    ensures refused { (c : Contents) → HoldsContents dump c
+        → IfErr result (WhyNoRun c.variables verified size) }
+{
+    let clocks = clocks_of(alloc, &dump, &verified)?;
+    let job = job_of(alloc, dump, verified, clocks)?;
+    let _count = job.clocks().len();
+    // An arm knows that it is want of memory, as `want_of_memory` asks; a `From` can't ask it.
+    match run(rt, alloc, &job, workers, size, gate) {
+        Ok(report) => Ok(report),
+        Err(fault) => Err(want_of_memory(fault)),
+    }
+}

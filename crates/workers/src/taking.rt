@@ -1,0 +1,58 @@
+//! A round's batches go into the lines.
+
+ghost use Rattle.std.specs.Prelude.{◌≡◌, ◌+◌, ◌^◌, ◌<◌, ℕ, Some, All, OnOk, IfOk, length, map};
+ghost use Rattle.std.specs.Prelude.{slice_get};
+ghost use Rattle.machine_runs.specs.Lines.{attempts_of};
+ghost use Rattle.workers_board.specs.Receipts.{IsReceiptOf, shown_by};
+ghost use Rattle.workers_lines.specs.declared.line_so_far.LineSoFar.{LineSoFar};
+ghost use Rattle.workers_lines.specs.Taken.{TookIn};
+ghost use Rattle.workers_bench.specs.declared.numbered.Numbered.{Numbered};
+ghost use Rattle.workers_rounds.specs.declared.work.Published.{Published};
+ghost use Rattle.workers.specs.Taking.{Takes, numbered_of};
+
+use workers_bench::Numbered;
+use workers_board::Board;
+use workers_lines::LineSoFar;
+use workers_rounds::work::Published;
+use std::alloc::{AllocError, Global};
+
+/// Takes the batch of each monitor into the line of its number.
+pub(crate) fn take_round(
+    lines: &mut Vec<LineSoFar>,
+    board: &Board,
+    published: &[Published],
+) -> Result<(), AllocError>
+    requires long { length lines.old.items ≡ length published.now }
+    requires of { All (λ p. IsReceiptOf board.now p.receipt) published.now }
+    requires room { (i : ℕ) (l : LineSoFar) (p : Published) → slice_get lines.old.items i ≡ Some l
+        → slice_get published.now i ≡ Some p
+        → attempts_of l.counts + length (shown_by p.receipt).decided.items < 2 ^ 64 }
+    ensures long { length lines.new.items ≡ length lines.old.items }
+    ensures took { OnOk result ((i : ℕ) (l m : LineSoFar) (p : Published)
+        → slice_get lines.old.items i ≡ Some l → slice_get published.now i ≡ Some p
+        → slice_get lines.new.items i ≡ Some m → Takes l (shown_by p.receipt).decided.items m) }
+{
+    for number in 0..published.len() {
+        let batch = board.read(&published[number].receipt);
+        lines[number].take_in(batch.decided.as_slice())?;
+    }
+    Ok(())
+}
+
+/// The monitors that published, in their order.
+pub(crate) fn monitors_back(
+    alloc: Global,
+    published: Vec<Published>,
+) -> Result<Vec<Numbered>, AllocError>
+    ensures { IfOk result (λ all. all.items ≡ map numbered_of published.items) }
+{
+    let mut all = Vec::with_capacity(alloc, published.len())?;
+    for one in published {
+        let Published {
+            monitor,
+            receipt: _,
+        } = one;
+        all.push_reserved(monitor);
+    }
+    Ok(all)
+}

@@ -1,0 +1,12 @@
+pub mod PlaceLaws
+pub mod FloorLaws
+pub mod OrderLaws
+pub mod RunLaws
+pub mod ToldLaws
+pub mod JobLaws
+pub mod OpeningLaws
+pub mod PartLaws
+pub mod OnceLaws
+pub mod StartLaws
+pub mod CoreLaws
+pub mod FollowLaws

@@ -1,0 +1,132 @@
+use Rattle.std.proofs.Common.{◌≡◌, ◌+◌, ◌-◌, ℕ, List, refl, sym, ap, ◌∙◌, subst, arith}
+use Rattle.std.proofs.Math.Logic.{∥∥₁_map}
+use Rattle.std.specs.Prelude.{slice_index}
+use Rattle.bytecode.specs.Values.{ProgramData}
+use Rattle.cycle_window.specs.Ticks.{ticks_of, row_of}
+use Rattle.cycle_window.specs.Held.{columns_in, clock_in}
+use Rattle.machine_runs.specs.Batches.{rows_between}
+use Rattle.cycle_window.proofs.HeldLaws.{over-end}
+use Rattle.workers_core.specs.declared.monitor.Monitor.{Monitor}
+use Rattle.machine_definition.specs.Outcomes.{done}
+use Rattle.workers_core.specs.States.{MonitorState}
+use Rattle.workers_core.specs.Standing.{monitor_state, variables_in, seen}
+use Rattle.workers_core.specs.Standing.{AreSampled, IsSame, HasGone}
+use Rattle.workers_core.proofs.PlaceLaws as laws
+use Rattle.workers_core.proofs.monitor.Monitor.advance.Goals as goal
+
+pub clock-requires-clause-row : goal.clock-requires-clause-row
+clock-requires-clause-row c =
+    let w = c.args.window.now in
+    let old = c.args.self.now in
+    let mid = c.loop-clock.self in
+    let row = c.put_part.new.part.items in
+    let same = c.loop-clock.invariant.same in
+    subst (λ (p : ProgramData). AreSampled p row) (sym same.program)
+    (∥∥₁_map c.requires.stands.fits (λ f.
+    let tick = slice_index (ticks_of f.0 (clock_in (columns_in w))) c.loop-clock.clock in (
+      f.0,
+      variables_in w old,
+      tick,
+      laws.row-seen w f.0 old mid row tick same (c.put_part.ensures.part f.0 f.1),
+      f.2,
+    )))
+
+pub loop-clock-init : goal.loop-clock-init
+loop-clock-init c =
+    let w = c.args.window.now in
+    let old = c.args.self.now in
+    let now = old.machine.state.standing.now in
+    record {
+      same = laws.same-self old;
+      now = sym c.now-clock.ensures;
+      ahead = omega (arith, c.now-clock.ensures);
+      most = omega (arith, c.now-clock.ensures, c.requires.ahead);
+      spare = omega (arith, c.now-clock.ensures, c.requires.spare);
+      gone = λ k over.
+          subst (λ (n : ℕ). HasGone (rows_between (seen w k old) now n) old old)
+          (sym c.now-clock.ensures) (laws.gone-none (seen w k old) now old);
+    }
+
+-- what a monitor has come to does not hang on the room for its row
+gone-same : (rows : List (List ℕ)) (old mid lent : Monitor) → monitor_state mid ≡ monitor_state lent
+    → HasGone rows old mid → HasGone rows old lent
+gone-same rows old mid lent is h = record {
+  decided = h.decided;
+  ran = h.ran ∙ ap (λ (m : MonitorState). done (record { state = m.state; decided = h.decided }) 0) is;
+  told = sym (ap (λ (m : MonitorState). m.decided) is) ∙ h.told;
+}
+
+pub loop-clock-preserved : goal.loop-clock-preserved
+loop-clock-preserved c =
+    let w = c.args.window.now in
+    let old = c.args.self.now in
+    let mid = c.loop-clock.self in
+    let inv = c.loop-clock.invariant in
+    let step = c.clock.ensures in
+    let row = c.put_part.new.part in
+    let lent : Monitor =
+    record {
+      machine = mid.machine;
+      from = mid.from;
+      to = mid.to;
+      row = row;
+      attempts = mid.attempts;
+      since = mid.since;
+      decided = mid.decided;
+      wide = c.self-1.given.0;
+    } in
+    let same : IsSame old lent =
+    record {
+      program = inv.same.program;
+      from = inv.same.from;
+      to = inv.same.to;
+      attempts = inv.same.attempts;
+      since = inv.same.since;
+    } in
+    record {
+      same = laws.same-all old lent c.clock.new.self same step.same;
+      now = omega (arith, step.now, inv.now);
+      ahead = omega (arith, inv.ahead);
+      most = omega (arith, c.loop-clock-test.true);
+      spare = omega (arith, step.live, step.capacity, inv.spare, c.loop-clock-test.true);
+      gone = λ k over.
+          let ticks = ticks_of k (clock_in (columns_in w)) in
+          laws.gone-more (row_of k (variables_in w old)) ticks old.machine.state.standing.now
+          c.loop-clock.clock row.items old lent c.clock.new.self
+          inv.ahead (omega (arith, over-end w k over, c.requires.inside, c.loop-clock-test.true))
+          (laws.row-seen w k old lent row.items (slice_index ticks c.loop-clock.clock) same
+          (c.put_part.ensures.part k over))
+          same (gone-same (rows_between (seen w k old) old.machine.state.standing.now c.loop-clock.clock)
+          old mid lent refl (inv.gone k over)) step;
+    }
+
+pub returns-clause-stands : goal.returns-clause-stands
+returns-clause-stands c =
+    let w = c.args.window.now in
+    let old = c.args.self.now in
+    let inv = c.loop-clock.invariant in
+    let end : c.loop-clock.clock ≡ c.args.to = omega (arith, inv.most, c.loop-clock-test.false) in
+    laws.stands-on w old c.loop-clock.self c.args.to c.requires.stands inv.same (inv.now ∙ end)
+    c.requires.ahead c.requires.inside
+    (λ k over. subst
+    (λ (n : ℕ). HasGone (rows_between (seen w k old) old.machine.state.standing.now n) old
+    c.loop-clock.self) end (inv.gone k over))
+
+pub returns-clause-moved : goal.returns-clause-moved
+returns-clause-moved c = λ k over.
+    let w = c.args.window.now in
+    let old = c.args.self.now in
+    let inv = c.loop-clock.invariant in
+    let now = old.machine.state.standing.now in
+    let end : c.loop-clock.clock ≡ c.args.to = omega (arith, inv.most, c.loop-clock-test.false) in
+    let back : now + (c.args.to - now) ≡ c.loop-clock.clock = omega (arith, inv.ahead, end) in
+    laws.gone-moved (rows_between (seen w k old) now (now + (c.args.to - now))) old
+    c.loop-clock.self inv.same
+    (subst (λ (n : ℕ). HasGone (rows_between (seen w k old) now n) old c.loop-clock.self) (sym back)
+    (inv.gone k over))
+
+pub returns-clause-place : goal.returns-clause-place
+returns-clause-place c =
+    let inv = c.loop-clock.invariant in
+    let end : c.loop-clock.clock ≡ c.args.to = omega (arith, inv.most, c.loop-clock-test.false) in
+    inv.now ∙ end

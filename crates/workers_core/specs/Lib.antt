@@ -1,0 +1,10 @@
+pub mod States
+pub mod Standing
+pub mod Opening
+pub mod Floors
+pub mod Wanted
+pub mod Faults
+pub mod Jobs
+pub mod Cores
+pub mod Values
+pub mod Following

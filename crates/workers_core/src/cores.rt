@@ -1,0 +1,135 @@
+//! A core: a job's monitors at work, step by step.
+
+ghost use Rattle.std.specs.Prelude.{◌≡◌, ◌<◌, ◌≤◌, Some, IfOk, IfErr, length, map, slice_get};
+ghost use Rattle.vcd_reader.specs.Dump.{Contents};
+ghost use Rattle.machine_definition.specs.Runs.{open_ones};
+ghost use Rattle.workers_core.specs.States.{Replies, next};
+
+use crate::floor::Floor;
+use crate::job::Job;
+use crate::run_fault::RunFault;
+use crate::step::{Reply, Step};
+use arrayvec::ArrayVec;
+use machine_runs::Batch;
+use signals::Decided;
+use std::alloc::Global;
+use std::marker::Model;
+
+/// The most clocks of a window.
+const MOST_CLOCKS: usize = 65_536;
+
+/// The most workers.
+const MOST_WORKERS: usize = 64;
+
+/// A window over the trace, a job's monitors, who has which, and the board of published batches.
+#[derive(Drop)]
+pub struct Core<'j> {
+    job: &'j Job,
+    floor: Floor<'j>,
+}
+
+impl<'j> Model for Core<'j> {
+    ghost use Rattle.workers_core.specs.Values.{CoreValue, value_of};
+    ghost use Rattle.workers_core.specs.Cores.{IsCore};
+
+    ghost Value = { CoreValue };
+
+    ghost view = { λ core. value_of core.job.now core.floor };
+
+    ghost invariant = { λ core. IsCore core.job.now core.floor };
+}
+
+impl<'j> Core<'j> {
+    ghost use Rattle.workers_core.specs.Values.{job_value, opening_core, setting_of, Says};
+    ghost use Rattle.workers_core.specs.Values.{WhyNoCore};
+    ghost use Rattle.workers_core.specs.Following.{FollowsMachine};
+    ghost use Rattle.workers_core.specs.Floors.{batch_state};
+    ghost use Rattle.workers_core.specs.States.{MonitorState};
+
+    /// A core of 1 to 64 workers, through windows of so many clocks, 1 to 65,536.
+    pub fn new(
+        alloc: Global,
+        job: &'j Job,
+        workers: usize,
+        size: usize,
+    ) -> Result<Core<'j>, RunFault>
+        ensures opened { IfOk result (λ core.
+            core ≡ opening_core (job_value job.now) workers size) }
+        ensures size { IfOk result (λ _. (1 ≤ size) × (size ≤ 65536)) }
+        ensures workers { IfOk result (λ _. (1 ≤ workers) × (workers ≤ 64)) }
+        // The first cause that stands.
+        ensures fault { IfErr result (WhyNoCore workers size) }
+    {
+        if size == 0 || size > MOST_CLOCKS {
+            return Err(RunFault::BadSize);
+        }
+        if workers == 0 || workers > MOST_WORKERS {
+            return Err(RunFault::BadWorkers);
+        }
+        let floor = Floor::new(alloc, job, workers, size)?;
+        Ok(Core { job, floor })
+    }
+
+    /// One step. What isn't allowed is refused, and nothing changes then, nor for want of memory.
+    pub fn step(&mut self, alloc: Global, step: Step) -> Reply
+        ensures reply { (c : Contents) → Says self.old.job c
+            → Replies self.old.state (next (setting_of self.old c) self.old.state step)
+            self.new.state result }
+        ensures job { self.new.job ≡ self.old.job }
+        ensures size { self.new.size ≡ self.old.size }
+    {
+        let job = self.job;
+        match step {
+            Step::Slide => self.floor.slide(&job.dump, &job.clocks),
+            Step::Claim(worker) => self.floor.claim(worker),
+            Step::Advance(worker, clocks) => self.floor.advance(worker, clocks),
+            Step::Publish(worker) => self.floor.publish(alloc, worker),
+            Step::Gather => self.floor.gather(alloc),
+        }
+    }
+
+    /// How many clocks the trace has.
+    pub fn clocks(&self) -> u64
+        ensures { result ≡ length self.now.job.ticks }
+    {
+        self.job.clocks.len()
+    }
+
+    /// The window's clocks: from the first up to the second, which is not in it.
+    pub fn window(&self) -> (u64, u64)
+        ensures first { result.0 ≡ self.now.state.first }
+        ensures end { result.1 ≡ self.now.state.end }
+    {
+        self.floor.window.bounds()
+    }
+
+    /// The attempts of a monitor that are live at its place, as open ones, by start.
+    pub fn open_attempts(&self, monitor: usize) -> ArrayVec<Decided, 1024>
+        requires { monitor < length self.now.state.monitors }
+        ensures { (m : MonitorState) → slice_get self.now.state.monitors monitor ≡ Some m
+            → result.items ≡ open_ones m.state.standing.attempts }
+    {
+        let mut live = ArrayVec::new();
+        self.floor.monitors[monitor].machine.open_starts(&mut live);
+        live
+    }
+
+    /// The published batches, in the order in which they were published.
+    pub fn board(&self) -> &[Batch]
+        ensures { map batch_state result.now ≡ self.now.state.board }
+    {
+        self.floor.board.as_slice()
+    }
+
+    /// A law, and a call that does nothing. Whatever list of steps was made: the job's ticks are
+    /// the trace's, each monitor stands once in the core's lists and is in the state of the checked
+    /// machine over the trace's first rows up to its place, each batch on the board is that of its
+    /// monitor for its clocks, and a monitor's batches leave nothing out.
+    pub fn follows_machine(&self)
+        ensures follows { (c : Contents) → Says self.now.job c → FollowsMachine self.now c }
+        // The dump has contents.
+        ensures says { ∥ ((c : Contents) × Says self.now.job c) ∥₁ }
+    {
+        let _ = &self.floor;
+    }
+}

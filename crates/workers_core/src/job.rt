@@ -1,0 +1,93 @@
+//! A job: programs over a dump.
+
+ghost use Rattle.std.specs.Prelude.{◌≡◌, ◌≤◌, IfOk, IfErr, None, length};
+ghost use Rattle.vcd_reader.specs.Held.{variables_of};
+ghost use Rattle.cycle_window.specs.Bound.{first_refused};
+ghost use Rattle.cycle_window.specs.Held.{code_in, AreClocksOf};
+
+use crate::against::check_job;
+use crate::job_fault::JobFault;
+use cycle_window::Clocks;
+use std::alloc::Global;
+use vcd_reader::Dump;
+use verifier::Verified;
+
+/// Programs that are to run over the rows of a dump, at the ticks of one clock.
+#[derive(Drop)]
+pub struct Job {
+    /// In source order.
+    pub(crate) programs: Vec<Verified>,
+    pub(crate) dump: Dump,
+    pub(crate) clocks: Clocks,
+    ghost some: { 1 ≤ length programs.items },
+    ghost most: { length programs.items ≤ 4096 },
+    ghost ticks: { AreClocksOf dump clocks },
+}
+
+impl Job {
+    ghost use Rattle.workers_core.specs.Jobs.{IsJobOf};
+    ghost use Rattle.workers_core.specs.Wanted.{wanted_in, WhyNoJob, WhyUnfit};
+    ghost use Rattle.workers_core.specs.Values.{job_value};
+
+    /// A job of 1 to 4,096 programs on the clock that a path names. Each signal of each program
+    /// names a variable of its width.
+    pub fn new(
+        alloc: Global,
+        programs: Vec<Verified>,
+        dump: Dump,
+        clock: &str,
+    ) -> Result<Job, JobFault>
+        ensures job { IfOk result (IsJobOf programs.items dump clock.now) }
+        // The first cause that stands.
+        ensures fault { IfErr result (WhyNoJob (variables_of dump) clock.now programs.items) }
+    {
+        let clocks = Clocks::of(alloc, &dump, clock)?;
+        Job::over(alloc, programs, dump, clocks)
+    }
+
+    /// A job of 1 to 4,096 programs at the ticks of these clocks of the dump. Each signal of each
+    /// program names a variable of its width.
+    pub fn over(
+        alloc: Global,
+        programs: Vec<Verified>,
+        dump: Dump,
+        clocks: Clocks,
+    ) -> Result<Job, JobFault>
+        requires { AreClocksOf dump clocks }
+        ensures programs { IfOk result (λ j. j.programs.items ≡ programs.items) }
+        ensures dump { IfOk result (λ j. j.dump ≡ dump) }
+        ensures clocks { IfOk result (λ j. j.clocks ≡ clocks) }
+        ensures fits { IfOk result (λ _.
+            first_refused (variables_of dump) (wanted_in programs.items) ≡ None) }
+        // The first cause that stands.
+        ensures fault { IfErr result (WhyUnfit (variables_of dump) programs.items) }
+    {
+        check_job(alloc, &dump, programs.as_slice())?;
+        Ok(Job {
+            programs,
+            dump,
+            clocks,
+        })
+    }
+
+    /// The dump.
+    pub fn dump(&self) -> &Dump
+        ensures { result.now ≡ self.now.dump }
+    {
+        &self.dump
+    }
+
+    /// The ticks of the job's clock.
+    pub fn clocks(&self) -> &Clocks
+        ensures { result.now ≡ self.now.clocks }
+    {
+        &self.clocks
+    }
+
+    /// The job's programs, in source order.
+    pub fn programs(&self) -> &[Verified]
+        ensures { result.now ≡ (job_value self.now).programs }
+    {
+        self.programs.as_slice()
+    }
+}

@@ -1,0 +1,52 @@
+//! The core: monitors at work, step by step.
+//!
+//! A job has verified programs, the dump that they run over, and the ticks of one clock. A core has
+//! a window over the trace, a monitor for each program, the list of those that wait, each worker's
+//! hand and done list, and the board of published batches. Its steps are the atomic actions of
+//! workers: claim the front monitor, advance it, publish its batch; and those that open a round
+//! (the next window) and end it (done lists back to waiting). Each answers `Done` where the state
+//! is the next one, `Refused` where there is no next one, and `Memory` where there is one; with the
+//! last two nothing changed. A step that advances makes its room first, and takes no memory after.
+//!
+//! ```text
+//! let job = Job::new(alloc, programs, dump, "top.clk")?;
+//! let mut core = Core::new(alloc, &job, 1, 1024)?;
+//! core.step(alloc, Step::Slide);            // Done: the next window
+//! core.step(alloc, Step::Claim(0));         // Done: the front monitor is in the worker's hand
+//! core.step(alloc, Step::Advance(0, 10));   // Done, or Refused where fewer clocks are left
+//! core.step(alloc, Step::Publish(0));       // Done at the window's end
+//! core.step(alloc, Step::Gather);           // Done once nothing waits and all hands are empty
+//! ```
+//!
+//! The definitions: `specs/Jobs.antt` and `specs/Wanted.antt` (what a job holds, and why there is
+//! none), `specs/States.antt` (states, and the next one of each step), `specs/Values.antt` (a core
+//! to its users, and why there is none), `specs/Cores.antt` (how it begins), and
+//! `specs/Following.antt` (what every core has: each monitor in the checked machine's state over
+//! the trace's first rows, and each batch that of its monitor for its clocks). Behind them are
+//! `specs/Standing.antt` and `specs/Floors.antt`. Batches are those of `machine_runs`, the checked
+//! machine that of `machine_definition`.
+//!
+//! Not promised: that any monitor is ever claimed, or that a foreign program means anything.
+#![tactic(auto)]
+
+mod against;
+mod cores;
+mod floor;
+mod job;
+mod job_fault;
+mod look;
+mod monitor;
+mod opening;
+mod order;
+mod run_fault;
+mod step;
+mod wanted;
+mod worker;
+
+pub use cores::Core;
+pub use job::Job;
+pub use job_fault::JobFault;
+pub use monitor::Monitor;
+pub use opening::{monitors_of, window_of};
+pub use run_fault::RunFault;
+pub use step::{Reply, Step};

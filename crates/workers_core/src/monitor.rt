@@ -1,0 +1,158 @@
+//! A monitor at work.
+
+ghost use Rattle.std.specs.Prelude.{◌≡◌, IfOk, OnOk, ◌+◌, ◌-◌, ◌^◌, ◌<◌, ◌≤◌, length};
+ghost use Rattle.std.specs.Prelude.{slice_range};
+ghost use Rattle.std.specs.Prelude.{vec_len, vec_capacity};
+ghost use Rattle.vcd_reader.specs.Dump.{Contents};
+ghost use Rattle.cycle_window.specs.Held.{end_in, IsOver};
+ghost use Rattle.workers_core.specs.States.{advanced};
+ghost use Rattle.machine_definition.specs.Runs.{open_ones};
+
+use arrayvec::ArrayVec;
+use machine_runs::Batch;
+use cycle_window::Window;
+use machine::Machine;
+use signals::Decided;
+use std::alloc::{AllocError, Global};
+use std::mem;
+use verifier::Verified;
+
+/// How many places of a row stay unused at its end: 128 bytes, so that it shares no line of a cache
+/// with the block behind, which another thread may write.
+const SPARE: usize = 8;
+
+/// A program of a job at work.
+#[derive(Drop)]
+pub struct Monitor {
+    pub(crate) machine: Machine,
+    /// Its signals' part of a row: from the first place up to the second, which is not in it.
+    pub(crate) from: usize,
+    pub(crate) to: usize,
+    /// The part at a clock.
+    pub(crate) row: Vec<u128>,
+    /// How many attempts its program may have live.
+    pub(crate) attempts: usize,
+    /// The clock from which on the decided attempts are kept.
+    pub(crate) since: u64,
+    pub(crate) decided: Vec<Decided>,
+    ghost wide: { to - from ≤ vec_capacity row },
+}
+
+impl Monitor {
+    ghost use Rattle.workers_core.specs.Standing.{monitor_state, seen, AreSampled, IsSame, Stands};
+    ghost use Rattle.workers_core.specs.Standing.{IsOneMore, IsUnmoved, IsCleared};
+    ghost use Rattle.workers_core.specs.Floors.{batch_state};
+    ghost use Rattle.workers_core.specs.States.{batch};
+    ghost use Rattle.workers_core.specs.Opening.{IsNew, part_of, part_at, opened_monitor};
+
+    /// A program before its first clock, with its part of a row from a place on.
+    pub(crate) fn new(
+        alloc: Global,
+        verified: &Verified,
+        from: usize,
+    ) -> Result<Monitor, AllocError>
+        ensures opened { IfOk result (λ m. monitor_state m ≡ opened_monitor verified.now) }
+        ensures part { IfOk result (λ m. part_of m ≡ part_at from verified.now) }
+        ensures new { IfOk result IsNew }
+    {
+        let width = verified.program().signals.len();
+        let Some(to) = from.checked_add(width) else {
+            return Err(AllocError);
+        };
+        let row = Vec::with_capacity(alloc, width + SPARE)?;
+        let attempts = usize::from(verified.limits().attempts);
+        let copied = verified.copy(alloc)?;
+        let Ok(machine) = Machine::new(alloc, copied) else {
+            return Err(AllocError);
+        };
+        Ok(Monitor {
+            machine,
+            from,
+            to,
+            row,
+            attempts,
+            since: 0,
+            decided: Vec::new(alloc),
+        })
+    }
+
+    /// A clock over its part of the row. There is room for what it decides, which stands in the
+    /// buffer, too.
+    fn clock(&mut self, decided: &mut ArrayVec<Decided, 1024>)
+        requires row { AreSampled self.old.machine.program self.old.row.items }
+        requires room { self.old.machine.program.header.limits.attempts ≤ 1024 }
+        requires spare { vec_len self.old.decided
+            + length self.old.machine.state.standing.attempts + 1 ≤ vec_capacity self.old.decided }
+        requires more { self.old.machine.state.standing.now + 1 < 2 ^ 64 }
+        ensures { IsOneMore self.old self.old.row.items self.new }
+    {
+        decided.clear();
+        let row = self.row.as_slice();
+        self.machine.clock(row, decided);
+        let kept = self.decided.extend_from_slice(decided.as_slice());
+        prove!(kept.is_ok());
+    }
+
+    /// Makes room for what so many clocks decide: an attempt each, and those that are live.
+    pub fn reserve(&mut self, clocks: u64) -> Result<(), AllocError>
+        ensures same { IsUnmoved self.old self.new }
+        ensures room { OnOk result (vec_len self.new.decided
+            + self.new.attempts + clocks
+            ≤ vec_capacity self.new.decided) }
+    {
+        let Some(room) = self.attempts.checked_add(clocks as usize) else {
+            return Err(AllocError);
+        };
+        self.decided.reserve(room)
+    }
+
+    /// The clocks up to one of the window's. There is room for what they decide.
+    pub fn advance(&mut self, window: &Window<'_>, to: u64)
+        requires stands { Stands window.now self.old }
+        requires ahead { self.old.machine.state.standing.now ≤ to }
+        requires inside { to ≤ end_in window.now }
+        requires spare { vec_len self.old.decided
+            + length self.old.machine.state.standing.attempts
+            + (to - self.old.machine.state.standing.now) ≤ vec_capacity self.old.decided }
+        ensures stands { Stands window.now self.new }
+        ensures same { IsSame self.old self.new }
+        ensures place { self.new.machine.state.standing.now ≡ to }
+        ensures moved { (c : Contents) → IsOver window.now c →
+            advanced (seen window.now c self.old) (to - self.old.machine.state.standing.now)
+            (monitor_state self.old)
+            ≡ monitor_state self.new }
+    {
+        let mut decided = ArrayVec::new();
+        for clock in self.machine.now()..to {
+            window.put_part(&mut self.row, clock, self.from, self.to);
+            self.clock(&mut decided);
+        }
+    }
+
+    /// Its live attempts, as open ones, by start.
+    pub fn open_attempts(&self) -> ArrayVec<Decided, 1024>
+        requires { self.now.machine.program.header.limits.attempts ≤ 1024 }
+        ensures { result.items ≡ open_ones self.now.machine.state.standing.attempts }
+    {
+        let mut live = ArrayVec::new();
+        self.machine.open_starts(&mut live);
+        live
+    }
+
+    /// What was decided since the last batch, as the batch of the clocks since.
+    pub fn take_batch(&mut self, alloc: Global, number: usize) -> Batch
+        ensures batch { batch_state result ≡ batch number (monitor_state self.old) }
+        ensures cleared { IsCleared self.old self.new }
+    {
+        let decided = mem::replace(&mut self.decided, Vec::new(alloc));
+        let first = self.since;
+        let end = self.machine.now();
+        self.since = end;
+        Batch {
+            monitor: number,
+            first,
+            end,
+            decided,
+        }
+    }
+}

@@ -1,0 +1,82 @@
+use Rattle.std.proofs.Common.{◌≡◌, ◌+◌, ◌∙◌, ap, sym, subst, vec_len, arith, rules}
+use Rattle.std.proofs.lemmas.List.Sorted.{All-permutation}
+use Rattle.crossbeam_queue.specs.Passes.{view}
+use Rattle.workers_bench.specs.declared.hand.Hand.{Hand}
+use Rattle.workers_bench.specs.Hands.{Rises, total, numbers}
+use Rattle.workers_bench.specs.Passes.{taken_of}
+use Rattle.workers_rounds.specs.Works.{IsPublished}
+use Rattle.workers_bench.proofs.Keeps.{all_popped, all_pushed}
+use Rattle.workers_rounds.specs.Runs.{published_numbers, upto, IsMember}
+use Rattle.workers_rounds.specs.declared.round.Member.{Member}
+use Rattle.workers_rounds.specs.Works.{published_count}
+use Rattle.workers_rounds.specs.Adding.{kind_of, amount_of, added_by, added_by_tasks, added_by_worked, counted_by}
+use Rattle.workers_bench.proofs.Keeps.{total_push}
+use Rattle.workers_rounds.proofs.Added.{works-add, counts-moved}
+use Rattle.workers_rounds.proofs.Orders.{ends_all, ordered, moved}
+use Rattle.workers_rounds.proofs.round.round.Goals as goal
+
+pub gathered-requires : goal.gathered-requires
+gathered-requires g c =
+    ends_all c.in_ok-bench.bench c.args.board.now c.args.window.now c.in_ok-tasks.tasks.items c.in_ok-all.all.items
+    c.in_ok-all.ensures.count c.in_ok-tasks.ensures.ready c.in_ok-all.ensures.each
+
+pub returns-clause-order : goal.returns-clause-order
+returns-clause-order g c =
+    ordered (vec_len c.args.monitors) _ c.put_in_order.ensures.sorted
+    (λ h.
+    let rest = total h (numbers c.finish-rest.result.items) in
+    let done = total h (published_numbers c.in_ok-passes.field-0.published.items) in
+    let all : total h (view c.put_all-pass.result).put ≡ total h (numbers c.args.monitors.items) =
+    ap (λ (v : Hand). total h v.put) c.put_all-pass.ensures.put in
+    let begun : taken_of h c.in_ok-bench.pass ≡ 0 =
+    ap (λ (v : Hand). total h v.taken) c.in_ok-bench.ensures.putting.1 in
+    let none : taken_of h c.put_all-pass.result ≡ taken_of h c.in_ok-bench.pass =
+    ap (λ (v : Hand). total h v.taken) c.put_all-pass.ensures.put in
+    let left : total h (view c.put_all-pass.result).put
+    ≡ (taken_of h c.put_all-pass.result + total (taken_of h) c.in_ok-passes.field-0.passes.items) + rest =
+    c.finish-rest.ensures.rest h in
+    let taken : total (taken_of h) c.in_ok-passes.field-0.passes.items
+    ≡ total h (published_numbers c.in_ok-passes.field-0.published.items) = c.in_ok-passes.ensures.taken h in
+    let joined : total h (published_numbers c.run_rest.new.published.items) ≡ done + rest =
+    c.in_ok-run_rest.ensures.numbers h in
+    let order : total h (numbers c.args.monitors.items) ≡ total h (upto 0 (vec_len c.args.monitors)) =
+    ap (total h) c.requires.order in
+    let same : total h (published_numbers c.put_in_order.new.published.items)
+    ≡ total h (published_numbers c.run_rest.new.published.items) =
+    moved h _ _ c.put_in_order.ensures.moved in
+    omega arith)
+
+pub returns-clause-published : goal.returns-clause-published
+returns-clause-published g c =
+    All-permutation (IsPublished c.args.job.now c.args.window.now c.args.board.now) _ _ c.put_in_order.ensures.moved
+    c.in_ok-run_rest.ensures.published
+
+pub returns-clause-members : goal.returns-clause-members
+returns-clause-members g c =
+    let was = c.in_ok-passes.ensures.members in
+    let popped = all_popped IsMember _ _ c.in-Some.last c.in-Some.ensures.items was.1 in (
+      search rules,
+      all_pushed IsMember _ _ _ c.in_ok-push.ensures.items popped.0 c.run_rest.ensures.part,
+    )
+
+pub returns-clause-added : goal.returns-clause-added
+returns-clause-added g c = λ k.
+    let one = λ (m : Member g.row.L.Denot). amount_of k m.share in
+    let is = kind_of k in
+    let begun = c.in_ok-tasks.ensures.added k in
+    let worked : added_by_worked k c.in_ok-all.all.items
+    ≡ added_by_tasks k c.in_ok-tasks.tasks.items + counted_by k c.in_ok-all.all.items =
+    works-add c.in_ok-bench.bench c.args.board.now c.args.window.now k c.in_ok-tasks.tasks.items
+    c.in_ok-all.all.items c.in_ok-all.ensures.count c.in_ok-all.ensures.each in
+    let back = c.in_ok-passes.ensures.added k in
+    let counted = c.in_ok-passes.ensures.counted k in
+    let popped : added_by k c.in_ok-passes.field-0.members.items
+    ≡ added_by k c.pop.new.self.items + amount_of k c.in-Some.last.share =
+    total_push one _ _ _ c.in-Some.ensures.items in
+    let pushed : added_by k c.push.new.self.items
+    ≡ added_by k c.pop.new.self.items + amount_of k c.run_rest.new.share =
+    total_push one _ _ _ c.in_ok-push.ensures.items in
+    let rest = c.in_ok-run_rest.ensures.added k in
+    let same : published_count is c.put_in_order.new.published.items
+    ≡ published_count is c.run_rest.new.published.items = counts-moved is _ _ c.put_in_order.ensures.moved in
+    omega arith

@@ -1,0 +1,111 @@
+use Rattle.std.proofs.Common.{◌≡◌, ◌++◌, ◌∷◌, [], ap, ◌∙◌, sym, refl, subst, arith, rules}
+use Rattle.crossbeam_queue.specs.Passes.{view}
+use Rattle.machine_runs.specs.declared.batch.Batch.{Batch}
+use Rattle.cycle_window.specs.Held.{first_in}
+use Rattle.workers_core.proofs.FloorLaws.{of-ok}
+use Rattle.workers_board.specs.Receipts.{shown_by}
+use Rattle.workers_tally.specs.Shares.{EachAtMost, amounts, plus}
+use Rattle.workers_tally.specs.Counts.{counts_of}
+use Rattle.workers_bench.specs.declared.hand.Hand.{Hand}
+use Rattle.workers_bench.specs.declared.numbered.Numbered.{Numbered}
+use Rattle.workers_bench.specs.Monitors.{IsAt}
+use Rattle.workers_bench.specs.Hands.{TakesOne}
+use Rattle.workers_rounds.specs.declared.work.Published.{Published}
+use Rattle.workers_rounds.specs.Works.{IsPublished}
+use Rattle.workers_rounds.proofs.Placing.{stands-at, below}
+use Rattle.workers_rounds.proofs.Running.{begins_with, keeps_one, publishes, fits, claims-few}
+use Rattle.workers_rounds.proofs.work.work.Goals as goal
+use Rattle.workers_rounds.proofs.work.work.Goals.{After-run_one-monitor}
+
+pub loop-init : goal.loop-init
+loop-init g c = (
+  tt,
+  tt,
+  begins_with c.args.bench.now c.args.board.now c.args.window.now
+      (view c.args.pass) c.args.share c.args.claims c.args.pass refl c.requires.pass.0 c.requires.taken _
+      c.new-published.ensures.items,
+)
+
+taken : (g : _) (c : After-run_one-monitor g)
+    → TakesOne (view c.loop.pass) c.in-Some-claimed.monitor (view c.claim-back.result.0)
+taken g c = rw c.in-Some-claimed.is at c.claim-back.ensures.some
+
+at_start : (g : _) (c : After-run_one-monitor g)
+    → IsAt c.args.bench.now.job.now (first_in c.args.window.now) c.in-Some-claimed.monitor
+at_start g c =
+    let x : Numbered = c.in-Some-claimed.monitor in
+    subst (λ k. IsAt c.args.bench.now.job.now k x) c.requires.round
+    (rw c.in-Some-claimed.is at c.claim-back.ensures.job)
+
+pub run_one-monitor-requires-clause-stands : goal.run_one-monitor-requires-clause-stands
+run_one-monitor-requires-clause-stands g c =
+    let x : Numbered = c.in-Some-claimed.monitor in
+    let here = subst (λ k. IsAt c.args.bench.now.job.now k x) c.requires.round
+    (rw c.in-Some-claimed.is at c.claim-back.ensures.job) in
+    stands-at c.args.bench.now.job.now c.args.window.now (first_in c.args.window.now) x c.requires.window.0
+    (omega arith) c.requires.window.1.0 here
+
+pub run_one-monitor-requires-clause-here : goal.run_one-monitor-requires-clause-here
+run_one-monitor-requires-clause-here g c =
+    let x : Numbered = c.in-Some-claimed.monitor in
+    let here : IsAt c.args.bench.now.job.now c.args.bench.now.at x =
+    rw c.in-Some-claimed.is at c.claim-back.ensures.job in
+    here.now ∙ c.requires.round
+
+pub returns-in_default-receipt : goal.returns-in_default-receipt
+returns-in_default-receipt g c =
+    let ran = (goal.at.returns-in_default-receipt g c).After-run_one-monitor in
+    let refused = rw c.in_default-receipt.is at c.run_one-monitor.ensures.refused in
+    let start = at_start g ran in
+    keeps_one c.args.bench.now c.args.board.now c.args.window.now
+    (view c.args.pass) c.args.share c.args.claims c.loop.pass c.claim-back.result.0 c.loop.share c.loop.claims
+    c.loop.published.items _
+    c.in-Some-claimed.monitor c.run_one-monitor.result.0 c.loop.invariant.2 (taken g ran)
+    (below _ _ _ start) c.requires.pass.1 c.claim-back.ensures.of c.run_one-monitor.ensures.number
+    (refused c.args.bench.now.job.now c.requires.window.0 start) c.reserve.ensures.items
+
+pub add-totals-requires-clause-fits : goal.add-totals-requires-clause-fits
+add-totals-requires-clause-fits g c =
+    let ran = (goal.at.add-totals-requires-clause-fits g c).After-run_one-monitor in
+    let p : Published = record { monitor = c.run_one-monitor.result.0; receipt = c.in-Some-receipt.receipt } in
+    let done = rw c.in-Some-receipt.is at c.run_one-monitor.ensures.published in
+    subst (λ (b : Batch). EachAtMost (plus (amounts c.loop.share) (counts_of b.decided.items)) 72057594037927936)
+    (sym c.read.ensures)
+    (fits c.args.bench.now c.args.board.now c.args.window.now
+    (view c.args.pass) c.args.share c.args.claims c.loop.pass c.loop.share c.loop.claims
+    c.loop.published.items p c.loop.invariant.2
+    (done c.args.bench.now.job.now c.requires.window.0 (at_start g ran)) c.requires.share.1)
+
+pub loop-preserved : goal.loop-preserved
+loop-preserved g c =
+    let ran = (goal.at.loop-preserved g c).After-run_one-monitor in
+    let p : Published = record { monitor = c.run_one-monitor.result.0; receipt = c.in-Some-receipt.receipt } in
+    let done = rw c.in-Some-receipt.is at c.run_one-monitor.ensures.published in
+    let start = at_start g ran in (
+      tt,
+      tt,
+      publishes c.args.bench.now c.args.board.now c.args.window.now
+          (view c.args.pass) c.args.share c.args.claims c.loop.pass c.claim-back.result.0 c.loop.share
+          c.add-totals.new.share c.loop.claims
+          c.loop.published.items _ c.in-Some-claimed.monitor p c.loop.invariant.2 (taken g ran)
+          (below _ _ _ start) c.requires.pass.1 c.claim-back.ensures.of c.run_one-monitor.ensures.number
+          (done c.args.bench.now.job.now c.requires.window.0 start)
+          c.add-totals.ensures.parts (c.add-totals.ensures.grown
+          ∙ ap (λ (b : Batch). plus (amounts c.loop.share) (counts_of b.decided.items)) c.read.ensures)
+          (c.push_reserved.ensures.items ∙ ap (λ l. l ++ p ∷ []) c.reserve.ensures.items),
+    )
+
+pub overflow_add-claims : goal.overflow_add-claims
+overflow_add-claims g c =
+    omega (
+      arith,
+      claims-few c.args.bench.now c.args.board.now c.args.window.now
+          (view c.args.pass) c.args.share c.args.claims c.loop.pass c.loop.share c.loop.claims c.loop.published.items
+          c.loop.invariant.2,
+      c.requires.claims,
+    )
+
+pub push_reserved-requires : goal.push_reserved-requires
+push_reserved-requires g c =
+    let room = of-ok c.reserve.result (sym c.is_err.ensures.value ∙ c.if-is_err.false) c.reserve.ensures.ok in
+    omega (arith, room)

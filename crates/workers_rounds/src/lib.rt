@@ -1,0 +1,29 @@
+//! Rounds: each monitor of a job runs through a window, by workers in threads of their own.
+//!
+//! A round has a bench and a board. All monitors are put on the bench; each worker claims one, runs
+//! it through the window, publishes its batch on the board, and adds what the batch counts to the
+//! tally, until the bench is empty. Once all have ended, their passes are brought together, and
+//! what the bench still holds is run on the calling thread. No lock is held from a claim to its
+//! publication.
+//!
+//! ```text
+//! let board = Board::new(alloc)?;
+//! let (members, published) =
+//!     round(&rt, alloc, &job, &window, &board, &tally, &gate, members, monitors)?;
+//! let batch = board.read(&published[0].receipt);    // what monitor 0 decided in the window
+//! ```
+//!
+//! The definitions: what one worker's round gives back in `specs/Works.antt`, the workers of a
+//! round in `specs/Crews.antt`, a whole round in `specs/Runs.antt`, what workers add to the tally
+//! in `specs/Adding.antt`. The bench and its passes are those of `workers_bench`, receipts those of
+//! `workers_board`, shares those of `workers_tally`.
+//!
+//! Not promised: which worker claims which monitor, that a claim answers none only where the bench
+//! was empty, that two workers are at work at once, and that a round ends.
+#![tactic(auto)]
+
+pub mod crew;
+mod order;
+mod passage;
+pub mod round;
+pub mod work;

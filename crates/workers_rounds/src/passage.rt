@@ -1,0 +1,39 @@
+//! A monitor through a window.
+
+ghost use Rattle.std.specs.Prelude.{◌≡◌, ℕ, IfOk, OnErr};
+ghost use Rattle.cycle_window.specs.Held.{first_in, end_in};
+ghost use Rattle.workers_core.specs.declared.job.Job.{Job};
+ghost use Rattle.workers_core.specs.Standing.{Stands};
+ghost use Rattle.workers_bench.specs.Monitors.{IsAt};
+ghost use Rattle.workers_bench.specs.Windows.{IsWindowFor};
+ghost use Rattle.workers_rounds.specs.Works.{IsSized, IsBatch, clock_of};
+
+use machine_runs::Batch;
+use workers_bench::Numbered;
+use cycle_window::Window;
+use std::alloc::{AllocError, Global};
+
+/// Runs a monitor through the window, and makes the batch of it. Where memory is refused, it stands
+/// where it stood.
+pub(crate) fn pass_through(
+    alloc: Global,
+    window: &Window<'_>,
+    given: &mut Numbered,
+) -> Result<Batch, AllocError>
+    requires stands { Stands window.now given.old.monitor.value }
+    requires here { clock_of given.old ≡ first_in window.now }
+    requires sized { IsSized window.now }
+    ensures number { given.new.number ≡ given.old.number }
+    ensures refused { OnErr result ((j : Job) (at : ℕ)
+        → IsAt j at given.old → IsAt j at given.new) }
+    ensures through { IfOk result (λ batch. (j : Job) → IsWindowFor j window.now
+        → IsAt j (first_in window.now) given.old → IsAt j (end_in window.now) given.new
+        × IsBatch j (first_in window.now) (end_in window.now) given.new batch) }
+{
+    let (first, end) = window.bounds();
+    let number = given.number;
+    let monitor = &mut *given.monitor;
+    monitor.reserve(end - first)?;
+    monitor.advance(window, end);
+    Ok(monitor.take_batch(alloc, number))
+}

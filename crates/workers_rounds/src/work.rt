@@ -1,0 +1,158 @@
+//! What one worker does in a round.
+
+ghost use Rattle.std.specs.Prelude.{◌≡◌, ◌≤◌, ◌^◌, ◌<◌, ℕ, List, false, length, IfSome, IfNone};
+ghost use Rattle.crossbeam_queue.specs.Passes.{view};
+ghost use Rattle.cycle_window.specs.Held.{first_in, end_in};
+ghost use Rattle.workers_core.specs.declared.job.Job.{Job};
+ghost use Rattle.workers_core.specs.Standing.{Stands};
+ghost use Rattle.workers_tally.specs.Shares.{parts, amounts, EachAtMost};
+ghost use Rattle.workers_bench.specs.Monitors.{IsAt};
+ghost use Rattle.workers_bench.specs.Windows.{IsWindowFor};
+ghost use Rattle.workers_bench.specs.Hands.{Rises, end_of};
+ghost use Rattle.workers_bench.specs.Passes.{parts_of};
+ghost use Rattle.workers_bench.specs.Benches.{IsOf};
+ghost use Rattle.workers_rounds.specs.Works.{Works, IsSized, IsPublished, clock_of};
+
+use crate::passage::pass_through;
+use workers_bench::{Bench, Numbered, Pass};
+use workers_board::{Board, Receipt};
+use cycle_window::Window;
+use std::alloc::Global;
+use std::sync::Wait;
+use workers_tally::{Share, Tally, Tallying};
+
+/// Who wants to know what workers do. It is called with nothing held.
+pub trait Gate {
+    /// A worker made its claim number `nth`, counted from 1.
+    fn claimed(&self, worker: usize, nth: u64);
+
+    /// A worker added a batch to the tally, and left these totals.
+    fn tallied(&self, worker: usize, totals: [u64; 4]);
+}
+
+/// Nobody wants to know.
+#[derive(Clone, Copy)]
+pub struct NoGate;
+
+impl Gate for NoGate {
+    fn claimed(&self, _worker: usize, _nth: u64) {}
+
+    fn tallied(&self, _worker: usize, _totals: [u64; 4]) {}
+}
+
+/// A monitor at the end of the window, and the receipt of its batch.
+#[derive(Drop)]
+pub struct Published {
+    pub monitor: Numbered,
+    pub receipt: Receipt,
+}
+
+/// What a worker gives back.
+#[derive(Drop)]
+pub struct Worked<L: Tallying> {
+    pub pass: Pass,
+    pub share: Share<L>,
+    /// Its claims in the run so far.
+    pub claims: u64,
+    pub published: Vec<Published>,
+    /// The monitor that it had claimed where memory was refused.
+    pub kept: Option<Numbered>,
+    /// Memory was refused.
+    pub short: bool,
+}
+
+/// Runs a monitor through the window and publishes its batch. Where memory is refused there is no
+/// receipt.
+pub(crate) fn run_one(
+    rt: &impl Wait,
+    alloc: Global,
+    window: &Window<'_>,
+    board: &Board,
+    mut given: Numbered,
+) -> (Numbered, Option<Receipt>)
+    requires stands { Stands window.now given.monitor.value }
+    requires here { clock_of given ≡ first_in window.now }
+    requires sized { IsSized window.now }
+    ensures number { result.0.number ≡ given.number }
+    ensures refused { IfNone result.1 ((j : Job) → IsWindowFor j window.now
+        → IsAt j (first_in window.now) given → IsAt j (clock_of result.0) result.0) }
+    ensures published { IfSome result.1 (λ receipt. (j : Job) → IsWindowFor j window.now
+        → IsAt j (first_in window.now) given
+        → IsPublished j window.now board.now (record { monitor = result.0; receipt = receipt })) }
+{
+    match pass_through(alloc, window, &mut given) {
+        Err(_) => (given, None),
+        Ok(batch) => match board.publish(rt, batch) {
+            Ok(receipt) => (given, Some(receipt)),
+            Err(_) => (given, None),
+        },
+    }
+}
+
+/// Claims monitors, runs them through the window and publishes their batches, until the bench is
+/// empty or memory is refused.
+pub fn work<L: Tallying, G: Gate, R: Wait>(
+    rt: &R,
+    alloc: Global,
+    bench: &Bench<'_>,
+    mut pass: Pass,
+    mut share: Share<L>,
+    window: &Window<'_>,
+    board: &Board,
+    tally: &Tally<L>,
+    gate: &G,
+    worker: usize,
+    mut claims: u64,
+) -> Worked<L>
+    requires pass { IsOf bench.now pass × ((view pass).puts ≡ false) × (0 < parts_of pass) }
+    requires taken { Rises (view pass).taken
+        × (end_of 0 (view pass).taken ≤ length bench.now.job.now.programs.items) }
+    requires window { IsWindowFor bench.now.job.now window.now × IsSized window.now }
+    requires round { bench.now.at ≡ first_in window.now }
+    requires share { (0 < parts share) × EachAtMost (amounts share) (2 ^ 55) }
+    requires claims { claims ≤ 2 ^ 55 }
+    ensures { Works bench.now board.now window.now (view pass) share claims result }
+{
+    let mut published = Vec::new(alloc);
+    for _ in rt.forever() {
+        if published.reserve(1).is_err() {
+            return Worked {
+                pass,
+                share,
+                claims,
+                published,
+                kept: None,
+                short: true,
+            };
+        }
+        let (back, claimed) = bench.claim(rt, pass);
+        pass = back;
+        let Some(monitor) = claimed else {
+            return Worked {
+                pass,
+                share,
+                claims,
+                published,
+                kept: None,
+                short: false,
+            };
+        };
+        claims += 1;
+        gate.claimed(worker, claims);
+        let (monitor, receipt) = run_one(rt, alloc, window, board, monitor);
+        let Some(receipt) = receipt else {
+            return Worked {
+                pass,
+                share,
+                claims,
+                published,
+                kept: Some(monitor),
+                short: true,
+            };
+        };
+        let totals = tally.add(rt, &mut share, board.read(&receipt));
+        gate.tallied(worker, totals);
+        published.push_reserved(Published { monitor, receipt });
+    }
+    unreachable!()
+}
