@@ -10,12 +10,12 @@ ghost use Rattle.cli.specs.Builds.{IsBuilt, WhyNotBuilt, IsBuiltFrom, WhyBuildRe
 
 use crate::text::{file_of, suite_of};
 use assertions::{Assertion, Suite};
-use compiler::compile;
-use cli_faults::Fault;
 use bytecode_files::encode;
+use cli_faults::Fault;
+use compiler::compile;
+use laws_suites::suite_law;
 use signals::Source;
 use std::alloc::Global;
-use laws_suites::suite_law;
 use vcd_reader::{Dump, read_dump};
 
 /// The assertion of this name.

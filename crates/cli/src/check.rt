@@ -10,9 +10,9 @@ ghost use Rattle.cli_faults.specs.Runs.{run_of};
 
 use crate::checked::{check_by_team, check_through};
 use crate::run::run_through;
+use cli_faults::Fault;
 use cli_lines::Gate;
 use cycle_window::WindowFault;
-use cli_faults::Fault;
 use signals::{Sink, Source};
 use std::alloc::Global;
 use std::sync::Wait;

@@ -16,14 +16,14 @@ ghost use Rattle.cli_faults.specs.Runs.{run_of};
 use crate::programs::{lines_fault, report_by_programs};
 use crate::text::{file_of, suite_of};
 use assertions::Suite;
+use cli_faults::{Fault, totals};
 use cli_lines::{Gate, suite_report};
 use cycle_window::Clocks;
-use cli_faults::{Fault, totals};
+use laws_suites::suite_law;
 use signals::{Sink, Source};
 use std::alloc::Global;
 use std::sync::Wait;
 use std::thread::Threads;
-use laws_suites::suite_law;
 use vcd_reader::{Dump, read_dump};
 use verdicts::{Report, ReportFault, write_report};
 

@@ -29,6 +29,6 @@ mod text;
 
 pub use build::build_one;
 pub use check::{check_all, check_one, judge_one};
-pub use cli_words::{Request, WordsFault, read_words};
-pub use cli_lines::{Gate, NoGate};
 pub use cli_faults::{Fault, fault_line, status};
+pub use cli_lines::{Gate, NoGate};
+pub use cli_words::{Request, WordsFault, read_words};

@@ -13,9 +13,9 @@ ghost use Rattle.judging_reports.specs.Reported.{OverRows};
 ghost use Rattle.cli.specs.Programs.{lines_fault};
 
 use assertions::Suite;
+use cli_faults::Fault;
 use cli_lines::{LinesFault, lines_of};
 use cycle_window::Clocks;
-use cli_faults::Fault;
 use std::alloc::Global;
 use vcd_reader::Dump;
 use verdicts::Report;

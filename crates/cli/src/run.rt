@@ -10,9 +10,9 @@ ghost use Rattle.cli_faults.specs.Runs.{run_of};
 
 use crate::text::{file_of, suite_of};
 use cli_faults::{Fault, totals};
+use judging_reports::report_by_judge;
 use signals::{Sink, Source};
 use std::alloc::Global;
-use judging_reports::report_by_judge;
 use vcd_reader::{Dump, read_dump};
 use verdicts::{Report, ReportFault, write_report};
 

@@ -9,8 +9,8 @@ ghost use Rattle.cli.specs.Outcomes.{WhyNoItems, WhyNotTyped};
 
 use crate::dump_widths::DumpWidths;
 use assertions::Suite;
-use lexer::lex;
 use cli_faults::Fault;
+use lexer::lex;
 use parser::{File, parse};
 use std::alloc::Global;
 use types::{TypeFault, check};

@@ -13,15 +13,15 @@ ghost use Rattle.cli_code.specs.Outcomes.{HasRunReport, WhyNoRunReport, IsRunAns
 ghost use Rattle.cli_code.specs.Outcomes.{WhyRunFails, WhyNotRun};
 
 use crate::verify::verified_of;
-use cycle_window::WindowFault;
 use cli_faults::{Fault, totals};
+use cycle_window::WindowFault;
 use signals::{Sink, Source};
 use std::alloc::Global;
 use std::sync::Wait;
 use std::thread::Threads;
-use workers::{Gate, report_run};
 use vcd_reader::{Dump, read_dump};
 use verdicts::{Report, ReportFault, write_report};
+use workers::{Gate, report_run};
 
 /// The report of the program that bytes spell, over a dump.
 fn report_of<G: Gate + Sync, R: Threads + Wait + Sync>(

@@ -3,8 +3,8 @@
 ghost use Rattle.std.specs.Prelude.{IfOk, IfErr};
 ghost use Rattle.cli_code.specs.Upgrades.{IsUpgrade, WhyNotUpgraded};
 
-use cli_faults::Fault;
 use bytecode_files::upgrade;
+use cli_faults::Fault;
 use std::alloc::Global;
 
 /// The file in version 2 of the program that bytes spell, in version 1 or 2. The program is not

@@ -5,8 +5,8 @@ ghost use Rattle.cli_faults.specs.Codes.{SpellsAccepted, WhyNotAccepted};
 ghost use Rattle.cli_code.specs.Verifications.{IsTold, WhyNotTold, verification_of};
 
 use crate::limits::write_limits;
-use cli_faults::Fault;
 use bytecode_files::decode;
+use cli_faults::Fault;
 use signals::Sink;
 use std::alloc::Global;
 use verifier::{Verified, verify};

@@ -1,8 +1,8 @@
 //! The lines that name the faults of programs and of port files.
 
 use axi4_rules::PortFault;
-use compiler::CompileFault;
 use bytecode_files::CodeFault;
+use compiler::CompileFault;
 use std::alloc::{AllocError, Global};
 use verifier::Refusal;
 

@@ -3,12 +3,12 @@
 ghost use Rattle.std.specs.Prelude.{◌≡◌};
 
 use axi4_rules::PortFault;
+use bytecode_files::CodeFault;
 use cli_words::WordsFault;
 use compiler::CompileFault;
 use cycle_window::WindowFault;
 use lexer::LexFault;
 use parser::ParseFault;
-use bytecode_files::CodeFault;
 use std::alloc::AllocError;
 use types_suites::TypeFault;
 use vcd_reader::VcdFault;

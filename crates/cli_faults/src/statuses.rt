@@ -5,12 +5,12 @@ ghost use Rattle.cli_faults.specs.Statuses.{status_of, fault_status_of};
 
 use crate::fault::Fault;
 use axi4_rules::PortFault;
+use bytecode_files::CodeFault;
 use cli_words::WordsFault;
 use compiler::CompileFault;
 use cycle_window::WindowFault;
 use lexer::LexFault;
 use parser::ParseFault;
-use bytecode_files::CodeFault;
 use types_suites::TypeFault;
 use vcd_reader::VcdFault;
 use verdicts::ReportFault;

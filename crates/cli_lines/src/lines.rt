@@ -15,12 +15,12 @@ ghost use Rattle.cli_lines.specs.Faults.{WhyNoLines};
 use crate::fault::LinesFault;
 use crate::job::suite_job;
 use assertions::Suite;
-use workers_lines::job_lines;
 use cycle_window::Clocks;
 use std::alloc::Global;
 use vcd_reader::Dump;
 use verdicts::Line;
 use workers_core::RunFault;
+use workers_lines::job_lines;
 
 /// The fault of a run of an allowed number of workers, through windows of an allowed size.
 pub(crate) fn want_of_memory(fault: RunFault) -> LinesFault

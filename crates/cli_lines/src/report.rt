@@ -18,9 +18,9 @@ use cycle_window::Clocks;
 use std::alloc::Global;
 use std::sync::Wait;
 use std::thread::Threads;
-use workers::{Gate, run};
 use vcd_reader::Dump;
 use verdicts::Report;
+use workers::{Gate, run};
 
 /// The report on all assertions of a suite, by 1 to 64 workers through windows of so many clocks, 1
 /// to 65,536. Neither the number of workers nor the size nor the gate changes it.

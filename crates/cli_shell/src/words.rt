@@ -1,8 +1,8 @@
 //! The words of the command line, and what they ask for.
 
 use crate::status::shown_status;
-use cli_words::{Request, read_words};
 use cli_faults::Fault;
+use cli_words::{Request, read_words};
 use std::alloc::AllocError;
 use std::env::Env;
 use std::io::{Eprint, ErrorKind};

@@ -21,11 +21,11 @@ ghost use Rattle.compiler.specs.Parts.{AreParts, IsCodeFault, IsSideFault, no_li
 use crate::fault::CompileFault;
 use crate::reading::Reading;
 use crate::slots::{counter_widths, signal_slots};
-use compiler_reads::slots_of;
 use assertions::{Assertion, Boolean, Sequence, Suite};
 use bytecode::{Limits, Program, SampleInstr, Section};
 use compiler_expressions::{LengthFault, SlotTable, sample_code};
 use compiler_positions::{SectionFault, accepting_first, positions_of};
+use compiler_reads::slots_of;
 use std::alloc::{AllocError, Global};
 
 /// The slots of the names that are read.

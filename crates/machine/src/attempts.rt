@@ -12,10 +12,10 @@ ghost use Rattle.machine.specs.Live.{AreDisabled};
 ghost use Rattle.machine_definition.specs.Runs.{open_ones};
 
 use arrayvec::ArrayVec;
-use machine_pool::Pool;
 use bytecode::Program;
-use signals::{Decided, Verdict};
+use machine_pool::Pool;
 use machine_visits::{AttemptRecord, Fates, visit_positions};
+use signals::{Decided, Verdict};
 
 /// Visits each attempt in order of its start, and answers whether any accepted.
 pub(crate) fn visit_attempts(

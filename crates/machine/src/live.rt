@@ -14,10 +14,10 @@ use crate::attempts::{disable_attempts, settle_attempts, visit_attempts};
 use crate::bases::Bases;
 use crate::obligations::{drop_obligations, visit_obligations};
 use arrayvec::ArrayVec;
-use machine_pool::Pool;
 use bytecode::Program;
-use signals::Decided;
+use machine_pool::Pool;
 use machine_visits::{AttemptRecord, ObligationRecord};
+use signals::Decided;
 
 /// The live attempts and obligations, and the number of clocks that were run.
 #[derive(Drop)]

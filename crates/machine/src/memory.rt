@@ -13,14 +13,14 @@ use crate::bases::Bases;
 use crate::live::Live;
 use crate::row::push_row;
 use arrayvec::ArrayVec;
-use machine_pool::Pool;
 use bytecode::Program;
+use machine_pool::Pool;
 use machine_ring::Ring;
-use verifier_inference::Frame;
 use machine_samples::{Stack, run};
+use machine_visits::bases_of;
 use signals::Decided;
 use std::alloc::{AllocError, Global};
-use machine_visits::bases_of;
+use verifier_inference::Frame;
 
 /// How many bytes at least stay unused behind what a clock writes, so that it shares no line of a
 /// cache with the block behind, which another thread may write.

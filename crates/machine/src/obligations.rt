@@ -8,8 +8,8 @@ ghost use Rattle.machine_visits.specs.Bases.{AreBases};
 ghost use Rattle.machine.specs.Live.{obligations_in, visit_cost, AreOwed, OpenedLately};
 ghost use Rattle.machine.specs.Live.{AreVisited};
 
-use machine_pool::Pool;
 use bytecode::Program;
+use machine_pool::Pool;
 use machine_visits::{Fates, ObligationRecord, visit_positions};
 
 /// Visits each obligation in order of its tick, retires those that ended, and answers what became

@@ -1,19 +1,19 @@
 //! The calls, each over the same dump, and their answers on a line.
 
 use crate::steps::board_after;
+use bytecode_files::decode;
 use cli::{NoGate, build_one, check_one, judge_one};
 use cli_code::run_code;
-use trials_code::{PROGRAM, told};
 use cli_faults::Fault;
-use bytecode_files::decode;
 use signals::{Counted, CutWriter};
 use std::alloc::{AllocError, Global};
 use std::sync::Wait;
 use std::thread::Threads;
-use workers::run;
+use trials_code::{PROGRAM, told};
 use vcd_reader::{VcdFault, read_dump};
 use verdicts::{Report, write_report};
 use verifier::{Verified, verify};
+use workers::run;
 use workers_core::Job;
 
 /// Three ticks, at which x is 1, 0, 1, and y is 0, 1, 0.

@@ -1,7 +1,7 @@
 //! What stands at the root of the trees that texts have.
 
-use parser_grammar::{Infix, Junction};
 use parser::{AssertionTree, ExprTree, File, ItemTree, PropertyTree, SequenceTree};
+use parser_grammar::{Infix, Junction};
 
 /// The sign of a left operator: `~^` also where the text has `^~`.
 fn sign_of(operator: Infix) -> &'static str {

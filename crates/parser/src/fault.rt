@@ -6,9 +6,9 @@ ghost use Rattle.parser.specs.declared.fault.ParseFault.TheVariants.{Memory};
 ghost use Rattle.parser_expressions.specs.Bytes.{IsByteIn};
 ghost use Rattle.parser.specs.Faults.{NamesStop, IsPlaced};
 
-use parser_grammar::{Terminal, implication_of, is, terminal_of};
 use lexer::Token;
 use parser_expressions::{Stop, byte_at, first, same};
+use parser_grammar::{Terminal, implication_of, is, terminal_of};
 use std::alloc::{AllocError, AllocFailed};
 use thiserror::Error;
 

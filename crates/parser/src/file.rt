@@ -12,11 +12,11 @@ ghost use Rattle.parser.specs.Faults.{IsParseFault, Refuses, IsPlaced};
 use crate::fault::{ParseFault, byte_in, fault_of};
 use crate::item::read_item;
 use crate::read::read;
-use parser_grammar::{Terminal, is};
 use lexer::Token;
 use parser_expressions::{byte_at, first, same};
-use std::alloc::Global;
+use parser_grammar::{Terminal, is};
 use parser_trees::{File, ItemTree};
+use std::alloc::Global;
 
 /// The items that stand first, whether one of them is an assertion, and the tokens behind them.
 type Items<'t, 'a> = Result<(Vec<ItemTree<'a>>, bool, &'t [Token<'a>]), ParseFault<'a>>;

@@ -22,17 +22,17 @@ ghost use Rattle.parser_trees.specs.Views.{assertion_of, item_of};
 
 use crate::property::read_property;
 use crate::read::read;
-use parser_grammar::{Bound, Terminal, is_word};
 use lexer::Token;
 use parser_expressions::{
     Read, Stop, accept, accept_name, expect, expect_bound, expect_name, expect_verb, first,
     read_expression, read_path, same,
 };
+use parser_grammar::{Bound, Terminal, is_word};
 use parser_sequences::read_sequence;
-use std::alloc::Global;
 use parser_trees::{
     AssertionTree, CounterTree, DeclarationTree, ExprTree, ItemTree, Operands, Path, PropertyTree,
 };
+use std::alloc::Global;
 
 /// How many brackets and unfinished operators may be open at once.
 const MOST_OPEN: usize = 64;

@@ -12,12 +12,12 @@ ghost use Rattle.parser_expressions.specs.Views.{Gives};
 ghost use Rattle.parser_trees.specs.Views.{sequence_of, property_of};
 
 use crate::read::read;
-use parser_grammar::{Implication, Terminal, implication_of, is_first_match};
 use lexer::Token;
 use parser_expressions::{Read, Stop, accept, byte_at, deeper, expect, first};
+use parser_grammar::{Implication, Terminal, implication_of, is_first_match};
 use parser_sequences::{finish_sequence, read_sequence, regroup};
-use std::alloc::Global;
 use parser_trees::{PropertyTree, SequenceTree};
+use std::alloc::Global;
 
 /// The implication that stands first, if one does.
 #[tactic(auto, using(crate::proofs::PropertySteps::for_accept))]

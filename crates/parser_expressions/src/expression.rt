@@ -27,10 +27,10 @@ use crate::read::{
     left_operator, operator, read, same,
 };
 use crate::stop::Stop;
-use parser_grammar::{Bound, Function, Index, Infix, Mark, Prefix, Select, Terminal, mark_of};
 use lexer::Token;
-use std::alloc::Global;
+use parser_grammar::{Bound, Function, Index, Infix, Mark, Prefix, Select, Terminal, mark_of};
 use parser_trees::{ExprTree, Path};
+use std::alloc::Global;
 
 /// The words of a path behind its first.
 fn read_members<'t, 'a>(alloc: Global, tokens: &'t [Token<'a>]) -> Read<'t, 'a, Vec<Token<'a>>>

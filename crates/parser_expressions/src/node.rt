@@ -9,10 +9,10 @@ ghost use Rattle.parser_expressions.specs.Views.{Gives, read_as};
 
 use crate::read::Read;
 use crate::stop::Stop;
-use parser_grammar::{Bound, Function, Infix, Prefix, Select};
 use lexer::{Number, Token};
-use std::alloc::Global;
+use parser_grammar::{Bound, Function, Infix, Prefix, Select};
 use parser_trees::{ExprTree, Path};
+use std::alloc::Global;
 
 /// A tree in memory, with the tokens behind it.
 fn boxed<'t, 'a>(

@@ -14,11 +14,11 @@ ghost use Rattle.parser_expressions.specs.Views.{Gives, IsLed};
 ghost use Rattle.parser_expressions.specs.Bytes.{IsByteIn};
 
 use crate::stop::{Stop, in_words};
+use lexer::Token;
 use parser_grammar::{
     Bound, Index, Infix, Terminal, bound_of, index_of, infix_of, is, is_name, is_word,
     precedence_of,
 };
-use lexer::Token;
 
 /// A part, and the tokens behind it.
 pub type Read<'t, 'a, T> = Result<(T, &'t [Token<'a>]), Stop>;

@@ -14,11 +14,11 @@ ghost use Rattle.parser_trees.specs.Views.{sequence_of, delay_step_of};
 ghost use Rattle.parser_grammar.specs.Sequences.{IsNoExpression};
 ghost use Rattle.parser_sequences.specs.Bodies.{HasNoThroughout};
 
-use parser_grammar::{Junction, Range, Terminal};
 use lexer::Token;
 use parser_expressions::{Read, Stop, accept};
-use std::alloc::Global;
+use parser_grammar::{Junction, Range, Terminal};
 use parser_trees::{ExprTree, SequenceTree};
+use std::alloc::Global;
 
 /// Whether a sequence is an expression.
 fn is_expression(sequence: &SequenceTree) -> bool

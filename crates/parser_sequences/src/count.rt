@@ -8,9 +8,9 @@ ghost use Rattle.parser_grammar.specs.ReadSequences.{times, range_between, delay
 ghost use Rattle.parser_expressions.specs.Views.{Gives};
 
 use crate::read::read;
-use parser_grammar::{Bound, Range, Terminal};
 use lexer::Token;
 use parser_expressions::{Read, Stop, accept, expect, expect_bound};
+use parser_grammar::{Bound, Range, Terminal};
 
 /// The largest bound of a delay or a repetition.
 const LARGEST: u8 = 127;

@@ -16,13 +16,13 @@ use crate::body::{
 };
 use crate::count::{read_counts, read_delay};
 use crate::read::read;
-use parser_grammar::{Junction, Range, Terminal};
 use lexer::Token;
 use parser_expressions::{
     Read, Stop, accept, deeper, expect, finish_expression, read_expression, same,
 };
-use std::alloc::Global;
+use parser_grammar::{Junction, Range, Terminal};
 use parser_trees::SequenceTree;
+use std::alloc::Global;
 
 /// What goes on behind brackets.
 #[tactic(auto, using(crate::proofs::Steps::for_regroup))]

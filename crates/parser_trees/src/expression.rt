@@ -1,8 +1,8 @@
 //! The tree of an expression. Brackets are not kept. A chain of left operators of one level is one
 //! node.
 
-use parser_grammar::{Bound, Function, Infix, Prefix, Select};
 use lexer::{Number, Token};
+use parser_grammar::{Bound, Function, Infix, Prefix, Select};
 
 /// The words of a path, of which there is at least one.
 #[derive(Drop)]

@@ -2,8 +2,8 @@
 
 use crate::expression::{ExprTree, Path};
 use crate::sequence::SequenceTree;
-use parser_grammar::{Bound, Implication};
 use lexer::Token;
+use parser_grammar::{Bound, Implication};
 
 /// A property (IEEE 1800-2017, 16.12).
 #[derive(Drop)]

@@ -2,8 +2,8 @@
 //! node.
 
 use crate::expression::ExprTree;
-use parser_grammar::{Junction, Range};
 use lexer::Token;
+use parser_grammar::{Junction, Range};
 
 /// A sequence (IEEE 1800-2017, 16.7 to 16.9). A lone name as a boolean may be that of a sequence.
 #[derive(Drop)]

@@ -4,12 +4,12 @@
 use axi4_rules::PortFault;
 use cli::{Fault, WordsFault, check_one, judge_one, status};
 use cycle_window::WindowFault;
-use trials_dumps::SlowWriter;
-use trials_code::{Answer, has_line, told};
 use parser::ParseFault;
 use signals::{Counted, CutReader, CutWriter, Sink, Source};
 use std::alloc::{AllocError, Global};
 use std::test::Fail;
+use trials_code::{Answer, has_line, told};
+use trials_dumps::SlowWriter;
 use types::TypeFault;
 use vcd_reader::VcdFault;
 

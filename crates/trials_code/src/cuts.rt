@@ -4,12 +4,12 @@ use crate::outcome::{Answer, told};
 use crate::program::PROGRAM;
 use crate::programs::{DUMP, REPORT};
 use cli_code::{run_code, verify_code};
-use trials_dumps::SlowWriter;
 use signals::{Counted, CutReader, CutWriter, Sink, Source};
 use std::alloc::{AllocError, Global};
 use std::sync::Wait;
 use std::test::Fail;
 use std::thread::Threads;
+use trials_dumps::SlowWriter;
 use workers::NoGate;
 
 /// The line of the program's limits.

@@ -9,13 +9,13 @@ ghost use Rattle.machine_samples.specs.Memory.{AreRows};
 ghost use Rattle.machine_definition.specs.Values.{AreValues};
 
 use bytecode::Program;
-use machine_ring::Ring;
-use verifier_inference::Frame;
 use bytecode_files::decode;
+use machine_ring::Ring;
 use machine_samples::{Stack, run};
 use signals::Bits;
 use std::alloc::{AllocError, Global};
 use verifier::verify;
+use verifier_inference::Frame;
 
 /// The magic number and the version; history 2, stack 4, attempts 1, obligations 1, budget 100; no
 /// atom disables, one atom, `r`, `top.clk`, the signals and the counter.

@@ -5,10 +5,9 @@ use lexer::lex;
 use parser::{ExprTree, File, ItemTree, PropertyTree, SequenceTree, parse};
 use std::alloc::{AllocError, Global};
 use std::test::Fail;
-use types_names::{Names, PathWidths, Scope, SignalPaths, Sought};
-use types_faults::{asked_law, columns_of, scope_for};
 use types_expressions::meaning_law;
-use types_faults::first_fault;
+use types_faults::{asked_law, columns_of, first_fault, scope_for};
+use types_names::{Names, PathWidths, Scope, SignalPaths, Sought};
 
 /// The paths of a dump.
 fn dump(alloc: Global) -> Result<Names, AllocError> {

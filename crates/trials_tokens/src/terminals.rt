@@ -1,10 +1,10 @@
 //! Each function at the tokens of a text, against the grammar.
 
+use lexer::{Base, Kind, Number, Token, lex};
 use parser_grammar::{
     Bound, Function, Implication, Index, Infix, Mark, Prefix, Terminal, bound_of, grammar_law,
     implication_of, index_of, infix_of, is, is_name, is_word, mark_of, precedence_of, terminal_of,
 };
-use lexer::{Base, Kind, Number, Token, lex};
 use std::alloc::Global;
 use std::test::Fail;
 

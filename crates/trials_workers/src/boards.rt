@@ -1,11 +1,11 @@
 //! A batch by its receipt, from another thread.
 
 use machine_runs::Batch;
-use workers_board::Board;
 use signals::{Decided, Verdict};
 use std::alloc::{AllocError, Global};
 use std::test::Fail;
 use std::thread;
+use workers_board::Board;
 
 /// A batch of one attempt, which failed at its start.
 fn batch_of(alloc: Global, start: u64) -> Result<Batch, AllocError> {

@@ -5,8 +5,8 @@ use crate::tests::{OVERLAPPED, THREE, TWO_POSITIONS};
 use std::alloc::{AllocError, Global};
 use std::fmt::Write;
 use std::test::Fail;
-use workers::{NoGate, run};
 use verdicts::Report;
+use workers::{NoGate, run};
 use workers_core::RunFault;
 
 /// A dump of so many ticks: at tick k, x is 1 where 4 divides k, and y is 1 where 3 does.

@@ -8,9 +8,9 @@ use signals::Counted;
 use std::alloc::{AllocError, Global};
 use std::sync::Wait;
 use std::thread::Threads;
-use workers::{NoGate, report_run};
 use vcd_reader::{Dump, read_dump};
 use verifier::{Verified, verify};
+use workers::{NoGate, report_run};
 
 /// The value of a hexadecimal digit, 0 for other bytes.
 fn digit(byte: u8) -> u8

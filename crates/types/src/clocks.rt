@@ -6,10 +6,10 @@ ghost use Rattle.types_names.specs.Faults.{least};
 ghost use Rattle.types_names.specs.Scopes.{first_byte};
 ghost use Rattle.types_suites.specs.Texts.{assertions_of, clocks_unlike, clock_of};
 
-use std::alloc::{AllocError, Global};
-use types_names::path_string;
 use parser_trees::{ItemTree, Path};
+use std::alloc::{AllocError, Global};
 use types_faults::earlier;
+use types_names::path_string;
 
 /// The path of the first assertion's clock, and no text where there is no assertion.
 pub(crate) fn first_clock(alloc: Global, items: &[ItemTree]) -> Result<String, AllocError>

@@ -7,8 +7,8 @@ ghost use Rattle.types_names.specs.Faults.{least};
 ghost use Rattle.types_suites.specs.Texts.{label_byte, name_made, assertions_after, duplicates};
 
 use indexmap::IndexSet;
-use std::alloc::{AllocError, Global};
 use parser_trees::{AssertionTree, ItemTree};
+use std::alloc::{AllocError, Global};
 use types_faults::earlier;
 use types_suites::label_string;
 

@@ -17,10 +17,10 @@ use crate::clocks::first_other_clock;
 use crate::cycles::{first_cycle, has_all};
 use crate::names::first_duplicate;
 use crate::side::{Side, first_degenerate, first_empty, first_wide};
-use std::alloc::Global;
-use types_names::{Scope, Sought};
 use parser_trees::ItemTree;
+use std::alloc::Global;
 use types_faults::first_fault;
+use types_names::{Scope, Sought};
 use types_sequences::{Draft, Entry};
 use types_suites::TypeFault;
 

@@ -26,10 +26,10 @@ use crate::clocks::first_clock;
 use crate::sides::written_sides;
 use crate::stages::{check_cycles, check_expressions, check_sides};
 use assertions::Suite;
-use std::alloc::Global;
-use types_names::{PathWidths, Scope, SignalPaths};
-use types_faults::{columns_of, scope_for};
 use parser_trees::{File, ItemTree};
+use std::alloc::Global;
+use types_faults::{columns_of, scope_for};
+use types_names::{PathWidths, Scope, SignalPaths};
 use types_sequences::{Entry, resolve};
 use types_suites::{
     Resolved, TypeFault, all_resolved, assertions_of, bodies_of, counters_of, name_bytes,

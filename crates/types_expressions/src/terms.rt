@@ -20,12 +20,12 @@ ghost use Rattle.types_names.specs.Views.{scope_of, columns_in};
 
 use expressions::{Name, Origin, Slice};
 use parser_grammar::{Bound, Infix, Select};
+use parser_trees::{ExprTree, Path};
 use std::alloc::{AllocError, Global};
 use types_names::{
     Binary, Call, Meaning, Own, Scope, SignalPaths, Unary, binary_of, call_of, low_of, number_bits,
     path_string, unary_of,
 };
-use parser_trees::{ExprTree, Path};
 
 /// An operator with its operands.
 fn combine(

@@ -7,9 +7,9 @@ ghost use Rattle.types_names.specs.Asked.{widths_among, scope_for};
 ghost use Rattle.types_names.specs.Views.{names_in, scope_of, columns_in};
 
 use crate::columns::columns_of;
+use parser_trees::ItemTree;
 use std::alloc::{AllocError, Global};
 use types_names::{Names, PathWidths, Scope, SignalPaths};
-use parser_trees::ItemTree;
 
 /// Those of the paths asked for that are there, with their widths.
 fn names_among<W: PathWidths>(

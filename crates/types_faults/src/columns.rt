@@ -6,9 +6,9 @@ ghost use Rattle.types_names.specs.Columns.{columns_of};
 ghost use Rattle.types_names.specs.Views.{scope_of, columns_in};
 
 use crate::listing::list_item;
+use parser_trees::ItemTree;
 use std::alloc::{AllocError, Global};
 use types_names::{Scope, SignalPaths};
-use parser_trees::ItemTree;
 
 /// The signals that a text reads, in the order of the text. A clock's path is not among them,
 /// unless it is read as a signal too.

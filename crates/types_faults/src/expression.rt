@@ -13,9 +13,11 @@ ghost use Rattle.types_names.specs.Views.{scope_of};
 
 use crate::least::earlier;
 use parser_grammar::{Infix, Select};
-use std::alloc::{AllocError, Global};
-use types_names::{Binary, Scope, Sought, Unary, binary_of, bits_of, low_of, number_bits, unary_of};
 use parser_trees::{ExprTree, Path};
+use std::alloc::{AllocError, Global};
+use types_names::{
+    Binary, Scope, Sought, Unary, binary_of, bits_of, low_of, number_bits, unary_of,
+};
 
 /// What is seen of an expression: its own width, held at 129, and the first fault of the kind that
 /// is sought.
@@ -120,10 +122,7 @@ fn wide_fault(sought: Sought, at: usize, width: usize) -> Option<usize>
 }
 
 /// What is seen of an expression.
-#[tactic(
-    auto,
-    unfolding(types_names::specs::Widths::own_width, types_names::specs::Faults::faults)
-)]
+#[tactic(auto, unfolding(types_names::specs::Widths::own_width, types_names::specs::Faults::faults))]
 #[cycle(expressions)]
 pub(crate) fn see(
     alloc: Global,
@@ -183,10 +182,7 @@ pub(crate) fn see(
 }
 
 /// What is seen of operators with their operands behind a first one.
-#[tactic(
-    auto,
-    unfolding(types_names::specs::Widths::own_width, types_names::specs::Faults::faults)
-)]
+#[tactic(auto, unfolding(types_names::specs::Widths::own_width, types_names::specs::Faults::faults))]
 #[cycle(expressions)]
 fn see_links(
     alloc: Global,
@@ -215,10 +211,7 @@ fn see_links(
 }
 
 /// What is seen of more parts of a concatenation.
-#[tactic(
-    auto,
-    unfolding(types_names::specs::Widths::own_width, types_names::specs::Faults::faults)
-)]
+#[tactic(auto, unfolding(types_names::specs::Widths::own_width, types_names::specs::Faults::faults))]
 #[cycle(expressions)]
 fn see_parts(
     alloc: Global,

@@ -11,9 +11,9 @@ ghost use Rattle.types_names.specs.Views.{scope_of};
 use crate::expression::see;
 use crate::least::earlier;
 use crate::sequence::{property_fault, sequence_fault};
+use parser_trees::{AssertionTree, CounterTree, ExprTree, ItemTree, Operands};
 use std::alloc::{AllocError, Global};
 use types_names::{Scope, Sought};
-use parser_trees::{AssertionTree, CounterTree, ExprTree, ItemTree, Operands};
 
 /// The first fault of an expression that may be left out.
 fn optional_fault(

@@ -15,11 +15,11 @@ ghost use Rattle.types_names.specs.Columns.{counter_signals, assertion_signals, 
 ghost use Rattle.types_names.specs.Views.{scope_of, columns_in};
 
 use parser_grammar::{Infix, Range};
-use std::alloc::{AllocError, Global};
-use types_names::{Meaning, Scope, SignalPaths, path_string};
 use parser_trees::{
     AssertionTree, CounterTree, ExprTree, ItemTree, Operands, Path, PropertyTree, SequenceTree,
 };
+use std::alloc::{AllocError, Global};
+use types_names::{Meaning, Scope, SignalPaths, path_string};
 
 /// Lists a text that is a path, if it stands for a signal.
 fn list_text(

@@ -10,9 +10,9 @@ ghost use Rattle.types_names.specs.Views.{scope_of};
 use crate::expression::see;
 use crate::least::earlier;
 use parser_grammar::Range;
+use parser_trees::{ExprTree, PropertyTree, SequenceTree};
 use std::alloc::{AllocError, Global};
 use types_names::{Scope, Sought};
-use parser_trees::{ExprTree, PropertyTree, SequenceTree};
 
 /// The first fault of a boolean of a sequence, which may be the name of a named sequence.
 fn boolean_fault(

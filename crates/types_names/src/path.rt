@@ -6,8 +6,8 @@ ghost use Rattle.types_names.specs.Scopes.{path_text, first_byte};
 ghost use Rattle.parser_trees.specs.Views.{path_of};
 
 use lexer::Token;
-use std::alloc::{AllocError, Global};
 use parser_trees::Path;
+use std::alloc::{AllocError, Global};
 
 /// Adds a dot and a word.
 fn push_word(text: &mut String, word: &str) -> Result<(), AllocError>

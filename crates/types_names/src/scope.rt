@@ -16,8 +16,8 @@ use crate::path::path_string;
 use crate::paths::Paths;
 use crate::width::Width;
 use indexmap::IndexMap;
-use std::alloc::{AllocError, Global};
 use parser_trees::{ExprTree, ItemTree, Path};
+use std::alloc::{AllocError, Global};
 
 /// The names of a text, and the paths that it can read as signals. The text's own names come before
 /// them, and with a name declared twice the first declaration counts.

@@ -12,9 +12,9 @@ ghost use Rattle.types_suites.specs.Readings.{AllRead};
 ghost use Rattle.types_suites.specs.Texts.{declarations_of};
 
 use crate::drafts::draft_of;
+use parser_trees::ItemTree;
 use std::alloc::{AllocError, Global};
 use types_names::{Scope, SignalPaths};
-use parser_trees::ItemTree;
 use types_sequences::Draft;
 
 /// What the named sequences say, in the order of the text, their expressions typed and put behind

@@ -13,10 +13,10 @@ ghost use Rattle.types_suites.specs.Texts.{counters_of};
 ghost use Rattle.types_suites.specs.Suites.{IsCondition, IsRule, IsCounter, AreCounters};
 
 use expressions::Rule;
-use std::alloc::{AllocError, Global};
-use types_names::{Scope, SignalPaths};
 use parser_trees::{CounterTree, ExprTree, ItemTree, Operands};
+use std::alloc::{AllocError, Global};
 use types_expressions::typed_expression;
+use types_names::{Scope, SignalPaths};
 
 /// The clauses of a counter that have two operands, in boxes, which are let go of by one call.
 #[derive(Drop)]

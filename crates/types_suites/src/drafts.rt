@@ -18,10 +18,10 @@ ghost use Rattle.types_suites.specs.Readings.{joined_by, ReadsSteps, ReadsOthers
 ghost use Rattle.types_sequences.specs.Placed.{Extends};
 
 use parser_grammar::{Junction, Range};
-use std::alloc::{AllocError, Global};
-use types_names::{Scope, SignalPaths};
 use parser_trees::{ExprTree, SequenceTree};
+use std::alloc::{AllocError, Global};
 use types_expressions::typed_expression;
+use types_names::{Scope, SignalPaths};
 use types_sequences::Draft;
 
 /// The least count of a range, and by how many its largest is more.

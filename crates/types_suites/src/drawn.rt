@@ -17,9 +17,9 @@ ghost use Rattle.types_suites.specs.Drawn.{antecedent_byte, consequent_byte, IsD
 use crate::bytes::sequence_at;
 use crate::drafts::{atom, draft_of};
 use crate::label::label_string;
+use parser_trees::{AssertionTree, ExprTree, PropertyTree};
 use std::alloc::{AllocError, Global};
 use types_names::{Scope, SignalPaths};
-use parser_trees::{AssertionTree, ExprTree, PropertyTree};
 use types_sequences::{Draft, rewrite_antecedent};
 
 /// An assertion with its sides as drafts: the antecedent of `|=>` as that of `|->`, and 1 where a

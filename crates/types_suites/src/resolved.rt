@@ -16,9 +16,9 @@ ghost use Rattle.types_suites.specs.Texts.{assertions_of};
 ghost use Rattle.types_suites.specs.Resolved.{IsResolved, AreResolved};
 
 use crate::drawn::drawn_of;
+use parser_trees::{AssertionTree, ItemTree};
 use std::alloc::{AllocError, Global};
 use types_names::{Scope, SignalPaths};
-use parser_trees::{AssertionTree, ItemTree};
 use types_sequences::{Draft, Entry, entry_of};
 
 /// An assertion with the entries of its sides, names written out.

@@ -13,8 +13,8 @@ use crate::least::LeastLimits;
 use crate::limits::limits_of;
 use crate::verified::Verified;
 use bytecode::{Limits, Program};
-use verifier_inference::{Frame, Pool, Refusal, Side, infer, section_fault};
 use std::alloc::Global;
+use verifier_inference::{Frame, Pool, Refusal, Side, infer, section_fault};
 
 /// The longest list of the sample code, or its first fault.
 fn sample_stack(alloc: Global, program: &Program) -> Result<usize, Refusal>

@@ -28,8 +28,8 @@ mod paths;
 mod verified;
 
 pub use accept::{least_limits, verify};
-pub use verifier_inference::{Field, Pool, Refusal};
 pub use laws::verifying_law;
 pub use least::LeastLimits;
 pub use lives::Lives;
 pub use verified::Verified;
+pub use verifier_inference::{Field, Pool, Refusal};

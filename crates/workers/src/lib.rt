@@ -36,5 +36,5 @@ mod totals;
 
 pub use opening::first_monitors;
 pub use report::report_run;
-pub use workers_rounds::work::{Gate, NoGate};
 pub use runs::run;
+pub use workers_rounds::work::{Gate, NoGate};

@@ -12,13 +12,13 @@ ghost use Rattle.workers_bench.specs.Monitors.{IsAt};
 ghost use Rattle.workers.specs.Between.{IsTold, clocks_of};
 ghost use Rattle.workers.specs.Tallied.{count_in, told_by, said_by};
 
-use workers_bench::Numbered;
-use workers_lines::LineSoFar;
 use std::alloc::{AllocError, Global};
 use std::mem;
 use verdicts::Line;
 use verifier::Verified;
+use workers_bench::Numbered;
 use workers_core::Job;
+use workers_lines::LineSoFar;
 
 /// The line of the program of a number, of what its monitor published and of the attempts that are
 /// still live, as open.

@@ -11,12 +11,12 @@ ghost use Rattle.workers_rounds.specs.Adding.{added_by};
 ghost use Rattle.workers_lines.specs.declared.line_so_far.LineSoFar.{LineSoFar};
 ghost use Rattle.workers_lines.specs.Taken.{TookIn};
 
+use std::alloc::{AllocError, Global};
 use workers_bench::Numbered;
+use workers_core::{Job, Monitor, monitors_of};
 use workers_lines::LineSoFar;
 use workers_rounds::round::Member;
-use std::alloc::{AllocError, Global};
 use workers_tally::{Share, Tallying};
-use workers_core::{Job, Monitor, monitors_of};
 
 /// Monitors with their numbers.
 fn numbered(alloc: Global, monitors: Vec<Monitor>) -> Result<Vec<Numbered>, AllocError>

@@ -17,7 +17,6 @@ ghost use Rattle.workers.specs.Faults.{IsOfSignals};
 
 use crate::runs::run;
 use cycle_window::{Clocks, WindowFault};
-use workers_rounds::work::Gate;
 use std::alloc::Global;
 use std::sync::Wait;
 use std::thread::Threads;
@@ -25,6 +24,7 @@ use vcd_reader::Dump;
 use verdicts::Report;
 use verifier::Verified;
 use workers_core::{Job, JobFault, RunFault};
+use workers_rounds::work::Gate;
 
 /// The clock that a program names.
 fn clocks_of(alloc: Global, dump: &Dump, verified: &Verified) -> Result<Clocks, WindowFault>

@@ -7,17 +7,17 @@ ghost use Rattle.workers.specs.Between.{IsBetween, clocks_of};
 ghost use Rattle.workers.specs.Tallied.{AreTallied};
 
 use crate::taking::{monitors_back, take_round};
-use workers_bench::Numbered;
-use workers_board::Board;
-use workers_lines::LineSoFar;
 use cycle_window::Window;
-use workers_rounds::round::{Member, round};
-use workers_rounds::work::Gate;
 use std::alloc::{AllocError, Global};
 use std::sync::Wait;
 use std::thread::Threads;
-use workers_tally::{Tally, Tallying};
+use workers_bench::Numbered;
+use workers_board::Board;
 use workers_core::Job;
+use workers_lines::LineSoFar;
+use workers_rounds::round::{Member, round};
+use workers_rounds::work::Gate;
+use workers_tally::{Tally, Tallying};
 
 /// A round: all monitors through the next window. Its batches are gone after it.
 fn run_round<'j, L: Tallying + Send + Sync, G: Gate + Sync, R: Threads + Wait + Sync>(

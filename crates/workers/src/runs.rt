@@ -13,14 +13,14 @@ use crate::lines::lines_of;
 use crate::opening::{blank_lines, first_monitors, members_of};
 use crate::rounds_run::run_rounds;
 use crate::totals::{report_with, shares_of};
-use workers_rounds::work::Gate;
 use std::alloc::{AllocError, Global};
 use std::marker::Brand;
 use std::sync::Wait;
 use std::thread::Threads;
-use workers_tally::{Blanks, Tally, Tallying};
 use verdicts::Report;
 use workers_core::{Job, RunFault, window_of};
+use workers_rounds::work::Gate;
+use workers_tally::{Blanks, Tally, Tallying};
 
 /// The most clocks of a window.
 const MOST_CLOCKS: usize = 65_536;

@@ -10,11 +10,11 @@ ghost use Rattle.workers_bench.specs.declared.numbered.Numbered.{Numbered};
 ghost use Rattle.workers_rounds.specs.declared.work.Published.{Published};
 ghost use Rattle.workers.specs.Taking.{Takes, numbered_of};
 
+use std::alloc::{AllocError, Global};
 use workers_bench::Numbered;
 use workers_board::Board;
 use workers_lines::LineSoFar;
 use workers_rounds::work::Published;
-use std::alloc::{AllocError, Global};
 
 /// Takes the batch of each monitor into the line of its number.
 pub(crate) fn take_round(

@@ -9,10 +9,10 @@ ghost use Rattle.workers_rounds.specs.Adding.{added_by};
 ghost use Rattle.workers_rounds.specs.Runs.{IsMember};
 ghost use Rattle.workers.specs.Tallied.{AreTotals, shared_by};
 
-use workers_rounds::round::Member;
 use std::alloc::{AllocError, Global};
-use workers_tally::{Share, Tallying};
 use verdicts::{Counts, Line, Report};
+use workers_rounds::round::Member;
+use workers_tally::{Share, Tallying};
 
 /// The shares of all workers.
 pub(crate) fn shares_of<L: Tallying>(

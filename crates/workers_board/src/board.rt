@@ -2,8 +2,8 @@
 
 ghost use Rattle.std.specs.Prelude.{◌≡◌, IfOk, IfErr};
 
-use machine_runs::Batch;
 use boxcar::Pushed;
+use machine_runs::Batch;
 use std::alloc::{AllocError, Global};
 use std::sync::Wait;
 

@@ -9,9 +9,9 @@ ghost use Rattle.workers_core.specs.States.{advanced};
 ghost use Rattle.machine_definition.specs.Runs.{open_ones};
 
 use arrayvec::ArrayVec;
-use machine_runs::Batch;
 use cycle_window::Window;
 use machine::Machine;
+use machine_runs::Batch;
 use signals::Decided;
 use std::alloc::{AllocError, Global};
 use std::mem;

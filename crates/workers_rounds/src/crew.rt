@@ -8,13 +8,13 @@ ghost use Rattle.workers_rounds.specs.Works.{IsSized};
 ghost use Rattle.workers_rounds.specs.Crews.{IsReady, WorksFrom};
 
 use crate::work::{Gate, Worked, work};
-use workers_bench::{Bench, Pass};
-use workers_board::Board;
 use cycle_window::Window;
 use std::alloc::{AllocError, Global};
 use std::sync::Wait;
 use std::thread;
 use std::thread::Threads;
+use workers_bench::{Bench, Pass};
+use workers_board::Board;
 use workers_tally::{Share, Tally, Tallying};
 
 /// What a worker begins a round with.

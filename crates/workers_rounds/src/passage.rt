@@ -8,10 +8,10 @@ ghost use Rattle.workers_bench.specs.Monitors.{IsAt};
 ghost use Rattle.workers_bench.specs.Windows.{IsWindowFor};
 ghost use Rattle.workers_rounds.specs.Works.{IsSized, IsBatch, clock_of};
 
-use machine_runs::Batch;
-use workers_bench::Numbered;
 use cycle_window::Window;
+use machine_runs::Batch;
 use std::alloc::{AllocError, Global};
+use workers_bench::Numbered;
 
 /// Runs a monitor through the window, and makes the batch of it. Where memory is refused, it stands
 /// where it stood.

@@ -21,14 +21,14 @@ ghost use Rattle.workers_rounds.specs.Runs.{TakenIs};
 use crate::crew::{Task, work_all};
 use crate::order::put_in_order;
 use crate::work::{Gate, Published, Worked, run_one};
-use workers_bench::{Bench, Numbered, Pass};
-use workers_board::Board;
 use cycle_window::Window;
 use std::alloc::{AllocError, Global};
 use std::sync::Wait;
 use std::thread::Threads;
-use workers_tally::{Share, Tally, Tallying};
+use workers_bench::{Bench, Numbered, Pass};
+use workers_board::Board;
 use workers_core::Job;
+use workers_tally::{Share, Tally, Tallying};
 
 /// The most claims of a worker before a round.
 const MOST_CLAIMS: u64 = 36_028_797_018_963_968;

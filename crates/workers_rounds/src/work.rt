@@ -14,11 +14,11 @@ ghost use Rattle.workers_bench.specs.Benches.{IsOf};
 ghost use Rattle.workers_rounds.specs.Works.{Works, IsSized, IsPublished, clock_of};
 
 use crate::passage::pass_through;
-use workers_bench::{Bench, Numbered, Pass};
-use workers_board::{Board, Receipt};
 use cycle_window::Window;
 use std::alloc::Global;
 use std::sync::Wait;
+use workers_bench::{Bench, Numbered, Pass};
+use workers_board::{Board, Receipt};
 use workers_tally::{Share, Tally, Tallying};
 
 /// Who wants to know what workers do. It is called with nothing held.
