@@ -52,12 +52,12 @@ pub fn check_one<'a, S: Source, W: Sink>(
     check_through(alloc, source, text, window as usize, out)
 }
 
-/// Does what [`check_one`] does, by 1 to 64 workers, each a thread: `workers_core` and `gate` do
+/// Does what [`check_one`] does, by 1 to 64 workers, each a thread: `workers` and `gate` do
 /// not change what is written either. It may wait for them, and all have ended when it returns.
 ///
 /// # Errors
 ///
-/// Those of [`check_one`], and U1 where `workers_core` is out of its range, which is tested after
+/// Those of [`check_one`], and U1 where `workers` is out of its range, which is tested after
 /// C3 and before anything is read.
 pub fn check_all<'a, S: Source, W: Sink, G: Gate + Sync, R: Threads + Wait + Sync>(
     rt: &R,

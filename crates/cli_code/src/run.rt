@@ -76,12 +76,12 @@ fn run_through<S: Source, W: Sink, G: Gate + Sync, R: Threads + Wait + Sync>(
 /// by 1 to 64 workers, each a thread, through windows of so many clocks, and writes the report.
 ///
 /// The answer is the report's totals: how many attempts held, were vacuous, failed, were disabled,
-/// and are open. `window` is from 1 to 65,536. Neither it nor `workers_core` nor `gate` changes
+/// and are open. `window` is from 1 to 65,536. Neither it nor `workers` nor `gate` changes
 /// what is written. The call may wait for the workers, and all have ended when it returns.
 ///
 /// # Errors
 ///
-/// C3 where `window` is out of its range, then U1 where `workers_core` is, before anything is read;
+/// C3 where `window` is out of its range, then U1 where `workers` is, before anything is read;
 /// then what is wrong with the dump (V1 to V8), with the bytes (B1 to B6), with the program (F1 to
 /// F16), with its clock (C1, C2) and with its signals (C4, C5), all before anything is written; G1
 /// where the sink failed, which then holds a beginning of the report after what it held before; and

@@ -19,7 +19,7 @@
 //!
 //! The gate compares that with `stdout`; `scripts/core_cases.py` made the cases, with the answers
 //! of a core of its own. What a step does is said by the contract of `workers_core::Core::step`;
-//! the definitions stand in `workers/specs` (`States.antt`, `Floors.antt`).
+//! the definitions stand in `workers_core/specs` (`States.antt`, `Floors.antt`).
 //!
 //! Not promised: that each list of steps occurs.
 #![tactic(auto)]

@@ -20,7 +20,7 @@
 //! `bench/machine`.
 //!
 //! What a clock comes to is said by the contract of `machine::Machine::clock`; the definitions
-//! stand in `checked_machine/specs` (`Machine.antt`).
+//! stand in `machine_definition/specs` (`Machine.antt`).
 //!
 //! Not promised: a speed, nor that each program occurs.
 #![tactic(auto)]

@@ -17,7 +17,7 @@
 //! file as one text, and prints how long cutting it into tokens and reading them took.
 //!
 //! What is answered is said by the contracts of `lexer::lex` and `parser::parse`; the definitions
-//! stand in `lexer/specs` and in `grammar/specs`.
+//! stand in `lexer/specs` and in `parser_grammar/specs`.
 //!
 //! Not promised by any contract, and so shown here: which fault of P a text has, and where.
 #![tactic(auto)]
