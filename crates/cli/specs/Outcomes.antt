@@ -1,5 +1,5 @@
 -- What a run over a source, a text and a sink comes to.
-use Rattle.std.specs.Prelude.{◌≡◌, ℕ, ◌≤◌, List, None, string_bytes}
+use Rattle.std.specs.Prelude.{◌≡◌, ℕ, ◌≤◌, List, None, string_bytes, false}
 use Rattle.std.specs.Io.KnownBytes.{Appends}
 use Rattle.signals.specs.Source.{after_failure}
 use Rattle.signals.specs.Sink.{AppendsFront}
@@ -36,8 +36,8 @@ use Rattle.workers_core.specs.Values.{IsBadTeam}
 use Rattle.cli.specs.Named.{scope_over}
 use Rattle.cli.specs.Reported.{AreTokens, HasItems, SaysSuite, IsReport}
 
--- The source gave all its bytes, and the text of the report on them and on the text was written;
--- the totals are its last line's. No call failed.
+-- The source gave all its bytes, and the text of the report on them and on the text was written and
+-- handed on; the totals are its last line's. No call failed.
 pub record IsAnswered (r : Run) (totals : List ℕ) : Type 0 where
   pub bytes : List ℕ
   pub gave : Gave r.source_before.remaining r.source_after.remaining bytes
@@ -47,6 +47,7 @@ pub record IsAnswered (r : Run) (totals : List ℕ) : Type 0 where
   pub totals_are : totals ≡ totals_of report.total
   pub reads : r.source_after.failures ≡ r.source_before.failures
   pub writes : r.sink_after.failures ≡ r.sink_before.failures
+  pub flushed : r.sink_after.keeps_back ≡ false
 
 -- the text has tokens, no file spells them, and the fault stands at one of them
 pub record HasNoItems (text : List ℕ) (fault : ParseFault) : Type 0 where

@@ -1,6 +1,6 @@
 -- What a run of a program over a source and a sink comes to. The bytes of the program stand where a
 -- text does in a run of `cli`.
-use Rattle.std.specs.Prelude.{◌≡◌, ℕ, ◌≤◌, List, length, Ok}
+use Rattle.std.specs.Prelude.{◌≡◌, ℕ, ◌≤◌, List, length, Ok, false}
 use Rattle.std.specs.Io.KnownBytes.{Appends}
 use Rattle.signals.specs.Source.{after_failure}
 use Rattle.signals.specs.Sink.{AppendsFront}
@@ -38,8 +38,8 @@ pub record IsRunReport (bytes code : List ℕ) (report : ReportData) : Type 0 wh
   pub dump : dump_of bytes ≡ Ok contents
   pub has : HasRunReport contents code report
 
--- The source gave all its bytes, and the text of the report on them and on the program was written;
--- the totals are its last line's. No call failed.
+-- The source gave all its bytes, and the text of the report on them and on the program was written
+-- and handed on; the totals are its last line's. No call failed.
 pub record IsRunAnswered (r : Run) (totals : List ℕ) : Type 0 where
   pub bytes : List ℕ
   pub gave : Gave r.source_before.remaining r.source_after.remaining bytes
@@ -49,6 +49,7 @@ pub record IsRunAnswered (r : Run) (totals : List ℕ) : Type 0 where
   pub totals_are : totals ≡ totals_of report.total
   pub reads : r.source_after.failures ≡ r.source_before.failures
   pub writes : r.sink_after.failures ≡ r.sink_before.failures
+  pub flushed : r.sink_after.keeps_back ≡ false
 
 -- an accepted program whose clock or signals the dump doesn't have as it names them
 pub record IsUnbound (c : Contents) (code : List ℕ) (size : ℕ) (fault : WindowFault) : Type 0 where

@@ -1,5 +1,5 @@
 -- What a verification of bytes comes to.
-use Rattle.std.specs.Prelude.{◌≡◌, ℕ, List}
+use Rattle.std.specs.Prelude.{◌≡◌, ℕ, List, false}
 use Rattle.std.specs.Io.KnownBytes.{Appends}
 use Rattle.signals.specs.Source.{after_failure}
 use Rattle.signals.specs.Sink.{SinkState, AppendsFront}
@@ -23,13 +23,15 @@ verification_of bytes sink_before sink_after = record {
   sink_after = sink_after;
 }
 
--- The bytes spell an accepted program, and the line of its limits was written. No call failed.
-pub record IsTold (v : Verification) : Type 0 where
+-- The bytes spell an accepted program, and the line of its limits was written and handed on. No
+-- call failed.
+pub record HasWrittenLimits (v : Verification) : Type 0 where
   pub program : ProgramData
   pub accepted : SpellsAccepted v.bytes program
   pub written : Appends v.sink_before.contents v.sink_after.contents
       (limits_text program.header.limits)
   pub writes : v.sink_after.failures ≡ v.sink_before.failures
+  pub flushed : v.sink_after.keeps_back ≡ false
 
 -- The bytes spell an accepted program, but the sink failed: it holds a beginning of the line of its
 -- limits behind what it held before.

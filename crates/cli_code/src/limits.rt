@@ -1,6 +1,6 @@
 //! The line that tells a program's declared limits, and its way to a device.
 
-ghost use Rattle.std.specs.Prelude.{◌≡◌, OnOk, IfErr};
+ghost use Rattle.std.specs.Prelude.{◌≡◌, OnOk, IfErr, false};
 ghost use Rattle.std.specs.Io.KnownBytes.{Appends};
 ghost use Rattle.verdicts.specs.Written.{WhyUnwritten};
 ghost use Rattle.cli_code.specs.Limits.{limits_text};
@@ -13,7 +13,7 @@ use verdicts::ReportFault;
 
 /// Writes the line of these limits to the device, and flushes it.
 ///
-/// Where the device fails, it holds a beginning of the line behind what it held before.
+/// Where the device fails, it holds a beginning of the line after what it held before.
 pub(crate) fn write_limits<W: Sink>(
     alloc: Global,
     limits: &Limits,
@@ -22,6 +22,7 @@ pub(crate) fn write_limits<W: Sink>(
     ensures written { OnOk result
         (Appends (W.state out.old).contents (W.state out.new).contents (limits_text limits.now)) }
     ensures counted { OnOk result ((W.state out.new).failures ≡ (W.state out.old).failures) }
+    ensures flushed { OnOk result ((W.state out.new).keeps_back ≡ false) }
     ensures refused { IfErr result
         (WhyUnwritten (W.state out.old) (W.state out.new) (limits_text limits.now)) }
 {

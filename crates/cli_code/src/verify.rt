@@ -2,7 +2,7 @@
 
 ghost use Rattle.std.specs.Prelude.{OnOk, IfOk, IfErr};
 ghost use Rattle.cli_faults.specs.Codes.{SpellsAccepted, WhyNotAccepted};
-ghost use Rattle.cli_code.specs.Verifications.{IsTold, WhyNotTold, verification_of};
+ghost use Rattle.cli_code.specs.Verifications.{HasWrittenLimits, WhyNotTold, verification_of};
 
 use crate::limits::write_limits;
 use bytecode_files::decode;
@@ -29,7 +29,7 @@ pub(crate) fn verified_of(alloc: Global, bytes: &[u8]) -> Result<Verified, Fault
 /// is written; G1 where the sink failed, which then holds a beginning of the line behind what it
 /// held before; and want of memory.
 pub fn verify_code<W: Sink>(alloc: Global, bytes: &[u8], out: &mut W) -> Result<(), Fault<'static>>
-    ensures told { OnOk result (IsTold (verification_of bytes.now
+    ensures told { OnOk result (HasWrittenLimits (verification_of bytes.now
         (W.state out.old) (W.state out.new))) }
     ensures refused { IfErr result (WhyNotTold (verification_of bytes.now
         (W.state out.old) (W.state out.new))) }

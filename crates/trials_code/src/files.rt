@@ -1,7 +1,9 @@
-//! Files that differ from that of the smallest program.
+//! Files that differ from that of the smallest program, and what is told of them.
 
 use crate::program::PROGRAM;
+use crate::programs::line_of;
 use std::alloc::{AllocError, Global};
+use std::test::Fail;
 
 /// Where the stretches of the file that are replaced begin and end.
 pub(crate) const SIGNALS: (usize, usize) = (31, 49);
@@ -30,7 +32,7 @@ pub(crate) fn changed(alloc: Global, place: usize, bytes: &[u8]) -> Result<Vec<u
     replaced(alloc, (place, place.saturating_add(bytes.len())), bytes)
 }
 
-/// The bytes of a part so often, behind what counts them.
+/// The bytes of a part so often, after what counts them.
 pub(crate) fn repeated(
     alloc: Global,
     counted: &[u8],
@@ -42,4 +44,35 @@ pub(crate) fn repeated(
         bytes.extend_from_slice(part)?;
     }
     Ok(bytes)
+}
+
+/// Whether this is told of the file with other bytes from a place on.
+pub(crate) fn is_told(alloc: Global, place: usize, bytes: &[u8], line: &str) -> Result<bool, Fail> {
+    let code = changed(alloc, place, bytes)?;
+    Ok(line_of(alloc, code.as_slice())?.as_str() == line)
+}
+
+/// Whether this is told of the file with these bytes in the place of a stretch.
+pub(crate) fn is_told_of(
+    alloc: Global,
+    stretch: (usize, usize),
+    bytes: &[u8],
+    line: &str,
+) -> Result<bool, Fail> {
+    let code = replaced(alloc, stretch, bytes)?;
+    Ok(line_of(alloc, code.as_slice())?.as_str() == line)
+}
+
+/// Whether this is told of the file with a part so often, after what counts it, in the place of a
+/// stretch.
+pub(crate) fn is_told_of_many(
+    alloc: Global,
+    stretch: (usize, usize),
+    counted: &[u8],
+    part: &[u8],
+    times: usize,
+    line: &str,
+) -> Result<bool, Fail> {
+    let bytes = repeated(alloc, counted, part, times)?;
+    is_told_of(alloc, stretch, bytes.as_slice(), line)
 }

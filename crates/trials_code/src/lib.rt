@@ -22,13 +22,15 @@
 #[cfg(test)]
 mod cuts;
 #[cfg(test)]
+mod file_faults;
+#[cfg(test)]
 mod files;
 mod outcome;
 mod program;
 #[cfg(test)]
-mod programs;
+mod program_faults;
 #[cfg(test)]
-mod refusals;
+mod programs;
 #[cfg(test)]
 mod runs;
 

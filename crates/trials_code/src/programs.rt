@@ -104,47 +104,50 @@ fn upgrade_verifies_nothing(rt: HostRuntime) -> Result<(), Fail> {
     Ok(())
 }
 
-/// In the antecedent it accepts first, with the same report; elsewhere it is refused.
+/// In the antecedent it may accept first, with the same report.
 #[test]
-fn accept_first_placed(rt: HostRuntime) -> Result<(), Fail> {
+fn first_match_of_the_antecedent(rt: HostRuntime) -> Result<(), Fail> {
     let code = in_version_2(rt.alloc(), 87, 0x44)?;
     assert!(rt; is_reported(&rt, code.as_slice())?);
-    let code = in_version_2(rt.alloc(), 112, 0x44)?;
-    let line = line_of(rt.alloc(), code.as_slice())?;
-    assert!(rt; line.as_str() == "svamon: F16 AcceptKind 1");
     Ok(())
 }
 
 /// The program as it stands, and with the most that each of its limits may be.
 #[test]
 fn accepted_programs(rt: HostRuntime) -> Result<(), Fail> {
-    for (place, bytes, line) in [
+    for (name, place, bytes, line) in [
         (
+            "as it stands",
             114,
             [].as_slice(),
             "history 0 stack 1 attempts 1 obligations 1 budget 14\n",
         ),
         (
+            "history",
             5,
             [0x10, 0].as_slice(),
             "history 4096 stack 1 attempts 1 obligations 1 budget 14\n",
         ),
         (
+            "stack",
             7,
             [0x04, 0].as_slice(),
             "history 0 stack 1024 attempts 1 obligations 1 budget 14\n",
         ),
         (
+            "attempts",
             9,
             [0x04, 0].as_slice(),
             "history 0 stack 1 attempts 1024 obligations 1 budget 14\n",
         ),
         (
+            "obligations",
             11,
             [0x04, 0].as_slice(),
             "history 0 stack 1 attempts 1 obligations 1024 budget 14\n",
         ),
         (
+            "budget",
             13,
             [1, 0, 0, 0].as_slice(),
             "history 0 stack 1 attempts 1 obligations 1 budget 16777216\n",
@@ -152,7 +155,7 @@ fn accepted_programs(rt: HostRuntime) -> Result<(), Fail> {
     ] {
         let code = changed(rt.alloc(), place, bytes)?;
         let found = line_of(rt.alloc(), code.as_slice())?;
-        assert!(rt; found.as_str() == line, "{place}");
+        assert!(rt; found.as_str() == line, "{name}");
     }
     Ok(())
 }

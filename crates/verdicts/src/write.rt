@@ -1,6 +1,6 @@
 //! Writing a report.
 
-ghost use Rattle.std.specs.Prelude.{◌≡◌, OnOk, IfErr};
+ghost use Rattle.std.specs.Prelude.{◌≡◌, OnOk, IfErr, false};
 ghost use Rattle.std.specs.Io.KnownBytes.{Appends};
 ghost use Rattle.verdicts.specs.Shown.{data_of};
 ghost use Rattle.verdicts.specs.Texts.{report_text};
@@ -25,11 +25,12 @@ pub enum ReportFault {
 
 /// Writes the text of a report to the device, and flushes it.
 ///
-/// Where the device fails, it holds a beginning of the text behind what it held before.
+/// Where the device fails, it holds a beginning of the text after what it held before.
 pub fn write_report<W: Sink>(alloc: Global, report: &Report, out: &mut W) -> Result<(), ReportFault>
     ensures written { OnOk result (Appends (W.state out.old).contents
         (W.state out.new).contents (report_text (data_of report.now))) }
     ensures counted { OnOk result ((W.state out.new).failures ≡ (W.state out.old).failures) }
+    ensures flushed { OnOk result ((W.state out.new).keeps_back ≡ false) }
     ensures refused { IfErr result (WhyUnwritten (W.state out.old) (W.state out.new)
         (report_text (data_of report.now))) }
 {

@@ -38,6 +38,7 @@ returns-in-Ok-clause-answered g c =
       totals_are = c.totals.ensures;
       reads = c.in_ok-dump.ensures.counted;
       writes = c.in-Ok.ensures.counted;
+      flushed = c.in-Ok.ensures.flushed;
     }
 
 pub returns-clause-refused : goal.returns-clause-refused
