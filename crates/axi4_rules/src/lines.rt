@@ -4,10 +4,10 @@ ghost use Rattle.std.specs.Prelude.{◌≡◌, ◌++◌, IfOk, OnOk, string_byte
 ghost use Rattle.axi4_rules.specs.Rows.{line_of, fills, row_data, row_words, framed_words};
 ghost use Rattle.axi4_rules.specs.Views.{Appends};
 
-use crate::fill::push_words;
 use crate::filling::Filling;
 use crate::form::Form;
 use crate::row::Row;
+use crate::templates::push_words;
 use std::alloc::{AllocError, Global};
 
 /// What stands between a rule's name and what it says.

@@ -9,7 +9,7 @@ ghost use Rattle.cli.specs.Outcomes.{IsAnswered, WhyRunRefused, WhyNotChecked, W
 ghost use Rattle.cli_faults.specs.Runs.{run_of};
 
 use crate::checked::{check_by_team, check_through};
-use crate::run::run_through;
+use crate::judged::run_through;
 use cli_faults::Fault;
 use cli_lines::Gate;
 use cycle_window::WindowFault;

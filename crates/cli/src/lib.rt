@@ -23,8 +23,8 @@ mod build;
 mod check;
 mod checked;
 mod dump_widths;
+mod judged;
 mod programs;
-mod run;
 mod text;
 
 pub use build::build_one;

@@ -6,7 +6,7 @@ ghost use Rattle.compiler_positions.specs.Rows.{repeat_data};
 ghost use Rattle.compiler_positions.specs.Rows.{rows_size, IsPlaced};
 ghost use Rattle.compiler_positions.specs.Faults.{IsLong};
 
-use crate::either::tick;
+use crate::alternatives::tick;
 use crate::fault::SectionFault;
 use crate::link::link;
 use crate::repeat::repeat;

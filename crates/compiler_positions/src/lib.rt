@@ -28,13 +28,13 @@
 //! has `and`, `intersect`, or a delay between two parts that may be 0.
 #![tactic(auto)]
 
+mod alternatives;
 mod block;
-mod both;
 mod change;
+mod conjunction;
 mod delay;
 mod draft;
 mod edge;
-mod either;
 mod extent;
 mod fault;
 mod first;

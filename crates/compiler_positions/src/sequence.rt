@@ -7,9 +7,9 @@ ghost use Rattle.assertions.specs.Listed.{EachBoolean, IsListed};
 ghost use Rattle.compiler_positions.specs.Sequences.{atom_of, listed_for, largest};
 ghost use Rattle.compiler_positions.specs.Faults.{IsLong};
 
-use crate::both::both;
+use crate::alternatives::{during, either, tick};
+use crate::conjunction::both;
 use crate::delay::{apart, lead_in};
-use crate::either::{during, either, tick};
 use crate::extent::{is_nullable, is_weighty};
 use crate::fault::SectionFault;
 use crate::pair::pair;

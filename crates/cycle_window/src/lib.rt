@@ -31,7 +31,6 @@ mod clocks;
 mod columns;
 mod cursor;
 mod fault;
-mod filling;
 mod last;
 mod laws;
 mod picks;
@@ -39,6 +38,7 @@ mod rows;
 mod sampling;
 mod shared;
 mod window;
+mod window_rows;
 
 pub use clocks::Clocks;
 pub use columns::{Columns, WatchedSignal};

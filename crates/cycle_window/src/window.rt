@@ -14,8 +14,8 @@ use crate::clocks::Clocks;
 use crate::columns::Columns;
 use crate::cursor::Cursor;
 use crate::fault::WindowFault;
-use crate::filling::fill_rows;
 use crate::picks::push_picked;
+use crate::window_rows::fill_rows;
 use std::alloc::Global;
 use vcd_reader::Dump;
 

@@ -1,6 +1,6 @@
 //! Jobs of programs over the text of a dump.
 
-use crate::told::verified_of;
+use crate::answers::verified_of;
 use signals::{Counted, CutWriter};
 use std::alloc::{AllocError, Global};
 use std::test::Fail;

@@ -17,6 +17,8 @@
 #![tactic(auto)]
 
 #[cfg(test)]
+mod answers;
+#[cfg(test)]
 mod boards;
 #[cfg(test)]
 mod claims;
@@ -28,5 +30,3 @@ mod job;
 mod long;
 #[cfg(test)]
 mod tests;
-#[cfg(test)]
-mod told;

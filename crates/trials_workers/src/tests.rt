@@ -1,6 +1,6 @@
 //! Reports that were worked out by hand.
 
-use crate::told::told;
+use crate::answers::told;
 use std::test::Fail;
 
 /// The file of `r: assert property (@(posedge top.clk) top.x |-> top.y);`.

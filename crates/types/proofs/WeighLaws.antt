@@ -24,7 +24,7 @@ use Rattle.types_suites.specs.Suites.{before_by, first_by, ReadsAntecedent, Read
 use Rattle.types_suites.specs.Faults as faults
 use Rattle.types_suites.specs.Faults.{outline_before, antecedents_in, consequent_in, sides_of, consequents_of}
 use Rattle.types.specs.Sides.{IsWeighed, AreWeighed, AreLight}
-use Rattle.types_suites.specs.Drawn.{antecedent_byte, consequent_byte}
+use Rattle.types_suites.specs.Drafted.{antecedent_byte, consequent_byte}
 use Rattle.types.specs.Sides.{side_of, side_at, consequent_side, sides_in, consequents_in, entry_ticks, sequence_ticks}
 use Rattle.types.specs.Sides.{AreKnown}
 use Rattle.std.specs.Prelude.{Box, nat_lt, Bool, true, false, if◌then◌else◌}

@@ -1,5 +1,5 @@
 pub mod ReadingLaws
-pub mod DrawnLaws
+pub mod DraftedLaws
 pub mod OutlineLaws
 pub mod CounterLaws
 pub mod SeenLaws

@@ -14,7 +14,7 @@ use Rattle.types_sequences.specs.Placed.{Extends}
 use Rattle.types_suites.specs.Suites.{before_by, ReadsAntecedent, ReadsConsequent}
 use Rattle.types_suites.specs.Resolved.{IsResolved, AreResolved}
 use Rattle.types_suites.proofs.OutlineLaws.{reads_below}
-use Rattle.types_suites.proofs.DrawnLaws.{antecedent_grows, consequent_grows, disabled_grows}
+use Rattle.types_suites.proofs.DraftedLaws.{antecedent_grows, consequent_grows, disabled_grows}
 
 -- the names in a side are those of named sequences
 before_uses : (k : Implication) (r : Draft Boolean) (q : ℕ) → IsIn q (uses (before_by k r)) → IsIn q (uses r)

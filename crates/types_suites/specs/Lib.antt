@@ -2,7 +2,7 @@ pub mod Options
 pub mod Readings
 pub mod Texts
 pub mod Suites
-pub mod Drawn
+pub mod Drafted
 pub mod Resolved
 pub mod Signals
 pub mod Made

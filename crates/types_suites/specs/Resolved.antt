@@ -12,7 +12,7 @@ use Rattle.types_suites.specs.declared.resolved.Resolved.{Resolved}
 use Rattle.types_suites.specs.Readings.{AllRead}
 use Rattle.types_suites.specs.Texts.{declarations_of, label_text}
 use Rattle.types_suites.specs.Suites.{first_by, ReadsAntecedent, ReadsConsequent, IsDisabledBy}
-use Rattle.types_suites.specs.Drawn.{antecedent_byte, consequent_byte}
+use Rattle.types_suites.specs.Drafted.{antecedent_byte, consequent_byte}
 
 -- The table has entries of the named sequences of a text.
 pub record HasBodies (s : Scope) (columns : List (List ℕ)) (booleans : List Expr)

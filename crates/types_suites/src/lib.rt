@@ -10,7 +10,7 @@
 //!
 //! The definitions: what a text says in `specs/Suites.antt`, and of a sequence in
 //! `specs/Readings.antt`; its names and bytes in `specs/Texts.antt`; what is kept of an assertion
-//! between the two in `specs/Drawn.antt` and `specs/Resolved.antt`. Which faults stand in a text,
+//! between the two in `specs/Drafted.antt` and `specs/Resolved.antt`. Which faults stand in a text,
 //! and which is the first, is said in `specs/Faults.antt` (`IsFaultless`, `IsTypeFault`).
 //!
 //! Not promised: anything of a text with faults.
@@ -19,18 +19,18 @@
 mod bodies;
 mod bytes;
 mod counters;
+mod drafted_assertion;
 mod drafts;
-mod drawn;
 mod fault;
-mod known;
 mod label;
 mod resolved;
+mod suite_signals;
 mod typed_assertions;
 
 pub use bodies::{bodies_of, name_bytes};
 pub use counters::counters_of;
 pub use fault::TypeFault;
-pub use known::signals_of;
 pub use label::label_string;
 pub use resolved::{Resolved, all_resolved};
+pub use suite_signals::signals_of;
 pub use typed_assertions::assertions_of;

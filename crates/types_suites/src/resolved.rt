@@ -15,7 +15,7 @@ ghost use Rattle.types_sequences.specs.Placed.{Extends};
 ghost use Rattle.types_suites.specs.Texts.{assertions_of};
 ghost use Rattle.types_suites.specs.Resolved.{IsResolved, AreResolved};
 
-use crate::drawn::drawn_of;
+use crate::drafted_assertion::drafted_of;
 use parser_trees::{AssertionTree, ItemTree};
 use std::alloc::{AllocError, Global};
 use types_names::{Scope, SignalPaths};
@@ -71,17 +71,17 @@ fn resolved_of(
         → IfOk result (IsResolved (scope_of scope.now) (columns_in columns.now) booleans.new.items
         bodies before (assertion_of assertion.now)) }
 {
-    let drawn = drawn_of(alloc, scope, columns, before, assertion, booleans)?;
-    let antecedent = entry_in(alloc, &drawn.antecedent, table)?;
-    let consequent = entry_in(alloc, &drawn.consequent, table)?;
+    let drafted = drafted_of(alloc, scope, columns, before, assertion, booleans)?;
+    let antecedent = entry_in(alloc, &drafted.antecedent, table)?;
+    let consequent = entry_in(alloc, &drafted.consequent, table)?;
     Ok(Resolved {
-        name: drawn.name,
-        first: drawn.first,
+        name: drafted.name,
+        first: drafted.first,
         antecedent,
-        antecedent_at: drawn.antecedent_at,
+        antecedent_at: drafted.antecedent_at,
         consequent,
-        consequent_at: drawn.consequent_at,
-        disabling: drawn.disabling,
+        consequent_at: drafted.consequent_at,
+        disabling: drafted.disabling,
     })
 }
 

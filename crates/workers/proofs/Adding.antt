@@ -21,7 +21,7 @@ use Rattle.verdicts.specs.Lines.{LineData, ReportData, line}
 use Rattle.verdicts.specs.declared.line.Counts.{Counts}
 use Rattle.workers_core.specs.declared.job.Job.{Job}
 use Rattle.workers_core.specs.Values.{job_value, rows_over}
-use Rattle.workers_lines.specs.declared.line_so_far.LineSoFar.{LineSoFar}
+use Rattle.workers_lines.specs.declared.growing_line.GrowingLine.{GrowingLine}
 use Rattle.workers_lines.specs.Taken.{TookIn}
 use Rattle.workers_lines.proofs.CoreLaws.{same-traced}
 use Rattle.workers_lines.proofs.LineLaws.{job-traced}
@@ -55,7 +55,7 @@ sum_by-map f g (x ∷ xs) =
     ∙ sym (sum_by-cons (λ y. f (g y)) x xs)
 
 -- the attempts that were taken in, kind by kind
-took-count : (k : ℕ) (l : LineSoFar) (ds : List Decided) → TookIn l ds → count_in k l.counts ≡ count_of (kind_of k) ds
+took-count : (k : ℕ) (l : GrowingLine) (ds : List Decided) → TookIn l ds → count_in k l.counts ≡ count_of (kind_of k) ds
 took-count k l ds took =
     ap (count_in k) took.counts ∙ tallied k (map (λ (d : Decided). d.verdict) ds)
     ∙ sum_by-map _ (λ (d : Decided). d.verdict) ds
@@ -63,7 +63,7 @@ took-count k l ds took =
 count-append : (is : Verdict → Bool) (xs ys : List Decided) → count_of is (xs ++ ys) ≡ count_of is xs + count_of is ys
 count-append is xs ys = sum_by-append _ xs ys
 
-more-count : (k : ℕ) (old new : LineSoFar) (before ds : List Decided) → TookIn old before → TookIn new (before ++ ds)
+more-count : (k : ℕ) (old new : GrowingLine) (before ds : List Decided) → TookIn old before → TookIn new (before ++ ds)
     → count_in k new.counts ≡ count_in k old.counts + count_of (kind_of k) ds
 more-count k old new before ds was is =
     took-count k new (before ++ ds) is ∙ count-append (kind_of k) before ds
@@ -92,7 +92,7 @@ none-open : (k : ℕ) (live : List Attempt) → count_of (kind_of k) (open_ones 
 none-open k live = count-open (kind_of k) (open-none k) live
 
 -- a round in the line of one monitor
-module _ (j : Job) (w : Window) (board : Board) (i : ℕ) (old new : LineSoFar) (p : Published)
+module _ (j : Job) (w : Window) (board : Board) (i : ℕ) (old new : GrowingLine) (p : Published)
     (number : p.monitor.number ≡ i) (is : IsPublished j w board p) (told : IsTold j (first_in w) i old) where
   pub round-count : Takes old (shown_by p.receipt).decided.items new → (k : ℕ)
       → count_in k new.counts ≡ count_in k old.counts + count_of (kind_of k) (shown_by p.receipt).decided.items
@@ -107,7 +107,7 @@ module _ (j : Job) (w : Window) (board : Board) (i : ℕ) (old new : LineSoFar) 
       more-count k old new before ds was (takes before was))
 
 -- the live attempts in the line of one monitor
-pub end-count : (j : Job) (at i : ℕ) (old new : LineSoFar) (p : ProgramData) (live : List Attempt)
+pub end-count : (j : Job) (at i : ℕ) (old new : GrowingLine) (p : ProgramData) (live : List Attempt)
     → IsTold j at i old → slice_get j.programs.items i ≡ Some p → Takes old (open_ones live) new
     → (k : ℕ) → count_in k new.counts ≡ count_in k old.counts
 end-count j at i old new p live told is takes k =
@@ -119,8 +119,9 @@ end-count j at i old new p live told is takes k =
     omega (arith, more, none))
 
 -- what all lines took in, after a round
-pub sum-told : (k : ℕ) (ls new : List LineSoFar) (ps : List Published) → length ls ≡ length ps → length new ≡ length ps
-    → ((i : ℕ) (l m : LineSoFar) (p : Published) → slice_get ls i ≡ Some l → slice_get ps i ≡ Some p
+pub sum-told : (k : ℕ) (ls new : List GrowingLine) (ps : List Published)
+    → length ls ≡ length ps → length new ≡ length ps
+    → ((i : ℕ) (l m : GrowingLine) (p : Published) → slice_get ls i ≡ Some l → slice_get ps i ≡ Some p
     → slice_get new i ≡ Some m
     → count_in k m.counts ≡ count_in k l.counts + count_of (kind_of k) (shown_by p.receipt).decided.items)
     → told_by k new ≡ told_by k ls + published_count (kind_of k) ps
@@ -135,19 +136,19 @@ sum-told k (l ∷ ls) (m ∷ new) (p ∷ ps) a b each =
     let one = each 0 l m p refl refl refl in
     let rest =
     sum-told k ls new ps (omega (arith, a)) (omega (arith, b)) (λ i x y q at of to. each (suc i) x y q at of to) in
-    let x = sum_by-cons (λ (s : LineSoFar). count_in k s.counts) l ls in
-    let y = sum_by-cons (λ (s : LineSoFar). count_in k s.counts) m new in
+    let x = sum_by-cons (λ (s : GrowingLine). count_in k s.counts) l ls in
+    let y = sum_by-cons (λ (s : GrowingLine). count_in k s.counts) m new in
     let z = sum_by-cons (λ (q : Published). count_of (kind_of k) (shown_by q.receipt).decided.items) p ps in
     omega (arith, one, rest, x, y, z)
 
 -- before the first round
-pub none-told-by : (k : ℕ) (ls : List LineSoFar) → ((i : ℕ) (l : LineSoFar) → slice_get ls i ≡ Some l → TookIn l [])
+pub none-told-by : (k : ℕ) (ls : List GrowingLine) → ((i : ℕ) (l : GrowingLine) → slice_get ls i ≡ Some l → TookIn l [])
     → told_by k ls ≡ 0
 none-told-by k [] none = refl
 none-told-by k (l ∷ ls) none =
     let one = took-count k l [] (none 0 l refl) in
     let rest = none-told-by k ls (λ i x at. none (suc i) x at) in
-    let x = sum_by-cons (λ (s : LineSoFar). count_in k s.counts) l ls in
+    let x = sum_by-cons (λ (s : GrowingLine). count_in k s.counts) l ls in
     omega (arith, one, rest, x)
 
 -- what lines say, as the report's definition has it
@@ -155,7 +156,7 @@ pub said-line : (k : ℕ) (ls : List Line) → sum_by (λ (l : LineData). count_
 said-line k ls = sum_by-map (λ (l : LineData). count_in k l.counts) line ls
 
 -- one line more says what its line in the making took in
-pub said-more : (k : ℕ) (ls new : List Line) (l : Line) (ts : List LineSoFar) (i : ℕ) (t : LineSoFar)
+pub said-more : (k : ℕ) (ls new : List Line) (l : Line) (ts : List GrowingLine) (i : ℕ) (t : GrowingLine)
     → new ≡ ls ++ l ∷ [] → slice_get ts i ≡ Some t → count_in k l.counts ≡ count_in k t.counts
     → said_by k ls ≡ told_by k (take i ts) → said_by k new ≡ told_by k (take (i + 1) ts)
 said-more k ls new l ts i t is at one all =
@@ -163,13 +164,13 @@ said-more k ls new l ts i t is at one all =
     let y = told-front k ts i t at in
     omega (arith, x, y, one, all)
   where
-    told-front : (k : ℕ) (ts : List LineSoFar) (i : ℕ) (t : LineSoFar) → slice_get ts i ≡ Some t
+    told-front : (k : ℕ) (ts : List GrowingLine) (i : ℕ) (t : GrowingLine) → slice_get ts i ≡ Some t
         → told_by k (take (i + 1) ts) ≡ told_by k (take i ts) + count_in k t.counts
     told-front k ts i t at =
         let lt = slice_get_within ts i t at in
-        let f = λ (v : LineSoFar). count_in k v.counts in
+        let f = λ (v : GrowingLine). count_in k v.counts in
         sum_by_more f ts i t lt
-        ∙ ap (λ (v : LineSoFar). told_by k (take i ts) + count_in k v.counts)
+        ∙ ap (λ (v : GrowingLine). told_by k (take i ts) + count_in k v.counts)
         (some-is (get_or ts i t) t (sym (get-some ts i t lt) ∙ at))
 
 pub take-length : {A : Type 0} (n : ℕ) (xs : List A) → length xs ≤ n → take n xs ≡ xs

@@ -12,7 +12,7 @@ use Rattle.machine_runs.specs.Lines.{attempts_of}
 use Rattle.workers_core.specs.declared.job.Job.{Job}
 use Rattle.workers_core.specs.Opening.{part_of}
 use Rattle.workers_core.specs.Values.{Says, job_value, rows_over}
-use Rattle.workers_lines.specs.declared.line_so_far.LineSoFar.{LineSoFar}
+use Rattle.workers_lines.specs.declared.growing_line.GrowingLine.{GrowingLine}
 use Rattle.workers_lines.specs.Taken.{TookIn}
 use Rattle.workers_lines.proofs.RunLaws.{ComesTo, comes-to}
 use Rattle.workers_lines.proofs.RoundLaws.{many-rows}
@@ -50,14 +50,14 @@ module _ (j : Job) (x : Numbered) (p : ProgramData) (h : IsAt j (clocks_of j) x)
       omega (arith, opened, (came c says).count, rows-are c says)
 
   -- those of the line and those that are live are all
-  pub line-count : (l : LineSoFar) → IsTold j (clocks_of j) x.number l
+  pub line-count : (l : GrowingLine) → IsTold j (clocks_of j) x.number l
       → attempts_of l.counts + length (open_ones x.monitor.value.machine.state.standing.attempts) ≡ clocks_of j
   line-count l told =
       same-traced (job_value j) _ (clocks_of j) (job-traced j) (λ c says.
       let many = (told.took c says p is).many in
       omega (arith, all-count c says))
 
-  pub more-count : (l new : LineSoFar) → IsTold j (clocks_of j) x.number l
+  pub more-count : (l new : GrowingLine) → IsTold j (clocks_of j) x.number l
       → ((before : List Decided) → TookIn l before
       → TookIn new (before ++ open_ones x.monitor.value.machine.state.standing.attempts)) → attempts_of new.counts
       ≡ clocks_of j

@@ -8,7 +8,7 @@ use Rattle.cycle_window.specs.declared.columns.Columns.{Columns}
 use Rattle.cycle_window.specs.declared.window.Window.{Window}
 use Rattle.cycle_window.specs.Held.{columns_in, places_in, size_in, first_in, end_in, IsWindowOf}
 use Rattle.workers_core.specs.declared.job.Job.{Job}
-use Rattle.workers_lines.specs.declared.line_so_far.LineSoFar.{LineSoFar}
+use Rattle.workers_lines.specs.declared.growing_line.GrowingLine.{GrowingLine}
 use Rattle.workers_lines.proofs.TakenLaws.{some-at}
 use Rattle.workers_board.specs.declared.board.Board.{Board}
 use Rattle.workers_board.specs.Receipts.{IsReceiptOf, shown_by}
@@ -27,7 +27,7 @@ use Rattle.workers.proofs.Telling.{all-at, all-each, placed-number, length-publi
 use Rattle.workers.proofs.Telling.{back-in-order, back-at}
 
 -- the next window
-module _ (j : Job) (v w : Window) (ms : List Numbered) (ls : List LineSoFar) (h : IsBetween j v ms ls)
+module _ (j : Job) (v w : Window) (ms : List Numbered) (ls : List GrowingLine) (h : IsBetween j v ms ls)
     (more : end_in v < clocks_of j) (of : IsWindowOf w j.dump j.clocks) (columns : columns_in w ≡ columns_in v)
     (size : size_in w ≡ size_in v) (first : first_in w ≡ end_in v)
     (end : end_in w ≡ min (clocks_of j) (end_in v + size_in v)) where
@@ -57,17 +57,17 @@ module _ (j : Job) (v w : Window) (ms : List Numbered) (ls : List LineSoFar) (h 
     receipts = all-each (λ (p : Published). IsReceiptOf board p.receipt) ps
         (λ i p is. (all-at (IsPublished j w board) ps i p published is).of_board)
 
-    told-first : (i : ℕ) (l : LineSoFar) → slice_get ls i ≡ Some l → IsTold j (first_in w) i l
+    told-first : (i : ℕ) (l : GrowingLine) → slice_get ls i ≡ Some l → IsTold j (first_in w) i l
     told-first i l is = subst (λ (n : ℕ). IsTold j n i l) (sym first) (h.told i l is)
 
-    pub rooms : (i : ℕ) (l : LineSoFar) (p : Published) → slice_get ls i ≡ Some l → slice_get ps i ≡ Some p
+    pub rooms : (i : ℕ) (l : GrowingLine) (p : Published) → slice_get ls i ≡ Some l → slice_get ps i ≡ Some p
         → attempts_of l.counts + length (shown_by p.receipt).decided.items ≤ end_in w
     rooms i l p is at =
         room j w board i l l p next-sized.0 (placed-number ps (length ms) i p order at)
         (all-at (IsPublished j w board) ps i p published at) (told-first i l is)
 
-    pub next : (new : List LineSoFar) (back : List Numbered) → length new ≡ length ls →
-        ((i : ℕ) (l m : LineSoFar) (p : Published) → slice_get ls i ≡ Some l → slice_get ps i ≡ Some p
+    pub next : (new : List GrowingLine) (back : List Numbered) → length new ≡ length ls →
+        ((i : ℕ) (l m : GrowingLine) (p : Published) → slice_get ls i ≡ Some l → slice_get ps i ≡ Some p
         → slice_get new i ≡ Some m → Takes l (shown_by p.receipt).decided.items m) →
         back ≡ map numbered_of ps → IsBetween j w back new
     next new back long took is = record {
@@ -95,8 +95,8 @@ module _ (j : Job) (v w : Window) (ms : List Numbered) (ls : List LineSoFar) (h 
         length-back = ap length is ∙ (length-mapped ps ∙ length-published ps (length ms) order)
 
     -- what the workers added is what the lines took in
-    pub next-tallied : (new : List LineSoFar) → length new ≡ length ls →
-        ((i : ℕ) (l m : LineSoFar) (p : Published) → slice_get ls i ≡ Some l → slice_get ps i ≡ Some p
+    pub next-tallied : (new : List GrowingLine) → length new ≡ length ls →
+        ((i : ℕ) (l m : GrowingLine) (p : Published) → slice_get ls i ≡ Some l → slice_get ps i ≡ Some p
         → slice_get new i ≡ Some m → Takes l (shown_by p.receipt).decided.items m) →
         (k : ℕ) → told_by k new ≡ told_by k ls + published_count (kind_of k) ps
     next-tallied new long took k =

@@ -22,7 +22,7 @@ use Rattle.workers_core.specs.Opening.{Part, part_at, part_of, parts_from, IsNew
 use Rattle.workers_core.specs.Values.{Says, job_value, rows_over}
 use Rattle.workers_core.proofs.RunLaws.{all-up-to}
 use Rattle.workers_core.proofs.FloorLaws.{get-some, get-mapped}
-use Rattle.workers_lines.specs.declared.line_so_far.LineSoFar.{LineSoFar}
+use Rattle.workers_lines.specs.declared.growing_line.GrowingLine.{GrowingLine}
 use Rattle.workers_lines.specs.Taken.{TookIn}
 use Rattle.workers_lines.proofs.RunLaws.{runs, accepted-on, accepted-clocks}
 use Rattle.workers_lines.proofs.CoreLaws.{less-traced}
@@ -143,7 +143,7 @@ module _ (j : Job) (w : Window) (board : Board) (i : ℕ) (p : Published) (numbe
       length-parts a (p ∷ ps) = omega (arith, length-parts (a + length p.signals) ps)
 
 -- a round in the line of one monitor
-module _ (j : Job) (w : Window) (board : Board) (i : ℕ) (old new : LineSoFar) (p : Published)
+module _ (j : Job) (w : Window) (board : Board) (i : ℕ) (old new : GrowingLine) (p : Published)
     (order : first_in w ≤ end_in w) (number : p.monitor.number ≡ i) (is : IsPublished j w board p)
     (told : IsTold j (first_in w) i old) where
   of-program : (q : ProgramData) → slice_get j.programs.items i ≡ Some q
@@ -235,7 +235,7 @@ first-at j ms xs n parts new same order = all-each (IsAt j 0) xs (λ i x is.
       state = λ c says. ap (λ (s : State). done s 0) (sym fresh.state);
     })
 
-pub none-told : (j : Job) (i : ℕ) (l : LineSoFar) → TookIn l [] → IsTold j 0 i l
+pub none-told : (j : Job) (i : ℕ) (l : GrowingLine) → TookIn l [] → IsTold j 0 i l
 none-told j i l took = record {
   took = λ c says p at. took;
   few = omega (arith, took.many);

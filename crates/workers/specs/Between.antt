@@ -8,7 +8,7 @@ use Rattle.machine_runs.specs.Batches.{batch_of}
 use Rattle.machine_runs.specs.Lines.{attempts_of}
 use Rattle.workers_core.specs.declared.job.Job.{Job}
 use Rattle.workers_core.specs.Values.{Says, job_value, rows_over}
-use Rattle.workers_lines.specs.declared.line_so_far.LineSoFar.{LineSoFar}
+use Rattle.workers_lines.specs.declared.growing_line.GrowingLine.{GrowingLine}
 use Rattle.workers_lines.specs.Taken.{TookIn}
 use Rattle.workers_bench.specs.declared.numbered.Numbered.{Numbered}
 use Rattle.workers_bench.specs.Monitors.{IsAt}
@@ -17,7 +17,7 @@ use Rattle.workers_bench.specs.Hands.{numbers}
 use Rattle.workers_rounds.specs.Runs.{upto}
 
 -- The line in the making took in all that the program of its number decides before this clock.
-pub record IsTold (j : Job) (at i : ℕ) (l : LineSoFar) : Type 0 where
+pub record IsTold (j : Job) (at i : ℕ) (l : GrowingLine) : Type 0 where
   pub took : (c : Contents) → Says (job_value j) c → (p : ProgramData) →
       slice_get j.programs.items i ≡ Some p →
       TookIn l (batch_of p (rows_over (job_value j) c p) 0 at)
@@ -28,7 +28,7 @@ abbrev pub clocks_of : Job → ℕ
 clocks_of j = length (ticks_in j.clocks)
 
 -- All monitors stand at the window's end, in source order, and the lines took in all before it.
-pub record IsBetween (j : Job) (w : Window) (ms : List Numbered) (ls : List LineSoFar) :
+pub record IsBetween (j : Job) (w : Window) (ms : List Numbered) (ls : List GrowingLine) :
     Type 0 where
   pub window : IsWindowFor j w
   pub size : (1 ≤ size_in w) × (size_in w ≤ 65536)
@@ -37,4 +37,4 @@ pub record IsBetween (j : Job) (w : Window) (ms : List Numbered) (ls : List Line
   pub many : length ms ≡ length j.programs.items
   pub at : All (IsAt j (end_in w)) ms
   pub lines : length ls ≡ length j.programs.items
-  pub told : (i : ℕ) (l : LineSoFar) → slice_get ls i ≡ Some l → IsTold j (end_in w) i l
+  pub told : (i : ℕ) (l : GrowingLine) → slice_get ls i ≡ Some l → IsTold j (end_in w) i l

@@ -2,13 +2,13 @@
 use Rattle.std.specs.Prelude.{List, ◌++◌}
 use Rattle.signals.specs.declared.verdict.Decided.{Decided}
 use Rattle.workers_core.specs.declared.monitor.Monitor.{Monitor}
-use Rattle.workers_lines.specs.declared.line_so_far.LineSoFar.{LineSoFar}
+use Rattle.workers_lines.specs.declared.growing_line.GrowingLine.{GrowingLine}
 use Rattle.workers_lines.specs.Taken.{TookIn}
 use Rattle.workers_bench.specs.declared.numbered.Numbered.{Numbered}
 use Rattle.workers_rounds.specs.declared.work.Published.{Published}
 
 -- the line took in these behind what it had
-abbrev pub Takes : LineSoFar → List Decided → LineSoFar → Type 0
+abbrev pub Takes : GrowingLine → List Decided → GrowingLine → Type 0
 Takes old ds new = (before : List Decided) → TookIn old before → TookIn new (before ++ ds)
 
 abbrev pub monitor_of : Numbered → Monitor

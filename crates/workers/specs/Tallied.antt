@@ -4,7 +4,7 @@ use Rattle.std.specs.Prelude.{◌≡◌, ℕ, zero, suc, List, [], ◌∷◌}
 use Rattle.std.specs.List.{sum_by}
 use Rattle.verdicts.specs.declared.line.Counts.{Counts}
 use Rattle.verdicts.specs.declared.line.Line.{Line}
-use Rattle.workers_lines.specs.declared.line_so_far.LineSoFar.{LineSoFar}
+use Rattle.workers_lines.specs.declared.growing_line.GrowingLine.{GrowingLine}
 use Rattle.workers_tally.specs.declared.tally.Share.{Share}
 use Rattle.workers_tally.specs.Shares.{each_capped}
 use Rattle.workers_rounds.specs.declared.round.Member.{Member}
@@ -17,8 +17,8 @@ count_in (suc (suc zero)) c = c.fails
 count_in (suc (suc (suc k))) c = c.disabled
 
 -- what lines in the making took in
-abbrev pub told_by : ℕ → List LineSoFar → ℕ
-told_by k ls = sum_by (λ (l : LineSoFar). count_in k l.counts) ls
+abbrev pub told_by : ℕ → List GrowingLine → ℕ
+told_by k ls = sum_by (λ (l : GrowingLine). count_in k l.counts) ls
 
 -- what lines say
 abbrev pub said_by : ℕ → List Line → ℕ
@@ -35,5 +35,5 @@ module _ {L : Type 0} where
   shared_by k ss = sum_by (λ (s : Share L). amount_of k s) ss
 
   -- the workers added what the lines took in, kind by kind
-  abbrev pub AreTallied : List (Member L) → List LineSoFar → Type 0
+  abbrev pub AreTallied : List (Member L) → List GrowingLine → Type 0
   AreTallied ms ls = (k : ℕ) → added_by k ms ≡ told_by k ls

@@ -5,7 +5,7 @@ ghost use Rattle.vcd_reader.specs.Dump.{Contents};
 ghost use Rattle.verdicts.specs.Lines.{line};
 ghost use Rattle.machine_runs.specs.Lines.{IsLineOver, attempts_of};
 ghost use Rattle.workers_core.specs.Values.{Says, job_value, rows_over};
-ghost use Rattle.workers_lines.specs.declared.line_so_far.LineSoFar.{LineSoFar};
+ghost use Rattle.workers_lines.specs.declared.growing_line.GrowingLine.{GrowingLine};
 ghost use Rattle.workers_lines.specs.Lines.{AreLinesOf};
 ghost use Rattle.workers_bench.specs.declared.numbered.Numbered.{Numbered};
 ghost use Rattle.workers_bench.specs.Monitors.{IsAt};
@@ -18,7 +18,7 @@ use verdicts::Line;
 use verifier::Verified;
 use workers_bench::Numbered;
 use workers_core::Job;
-use workers_lines::LineSoFar;
+use workers_lines::GrowingLine;
 
 /// The line of the program of a number, of what its monitor published and of the attempts that are
 /// still live, as open.
@@ -27,7 +27,7 @@ fn program_line(
     job: &Job,
     verified: &Verified,
     stopped: &Numbered,
-    told: LineSoFar,
+    told: GrowingLine,
 ) -> Result<Line, AllocError>
     requires at { IsAt job.now (clocks_of job.now) stopped.now }
     requires program { slice_get job.now.programs.items stopped.now.number ≡ Some verified.now }
@@ -51,14 +51,14 @@ pub(crate) fn lines_of(
     job: &Job,
     programs: &[Verified],
     stopped: &[Numbered],
-    told: Vec<LineSoFar>,
+    told: Vec<GrowingLine>,
 ) -> Result<Vec<Line>, AllocError>
     requires programs { programs.now ≡ job.now.programs.items }
     requires many { length stopped.now ≡ length job.now.programs.items }
     requires order { (i : ℕ) (x : Numbered) → slice_get stopped.now i ≡ Some x → x.number ≡ i }
     requires at { All (IsAt job.now (clocks_of job.now)) stopped.now }
     requires lines { length told.items ≡ length job.now.programs.items }
-    requires told { (i : ℕ) (l : LineSoFar) → slice_get told.items i ≡ Some l
+    requires told { (i : ℕ) (l : GrowingLine) → slice_get told.items i ≡ Some l
         → IsTold job.now (clocks_of job.now) i l }
     ensures lines { (c : Contents) → Says (job_value job.now) c
         → IfOk result (λ ls. AreLinesOf (job_value job.now) c (map line ls.items)) }
@@ -69,7 +69,7 @@ pub(crate) fn lines_of(
     let mut told = told;
     let mut lines = Vec::with_capacity(alloc, programs.len())?;
     for (number, verified) in programs.iter().enumerate() {
-        let own = mem::replace(&mut told[number], LineSoFar::new(alloc));
+        let own = mem::replace(&mut told[number], GrowingLine::new(alloc));
         lines.push(program_line(alloc, job, verified, &stopped[number], own)?)?;
     }
     Ok(lines)

@@ -8,13 +8,13 @@ ghost use Rattle.workers_bench.specs.Hands.{numbers};
 ghost use Rattle.workers.specs.Taking.{monitor_of};
 ghost use Rattle.workers_rounds.specs.Runs.{upto, IsMember};
 ghost use Rattle.workers_rounds.specs.Adding.{added_by};
-ghost use Rattle.workers_lines.specs.declared.line_so_far.LineSoFar.{LineSoFar};
+ghost use Rattle.workers_lines.specs.declared.growing_line.GrowingLine.{GrowingLine};
 ghost use Rattle.workers_lines.specs.Taken.{TookIn};
 
 use std::alloc::{AllocError, Global};
 use workers_bench::Numbered;
 use workers_core::{Job, Monitor, monitors_of};
-use workers_lines::LineSoFar;
+use workers_lines::GrowingLine;
 use workers_rounds::round::Member;
 use workers_tally::{Share, Tallying};
 
@@ -65,14 +65,14 @@ pub(crate) fn members_of<L: Tallying>(
 }
 
 /// So many lines of which nothing was taken in.
-pub(crate) fn blank_lines(alloc: Global, count: usize) -> Result<Vec<LineSoFar>, AllocError>
+pub(crate) fn blank_lines(alloc: Global, count: usize) -> Result<Vec<GrowingLine>, AllocError>
     ensures long { IfOk result (λ ls. vec_len ls ≡ count) }
-    ensures none { IfOk result (λ ls. (i : ℕ) (l : LineSoFar)
+    ensures none { IfOk result (λ ls. (i : ℕ) (l : GrowingLine)
         → slice_get ls.items i ≡ Some l → TookIn l []) }
 {
     let mut lines = Vec::with_capacity(alloc, count)?;
     for _monitor in 0..count {
-        lines.push(LineSoFar::new(alloc))?;
+        lines.push(GrowingLine::new(alloc))?;
     }
     Ok(lines)
 }

@@ -14,7 +14,7 @@ use std::thread::Threads;
 use workers_bench::Numbered;
 use workers_board::Board;
 use workers_core::Job;
-use workers_lines::LineSoFar;
+use workers_lines::GrowingLine;
 use workers_rounds::round::{Member, round};
 use workers_rounds::work::Gate;
 use workers_tally::{Tally, Tallying};
@@ -29,7 +29,7 @@ fn run_round<'j, L: Tallying + Send + Sync, G: Gate + Sync, R: Threads + Wait + 
     gate: &G,
     members: Vec<Member<L>>,
     monitors: Vec<Numbered>,
-    lines: &mut Vec<LineSoFar>,
+    lines: &mut Vec<GrowingLine>,
 ) -> Result<(Vec<Member<L>>, Vec<Numbered>), AllocError>
     requires between { IsBetween job.now window.old monitors.items lines.old.items }
     requires more { end_in window.old < clocks_of job.now }
@@ -65,7 +65,7 @@ pub(crate) fn run_rounds<'j, L: Tallying + Send + Sync, G: Gate + Sync, R: Threa
     gate: &G,
     members: Vec<Member<L>>,
     monitors: Vec<Numbered>,
-    lines: &mut Vec<LineSoFar>,
+    lines: &mut Vec<GrowingLine>,
 ) -> Result<(Vec<Member<L>>, Vec<Numbered>), AllocError>
     requires between { IsBetween job.now window.old monitors.items lines.old.items }
     requires workers { (0 < vec_len members) × (vec_len members ≤ 64) }

@@ -4,7 +4,7 @@ ghost use Rattle.std.specs.Prelude.{◌≡◌, ◌+◌, ◌^◌, ◌<◌, ℕ, S
 ghost use Rattle.std.specs.Prelude.{slice_get};
 ghost use Rattle.machine_runs.specs.Lines.{attempts_of};
 ghost use Rattle.workers_board.specs.Receipts.{IsReceiptOf, shown_by};
-ghost use Rattle.workers_lines.specs.declared.line_so_far.LineSoFar.{LineSoFar};
+ghost use Rattle.workers_lines.specs.declared.growing_line.GrowingLine.{GrowingLine};
 ghost use Rattle.workers_lines.specs.Taken.{TookIn};
 ghost use Rattle.workers_bench.specs.declared.numbered.Numbered.{Numbered};
 ghost use Rattle.workers_rounds.specs.declared.work.Published.{Published};
@@ -13,22 +13,22 @@ ghost use Rattle.workers.specs.Taking.{Takes, numbered_of};
 use std::alloc::{AllocError, Global};
 use workers_bench::Numbered;
 use workers_board::Board;
-use workers_lines::LineSoFar;
+use workers_lines::GrowingLine;
 use workers_rounds::work::Published;
 
 /// Takes the batch of each monitor into the line of its number.
 pub(crate) fn take_round(
-    lines: &mut Vec<LineSoFar>,
+    lines: &mut Vec<GrowingLine>,
     board: &Board,
     published: &[Published],
 ) -> Result<(), AllocError>
     requires long { length lines.old.items ≡ length published.now }
     requires of { All (λ p. IsReceiptOf board.now p.receipt) published.now }
-    requires room { (i : ℕ) (l : LineSoFar) (p : Published) → slice_get lines.old.items i ≡ Some l
+    requires room { (i : ℕ) (l : GrowingLine) (p : Published) → slice_get lines.old.items i ≡ Some l
         → slice_get published.now i ≡ Some p
         → attempts_of l.counts + length (shown_by p.receipt).decided.items < 2 ^ 64 }
     ensures long { length lines.new.items ≡ length lines.old.items }
-    ensures took { OnOk result ((i : ℕ) (l m : LineSoFar) (p : Published)
+    ensures took { OnOk result ((i : ℕ) (l m : GrowingLine) (p : Published)
         → slice_get lines.old.items i ≡ Some l → slice_get published.now i ≡ Some p
         → slice_get lines.new.items i ≡ Some m → Takes l (shown_by p.receipt).decided.items m) }
 {

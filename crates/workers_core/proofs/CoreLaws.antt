@@ -30,9 +30,9 @@ use Rattle.cycle_window.specs.Ticks.{ticks_of, row_of}
 use Rattle.cycle_window.specs.Held.{columns_in, places_in, code_in, ticks_in, size_in, IsOver, IsWindowOf}
 use Rattle.machine_runs.specs.Reported.{wanted_slot}
 use Rattle.workers_core.specs.declared.job.Job.{Job}
-use Rattle.workers_core.specs.declared.floor.Floor.{Floor}
+use Rattle.workers_core.specs.declared.core_parts.CoreParts.{CoreParts}
 use Rattle.workers_core.specs.Standing.{variables_in}
-use Rattle.workers_core.specs.Floors.{core_state, IsSound, IsKept, SeeAs}
+use Rattle.workers_core.specs.Parts.{core_state, IsSound, IsKept, SeeAs}
 use Rattle.workers_core.specs.Opening.{Part, part_of}
 use Rattle.workers_core.specs.Jobs.{sampled}
 use Rattle.workers_core.specs.Wanted.{wanted_in}
@@ -42,15 +42,15 @@ use Rattle.workers_core.specs.declared.step.Step.TheVariants as steps
 use Rattle.workers_core.specs.declared.step.Reply.{Reply}
 use Rattle.workers_core.specs.States.{CoreState, Setting, EachStandsOnce, Replies, next, next_slide, next_advance}
 use Rattle.workers_core.specs.Values.{CoreValue, Says, job_value, value_of, setting_of}
-use Rattle.workers_core.proofs.FloorLaws.{get-mapped}
+use Rattle.workers_core.proofs.CorePartLaws.{get-mapped}
 use Rattle.workers_core.proofs.PartLaws.{IsPlaced, each-placed}
 
-pub kept-places : (j : Job) (old new : Floor) → IsKept old new
+pub kept-places : (j : Job) (old new : CoreParts) → IsKept old new
     → map Some (places_in (columns_in old.window)) ≡ places_of (variables_of j.dump) (wanted_in j.programs.items)
     → map Some (places_in (columns_in new.window)) ≡ places_of (variables_of j.dump) (wanted_in j.programs.items)
 kept-places j old new kept places = ap (λ (cs : Columns). map Some (places_in cs)) kept.columns ∙ places
 
-pub kept-core : (j : Job) (old new : Floor) → IsCore j old → IsSound new → IsKept old new
+pub kept-core : (j : Job) (old new : CoreParts) → IsCore j old → IsSound new → IsKept old new
     → new.window ≡ old.window → EachStandsOnce (core_state new) → IsCore j new
 kept-core j old new h sound kept same once = record {
   sound = sound;
@@ -73,7 +73,7 @@ named-are vs (s ∷ ss) (x ∷ xs) are =
     rw (sym one) (ap (λ (ys : List ℕ). x ∷ ys) (named-are vs ss xs rest))
 
 -- a monitor sees the trace's rows of its program
-pub sees : (j : Job) (f : Floor) (c : Contents) → IsCore j f → Says (job_value j) c
+pub sees : (j : Job) (f : CoreParts) (c : Contents) → IsCore j f → Says (job_value j) c
     → SeeAs (setting_of (value_of j f) c) f.window c f.monitors.items
 sees j f c h says i m is =
     let vs = variables_of j.dump in
@@ -101,7 +101,7 @@ abbrev AnswersTo : CoreValue → Step → CoreState → Reply → Type 0
 AnswersTo v step new reply =
     (c : Contents) → Says v.job c → Replies v.state (next (setting_of v c) v.state step) new reply
 
-to-value : (v : CoreValue) (j : Job) (old : Floor) (step s : Step) (new : CoreState) (reply : Reply)
+to-value : (v : CoreValue) (j : Job) (old : CoreParts) (step s : Step) (new : CoreState) (reply : Reply)
     → value_of j old ≡ v → step ≡ s → AnswersTo (value_of j old) s new reply
     → AnswersTo v step new reply
 to-value v j old step s new reply is at h =
@@ -109,7 +109,7 @@ to-value v j old step s new reply is at h =
     (subst (λ (t : Step). AnswersTo (value_of j old) t new reply) (sym at) h)
 
 pub slide-reply :
-    (v : CoreValue) (j : Job) (old : Floor) (step : Step) (new : CoreState) (reply : Reply) →
+    (v : CoreValue) (j : Job) (old : CoreParts) (step : Step) (new : CoreState) (reply : Reply) →
     value_of j old ≡ v → step ≡ steps.Slide →
     ((g : Setting) → g.clocks ≡ length (ticks_in j.clocks) → g.size ≡ size_in old.window →
     Replies (core_state old) (next_slide g (core_state old)) new reply) →
@@ -119,7 +119,7 @@ slide-reply v j old step new reply is at h =
     (λ c says. h (setting_of (value_of j old) c) refl refl)
 
 pub advance-reply :
-    (v : CoreValue) (j : Job) (old : Floor) (step : Step) (w k : ℕ) (new : CoreState)
+    (v : CoreValue) (j : Job) (old : CoreParts) (step : Step) (w k : ℕ) (new : CoreState)
     (reply : Reply) → IsCore j old → value_of j old ≡ v → step ≡ steps.Advance w k →
     ((g : Setting) (c : Contents) → IsOver old.window c → SeeAs g old.window c old.monitors.items →
     Replies (core_state old) (next_advance g (core_state old) w k) new reply) →

@@ -30,16 +30,16 @@ use Rattle.machine_runs.specs.declared.batch.Batch.{Batch}
 use Rattle.machine_runs.specs.Batches.{batch_of}
 use Rattle.machine_runs.proofs.JoinLaws.{ends-in}
 use Rattle.workers_core.specs.declared.job.Job.{Job}
-use Rattle.workers_core.specs.declared.floor.Floor.{Floor}
+use Rattle.workers_core.specs.declared.core_parts.CoreParts.{CoreParts}
 use Rattle.workers_core.specs.declared.monitor.Monitor.{Monitor}
 use Rattle.workers_core.specs.States.{MonitorState, BatchState, place}
 use Rattle.workers_core.specs.Standing.{monitor_state, seen}
-use Rattle.workers_core.specs.Floors.{batch_state}
+use Rattle.workers_core.specs.Parts.{batch_state}
 use Rattle.workers_core.specs.Opening.{Part, part_of, parts_from}
 use Rattle.workers_core.specs.Cores.{IsCore}
 use Rattle.workers_core.specs.Values.{Says, job_value, value_of}
 use Rattle.workers_core.specs.Following.{IsInState, IsBatchOf, IsWhole, FollowsMachine}
-use Rattle.workers_core.proofs.FloorLaws.{get-mapped}
+use Rattle.workers_core.proofs.CorePartLaws.{get-mapped}
 use Rattle.workers_core.proofs.CoreLaws.{holds, sees}
 use Rattle.workers_core.proofs.RunLaws.{all-up-to}
 use Rattle.verifier.specs.Programs.{IsAccepted}
@@ -82,7 +82,7 @@ of-parts : (ms : List Monitor)
 of-parts [] = refl
 of-parts (m ∷ ms) = ap (λ (xs : List ProgramData). m.machine.program ∷ xs) (of-parts ms)
 
-module _ (j : Job) (f : Floor) (c : Contents) (core : IsCore j f)
+module _ (j : Job) (f : CoreParts) (c : Contents) (core : IsCore j f)
     (says : Says (job_value j) c) where
   programs-are : map (λ (m : MonitorState). m.program) (map monitor_state f.monitors.items)
       ≡ j.programs.items

@@ -1,5 +1,5 @@
 pub mod PlaceLaws
-pub mod FloorLaws
+pub mod CorePartLaws
 pub mod OrderLaws
 pub mod RunLaws
 pub mod ToldLaws

@@ -8,7 +8,7 @@ use Rattle.std.proofs.lemmas.Bool.{false≢true, eq-eqb, eqb-true, cases_eq}
 use Rattle.std.proofs.lemmas.List.{length-set, length-map}
 use Rattle.std.proofs.lemmas.List.Sums.{sum_by-cons, sum_by-append}
 use Rattle.bytecode.specs.Values.{ProgramData}
-use Rattle.workers_core.specs.declared.floor.Floor.{Floor}
+use Rattle.workers_core.specs.declared.core_parts.CoreParts.{CoreParts}
 use Rattle.workers_core.specs.declared.monitor.Monitor.{Monitor}
 use Rattle.workers_core.specs.declared.worker.Worker.{Worker}
 use Rattle.workers_core.specs.declared.step.Reply.{Reply}
@@ -19,7 +19,7 @@ use Rattle.workers_core.specs.States.{is_empty, is_none, is_free, is_free_one, f
 use Rattle.workers_core.specs.States.{next_claim, may_claim, next_publish, publish_by, publish_one, next_gather}
 use Rattle.workers_core.specs.States.{put, put_each, put_done}
 use Rattle.workers_core.specs.Standing.{monitor_state}
-use Rattle.workers_core.specs.Floors.{core_state, worker_state, IsKept}
+use Rattle.workers_core.specs.Parts.{core_state, worker_state, IsKept}
 use Rattle.workers_core.specs.Opening.{Part, part_of, opened_monitor}
 use Rattle.workers_core.specs.Cores.{opening_state}
 
@@ -262,7 +262,7 @@ pub gather-once : (old new : CoreState) (r : Reply) → Replies old (next_gather
 gather-once old new r h = replied-once old new (next_gather old) r h (gather-alike old)
 
 -- nothing moves between the lists
-pub unmoved-once : (old new : Floor) → IsKept old new → new.waiting ≡ old.waiting → new.workers ≡ old.workers
+pub unmoved-once : (old new : CoreParts) → IsKept old new → new.waiting ≡ old.waiting → new.workers ≡ old.workers
     → EachStandsOnce (core_state old) → EachStandsOnce (core_state new)
 unmoved-once old new kept waiting workers =
     alike-once (core_state old) (core_state new)

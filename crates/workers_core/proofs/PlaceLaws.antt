@@ -56,7 +56,7 @@ use Rattle.cycle_window.specs.Held.{
 }
 use Rattle.cycle_window.specs.declared.columns.Columns.{Columns}
 use Rattle.machine_runs.specs.declared.batch.Batch.{Batch}
-use Rattle.workers_core.specs.Floors.{IsRight}
+use Rattle.workers_core.specs.Parts.{IsRight}
 use Rattle.machine_definition.specs.Outcomes.{done}
 use Rattle.machine_definition.specs.Machine.{State, Outcome, clock}
 use Rattle.machine_definition.specs.Runs.{run_from}

@@ -41,15 +41,15 @@ use Rattle.machine_runs.specs.declared.batch.Batch.{Batch}
 use Rattle.machine_runs.specs.Batches.{HasCome}
 use Rattle.machine_runs.proofs.JoinLaws.{come-first}
 use Rattle.workers_core.specs.declared.job.Job.{Job}
-use Rattle.workers_core.specs.declared.floor.Floor.{Floor}
+use Rattle.workers_core.specs.declared.core_parts.CoreParts.{CoreParts}
 use Rattle.workers_core.specs.declared.monitor.Monitor.{Monitor}
 use Rattle.workers_core.specs.States.{CoreState, MonitorState, WorkerState, BatchState, EachStandsOnce, published_by}
 use Rattle.workers_core.specs.Standing.{monitor_state, variables_in, seen, Stands}
-use Rattle.workers_core.specs.Floors.{core_state, worker_state, batch_state, AreAllBefore}
+use Rattle.workers_core.specs.Parts.{core_state, worker_state, batch_state, AreAllBefore}
 use Rattle.workers_core.specs.Opening.{Part, IsNew, part_of, parts_from, opened_monitor}
 use Rattle.workers_core.specs.Wanted.{wanted_in}
 use Rattle.workers_core.specs.Cores.{IsFirstWindow, IsOpened, opening_state}
-use Rattle.workers_core.proofs.FloorLaws.{get-mapped}
+use Rattle.workers_core.proofs.CorePartLaws.{get-mapped}
 use Rattle.workers_core.proofs.OnceLaws.{opening-once}
 use Rattle.workers_core.proofs.ToldLaws.{none-told}
 use Rattle.workers_core.proofs.PartLaws.{IsPlaced, each-placed, each-accepted}
@@ -124,8 +124,8 @@ abbrev state : ℕ → ℕ → List MonitorState → List ℕ → List WorkerSta
 state a b ms is ws bs =
     record { first = a; end = b; monitors = ms; waiting = is; workers = ws; board = bs }
 
--- the floor of a core before its first step
-pub opened : (j : Job) (n most : ℕ) (f : Floor) → IsFirstWindow j most f.window →
+-- the parts of a core before its first step
+pub opened : (j : Job) (n most : ℕ) (f : CoreParts) → IsFirstWindow j most f.window →
     map monitor_state f.monitors.items ≡ map opened_monitor j.programs.items →
     map part_of f.monitors.items ≡ parts_from 0 j.programs.items →
     ((i : ℕ) (m : Monitor) → slice_get f.monitors.items i ≡ Some m → IsNew m) →

@@ -19,10 +19,10 @@ use Rattle.machine_runs.proofs.JoinLaws.{come-first}
 use Rattle.workers_core.specs.declared.monitor.Monitor.{Monitor}
 use Rattle.workers_core.specs.States.{BatchState, batch, published_by}
 use Rattle.workers_core.specs.Standing.{monitor_state, seen, IsSame, Stands, IsCleared}
-use Rattle.workers_core.specs.Floors.{batch_state, AreAllBefore, EachIsTold}
+use Rattle.workers_core.specs.Parts.{batch_state, AreAllBefore, EachIsTold}
 use Rattle.workers_core.specs.Opening.{IsNew}
 use Rattle.workers_core.proofs.PlaceLaws.{same-part, over-same, same-seen}
-use Rattle.workers_core.proofs.FloorLaws.{each-set}
+use Rattle.workers_core.proofs.CorePartLaws.{each-set}
 use Rattle.workers_core.proofs.RunLaws.{all-up-to}
 
 -- what holds of each place but one, and of what is written there, holds of each after the write

@@ -7,10 +7,10 @@ use Rattle.cycle_window.specs.declared.window.Window.{Window}
 use Rattle.cycle_window.specs.Bound.{places_of, first_refused}
 use Rattle.cycle_window.specs.Held.{columns_in, places_in, size_in, first_in, end_in, IsWindowOf}
 use Rattle.workers_core.specs.declared.job.Job.{Job}
-use Rattle.workers_core.specs.declared.floor.Floor.{Floor}
+use Rattle.workers_core.specs.declared.core_parts.CoreParts.{CoreParts}
 use Rattle.workers_core.specs.States.{CoreState, EachStandsOnce}
 use Rattle.workers_core.specs.Opening.{part_of, parts_from, opened_monitor}
-use Rattle.workers_core.specs.Floors.{core_state, IsSound}
+use Rattle.workers_core.specs.Parts.{core_state, IsSound}
 use Rattle.workers_core.specs.Wanted.{wanted_in}
 
 -- Before the first step: an empty window at clock 0, all monitors waiting in source order, and
@@ -37,7 +37,7 @@ pub record IsFirstWindow (j : Job) (n : ℕ) (w : Window) : Type 0 where
 
 -- It is sound, each monitor stands once in its lists, its window is over the rows of the job's
 -- signals, and monitor i has program i with its part of a row.
-pub record IsCore (j : Job) (f : Floor) : Type 0 where
+pub record IsCore (j : Job) (f : CoreParts) : Type 0 where
   pub sound : IsSound f
   pub once : EachStandsOnce (core_state f)
   pub window : IsWindowOf f.window j.dump j.clocks
@@ -45,8 +45,8 @@ pub record IsCore (j : Job) (f : Floor) : Type 0 where
       ≡ places_of (variables_of j.dump) (wanted_in j.programs.items)
   pub parts : map part_of f.monitors.items ≡ parts_from 0 j.programs.items
 
--- the floor of a core before its first step, of so many workers and by windows of so many clocks
-pub record IsOpened (j : Job) (n most : ℕ) (f : Floor) : Type 0 where
+-- the parts of a core before its first step, of so many workers and by windows of so many clocks
+pub record IsOpened (j : Job) (n most : ℕ) (f : CoreParts) : Type 0 where
   pub core : IsCore j f
   pub state : core_state f ≡ opening_state j.programs.items n
   pub size : size_in f.window ≡ most

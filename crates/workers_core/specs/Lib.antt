@@ -1,7 +1,7 @@
 pub mod States
 pub mod Standing
 pub mod Opening
-pub mod Floors
+pub mod Parts
 pub mod Wanted
 pub mod Faults
 pub mod Jobs

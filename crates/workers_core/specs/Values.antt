@@ -9,11 +9,11 @@ use Rattle.cycle_window.specs.Bound.{IsBadSize}
 use Rattle.cycle_window.specs.Ticks.{ticks_of, row_of}
 use Rattle.cycle_window.specs.Held.{ticks_in, code_in, size_in}
 use Rattle.workers_core.specs.declared.job.Job.{Job}
-use Rattle.workers_core.specs.declared.floor.Floor.{Floor}
+use Rattle.workers_core.specs.declared.core_parts.CoreParts.{CoreParts}
 use Rattle.workers_core.specs.declared.run_fault.RunFault.{RunFault}
 use Rattle.workers_core.specs.declared.run_fault.RunFault.TheVariants as faults
 use Rattle.workers_core.specs.States.{CoreState, Setting}
-use Rattle.workers_core.specs.Floors.{core_state}
+use Rattle.workers_core.specs.Parts.{core_state}
 use Rattle.workers_core.specs.Jobs.{sampled}
 use Rattle.workers_core.specs.Cores.{opening_state}
 
@@ -49,7 +49,7 @@ pub record CoreValue : Type 0 where
   pub size : ℕ
   pub state : CoreState
 
-abbrev pub value_of : Job → Floor → CoreValue
+abbrev pub value_of : Job → CoreParts → CoreValue
 value_of j f = record { job = job_value j; size = size_in f.window; state = core_state f }
 
 -- before the first step

@@ -5,7 +5,7 @@ ghost use Rattle.vcd_reader.specs.Dump.{Contents};
 ghost use Rattle.machine_definition.specs.Runs.{open_ones};
 ghost use Rattle.workers_core.specs.States.{Replies, next};
 
-use crate::floor::Floor;
+use crate::core_parts::CoreParts;
 use crate::job::Job;
 use crate::run_fault::RunFault;
 use crate::step::{Reply, Step};
@@ -25,7 +25,7 @@ const MOST_WORKERS: usize = 64;
 #[derive(Drop)]
 pub struct Core<'j> {
     job: &'j Job,
-    floor: Floor<'j>,
+    parts: CoreParts<'j>,
 }
 
 impl<'j> Model for Core<'j> {
@@ -34,16 +34,16 @@ impl<'j> Model for Core<'j> {
 
     ghost Value = { CoreValue };
 
-    ghost view = { λ core. value_of core.job.now core.floor };
+    ghost view = { λ core. value_of core.job.now core.parts };
 
-    ghost invariant = { λ core. IsCore core.job.now core.floor };
+    ghost invariant = { λ core. IsCore core.job.now core.parts };
 }
 
 impl<'j> Core<'j> {
     ghost use Rattle.workers_core.specs.Values.{job_value, opening_core, setting_of, Says};
     ghost use Rattle.workers_core.specs.Values.{WhyNoCore};
     ghost use Rattle.workers_core.specs.Following.{FollowsMachine};
-    ghost use Rattle.workers_core.specs.Floors.{batch_state};
+    ghost use Rattle.workers_core.specs.Parts.{batch_state};
     ghost use Rattle.workers_core.specs.States.{MonitorState};
 
     /// A core of 1 to 64 workers, through windows of so many clocks, 1 to 65,536.
@@ -66,8 +66,8 @@ impl<'j> Core<'j> {
         if workers == 0 || workers > MOST_WORKERS {
             return Err(RunFault::BadWorkers);
         }
-        let floor = Floor::new(alloc, job, workers, size)?;
-        Ok(Core { job, floor })
+        let parts = CoreParts::new(alloc, job, workers, size)?;
+        Ok(Core { job, parts })
     }
 
     /// One step. What isn't allowed is refused, and nothing changes then, nor for want of memory.
@@ -80,11 +80,11 @@ impl<'j> Core<'j> {
     {
         let job = self.job;
         match step {
-            Step::Slide => self.floor.slide(&job.dump, &job.clocks),
-            Step::Claim(worker) => self.floor.claim(worker),
-            Step::Advance(worker, clocks) => self.floor.advance(worker, clocks),
-            Step::Publish(worker) => self.floor.publish(alloc, worker),
-            Step::Gather => self.floor.gather(alloc),
+            Step::Slide => self.parts.slide(&job.dump, &job.clocks),
+            Step::Claim(worker) => self.parts.claim(worker),
+            Step::Advance(worker, clocks) => self.parts.advance(worker, clocks),
+            Step::Publish(worker) => self.parts.publish(alloc, worker),
+            Step::Gather => self.parts.gather(alloc),
         }
     }
 
@@ -100,7 +100,7 @@ impl<'j> Core<'j> {
         ensures first { result.0 ≡ self.now.state.first }
         ensures end { result.1 ≡ self.now.state.end }
     {
-        self.floor.window.bounds()
+        self.parts.window.bounds()
     }
 
     /// The attempts of a monitor that are live at its place, as open ones, by start.
@@ -110,7 +110,7 @@ impl<'j> Core<'j> {
             → result.items ≡ open_ones m.state.standing.attempts }
     {
         let mut live = ArrayVec::new();
-        self.floor.monitors[monitor].machine.open_starts(&mut live);
+        self.parts.monitors[monitor].machine.open_starts(&mut live);
         live
     }
 
@@ -118,7 +118,7 @@ impl<'j> Core<'j> {
     pub fn board(&self) -> &[Batch]
         ensures { map batch_state result.now ≡ self.now.state.board }
     {
-        self.floor.board.as_slice()
+        self.parts.board.as_slice()
     }
 
     /// A law, and a call that does nothing. Whatever list of steps was made: the job's ticks are
@@ -130,6 +130,6 @@ impl<'j> Core<'j> {
         // The dump has contents.
         ensures says { ∥ ((c : Contents) × Says self.now.job c) ∥₁ }
     {
-        let _ = &self.floor;
+        let _ = &self.parts;
     }
 }

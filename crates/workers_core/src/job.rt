@@ -5,7 +5,7 @@ ghost use Rattle.vcd_reader.specs.Held.{variables_of};
 ghost use Rattle.cycle_window.specs.Bound.{first_refused};
 ghost use Rattle.cycle_window.specs.Held.{code_in, AreClocksOf};
 
-use crate::against::check_job;
+use crate::job_check::check_job;
 use crate::job_fault::JobFault;
 use cycle_window::Clocks;
 use std::alloc::Global;

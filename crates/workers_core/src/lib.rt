@@ -23,24 +23,24 @@
 //! to its users, and why there is none), `specs/Cores.antt` (how it begins), and
 //! `specs/Following.antt` (what every core has: each monitor in the checked machine's state over
 //! the trace's first rows, and each batch that of its monitor for its clocks). Behind them are
-//! `specs/Standing.antt` and `specs/Floors.antt`. Batches are those of `machine_runs`, the checked
+//! `specs/Standing.antt` and `specs/Parts.antt`. Batches are those of `machine_runs`, the checked
 //! machine that of `machine_definition`.
 //!
 //! Not promised: that any monitor is ever claimed, or that a foreign program means anything.
 #![tactic(auto)]
 
-mod against;
+mod conditions;
+mod core_parts;
 mod cores;
-mod floor;
 mod job;
+mod job_check;
 mod job_fault;
-mod look;
 mod monitor;
 mod opening;
 mod order;
+mod program_signals;
 mod run_fault;
 mod step;
-mod wanted;
 mod worker;
 
 pub use cores::Core;

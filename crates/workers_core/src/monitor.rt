@@ -41,7 +41,7 @@ pub struct Monitor {
 impl Monitor {
     ghost use Rattle.workers_core.specs.Standing.{monitor_state, seen, AreSampled, IsSame, Stands};
     ghost use Rattle.workers_core.specs.Standing.{IsOneMore, IsUnmoved, IsCleared};
-    ghost use Rattle.workers_core.specs.Floors.{batch_state};
+    ghost use Rattle.workers_core.specs.Parts.{batch_state};
     ghost use Rattle.workers_core.specs.States.{batch};
     ghost use Rattle.workers_core.specs.Opening.{IsNew, part_of, part_at, opened_monitor};
 

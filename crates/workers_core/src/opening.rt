@@ -5,13 +5,13 @@ ghost use Rattle.std.specs.List.{range_with_len};
 ghost use Rattle.workers_core.specs.States.{WorkerState};
 ghost use Rattle.workers_core.specs.declared.monitor.Monitor.{Monitor};
 ghost use Rattle.workers_core.specs.Standing.{monitor_state};
-ghost use Rattle.workers_core.specs.Floors.{worker_state};
+ghost use Rattle.workers_core.specs.Parts.{worker_state};
 ghost use Rattle.workers_core.specs.Opening.{IsNew, part_of, parts_from, opened_monitor};
 ghost use Rattle.workers_core.specs.Cores.{IsFirstWindow};
 
 use crate::job::Job;
 use crate::monitor::Monitor;
-use crate::wanted::signals_of;
+use crate::program_signals::signals_of;
 use crate::worker::Worker;
 use cycle_window::{Columns, Window, WindowFault};
 use std::alloc::{AllocError, Global};

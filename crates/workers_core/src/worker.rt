@@ -3,7 +3,7 @@
 ghost use Rattle.std.specs.Prelude.{◌≡◌, ◌<◌, ◌++◌, ◌∷◌, [], None, OnOk, OnErr, length, map};
 ghost use Rattle.std.specs.Prelude.{slice_get, slice_set};
 ghost use Rattle.workers_core.specs.States.{done_of};
-ghost use Rattle.workers_core.specs.Floors.{worker_state};
+ghost use Rattle.workers_core.specs.Parts.{worker_state};
 
 use std::alloc::AllocError;
 

@@ -35,8 +35,8 @@ use Rattle.std.proofs.lemmas.List.{map-append, append-nil, take_more, take-appen
 use Rattle.signals.specs.declared.verdict.Decided.{Decided}
 use Rattle.machine_runs.specs.declared.batch.Batch.{Batch}
 use Rattle.workers_core.specs.States.{BatchState, published_by}
-use Rattle.workers_core.specs.Floors.{batch_state}
-use Rattle.workers_lines.specs.declared.line_so_far.LineSoFar.{LineSoFar}
+use Rattle.workers_core.specs.Parts.{batch_state}
+use Rattle.workers_lines.specs.declared.growing_line.GrowingLine.{GrowingLine}
 use Rattle.workers_core.proofs.FloorLaws.{whole}
 use Rattle.workers_lines.specs.Taken.{TookIn, of_monitor}
 
@@ -70,10 +70,10 @@ none-of b i other =
     ap (λ (t : Bool). cond t b.decided.items []) (ne_eqb b.monitor i (λ e. other (sym e)))
 
 -- a batch in the line of its monitor
-pub taken-set : (ls : List LineSoFar) (b : Batch) (new : LineSoFar) (before : ℕ → List Decided) →
-    ((i : ℕ) (l : LineSoFar) → slice_get ls i ≡ Some l → TookIn l (before i)) →
+pub taken-set : (ls : List GrowingLine) (b : Batch) (new : GrowingLine) (before : ℕ → List Decided) →
+    ((i : ℕ) (l : GrowingLine) → slice_get ls i ≡ Some l → TookIn l (before i)) →
     TookIn new (before b.monitor ++ b.decided.items) →
-    (i : ℕ) (l : LineSoFar) → slice_get (slice_set ls b.monitor new) i ≡ Some l →
+    (i : ℕ) (l : GrowingLine) → slice_get (slice_set ls b.monitor new) i ≡ Some l →
     TookIn l (before i ++ of_monitor b i)
 taken-set ls b new before all one =
     each-but (λ i l. TookIn l (before i ++ of_monitor b i)) ls b.monitor new
@@ -90,10 +90,10 @@ within (y ∷ xs) zero x h = omega arith
 within (y ∷ xs) (suc i) x h = omega (arith, within xs i x h)
 
 -- a batch of no line
-pub taken-none : (ls : List LineSoFar) (b : Batch) (before : ℕ → List Decided) →
+pub taken-none : (ls : List GrowingLine) (b : Batch) (before : ℕ → List Decided) →
     length ls ≤ b.monitor →
-    ((i : ℕ) (l : LineSoFar) → slice_get ls i ≡ Some l → TookIn l (before i)) →
-    (i : ℕ) (l : LineSoFar) → slice_get ls i ≡ Some l → TookIn l (before i ++ of_monitor b i)
+    ((i : ℕ) (l : GrowingLine) → slice_get ls i ≡ Some l → TookIn l (before i)) →
+    (i : ℕ) (l : GrowingLine) → slice_get ls i ≡ Some l → TookIn l (before i ++ of_monitor b i)
 taken-none ls b before past all i l at =
     let below = within ls i l at in
     subst (TookIn l)
@@ -144,6 +144,6 @@ some-at (x ∷ xs) zero h = (x, refl)
 some-at (x ∷ xs) (suc i) h = some-at xs i (omega (arith, h))
 
 -- the lines of a slice that was lent whole
-pub lent : (new old : List LineSoFar) (n : ℕ) → length new ≡ length old → n ≡ length old
+pub lent : (new old : List GrowingLine) (n : ℕ) → length new ≡ length old → n ≡ length old
     → take n (new ++ drop (length new) old) ≡ new
 lent new old n h k = whole new old n h k

@@ -4,10 +4,10 @@ use Rattle.signals.specs.declared.verdict.Decided.{Decided}
 use Rattle.verdicts.specs.Tallies.{tally_of}
 use Rattle.machine_runs.specs.declared.batch.Batch.{Batch}
 use Rattle.machine_runs.specs.Lines.{failure_of, attempts_of}
-use Rattle.workers_lines.specs.declared.line_so_far.LineSoFar.{LineSoFar}
+use Rattle.workers_lines.specs.declared.growing_line.GrowingLine.{GrowingLine}
 
 -- these attempts were taken in
-pub record TookIn (line : LineSoFar) (attempts : List Decided) : Type 0 where
+pub record TookIn (line : GrowingLine) (attempts : List Decided) : Type 0 where
   pub counts : line.counts ≡ tally_of (map (λ d. d.verdict) attempts)
   pub fails : line.fails.items ≡ filter_map failure_of attempts
   pub many : attempts_of line.counts ≡ length attempts

@@ -13,7 +13,7 @@
 //!
 //! The faults are C3 of the size and want of memory; there is one worker, so U1 never comes. A job
 //! by several workers is run by `workers`, which takes batches into lines as it is done here
-//! (`LineSoFar`).
+//! (`GrowingLine`).
 //!
 //! The definitions: the lines of a job over the contents of its dump in `specs/Lines.antt`; a core
 //! between two rounds and in the midst of one in `specs/Rounds.antt`. The line of a program over
@@ -23,10 +23,10 @@
 //! Not promised: that memory suffices, or that a program of unknown origin means anything.
 #![tactic(auto)]
 
-mod drive;
-mod line_so_far;
+mod core_rounds;
+mod growing_line;
 mod lines;
-mod taken;
+mod published_lines;
 
-pub use line_so_far::LineSoFar;
+pub use growing_line::GrowingLine;
 pub use lines::job_lines;

@@ -10,9 +10,9 @@ ghost use Rattle.workers_core.specs.States.{published_by};
 ghost use Rattle.workers_lines.specs.Rounds.{HasTrace, Rests};
 ghost use Rattle.workers_lines.specs.Taken.{TookIn};
 
-use crate::drive::drive;
-use crate::line_so_far::LineSoFar;
-use crate::taken::lines_published;
+use crate::core_rounds::drive;
+use crate::growing_line::GrowingLine;
+use crate::published_lines::lines_published;
 use std::alloc::{AllocError, Global};
 use std::mem;
 use verdicts::Line;
@@ -26,7 +26,7 @@ fn program_line(
     core: &Core<'_>,
     number: usize,
     verified: &Verified,
-    published: LineSoFar,
+    published: GrowingLine,
 ) -> Result<Line, AllocError>
     requires trace { HasTrace core.now.job }
     requires rests { Rests core.now }
@@ -62,7 +62,7 @@ fn lines_of(alloc: Global, core: &Core<'_>, programs: &[Verified]) -> Result<Vec
     let mut published = lines_published(alloc, core.board(), programs.len())?;
     let mut lines = Vec::with_capacity(alloc, programs.len())?;
     for (number, verified) in programs.iter().enumerate() {
-        let own = mem::replace(&mut published[number], LineSoFar::new(alloc));
+        let own = mem::replace(&mut published[number], GrowingLine::new(alloc));
         lines.push(program_line(alloc, core, number, verified, own)?)?;
     }
     Ok(lines)

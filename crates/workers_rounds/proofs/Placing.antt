@@ -31,7 +31,7 @@ use Rattle.workers_core.specs.declared.job.Job.{Job}
 use Rattle.workers_core.specs.declared.monitor.Monitor.{Monitor}
 use Rattle.workers_core.specs.States.{BatchState, batch}
 use Rattle.workers_core.specs.Standing.{monitor_state, variables_in, seen, Stands, IsSame, IsUnmoved, IsCleared}
-use Rattle.workers_core.specs.Floors.{batch_state}
+use Rattle.workers_core.specs.Parts.{batch_state}
 use Rattle.workers_core.specs.Opening.{Part, part_of, parts_from}
 use Rattle.workers_core.specs.Jobs.{sampled}
 use Rattle.workers_core.specs.Values.{Says, job_value, rows_over}

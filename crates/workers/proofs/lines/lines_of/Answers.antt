@@ -9,7 +9,7 @@ use Rattle.verdicts.specs.Lines.{LineData, line}
 use Rattle.machine_runs.specs.Lines.{IsLineOver, attempts_of}
 use Rattle.workers_core.specs.Values.{job_value, rows_over}
 use Rattle.workers_core.proofs.FloorLaws.{get-some}
-use Rattle.workers_lines.specs.declared.line_so_far.LineSoFar.{LineSoFar}
+use Rattle.workers_lines.specs.declared.growing_line.GrowingLine.{GrowingLine}
 use Rattle.workers_lines.proofs.LineLaws.{line-more}
 use Rattle.workers_lines.proofs.TakenLaws.{each-but}
 use Rattle.workers_bench.specs.declared.numbered.Numbered.{Numbered}
@@ -50,7 +50,7 @@ program_line-requires-clause-told c =
     get-some c.args.stopped.now n x (omega (arith, below, all, c.requires.many))
     ∙ ap (λ (y : Numbered). Some y) (sym c.index-stopped-number.is) in
     subst (λ k. IsTold j (clocks_of j) k c.replace-own.result) (sym (c.requires.order n x at))
-    (subst (λ (l : LineSoFar). IsTold j (clocks_of j) n l)
+    (subst (λ (l : GrowingLine). IsTold j (clocks_of j) n l)
     (sym (c.replace-own.ensures.value ∙ c.index_mut.ensures.value))
     (c.loop-number.invariant.rest n (slice_index_or xs n m) (omega arith)
     (get-some xs n m (omega (arith, below, c.loop-number.invariant.long)))))
@@ -99,7 +99,7 @@ loop-number-preserved c =
       kinds = λ k.
           let own : slice_get xs i ≡ Some c.replace-own.result =
           get-some xs i c.index_mut.result.now (omega (arith, c.loop-number.invariant.long))
-          ∙ ap (λ (y : LineSoFar). Some y) (sym (c.replace-own.ensures.value ∙ c.index_mut.ensures.value)) in
+          ∙ ap (λ (y : GrowingLine). Some y) (sym (c.replace-own.ensures.value ∙ c.index_mut.ensures.value)) in
           said-more k ls new l c.args.told.items i c.replace-own.result c.in_ok-push.ensures.items
           (sym (c.loop-number.invariant.same i (omega arith)) ∙ own)
           (c.in_ok-program_line.ensures.kinds k) (c.loop-number.invariant.kinds k);

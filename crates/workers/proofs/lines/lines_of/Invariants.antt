@@ -7,7 +7,7 @@ use Rattle.verdicts.specs.declared.line.Line.{Line}
 use Rattle.verdicts.specs.Lines.{LineData, line}
 use Rattle.machine_runs.specs.Lines.{IsLineOver, attempts_of}
 use Rattle.workers_core.specs.Values.{Says, job_value, rows_over}
-use Rattle.workers_lines.specs.declared.line_so_far.LineSoFar.{LineSoFar}
+use Rattle.workers_lines.specs.declared.growing_line.GrowingLine.{GrowingLine}
 use Rattle.workers.specs.Between.{IsTold, clocks_of}
 use Rattle.workers.specs.Tallied.{told_by, said_by}
 use Rattle.workers.proofs.lines.lines_of.Given as goal
@@ -20,7 +20,7 @@ invariant-loop-number l = record {
       (take l.number l.programs) (map line l.lines.items);
   count : All (λ (ln : Line). attempts_of ln.counts ≡ clocks_of l.job) l.lines.items;
   long : length l.told.items ≡ length l.programs;
-  rest : (i : ℕ) (x : LineSoFar) → l.number ≤ i → slice_get l.told.items i ≡ Some x
+  rest : (i : ℕ) (x : GrowingLine) → l.number ≤ i → slice_get l.told.items i ≡ Some x
       → IsTold l.job (clocks_of l.job) i x;
   same : (i : ℕ) → l.number ≤ i → slice_get l.told.items i ≡ slice_get l.fn.told.items i;
   kinds : (k : ℕ) → said_by k l.lines.items ≡ told_by k (take l.number l.fn.told.items);

@@ -1,6 +1,6 @@
 use Rattle.std.proofs.Common.{◌≡◌, ℕ, [], Some, length}
 use Rattle.std.specs.Prelude.{slice_get}
-use Rattle.workers_lines.specs.declared.line_so_far.LineSoFar.{LineSoFar}
+use Rattle.workers_lines.specs.declared.growing_line.GrowingLine.{GrowingLine}
 use Rattle.workers_lines.specs.Taken.{TookIn}
 use Rattle.workers.proofs.opening.blank_lines.Given as goal
 
@@ -8,5 +8,5 @@ use Rattle.workers.proofs.opening.blank_lines.Given as goal
 abbrev pub invariant-loop-monitor : goal.invariant-loop-monitor
 invariant-loop-monitor l = record {
   long : length l.lines.items ≡ l._monitor;
-  none : (i : ℕ) (x : LineSoFar) → slice_get l.lines.items i ≡ Some x → TookIn x [];
+  none : (i : ℕ) (x : GrowingLine) → slice_get l.lines.items i ≡ Some x → TookIn x [];
 }

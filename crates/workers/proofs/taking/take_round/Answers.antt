@@ -7,7 +7,7 @@ use Rattle.signals.specs.declared.verdict.Decided.{Decided}
 use Rattle.machine_runs.specs.declared.batch.Batch.{Batch}
 use Rattle.workers_core.proofs.FloorLaws.{get-some}
 use Rattle.workers_board.specs.Receipts.{shown_by}
-use Rattle.workers_lines.specs.declared.line_so_far.LineSoFar.{LineSoFar}
+use Rattle.workers_lines.specs.declared.growing_line.GrowingLine.{GrowingLine}
 use Rattle.workers_lines.specs.Taken.{TookIn}
 use Rattle.workers_lines.proofs.TakenLaws.{each-but}
 use Rattle.workers_rounds.specs.declared.work.Published.{Published}
@@ -26,7 +26,7 @@ take_in-requires c =
     let n = c.loop-number.number in
     let ls = c.loop-number.lines.items in
     let pub_ = c.args.published.now in
-    let l : LineSoFar = c.index_mut.result.now in
+    let l : GrowingLine = c.index_mut.result.now in
     let p : Published = c.index-published-number.result in
     let lt : n < length pub_ = c.loop-number-test.true in
     let inside : n < length ls = omega (arith, c.loop-number.invariant.long, c.requires.long, lt) in
@@ -52,9 +52,9 @@ loop-number-preserved c =
     let ls = c.loop-number.lines.items in
     let pub_ = c.args.published.now in
     let inv = c.loop-number.invariant in
-    let l : LineSoFar = c.index_mut.result.now in
+    let l : GrowingLine = c.index_mut.result.now in
     let p : Published = c.index-published-number.result in
-    let new : LineSoFar = c.take_in.new.self in
+    let new : GrowingLine = c.take_in.new.self in
     let lt : n < length pub_ = c.loop-number-test.true in
     let inside : n < length ls = omega (arith, inv.long, c.requires.long, lt) in
     let old : slice_get c.args.lines.now.items n ≡ Some l =
@@ -66,7 +66,7 @@ loop-number-preserved c =
     record {
       long = length-set ls n new ∙ inv.long;
       first = λ i x y q less was here now.
-          each-but (λ k z. k < n + 1 → (u : LineSoFar) (v : Published) → slice_get c.args.lines.now.items k ≡ Some u
+          each-but (λ k z. k < n + 1 → (u : GrowingLine) (v : Published) → slice_get c.args.lines.now.items k ≡ Some u
           → slice_get pub_ k ≡ Some v → Takes u (shown_by v.receipt).decided.items z) ls n new
           (λ k z other e under u v was here. inv.first k u z v (below-other k n under other) was here e)
           (λ under u v was here before took.
@@ -74,7 +74,7 @@ loop-number-preserved c =
           let one : v ≡ p = some-is v p (sym here ∙ at) in
           subst (λ (ds : List Decided). TookIn new (before ++ ds)) (same
           ∙ ap (λ (r : Published). (shown_by r.receipt).decided.items) (sym one))
-          (c.in_ok-take_in.ensures.took before (subst (λ (z : LineSoFar). TookIn z before) is took)))
+          (c.in_ok-take_in.ensures.took before (subst (λ (z : GrowingLine). TookIn z before) is took)))
           i y now less x q was here;
       rest = λ i le. get-other ls n i new (λ e. omega (arith, e, le)) ∙ inv.rest i (omega (arith, le));
     }

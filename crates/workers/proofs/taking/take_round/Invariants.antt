@@ -1,7 +1,7 @@
 use Rattle.std.proofs.Common.{◌≡◌, ◌≤◌, ◌<◌, ℕ, Some, length}
 use Rattle.std.specs.Prelude.{slice_get}
 use Rattle.workers_board.specs.Receipts.{shown_by}
-use Rattle.workers_lines.specs.declared.line_so_far.LineSoFar.{LineSoFar}
+use Rattle.workers_lines.specs.declared.growing_line.GrowingLine.{GrowingLine}
 use Rattle.workers_rounds.specs.declared.work.Published.{Published}
 use Rattle.workers.specs.Taking.{Takes}
 use Rattle.workers.proofs.taking.take_round.Given as goal
@@ -10,7 +10,7 @@ use Rattle.workers.proofs.taking.take_round.Given as goal
 abbrev pub invariant-loop-number : goal.invariant-loop-number
 invariant-loop-number l = record {
   long : length l.lines.items ≡ length l.fn.lines.items;
-  first : (i : ℕ) (x y : LineSoFar) (p : Published) → i < l.number → slice_get l.fn.lines.items i ≡ Some x
+  first : (i : ℕ) (x y : GrowingLine) (p : Published) → i < l.number → slice_get l.fn.lines.items i ≡ Some x
       → slice_get l.published i ≡ Some p → slice_get l.lines.items i ≡ Some y
       → Takes x (shown_by p.receipt).decided.items y;
   rest : (i : ℕ) → l.number ≤ i → slice_get l.lines.items i ≡ slice_get l.fn.lines.items i;

@@ -1,5 +1,5 @@
 use Rattle.std.proofs.Common.{◌≡◌, [], None, map, replicate}
-use Rattle.workers_core.specs.Floors.{worker_state}
+use Rattle.workers_core.specs.Parts.{worker_state}
 use Rattle.workers_core.proofs.opening.idle_workers.Given as goal
 
 -- the workers so far

@@ -4,7 +4,7 @@ use Rattle.std.proofs.lemmas.List.{map-append}
 use Rattle.workers_core.specs.declared.monitor.Monitor.{Monitor}
 use Rattle.workers_core.specs.Standing.{monitor_state}
 use Rattle.workers_core.specs.Opening.{Part, IsNew, part_of, part_at, opened_monitor}
-use Rattle.workers_core.proofs.FloorLaws.{each-push}
+use Rattle.workers_core.proofs.CorePartLaws.{each-push}
 use Rattle.workers_core.proofs.OpeningLaws as laws
 use Rattle.workers_core.proofs.opening.monitors_of.Goals as goal
 

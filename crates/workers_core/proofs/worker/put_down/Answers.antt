@@ -2,8 +2,8 @@ use Rattle.std.proofs.Common.{◌++◌, ◌∷◌, [], List, ℕ, None, sym, ap,
 use Rattle.std.specs.Prelude.{slice_index_or, slice_set}
 use Rattle.std.proofs.lemmas.List.{map-set}
 use Rattle.workers_core.specs.States.{done_of}
-use Rattle.workers_core.specs.Floors.{worker_state}
-use Rattle.workers_core.proofs.FloorLaws as laws
+use Rattle.workers_core.specs.Parts.{worker_state}
+use Rattle.workers_core.proofs.CorePartLaws as laws
 use Rattle.workers_core.proofs.worker.put_down.Goals as goal
 
 pub returns-in_err-push-clause-refused : goal.returns-in_err-push-clause-refused

@@ -30,7 +30,7 @@ use Rattle.machine_runs.specs.Lines.{IsLineOver, attempts_of}
 use Rattle.workers_core.specs.States.{BatchState, published_by}
 use Rattle.workers_core.specs.Values.{rows_over}
 use Rattle.workers_core.proofs.FloorLaws.{get-some}
-use Rattle.workers_lines.specs.declared.line_so_far.LineSoFar.{LineSoFar}
+use Rattle.workers_lines.specs.declared.growing_line.GrowingLine.{GrowingLine}
 use Rattle.workers_lines.specs.Taken.{TookIn}
 use Rattle.workers_lines.proofs.CoreLaws.{less-traced}
 use Rattle.workers_lines.proofs.LineLaws as laws
@@ -74,7 +74,7 @@ program_line-requires-clause-took c =
     let m = c.index_mut.result.now in
     let inside : i < length c.args.programs.now = omega arith in
     let below : i < length xs = omega (arith, inside, c.loop-number.invariant.long) in
-    subst (λ (l : LineSoFar). TookIn l (published_by c.args.core.now.state.board i))
+    subst (λ (l : GrowingLine). TookIn l (published_by c.args.core.now.state.board i))
     (sym (c.replace-own.ensures.value ∙ c.index_mut.ensures.value))
     (c.loop-number.invariant.rest i (slice_index_or xs i m) (omega arith) (get-some xs i m below))
 

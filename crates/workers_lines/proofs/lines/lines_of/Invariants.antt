@@ -8,7 +8,7 @@ use Rattle.verdicts.specs.Lines.{LineData, line}
 use Rattle.machine_runs.specs.Lines.{IsLineOver, attempts_of}
 use Rattle.workers_core.specs.States.{published_by}
 use Rattle.workers_core.specs.Values.{Says, rows_over}
-use Rattle.workers_lines.specs.declared.line_so_far.LineSoFar.{LineSoFar}
+use Rattle.workers_lines.specs.declared.growing_line.GrowingLine.{GrowingLine}
 use Rattle.workers_lines.specs.Taken.{TookIn}
 use Rattle.workers_lines.proofs.lines.lines_of.Given as goal
 
@@ -20,6 +20,6 @@ invariant-loop-number l = record {
       (take l.number l.programs) (map line l.lines.items);
   count : All (λ (ln : Line). attempts_of ln.counts ≡ length l.core.job.ticks) l.lines.items;
   long : length l.published.items ≡ length l.programs;
-  rest : (i : ℕ) (x : LineSoFar) → l.number ≤ i → slice_get l.published.items i ≡ Some x
+  rest : (i : ℕ) (x : GrowingLine) → l.number ≤ i → slice_get l.published.items i ≡ Some x
       → TookIn x (published_by l.core.state.board i);
 }

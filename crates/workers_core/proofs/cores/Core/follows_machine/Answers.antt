@@ -9,7 +9,7 @@ use Rattle.workers_core.proofs.cores.Core.follows_machine.Goals as goal
 pub returns : goal.returns
 returns c = record {
   follows = λ k says. subst (λ (v : CoreValue). Says v.job k → FollowsMachine v k) c.self.view_is
-      (λ (s : _). core-follows c.self.inside.job.now c.self.inside.floor k c.self.invariant s) says;
+      (λ (s : _). core-follows c.self.inside.job.now c.self.inside.parts k c.self.invariant s) says;
   says = subst (λ (v : CoreValue). ∥ ((k : Contents) × Says v.job k) ∥₁) c.self.view_is
       (says-something c.self.inside.job.now);
 }

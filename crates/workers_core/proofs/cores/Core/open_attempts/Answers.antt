@@ -18,13 +18,13 @@ use Rattle.machine_definition.specs.Runs.{open_ones}
 use Rattle.workers_core.specs.States.{MonitorState}
 use Rattle.workers_core.specs.Standing.{monitor_state}
 use Rattle.workers_core.specs.Values.{CoreValue}
-use Rattle.workers_core.proofs.FloorLaws.{get-some, get-mapped}
+use Rattle.workers_core.proofs.CorePartLaws.{get-some, get-mapped}
 use Rattle.workers_core.proofs.FollowLaws.{some-state}
 use Rattle.workers_core.proofs.cores.Core.open_attempts.Goals as goal
 
 pub open_starts-requires : goal.open_starts-requires
 open_starts-requires c =
-    let ms = c.self.inside.floor.monitors.items in
+    let ms = c.self.inside.parts.monitors.items in
     let number = c.args.monitor in
     let m = c.index.result.now in
     let long : length c.args.self.now.state.monitors ≡ length ms =
@@ -39,7 +39,7 @@ open_starts-requires c =
 
 pub returns : goal.returns
 returns c = λ s is.
-    let ms = c.self.inside.floor.monitors.items in
+    let ms = c.self.inside.parts.monitors.items in
     let number = c.args.monitor in
     let m = c.index.result.now in
     let long : length c.args.self.now.state.monitors ≡ length ms =
