@@ -28,7 +28,7 @@ use Rattle.std.specs.Prelude.{slice_get, slice_set, ◌==◌}
 use Rattle.std.specs.List.{range_with_len}
 use Rattle.std.proofs.lemmas.List.{length-set}
 use Rattle.std.proofs.lemmas.Option.{slice_get_within}
-use Rattle.workers_core.proofs.FloorLaws.{each-set}
+use Rattle.workers_core.proofs.CorePartLaws.{each-set}
 use Rattle.laws_workers.specs.Steps.{owned_from, owned_by, owned_lists}
 use Rattle.laws_workers.specs.Rounds.{AreOwners}
 use Rattle.laws_workers.specs.Owners.{RisesFrom, Rises, total, AreDealt}

@@ -27,7 +27,7 @@ use Rattle.workers_core.specs.States.{
   next_advance,
   next_publish,
 }
-use Rattle.workers_core.proofs.FloorLaws.{claimed, advancing, publishing}
+use Rattle.workers_core.proofs.CorePartLaws.{claimed, advancing, publishing}
 use Rattle.laws_workers.specs.Steps.{after, turns, owned_from}
 use Rattle.laws_workers.specs.Rounds.{with_done, further, all_further, batches_from}
 use Rattle.laws_workers.proofs.ListLaws.{mid-get, mid-set, written, rewritten}

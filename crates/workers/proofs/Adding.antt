@@ -36,7 +36,7 @@ use Rattle.workers_rounds.specs.Adding.{kind_of}
 use Rattle.workers.specs.Between.{IsTold}
 use Rattle.workers.specs.Taking.{Takes}
 use Rattle.workers.specs.Tallied.{count_in, told_by, said_by}
-use Rattle.workers_core.proofs.FloorLaws.{get-some, get-mapped}
+use Rattle.workers_core.proofs.CorePartLaws.{get-some, get-mapped}
 use Rattle.workers_lines.proofs.TakenLaws.{some-at}
 use Rattle.workers.proofs.Telling.{program-of, some-is, all-at, all-each}
 

@@ -21,7 +21,7 @@ use Rattle.workers_core.specs.declared.monitor.Monitor.{Monitor}
 use Rattle.workers_core.specs.Opening.{Part, part_at, part_of, parts_from, IsNew}
 use Rattle.workers_core.specs.Values.{Says, job_value, rows_over}
 use Rattle.workers_core.proofs.RunLaws.{all-up-to}
-use Rattle.workers_core.proofs.FloorLaws.{get-some, get-mapped}
+use Rattle.workers_core.proofs.CorePartLaws.{get-some, get-mapped}
 use Rattle.workers_lines.specs.declared.growing_line.GrowingLine.{GrowingLine}
 use Rattle.workers_lines.specs.Taken.{TookIn}
 use Rattle.workers_lines.proofs.RunLaws.{runs, accepted-on, accepted-clocks}

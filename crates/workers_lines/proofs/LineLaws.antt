@@ -39,7 +39,7 @@ use Rattle.workers_core.specs.States.{MonitorState, place, published_by}
 use Rattle.workers_core.specs.Values.{CoreValue, job_value, rows_over}
 use Rattle.workers_core.specs.Following.{FollowsMachine}
 use Rattle.workers_core.proofs.CoreLaws.{holds, says-something}
-use Rattle.workers_core.proofs.FloorLaws.{get-mapped}
+use Rattle.workers_core.proofs.CorePartLaws.{get-mapped}
 use Rattle.workers_lines.specs.Rounds.{IsAt, IsResting, HasTrace}
 use Rattle.workers_lines.proofs.CoreLaws.{ForContents, same-traced}
 use Rattle.workers_lines.proofs.RunLaws.{ComesTo, comes-to}

@@ -68,7 +68,7 @@ use Rattle.workers_core.specs.States.{
   next_publish,
   next_gather,
 }
-use Rattle.workers_core.proofs.FloorLaws.{claimed, advancing, publishing}
+use Rattle.workers_core.proofs.CorePartLaws.{claimed, advancing, publishing}
 use Rattle.workers_core.specs.Jobs.{sampled}
 use Rattle.workers_core.specs.Values.{JobValue, CoreValue, rows_over, setting_of}
 use Rattle.workers_core.specs.Following.{FollowsMachine}

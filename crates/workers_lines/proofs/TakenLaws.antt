@@ -37,7 +37,7 @@ use Rattle.machine_runs.specs.declared.batch.Batch.{Batch}
 use Rattle.workers_core.specs.States.{BatchState, published_by}
 use Rattle.workers_core.specs.Parts.{batch_state}
 use Rattle.workers_lines.specs.declared.growing_line.GrowingLine.{GrowingLine}
-use Rattle.workers_core.proofs.FloorLaws.{whole}
+use Rattle.workers_core.proofs.CorePartLaws.{whole}
 use Rattle.workers_lines.specs.Taken.{TookIn, of_monitor}
 
 -- what holds of each place but one, and of what is written there, holds of each after the write

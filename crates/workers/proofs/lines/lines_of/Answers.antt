@@ -8,7 +8,7 @@ use Rattle.verdicts.specs.declared.line.Line.{Line}
 use Rattle.verdicts.specs.Lines.{LineData, line}
 use Rattle.machine_runs.specs.Lines.{IsLineOver, attempts_of}
 use Rattle.workers_core.specs.Values.{job_value, rows_over}
-use Rattle.workers_core.proofs.FloorLaws.{get-some}
+use Rattle.workers_core.proofs.CorePartLaws.{get-some}
 use Rattle.workers_lines.specs.declared.growing_line.GrowingLine.{GrowingLine}
 use Rattle.workers_lines.proofs.LineLaws.{line-more}
 use Rattle.workers_lines.proofs.TakenLaws.{each-but}

@@ -29,7 +29,7 @@ use Rattle.verdicts.specs.Lines.{LineData, line}
 use Rattle.machine_runs.specs.Lines.{IsLineOver, attempts_of}
 use Rattle.workers_core.specs.States.{BatchState, published_by}
 use Rattle.workers_core.specs.Values.{rows_over}
-use Rattle.workers_core.proofs.FloorLaws.{get-some}
+use Rattle.workers_core.proofs.CorePartLaws.{get-some}
 use Rattle.workers_lines.specs.declared.growing_line.GrowingLine.{GrowingLine}
 use Rattle.workers_lines.specs.Taken.{TookIn}
 use Rattle.workers_lines.proofs.CoreLaws.{less-traced}

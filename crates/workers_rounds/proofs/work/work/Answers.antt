@@ -2,7 +2,7 @@ use Rattle.std.proofs.Common.{◌≡◌, ◌++◌, ◌∷◌, [], ap, ◌∙◌,
 use Rattle.crossbeam_queue.specs.Passes.{view}
 use Rattle.machine_runs.specs.declared.batch.Batch.{Batch}
 use Rattle.cycle_window.specs.Held.{first_in}
-use Rattle.workers_core.proofs.FloorLaws.{of-ok}
+use Rattle.workers_core.proofs.CorePartLaws.{of-ok}
 use Rattle.workers_board.specs.Receipts.{shown_by}
 use Rattle.workers_tally.specs.Shares.{EachAtMost, amounts, plus}
 use Rattle.workers_tally.specs.Counts.{counts_of}
