@@ -173,8 +173,8 @@ past-ticks now [] h = tt
 past-ticks now (o ∷ os) h = (h.0, past-ticks now os h.1)
 
 -- the visits, and what comes after them
-visited-end : (p : ProgramData) (now : ℕ) (atoms : List Bool) (os : List Obligation) (r : Ran Visits) (q : Ran OpenVisits) →
-    ran_map (open_visits (ticks_in os ++ now ∷ [])) r ≡ q →
+visited-end : (p : ProgramData) (now : ℕ) (atoms : List Bool) (os : List Obligation) (r : Ran Visits)
+    (q : Ran OpenVisits) → ran_map (open_visits (ticks_in os ++ now ∷ [])) r ≡ q →
     ran_map open_settled
     (and_then r (λ vs left. open_if vs.accepted p now os (end_clock p now atoms vs.attempts left)))
     ≡ and_then q (λ vs left. opened_if vs.accepted p now os (end_open p now atoms vs.attempts left))
@@ -184,7 +184,8 @@ visited-end p now atoms os (trapped t) q e =
 visited-end p now atoms os (done vs left) q e =
     let ticks = ticks_in os ++ now ∷ [] in
     let duty : Obligation = record { tick = now; positions = p.consequent.start } in
-    let all : AreTicksIn ticks (ticks_in os) = all-in-longer (ticks_in os) now (ticks_in os) (in-itself (ticks_in os)) in
+    let all : AreTicksIn ticks (ticks_in os) =
+    all-in-longer (ticks_in os) now (ticks_in os) (in-itself (ticks_in os)) in
     let more : AreTicksIn ticks (ticks_in (os ++ duty ∷ [])) =
     subst (AreTicksIn ticks) (sym (ticks-last os duty)) (in-itself ticks) in
     subst (λ (y : Ran OpenVisits).

@@ -59,7 +59,8 @@ visited-young now a v h =
     record { started = omega (arith, h.started); accepted = grown-before now a v.accepted h }
 
 -- one visited attempt, with the ticks and now
-joined : (ticks : List ℕ) (now : ℕ) (b : Bool) → ticks ++ (if b then now ∷ [] else []) ≡ (if b then ticks ++ now ∷ [] else ticks)
+joined : (ticks : List ℕ) (now : ℕ) (b : Bool) →
+    ticks ++ (if b then now ∷ [] else []) ≡ (if b then ticks ++ now ∷ [] else ticks)
 joined ticks now true = refl
 joined ticks now false = append-nil ticks
 
