@@ -3,7 +3,8 @@
 //! A clock pushes its row on the history, runs the sample code, opens an attempt, visits what is
 //! live, and settles the attempts. It tests no operand, no jump, no reach into the history, no room
 //! of a pool and no budget, since a program that the verifier accepted never fails such a test; and
-//! it takes no memory, since `Machine::new` took all.
+//! it takes no memory, since `Machine::new` took all. Sample code without jumps is decoded once, to
+//! steps over places; code with a jump runs over a stack of operands.
 //!
 //! ```text
 //! let mut machine = Machine::new(alloc, verify(alloc, program)?)?;
@@ -27,5 +28,6 @@ mod machine;
 mod memory;
 mod obligations;
 mod row;
+mod sample_code;
 
 pub use machine::Machine;

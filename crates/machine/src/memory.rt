@@ -12,11 +12,11 @@ ghost use Rattle.machine.specs.Running.{IsClock, IsRowOf};
 use crate::bases::Bases;
 use crate::live::Live;
 use crate::row::push_row;
+use crate::sample_code::SampleCode;
 use arrayvec::ArrayVec;
 use bytecode::Program;
 use machine_pool::Pool;
 use machine_ring::Ring;
-use machine_samples::{Stack, run};
 use machine_visits::bases_of;
 use signals::Decided;
 use std::alloc::{AllocError, Global};
@@ -33,7 +33,7 @@ pub(crate) struct Memory {
     pub(crate) frame: Frame,
     pub(crate) history: Ring,
     pub(crate) row: Vec<u128>,
-    pub(crate) stack: Stack,
+    pub(crate) code: SampleCode,
     pub(crate) atoms: Vec<bool>,
     pub(crate) counters: Vec<u128>,
     pub(crate) live: Live,
@@ -95,19 +95,19 @@ impl Memory {
     {
         let bases = bases_in(alloc, program)?;
         let frame = Frame::of(alloc, program)?;
+        let code = SampleCode::new(alloc, program, frame.slots.as_slice())?;
         let slots = frame.slots.len();
         let history = Ring::new(alloc, program.limits.history as usize, slots)?;
         let row = zeros(alloc, slots)?;
         let atoms = no_atoms(alloc, program.atoms as usize)?;
         let counters = zeros(alloc, program.counters.len())?;
         let live = live_at_first(alloc, program)?;
-        let stack = Stack::new(alloc)?;
         Ok(Memory {
             bases,
             frame,
             history,
             row,
-            stack,
+            code,
             atoms,
             counters,
             live,
@@ -138,11 +138,11 @@ impl Memory {
         let counters = self.counters.as_slice();
         let row = self.row.as_mut_slice();
         push_row(&mut self.history, row, signals, counters);
-        let ticks = run(
+        let ticks = self.code.run(
             program,
             self.frame.slots.as_slice(),
             &self.history,
-            &mut self.stack,
+            self.row.as_slice(),
             self.atoms.as_mut_slice(),
             self.counters.as_mut_slice(),
         );

@@ -29,7 +29,8 @@ fn fill_row(row: &mut [u128], signals: &[u128], counters: &[u128])
 pub(crate) fn push_row(history: &mut Ring, row: &mut [u128], signals: &[u128], counters: &[u128])
     requires made { length row.old ≡ 1 + length signals.now + length counters.now }
     requires slots { length row.old ≡ history.old.slots }
-    ensures { history.new ≡ pushed history.old (1 ∷ (signals.now ++ counters.now)) }
+    ensures pushed { history.new ≡ pushed history.old (1 ∷ (signals.now ++ counters.now)) }
+    ensures row { row.new ≡ 1 ∷ (signals.now ++ counters.now) }
 {
     fill_row(row, signals, counters);
     history.push(row);

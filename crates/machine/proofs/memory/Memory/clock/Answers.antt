@@ -26,7 +26,7 @@ run-ticks-requires-clause-rows c =
     let counters = c.as_slice-counters.ensures.value in
     let pushed-is : c.push_row.new.history
     ≡ pushed c.args.self.now.history (1 ∷ (c.args.signals.now ++ c.args.self.now.counters.items)) =
-    c.push_row.ensures ∙ ap (λ l. pushed c.args.self.now.history (1 ∷ (c.args.signals.now ++ l))) counters in
+    c.push_row.ensures.pushed ∙ ap (λ l. pushed c.args.self.now.history (1 ∷ (c.args.signals.now ++ l))) counters in
     let here =
     whole-row p c.args.signals.now c.args.self.now.counters.items c.requires.row c.requires.memory.counters in
     let widths = c.args.self.now.frame.slots.items in
@@ -55,7 +55,7 @@ returns-clause-memory c =
     let counters = c.as_slice-counters.ensures.value in
     let pushed-is : c.push_row.new.history
     ≡ pushed c.args.self.now.history (1 ∷ (c.args.signals.now ++ c.args.self.now.counters.items)) =
-    c.push_row.ensures ∙ ap (λ l. pushed c.args.self.now.history (1 ∷ (c.args.signals.now ++ l))) counters in
+    c.push_row.ensures.pushed ∙ ap (λ l. pushed c.args.self.now.history (1 ∷ (c.args.signals.now ++ l))) counters in
     let here =
     whole-row p c.args.signals.now c.args.self.now.counters.items c.requires.row c.requires.memory.counters in
     let widths = c.args.self.now.frame.slots.items in
@@ -88,6 +88,7 @@ returns-clause-memory c =
     c.clock.new.left c.clock.new.out.items on c.requires.memory.reached in
     record {
       bases = c.requires.memory.bases;
+      code = c.run-ticks.ensures.code;
       history = rows;
       row = ap length (refilled c.args.self.now.row c.push_row.new.row row-long) ∙ row-long ∙ c.requires.memory.row;
       atoms =
@@ -112,7 +113,7 @@ returns-clause-clock c =
     let counters = c.as_slice-counters.ensures.value in
     let pushed-is : c.push_row.new.history
     ≡ pushed c.args.self.now.history (1 ∷ (c.args.signals.now ++ c.args.self.now.counters.items)) =
-    c.push_row.ensures ∙ ap (λ l. pushed c.args.self.now.history (1 ∷ (c.args.signals.now ++ l))) counters in
+    c.push_row.ensures.pushed ∙ ap (λ l. pushed c.args.self.now.history (1 ∷ (c.args.signals.now ++ l))) counters in
     let here =
     whole-row p c.args.signals.now c.args.self.now.counters.items c.requires.row c.requires.memory.counters in
     let widths = c.args.self.now.frame.slots.items in

@@ -38,6 +38,7 @@ returns-clause-memory c =
     let obligations = ap (λ (q : Pooled ObligationRecord). obligations_in q.live) first.obligations in
     record {
       bases = c.in_ok-bases.ensures;
+      code = c.in_ok-code.ensures;
       history =
           subst (AreRows p c.in_ok-frame.frame.slots.items)
           (sym (c.in_ok-history.ensures ∙ ap (cleared p.header.limits.history) long))

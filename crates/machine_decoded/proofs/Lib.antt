@@ -1,0 +1,9 @@
+pub mod PlaceLaws
+pub mod FillLaws
+pub mod StepLaws
+pub mod PlanLaws
+pub mod ResultLaws
+pub mod RunLaws
+pub mod ReadyLaws
+pub mod SolveLaws
+pub mod VecLaws

@@ -1,0 +1,4 @@
+pub mod Values
+pub mod Decoding
+pub mod Places
+pub mod Decoded
