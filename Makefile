@@ -13,7 +13,7 @@ BYTECODE := crates/oracle_bytecode/out/oracle_bytecode
 VERIFIER := crates/oracle_verifier/out/oracle_verifier
 MACHINE := crates/oracle_machine/out/oracle_machine
 CORE := crates/oracle_core/out/oracle_core
-REFUSING := scripts/fail_alloc 3 crates/svamon/out/svamon
+REFUSING := scripts/tools/fail_alloc 3 crates/svamon/out/svamon
 PROGRAM := examples/fails_at_its_tick/program.svm
 FILES = --vcd examples/$(1)/dump.vcd --sva examples/$(1)/assertion.sva
 
@@ -40,17 +40,17 @@ try:
 		rt try --data "dump.vcd=$$dump" --data "text.sva=$$text" -- check --vcd dump.vcd --sva text.sva
 
 test:
-	@scripts/gate
+	@scripts/tools/gate
 
 test-all:
-	@scripts/gate all
+	@scripts/tools/gate all
 
 edits:
 	@test -n '$(NAME)' || { echo 'make edits NAME=crate'; exit 2; }
-	@scripts/edits $(NAME)
+	@scripts/tools/edits $(NAME)
 
 install:
-	@scripts/install $(PREFIX)
+	@scripts/tools/install $(PREFIX)
 
 svamon:
 	cd crates/svamon && rm -f out/svamon && { rt run -- help; test -x out/svamon; }
@@ -78,8 +78,8 @@ bench: svamon oracle_bytecode oracle_verifier oracle_machine
 	bench/threads
 
 allocations: svamon oracle_bytecode oracle_verifier oracle_core
-	scripts/bytecode_memory.py $(BYTECODE)
-	scripts/verifier_memory $(VERIFIER)
+	scripts/tools/bytecode_memory.py $(BYTECODE)
+	scripts/tools/verifier_memory $(VERIFIER)
 	$(REFUSING) check $(call FILES,fails_at_its_tick) --workers 2
 	$(REFUSING) check $(call FILES,fails_at_its_tick) --workers 1
 	$(REFUSING) check $(call FILES,one_then_down)
@@ -91,20 +91,20 @@ allocations: svamon oracle_bytecode oracle_verifier oracle_core
 	$(REFUSING) upgrade $(PROGRAM) --out /dev/null
 	$(REFUSING) run --vcd examples/fails_at_its_tick/dump.vcd --code $(PROGRAM)
 	awk 'BEGIN { RS = "\001"; ORS = "" } NR == 3' crates/oracle_core/stdin > $(CORE).case
-	scripts/fail_alloc -i $(CORE).case 1 $(CORE)
+	scripts/tools/fail_alloc -i $(CORE).case 1 $(CORE)
 
 random: svamon oracle_bytecode oracle_verifier oracle_machine
-	scripts/random_bytecode.py $(BYTECODE) $(MUTANTS) $(SEED)
-	scripts/random_verifier.py $(VERIFIER) $(CASES) $(SEED)
-	scripts/random_machine.py $(MACHINE) $(PROGRAMS) 100 $(SEED)
-	cd crates/svamon/out && ../../../scripts/random_judge.py ./svamon $(CASES) $(SEED)
-	scripts/edge_ports.py crates/svamon/out/svamon
-	scripts/least_axi4.py crates/svamon/out/svamon
-	scripts/same_reports.py crates/svamon/out/svamon
-	scripts/long_chains.py crates/svamon/out/svamon
-	scripts/random_axi4.py crates/svamon/out/svamon 100 $(SEED)
+	scripts/random/random_bytecode.py $(BYTECODE) $(MUTANTS) $(SEED)
+	scripts/random/random_verifier.py $(VERIFIER) $(CASES) $(SEED)
+	scripts/random/random_machine.py $(MACHINE) $(PROGRAMS) 100 $(SEED)
+	cd crates/svamon/out && ../../../scripts/random/random_judge.py ./svamon $(CASES) $(SEED)
+	scripts/random/edge_ports.py crates/svamon/out/svamon
+	scripts/random/least_axi4.py crates/svamon/out/svamon
+	scripts/random/same_reports.py crates/svamon/out/svamon
+	scripts/random/long_chains.py crates/svamon/out/svamon
+	scripts/random/random_axi4.py crates/svamon/out/svamon 100 $(SEED)
 
 soak: svamon
-	scripts/soak crates/svamon/out/svamon $(SECONDS) $(SEED)
+	scripts/tools/soak crates/svamon/out/svamon $(SECONDS) $(SEED)
 
 .PHONY: help demo try test test-all edits install svamon oracle_bytecode oracle_verifier oracle_machine oracle_core bench allocations random soak

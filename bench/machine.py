@@ -2,14 +2,14 @@
 """The two programs of bench/machine, as files of hexadecimal digits.
 
 bench/machine.py write: writes bench/machine_small.hex and bench/machine_large.hex
-bench/machine.py sums FILE CLOCKS: what an independent machine (scripts/machine_model.py) comes to
+bench/machine.py sums FILE CLOCKS: what an independent machine (scripts/models/machine_model.py) comes to
 over the trace that bench/machine.c describes: `verdicts V ticks K`
 """
 import os
 import sys
 
 HERE = os.path.dirname(os.path.realpath(__file__))
-sys.path.insert(0, f'{HERE}/../scripts')
+sys.path.insert(0, f'{HERE}/../scripts/models')
 sys.dont_write_bytecode = True
 
 from bytecode_cases import SMALL

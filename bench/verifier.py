@@ -5,7 +5,7 @@ The sample code first makes a list of operands of the length LIST, and then work
 import os
 import sys
 
-sys.path.insert(0, f'{os.path.dirname(os.path.realpath(__file__))}/../scripts')
+sys.path.insert(0, f'{os.path.dirname(os.path.realpath(__file__))}/../scripts/models')
 sys.dont_write_bytecode = True
 
 from verifier_model import Program, Section, encode

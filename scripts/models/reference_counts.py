@@ -1,0 +1,48 @@
+#!/usr/bin/env python3
+"""Counts what is in dumps, by the independent reader of reference_report.py: the paths that can be bound, the steps with the
+one at time 0, the changes, and the ticks of a clock; and says values of some paths at the first two ticks, the middle one and
+the last. It writes the stored output of crates/oracle_dumps, from the traces.txt there, whose lines are DUMP CLOCK PATH...
+
+    cd crates/oracle_dumps/data && ../../../scripts/models/reference_counts.py traces.txt > ../stdout
+"""
+import re
+import sys
+
+from reference_report import read_dump, sampled
+
+DIGITS = re.compile('[bB][01xXzZ]+')
+
+
+def first_foreign_digit(text):
+    """The line of the first vector in the body with a digit that is none of Verilog's, or 0."""
+    inside = False
+    for number, line in enumerate(text.split('\n'), 1):
+        inside = inside or '$enddefinitions' in line
+        if inside and line[:1] in ('b', 'B') and not DIGITS.fullmatch(line.split()[0]) or inside and line[:1] in tuple('uUwWlLhH-'):
+            return number
+    return 0
+
+
+def show(dump, clock, names):
+    text = open(dump, errors='replace').read()
+    line = first_foreign_digit(text)
+    if line:
+        print(f'{dump} V1 BadToken {line}')
+        return
+    paths, steps = read_dump(text)
+    bindable = [p for p, (kind, size, _) in paths.items() if kind not in ('real', 'realtime', 'string', 'event') and 1 <= size <= 128]
+    changes = sum(len(changed) for _, changed in steps)
+    rows = sampled(paths, steps, clock, names)
+    print(f'{dump} names {len(bindable)} steps {len(steps)} changes {changes} ticks {len(rows)}')
+    for tick in sorted({t for t in (0, 1, len(rows) // 2, len(rows) - 1) if 0 <= t < len(rows)}):
+        print(f'{dump} tick {tick} ' + ' '.join(f'{name} {value}' for name, value in zip(names, rows[tick])))
+
+
+def main(traces):
+    for line in open(traces):
+        dump, clock, *names = line.split()
+        show(dump, clock, names)
+
+
+if __name__ == '__main__':
+    main(*sys.argv[1:])
