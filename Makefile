@@ -7,7 +7,8 @@ PROGRAMS ?= 10000
 SEED ?= 1
 SECONDS ?= 3600
 EXAMPLES := $(wildcard crates/demo/data/*/*)
-UNPROVED := Builds svamon without proof, with run-time checks: what you see is unproved and slow. make install proves and installs it.
+UNPROVED := Builds svamon without proof, with run-time checks: what you see is unproved and slow. \
+	make install proves and installs it.
 
 BYTECODE := crates/oracle_bytecode/out/oracle_bytecode
 VERIFIER := crates/oracle_verifier/out/oracle_verifier
@@ -18,16 +19,25 @@ PROGRAM := examples/fails_at_its_tick/program.svm
 FILES = --vcd examples/$(1)/dump.vcd --sva examples/$(1)/assertion.sva
 
 help:
-	@echo 'make demo             shows the reports on examples/ within three minutes; unproved and slow: make install proves'
+	@echo 'make demo             shows the reports on examples/ within three minutes; unproved and slow'
 	@echo 'make try VCD= SVA=    the same for a small dump and a text of your own'
 	@echo 'make install PREFIX=  proves and builds svamon, and puts it into PREFIX/bin (PREFIX is $(PREFIX))'
-	@echo 'make test             the gate: proves all from nothing, and runs tests, programs, and the edits of what changed; then tries the built programs from outside'
+	@echo 'make test             the gate: proves all from nothing, and runs tests, programs, and the edits of what'
+	@echo '                      changed; then tries the built programs from outside'
 	@echo 'make test-all         the gate with all edits'
 	@echo 'make edits NAME=      tries the must-fail edits of a crate, and writes its stamp'
-	@echo 'make bench            times reading against the plain C baseline, on dumps of 50 and 200 MB made from DUMP (clock CLOCK), and on odd shapes; reading and checking texts; bytecode; verifying; judging; checking by programs; the machine against a plain C one; and what several workers gain'
-	@echo 'make allocations      refuses each allocation of svamon in turn, and of the reader and writer of bytecode, of the verifier, and of a core at its steps; and looks at what counts in bytecode take'
-	@echo 'make random           compares svamon by 1, 2, 4 and 64 workers with an independent judge on CASES random dumps and texts (SEED), the reader of bytecode with another on MUTANTS random mutants of each of two programs, the verifier with another on CASES random programs and their mutants, and the machine with another on PROGRAMS random programs of 100 clocks'
-	@echo 'make soak             compares svamon so for SECONDS (an hour), twice as many cases at once as there are processors'
+	@echo 'make bench            times reading against the plain C baseline, on dumps of 50 and 200 MB made from DUMP'
+	@echo '                      (clock CLOCK), and on odd shapes; reading and checking texts; bytecode; verifying;'
+	@echo '                      judging; checking by programs; the machine against a plain C one; and what several'
+	@echo '                      workers gain'
+	@echo 'make allocations      refuses each allocation of svamon in turn, and of the reader and writer of bytecode,'
+	@echo '                      of the verifier, and of a core at its steps; and looks at what counts in bytecode take'
+	@echo 'make random           compares svamon by 1, 2, 4 and 64 workers with an independent judge on CASES random'
+	@echo '                      dumps and texts (SEED), the reader of bytecode with another on MUTANTS random mutants'
+	@echo '                      of each of two programs, the verifier with another on CASES random programs and their'
+	@echo '                      mutants, and the machine with another on PROGRAMS random programs of 100 clocks'
+	@echo 'make soak             compares svamon so for SECONDS (an hour), twice as many cases at once as there are'
+	@echo '                      processors'
 
 demo:
 	@echo '$(UNPROVED)'
@@ -107,4 +117,5 @@ random: svamon oracle_bytecode oracle_verifier oracle_machine
 soak: svamon
 	scripts/tools/soak crates/svamon/out/svamon $(SECONDS) $(SEED)
 
-.PHONY: help demo try test test-all edits install svamon oracle_bytecode oracle_verifier oracle_machine oracle_core bench allocations random soak
+.PHONY: help demo try test test-all edits install svamon bench allocations random soak
+.PHONY: oracle_bytecode oracle_verifier oracle_machine oracle_core

@@ -1,12 +1,14 @@
 #!/usr/bin/env python3
-"""Writes one dump of an unusual shape to standard output: plain, variables, nested, reopened, siblings, digits, token, steps."""
+"""Writes one dump of an unusual shape to standard output: plain, variables, nested, reopened, siblings, digits, token,
+steps."""
 import sys
 
 MEGABYTE = 1_000_000
 
 
 def header(variables, inside=''):
-    return inside + ''.join(f'$var wire {size} {code} {name} $end\n' for size, code, name in variables) + '$enddefinitions $end\n'
+    return inside + ''.join(f'$var wire {size} {code} {name} $end\n'
+                            for size, code, name in variables) + '$enddefinitions $end\n'
 
 
 def code(n):
@@ -61,4 +63,5 @@ def steps():
     return header([(1, '!', 's')]) + ''.join(f'#{t}\n' for t in range(1_000_000))
 
 
-sys.stdout.write({f.__name__: f for f in (plain, variables, nested, reopened, siblings, digits, token, steps)}[sys.argv[1]]())
+sys.stdout.write({f.__name__: f
+                  for f in (plain, variables, nested, reopened, siblings, digits, token, steps)}[sys.argv[1]]())

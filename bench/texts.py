@@ -18,15 +18,20 @@ SHAPES = {
         f'the_label_{i}: assert property (@(posedge the_top_module.the_clock) disable iff (!the_top_module.the_bus.signal_{i}) '
         f'the_top_module.the_bus.signal_{i + 4000} && the_top_module.the_bus.signal_{2 * i} |-> ##[1:16] the_top_module.the_bus.signal_{9999 - i});\n' for i in range(4096)),
     # each names the one before twice
-    'twice': lambda: 'sequence s0; the_top_module.the_bus.signal_0 endsequence\n' + ''.join(f'sequence s{i}; s{i - 1} ##1 s{i - 1} endsequence\n' for i in range(1, 1000)) +
+    'twice': lambda: 'sequence s0; the_top_module.the_bus.signal_0 endsequence\n'
+    + ''.join(f'sequence s{i}; s{i - 1} ##1 s{i - 1} endsequence\n' for i in range(1, 1000)) +
         BEHIND.replace('top.clk', 'the_top_module.the_clock') % 's6',
     # the same, each declared behind its use
-    'before': lambda: ''.join(f'sequence s{i}; s{i - 1} ##1 s{i - 1} endsequence\n' for i in range(999, 0, -1)) + 'sequence s0; the_top_module.the_bus.signal_0 endsequence\n' +
+    'before': lambda: ''.join(f'sequence s{i}; s{i - 1} ##1 s{i - 1} endsequence\n' for i in range(999, 0, -1))
+    + 'sequence s0; the_top_module.the_bus.signal_0 endsequence\n' +
         BEHIND.replace('top.clk', 'the_top_module.the_clock') % 's6',
     # repetitions of repetitions
-    'deep': lambda: BEHIND.replace('top.clk', 'the_top_module.the_clock') % ('(' * 50 + 'the_top_module.the_bus.signal_0' + '[*127])' * 50 + '[*0] or the_top_module.the_bus.signal_1 |-> the_top_module.the_bus.signal_2'),
+    'deep': lambda: BEHIND.replace('top.clk', 'the_top_module.the_clock') % (
+        '(' * 50 + 'the_top_module.the_bus.signal_0' + '[*127])' * 50
+        + '[*0] or the_top_module.the_bus.signal_1 |-> the_top_module.the_bus.signal_2'),
     # the paths that these read, with their widths
-    'names': lambda: 'the_top_module.the_clock 1\n' + ''.join(f'the_top_module.the_bus.signal_{i} {1 + i % 64}\n' for i in range(10000)),
+    'names': lambda: 'the_top_module.the_clock 1\n'
+    + ''.join(f'the_top_module.the_bus.signal_{i} {1 + i % 64}\n' for i in range(10000)),
     'comment': lambda: '/*' + ' any words ' * 1000000 + '*/' + BEHIND % 'a',
 }
 

@@ -1,5 +1,7 @@
 #!/usr/bin/env python3
-"""Judges the AXI4 rules of a port file over a dump, by what the rules mean: scripts/models/axi4_judge.py DUMP PORTS > REPORT
+"""Judges the AXI4 rules of a port file over a dump, by what the rules mean.
+
+    scripts/models/axi4_judge.py DUMP PORTS > REPORT
 
 It shares no text with svamon: no rule is read or made as an assertion. What each rule says is written
 below as a condition and a demand over rows of values, counters as numbers, and each attempt is
@@ -14,8 +16,10 @@ import axi4_rules
 import reference_report
 
 ADDRESS_PAYLOAD = "id addr len size burst lock cache prot".split()
-PAYLOAD = {"aw": ADDRESS_PAYLOAD, "w": ["strb", "last"], "b": ["id", "resp"], "ar": ADDRESS_PAYLOAD, "r": ["id", "resp", "last"]}
-FIXED = {"len": 8, "size": 3, "burst": 2, "lock": 1, "cache": 4, "prot": 3, "last": 1, "resp": 2, "valid": 1, "ready": 1}
+PAYLOAD = {"aw": ADDRESS_PAYLOAD, "w": ["strb", "last"], "b": ["id", "resp"], "ar": ADDRESS_PAYLOAD,
+           "r": ["id", "resp", "last"]}
+FIXED = {"len": 8, "size": 3, "burst": 2, "lock": 1, "cache": 4, "prot": 3, "last": 1, "resp": 2, "valid": 1,
+         "ready": 1}
 INCR, WRAP, EXOKAY = 1, 2, 1
 VERDICTS = ("holds", "vacuous", "fails", "disabled", "open")
 
@@ -35,7 +39,8 @@ def rows_of(port, paths, steps):
     for path, size in [*named.values(), (port["reset"], 1), (port["clock"], 1)]:
         if path not in paths or paths[path][1] != size:
             sys.exit(f"axi4_judge: the dump has no {path} of {size} bits")
-    found = reference_report.sampled(paths, steps, port["clock"], [port["reset"], *(path for path, _ in named.values())])
+    found = reference_report.sampled(paths, steps, port["clock"],
+                                     [port["reset"], *(path for path, _ in named.values())])
     return [{"reset": row[0] == 0, **dict(zip(named, row[1:]))} for row in found]
 
 
@@ -60,7 +65,8 @@ def after(now, row, port):
     then["aro"] = held(now["aro"] + bool(ar) - bool(r and row["rlast"]), 16)
     for i in port["watch"]:
         then["awo", i] = held(now["awo", i] + bool(aw and row["awid"] == i) - bool(b and row["bid"] == i), 16)
-        then["aro", i] = held(now["aro", i] + bool(ar and row["arid"] == i) - bool(r and row["rlast"] and row["rid"] == i), 16)
+        then["aro", i] = held(now["aro", i]
+                              + bool(ar and row["arid"] == i) - bool(r and row["rlast"] and row["rid"] == i), 16)
     for x, taken in (("w", aw), ("r", ar)):
         if taken:
             then[x + "lock"], then[x + "len"] = row[f"a{x}lock"], row[f"a{x}len"]
@@ -144,7 +150,8 @@ def response_rules(port, rows):
     if port["mode"] == "single":
         yield Rule("b_exokay", exokay("b"), some("wlock"))
         yield Rule("r_exokay", exokay("r"), some("rlock"))
-        yield Rule("w_last", lambda t: rows[t]["wvalid"] and counted(t, "awo") == 1 and not counted(t, "wlo"), last("w"))
+        yield Rule("w_last", lambda t: rows[t]["wvalid"] and counted(t, "awo") == 1 and not counted(t, "wlo"),
+                   last("w"))
         yield Rule("r_last", lambda t: rows[t]["rvalid"] and counted(t, "aro") == 1, last("r"))
 
 

@@ -74,8 +74,9 @@ SUFFIXES = "valid ready last id addr len size burst lock cache prot strb resp"
 SIGNALS = {c + s for c in PAYLOAD for s in SUFFIXES.split()}
 TOKEN = re.compile(r"[A-Za-z_][A-Za-z0-9_$.]*|\$[a-z0-9]+|\d+'[bdh][0-9a-f]+|\d+|\|->|\|=>|##|<<|<=|==|!=|&&|\|\||\S")
 KEYWORDS = set(
-    "sequence endsequence assert assume property posedge disable iff or and throughout intersect within first_match strong weak "
-    "not if else case always nexttime eventually until s_always s_nexttime s_eventually s_until s_until_with until_with implies "
+    "sequence endsequence assert assume property posedge disable iff or and throughout intersect within first_match "
+    "strong weak not if else case always nexttime eventually until s_always s_nexttime s_eventually s_until "
+    "s_until_with until_with implies "
     "accept_on reject_on cover restrict default clocking negedge edge local".split())
 
 
@@ -102,7 +103,8 @@ def port_of(line, number):
         raise bad
     for word in words[2:]:
         key, equals, value = word.partition("=")
-        if not equals or key in given or key not in ("clock", "reset", "prefix", "addr", "data", "id", "wait", "mode", "case", "watch"):
+        if not equals or key in given or key not in ("clock", "reset", "prefix", "addr", "data", "id", "wait", "mode",
+                                                     "case", "watch"):
             raise bad
         given[key] = value
     port |= given
@@ -123,12 +125,14 @@ def port_of(line, number):
 
 
 def check(port):
-    if not (12 <= port["addr"] <= 64 and port["data"] in (8, 16, 32, 64, 128) and 1 <= port["id"] <= 16 and port["wait"] <= 64):
+    if not (12 <= port["addr"] <= 64 and port["data"] in (8, 16, 32, 64, 128) and 1 <= port["id"] <= 16
+            and port["wait"] <= 64):
         raise Fault("X1 BadWidth")
     ids = port["watch"]
     if len(ids) > 16 or len(set(ids)) < len(ids) or any(i >= 2 ** port["id"] for i in ids):
         raise Fault("X2 BadId")
-    if not (is_word(port["name"]) and is_path(port["clock"]) and is_path(port["reset"]) and is_path(port["prefix"] + "awvalid")):
+    if not (is_word(port["name"]) and is_path(port["clock"]) and is_path(port["reset"])
+            and is_path(port["prefix"] + "awvalid")):
         raise Fault("X3 BadName")
 
 
@@ -145,7 +149,8 @@ def fill(port, text, channel="", item=""):
     """The tokens of a text of the table."""
     tokens = []
     special = {"N": port["reset"], "W": str(port["wait"]), "ID": item, "S": signal(port, channel + item)}
-    for token in TOKEN.findall(text.replace("LOG", str((port["data"] // 8).bit_length() - 1)).replace("A'd", f"{port['addr']}'d")):
+    text = text.replace("LOG", str((port["data"] // 8).bit_length() - 1)).replace("A'd", f"{port['addr']}'d")
+    for token in TOKEN.findall(text):
         if channel and token[0] in "cx" and token[1:] in SUFFIXES.split():
             token = signal(port, channel + token[1:])
         elif not channel and token in SIGNALS:
@@ -181,7 +186,8 @@ def rules(port):
     ids = [str(i) for i in port["watch"]]
     single = port["mode"] == "single"
     lines = [line for channel in PAYLOAD for line in channel_rules(port, channel)]
-    lines += [rule(port, name.replace("x", channel, 1), text, channel) for channel in ("aw", "ar") for name, text in ADDRESS.items()]
+    lines += [rule(port, name.replace("x", channel, 1), text, channel) for channel in ("aw", "ar")
+              for name, text in ADDRESS.items()]
     lines += [counter(port, name, text) for name, text in COUNTERS.items()]
     lines += [counter(port, name, text, i) for name, text in ID_COUNTERS.items() for i in ids]
     lines += [counter(port, name, text) for name, text in SINGLE_COUNTERS.items() if single]
@@ -211,13 +217,16 @@ def answer(text):
 
 
 def edge_ports():
-    """Every width of data, IDs of 1 and 16 bits, no wait, one tick and 64, both modes, both cases, with and without watched IDs."""
-    sizes = itertools.product((8, 16, 32, 64, 128), (1, 16), (0, 1, 64), ("multi", "single"), ("lower", "upper"), (False, True))
+    """Every width of data, IDs of 1 and 16 bits, no wait, one tick and 64, both modes, both cases, with and without
+    watched IDs."""
+    sizes = itertools.product((8, 16, 32, 64, 128), (1, 16), (0, 1, 64), ("multi", "single"), ("lower", "upper"),
+                              (False, True))
     for at, (data, width, wait, mode, case, is_watching) in enumerate(sizes):
         ids = "1,0" if width == 1 else "65535,0,7"
         watch = f" watch={ids}" if is_watching else ""
         prefix = ("top.u.s_", "", "axi_")[at % 3]
-        yield (f"port p{at} clock=top.clk reset=top.rst_n prefix={prefix} addr={12 + at % 53} data={data} id={width} wait={wait}"
+        yield (f"port p{at} clock=top.clk reset=top.rst_n prefix={prefix} addr={12 + at % 53} data={data} id={width} "
+               f"wait={wait}"
                f" mode={mode} case={case}{watch}")
 
 
@@ -230,26 +239,34 @@ def with_part(key, value):
 
 
 def fault_files():
-    yield from ("", "\n\n", "# nothing", "  ", GOOD, GOOD + "\n", f"\n# a port\n{GOOD}\n{GOOD}", f" {GOOD}", GOOD + "  wait=0   mode=single ")
-    yield from (GOOD + "\r\n", GOOD.replace(" ", "\t", 1), GOOD + "\twait=3", " # no comment", "part q", f"{GOOD}\n\npart q", "port", "port p")
+    yield from ("", "\n\n", "# nothing", "  ", GOOD, GOOD + "\n", f"\n# a port\n{GOOD}\n{GOOD}", f" {GOOD}",
+                GOOD + "  wait=0   mode=single ")
+    yield from (GOOD + "\r\n", GOOD.replace(" ", "\t", 1), GOOD + "\twait=3", " # no comment", "part q",
+                f"{GOOD}\n\npart q", "port", "port p")
     yield from (" ".join(w for w in GOOD.split() if w != part) for part in PARTS)
     yield from (f"{GOOD} {part}" for part in PARTS)
     values = {
         "addr": ("11", "12", "64", "65", "", "x", "+12", "1_2", "0012", "99999999999999999999999999", "12 "),
         "data": ("0", "8", "16", "24", "32", "64", "128", "256", "080"), "id": ("0", "1", "16", "17", "-1", "0x4"),
-        "clock": ("", ".", "a.", ".a", "a..b", "a", "assert", "assert.a", "a.assert", "counter.a", "a b", "9a", "a-b", "a$b._c", "$a", "é"),
+        "clock": ("", ".", "a.", ".a", "a..b", "a", "assert", "assert.a", "a.assert", "counter.a", "a b", "9a", "a-b",
+                  "a$b._c", "$a", "é"),
         "reset": ("!a", "not", "a.not", "until"), "prefix": ("", "a.", "if.", "a", "9", "a.b.c_", "a-", "."),
     }
     yield from (with_part(key, value) for key, them in values.items() for value in them)
-    yield from (GOOD.replace("port p", "port " + name) for name in ("assert", "9", "p.q", "p$", "_", "a=b", "clock=a", "é"))
-    options = ("wait=0", "wait=64", "wait=65", "wait=", "wait=1 wait=1", "mode=multi", "mode=single", "mode=", "mode=Multi", "mode=many")
-    options += ("case=upper", "case=lower", "case=", "case=UPPER", "depth=1", "wait", "=3", "Wait=3", "watch=0", "watch=15", "watch=16", "watch=")
-    options += ("watch=1,", "watch=,1", "watch=1,1", "watch=1,01", "watch=1,,2", "watch=70000", "watch=" + "9" * 40, "watch=3,5", "watch=1 watch=2")
+    yield from (GOOD.replace("port p", "port " + name)
+                for name in ("assert", "9", "p.q", "p$", "_", "a=b", "clock=a", "é"))
+    options = ("wait=0", "wait=64", "wait=65", "wait=", "wait=1 wait=1", "mode=multi", "mode=single", "mode=",
+               "mode=Multi", "mode=many")
+    options += ("case=upper", "case=lower", "case=", "case=UPPER", "depth=1", "wait", "=3", "Wait=3", "watch=0",
+                "watch=15", "watch=16", "watch=")
+    options += ("watch=1,", "watch=,1", "watch=1,1", "watch=1,01", "watch=1,,2", "watch=70000", "watch=" + "9" * 40,
+                "watch=3,5", "watch=1 watch=2")
     options += ("watch=" + ",".join(map(str, range(16))), "watch=" + ",".join(map(str, [*range(16), 0])))
     yield from (f"{GOOD} {option}" for option in options)
     yield with_part("id", "5") + " watch=" + ",".join(map(str, range(17)))
     yield with_part("id", "2") + " watch=4"
-    broken = {"X1": ("wait=16", "wait=99"), "X2": ("watch=0", "watch=99"), "X3": ("prefix=t.s_", "prefix=if."), "X4": ("mode=multi", "mode=none")}
+    broken = {"X1": ("wait=16", "wait=99"), "X2": ("watch=0", "watch=99"), "X3": ("prefix=t.s_", "prefix=if."),
+              "X4": ("mode=multi", "mode=none")}
     whole = GOOD + " wait=16 watch=0 mode=multi"
     for one, two in itertools.permutations(broken, 2):
         yield whole.replace(*broken[one]).replace(*broken[two])

@@ -14,15 +14,16 @@ import sys
 
 # The file of the smallest monitor in version 1: `r: .. top.x |-> top.y` at `top.clk`.
 SMALL = bytes.fromhex(
-    "5356414d01 0000 0001 0001 0001 0000000e ff 02 0001 72 0007 746f702e636c6b 0002 01 0005 746f702e78 01 0005 746f702e79 0000"
+    "5356414d01 0000 0001 0001 0001 0000000e ff 02 0001 72 0007 746f702e636c6b 0002 01 0005 746f702e78 01 0005 "
+    "746f702e79 0000"
     "0005 020001 3200 020002 3201 34 00000000000000000000000000000001 01 0003 40000002 42 43"
     "00000000000000000000000000000001 01 0003 40010002 42 43")
 
 # The same without positions.
 EMPTY = SMALL[:SMALL.index(b"\x34") + 1] + bytes(17) * 2
 
-# The operands behind each opcode of sample code, and of blocks: a width, a value of that width, a number of two bytes, one of
-# them but 0, a byte, the highest bit of a slice and its lowest.
+# The operands behind each opcode of sample code, and of blocks: a width, a value of that width, a number of two bytes,
+# one of them but 0, a byte, the highest bit of a slice and its lowest.
 SAMPLE = {0x01: "wv", 0x02: "t", 0x03: "tp", 0x27: "w", 0x28: "hl", 0x30: "t", 0x31: "t", 0x32: "b", 0x33: "b"}
 SAMPLE |= {code: "" for code in [*range(0x10, 0x1B), *range(0x20, 0x27), 0x29, 0x34]}
 BLOCK = {0x40: "bt", 0x41: "b", 0x42: "", 0x43: ""}
@@ -187,15 +188,21 @@ FIRST = accepting_first(in_version_2(SMALL), 0)
 
 def every_instruction(version=1):
     """A program with each instruction, each at the borders of its operands."""
-    code = [bytes([0x01, 1]) + bytes(16), bytes([0x01, 128]) + b"\xff" * 16, bytes([0x01, 9]) + (511).to_bytes(16, "big"), b"\x02\x00\x00", b"\x02\xff\xff", b"\x03\x00\x00\x00\x01", b"\x03\xff\xff\xff\xff"]
+    code = [bytes([0x01, 1]) + bytes(16), bytes([0x01, 128]) + b"\xff" * 16,
+            bytes([0x01, 9]) + (511).to_bytes(16, "big"), b"\x02\x00\x00", b"\x02\xff\xff", b"\x03\x00\x00\x00\x01",
+            b"\x03\xff\xff\xff\xff"]
     code += [bytes([it]) for it in SAMPLE if not SAMPLE[it]]
-    code += [b"\x27\x01", b"\x27\x80", b"\x28\x00\x00", b"\x28\x7f\x00", b"\x28\x7f\x7f", b"\x30\x00\x00", b"\x30\xff\xff", b"\x31\x12\x34", b"\x32\x00", b"\x32\xff", b"\x33\x00", b"\x33\xff"]
+    code += [b"\x27\x01", b"\x27\x80", b"\x28\x00\x00", b"\x28\x7f\x00", b"\x28\x7f\x7f", b"\x30\x00\x00",
+             b"\x30\xff\xff", b"\x31\x12\x34", b"\x32\x00", b"\x32\xff", b"\x33\x00", b"\x33\xff"]
     blocks = [[b"\x40\x00\x00\x00", b"\x40\xff\xff\xff", b"\x42", b"\x43"], [], [b"\x41\x00", b"\x41\xff", b"\x43"]]
     blocks[0] += [b"\x44"] if version == 2 else []
-    section = b"\x80" + bytes(14) + b"\x07" + bytes([len(blocks)]) + b"".join(len(it).to_bytes(2, "big") + b"".join(it) for it in blocks)
-    head = b"SVAM" + bytes([version]) + bytes.fromhex("1000 0400 0400 0400 01000000 00 fe") + text(b"_a$9") + text(b"a.b$._c.d0")
+    sizes = b"".join(len(it).to_bytes(2, "big") + b"".join(it) for it in blocks)
+    section = b"\x80" + bytes(14) + b"\x07" + bytes([len(blocks)]) + sizes
+    limits = bytes.fromhex("1000 0400 0400 0400 01000000 00 fe")
+    head = b"SVAM" + bytes([version]) + limits + text(b"_a$9") + text(b"a.b$._c.d0")
     signals = [(1, b"x"), (128, b"top.u_1.q$"), (64, b"_._._")]
-    lists = len(signals).to_bytes(2, "big") + b"".join(bytes([w]) + text(p) for w, p in signals) + b"\x00\x03\x01\x80\x20"
+    spelled = b"".join(bytes([w]) + text(p) for w, p in signals)
+    lists = len(signals).to_bytes(2, "big") + spelled + b"\x00\x03\x01\x80\x20"
     return head + lists + len(code).to_bytes(2, "big") + b"".join(code) + section + b"\xff" * 16 + b"\x00"
 
 

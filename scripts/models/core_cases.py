@@ -161,7 +161,8 @@ def case_of(programs, columns, core, steps, replies):
     """A case, and its answer."""
     widths = {path: width for it in programs for width, path in it.signals}
     team, made = f"{len(core.workers)} {core.size}\n", "".join(" ".join(map(str, it)) + "\n" for it in steps)
-    parts = [dump_of(widths, columns, core.clocks, len(steps) < 1000), "".join(f"{encode(it, 1).hex()}\n" for it in programs), team, made]
+    parts = [dump_of(widths, columns, core.clocks, len(steps) < 1000),
+             "".join(f"{encode(it, 1).hex()}\n" for it in programs), team, made]
     lines = "".join(map(batch_line, core.board))
     if len(steps) > 1000:
         lines = f"batches {len(core.board)} sum {summed(lines):016x}\n"
@@ -180,7 +181,8 @@ def case(draw, count, clocks, monitors, workers, window):
 
 
 def worked_case(steps, replies, board):
-    """Steps of a core of one worker and windows of one clock for `x |=> y` over x = 1, 0 and y = 0, 1, with an answer worked out by hand."""
+    """Steps of a core of one worker and windows of one clock for `x |=> y` over x = 1, 0 and y = 0, 1, with an answer
+    worked out by hand."""
     program = over_bits(2, placed(1, block_of(0, ("Enter", 1)), [("Accept",), ("Stop",)]), accepting(1))
     program.name, program.clock, program.signals = b"r", b"clk", [(1, b"x"), (1, b"y")]
     values = dict(zip((b"x", b"y"), ([1, 0], [0, 1])))
@@ -190,8 +192,10 @@ def worked_case(steps, replies, board):
 
 
 def worked_cases():
-    """Nothing to publish at first; what is refused and done in the first window, and in the second, behind which the board has two batches."""
-    first = [("claim", 0), ("slide",), ("claim", 1), ("claim", 0), ("advance", 0, 2), ("advance", 0, 1), ("slide",), ("publish", 0), ("slide",), ("gather",)]
+    """Nothing to publish at first; what is refused and done in the first window, and in the second, behind which the
+    board has two batches."""
+    first = [("claim", 0), ("slide",), ("claim", 1), ("claim", 0), ("advance", 0, 2), ("advance", 0, 1), ("slide",),
+             ("publish", 0), ("slide",), ("gather",)]
     second = [("slide",), ("advance", 0, 1), ("claim", 0), ("advance", 0, 1), ("publish", 0), ("gather",), ("slide",)]
     yield worked_case([("publish", 0)], "R", "")
     yield worked_case(first, "RDRDRDRDRD", "batch 0 0 1\n")
@@ -202,7 +206,8 @@ def cases():
     yield from worked_cases()
     draw = random.Random(1)
     for _ in range(SHORT):
-        yield case(draw, draw.randrange(20, 160), draw.randrange(12), draw.randrange(1, 7), draw.randrange(1, 9), draw.randrange(1, 6))
+        yield case(draw, draw.randrange(20, 160), draw.randrange(12), draw.randrange(1, 7), draw.randrange(1, 9),
+                   draw.randrange(1, 6))
     for monitors, workers, window, clocks in ((12, 8, 3, 460), (1, 1, 1, 1200), (7, 3, 4, 700)):
         yield case(draw, STEPS, clocks, monitors, workers, window)
 

@@ -1,9 +1,10 @@
 #!/usr/bin/env python3
 """Works out the reports of examples/ without any program of this repository: scripts/models/judge_examples.py
 
-The dumps are read by a few lines below. Each assertion is written down here once more, as a tree of Python functions, and judged by the
-definition itself: for each number of ticks seen, the ends of all matches, with every boolean true at ticks that weren't seen.
-It prints the differences from the stored reports; with the word 'write' it writes the reports, and what crates/demo prints.
+The dumps are read by a few lines below. Each assertion is written down here once more, as a tree of Python functions,
+and judged by the definition itself: for each number of ticks seen, the ends of all matches, with every boolean true at
+ticks that weren't seen. It prints the differences from the stored reports; with the word 'write' it writes the reports,
+and what crates/demo prints.
 """
 import pathlib
 import subprocess
@@ -184,7 +185,8 @@ def handshake(t):
     return [
         ('granted', rose, lead(1, 5, one(t.is_one('gnt'))), off),
         ('waits', following(one(lambda k: t('req', k) and not t('gnt', k))), one(t.is_one('req')), off),
-        ('asked', one(t.is_one('gnt')), delay(one(t.is_one('req')), 1, 1, one(lambda k: not t('req', k) and not t('gnt', k))), NEVER),
+        ('asked', one(t.is_one('gnt')),
+         delay(one(t.is_one('req')), 1, 1, one(lambda k: not t('req', k) and not t('gnt', k))), NEVER),
     ]
 
 
@@ -210,7 +212,8 @@ def outstanding(t):
     return [
         ('at_most_four', TRUE, one(lambda k: waiting[k] <= 4), off),
         ('asked_for', answers, one(lambda k: waiting[k] > 0), off),
-        ('drains', following(one(lambda k: waiting[k] >= 4 and t('answer', k))), one(lambda k: waiting[k] == ((waiting[k - 1] if k else 0) - 1) % 16), off),
+        ('drains', following(one(lambda k: waiting[k] >= 4 and t('answer', k))),
+         one(lambda k: waiting[k] == ((waiting[k - 1] if k else 0) - 1) % 16), off),
     ]
 
 
@@ -236,11 +239,15 @@ def fifo_arb(t):
         ('push_has_room', one(t.is_one('push')), one(t.low('full')), off),
         ('level_up', following(push_alone), one(lambda k: t('level', k) == (t('level', k, 1) + 1) % 16), off),
         ('level_down', following(pop_alone), one(lambda k: t('level', k) == (t('level', k, 1) - 1) % 16), off),
-        ('served', one(lambda k: t('req', k) & 1 and not t('req', k, 1) & 1), lead(0, 60, one(lambda k: t('push', k) and t('gnt', k) & 1)), off),
-        ('full_holds', following(one(lambda k: t('full', k) and not t('pop', k))), throughout(t.is_one('full'), one(lambda k: t('level', k) == 8)), off),
+        ('served', one(lambda k: t('req', k) & 1 and not t('req', k, 1) & 1),
+         lead(0, 60, one(lambda k: t('push', k) and t('gnt', k) & 1)), off),
+        ('full_holds', following(one(lambda k: t('full', k) and not t('pop', k))),
+         throughout(t.is_one('full'), one(lambda k: t('level', k) == 8)), off),
         ('fills', following(delay(one(t.is_one('empty')), 1, 1, repeat(push_alone, 8, 8))), full, off),
-        ('none_lost', one(lambda k: t('full', k) and t('pop', k)), lead(1, 1, either(one(t.low('full')), one(t.is_one('push')))), off),
-        ('known_level', TRUE, one(lambda k: t('level', k) <= 8 and t('full', k) == (t('level', k) == 8) and t('empty', k) == (t('level', k) == 0)), NEVER),
+        ('none_lost', one(lambda k: t('full', k) and t('pop', k)),
+         lead(1, 1, either(one(t.low('full')), one(t.is_one('push')))), off),
+        ('known_level', TRUE, one(lambda k: t('level', k) <= 8 and t('full', k) == (t('level', k) == 8)
+                                  and t('empty', k) == (t('level', k) == 0)), NEVER),
     ]
 
 
@@ -267,7 +274,8 @@ def whole_profile(t):
     return [
         ('lengths', g, both(long, delay(d, 1, 1, e)), NEVER),
         ('grows', TRUE, one(lambda k: t('data', k) != t('data', k, 1) and t('data', k) % 8 > 1), NEVER),
-        ('assert_3', following(one(lambda k: ticks(k) == 0)), lead(0, 1, one(lambda k: 2 * t('d', k) + t('e', k) == 1)), t.is_one('e')),
+        ('assert_3', following(one(lambda k: ticks(k) == 0)), lead(0, 1, one(lambda k: 2 * t('d', k) + t('e', k) == 1)),
+         t.is_one('e')),
     ]
 
 
@@ -291,7 +299,8 @@ TOP = ['fails_at_its_tick', 'whole_profile']
 def shown_port(write):
     """What crates/demo prints of the example with an AXI4 port; its report is that of scripts/axi4_judge.py."""
     folder = HERE / 'data' / 'axi_port'
-    words = [sys.executable, str(pathlib.Path(__file__).resolve().with_name('axi4_judge.py')), str(folder / 'dump.vcd'), str(folder / 'ports.txt')]
+    words = [sys.executable, str(pathlib.Path(__file__).resolve().with_name('axi4_judge.py')), str(folder / 'dump.vcd'),
+             str(folder / 'ports.txt')]
     text = subprocess.run(words, capture_output=True, text=True, check=True).stdout
     compare(folder / 'report.txt', text, write)
     return '== axi_port\n' + (folder / 'ports.txt').read_text() + text + 'status 1\n'

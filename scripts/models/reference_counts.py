@@ -1,7 +1,8 @@
 #!/usr/bin/env python3
-"""Counts what is in dumps, by the independent reader of reference_report.py: the paths that can be bound, the steps with the
-one at time 0, the changes, and the ticks of a clock; and says values of some paths at the first two ticks, the middle one and
-the last. It writes the stored output of crates/oracle_dumps, from the traces.txt there, whose lines are DUMP CLOCK PATH...
+"""Counts what is in dumps, by the independent reader of reference_report.py: the paths that can be bound, the steps
+with the one at time 0, the changes, and the ticks of a clock; and says values of some paths at the first two ticks, the
+middle one and the last. It writes the stored output of crates/oracle_dumps, from the traces.txt there, whose lines are
+DUMP CLOCK PATH...
 
     cd crates/oracle_dumps/data && ../../../scripts/models/reference_counts.py traces.txt > ../stdout
 """
@@ -18,7 +19,8 @@ def first_foreign_digit(text):
     inside = False
     for number, line in enumerate(text.split('\n'), 1):
         inside = inside or '$enddefinitions' in line
-        if inside and line[:1] in ('b', 'B') and not DIGITS.fullmatch(line.split()[0]) or inside and line[:1] in tuple('uUwWlLhH-'):
+        is_bad = line[:1] in tuple('uUwWlLhH-')
+        if inside and (is_bad or line[:1] in ('b', 'B') and not DIGITS.fullmatch(line.split()[0])):
             return number
     return 0
 
@@ -30,7 +32,8 @@ def show(dump, clock, names):
         print(f'{dump} V1 BadToken {line}')
         return
     paths, steps = read_dump(text)
-    bindable = [p for p, (kind, size, _) in paths.items() if kind not in ('real', 'realtime', 'string', 'event') and 1 <= size <= 128]
+    bindable = [p for p, (kind, size, _) in paths.items() if kind not in ('real', 'realtime', 'string', 'event')
+                and 1 <= size <= 128]
     changes = sum(len(changed) for _, changed in steps)
     rows = sampled(paths, steps, clock, names)
     print(f'{dump} names {len(bindable)} steps {len(steps)} changes {changes} ticks {len(rows)}')

@@ -1,10 +1,11 @@
 #!/usr/bin/env python3
-"""Says of each text of the assertion language whether it is a file of the profile, or else which fault it has and at which byte. It is
-an Earley recogniser over the grammar as it is written down for users (docs/DEFINITIONS.md), so it takes nothing from the program's
-parser: a text's fault stands at the first token behind which no file of the grammar goes on.
+"""Says of each text of the assertion language whether it is a file of the profile, or else which fault it has and at
+which byte. It is an Earley recogniser over the grammar as it is written down for users (docs/DEFINITIONS.md), so it
+takes nothing from the program's parser: a text's fault stands at the first token behind which no file of the grammar
+goes on.
 
     scripts/models/reference_parser.py TEXTS           a verdict for each line of the file
-    scripts/models/reference_parser.py --make FOLDER   writes FOLDER/data/texts.txt, with mutated texts, and FOLDER/stdout
+    scripts/models/reference_parser.py --make FOLDER   writes FOLDER/data/texts.txt and FOLDER/stdout, with mutants
 """
 import random
 import re
@@ -15,9 +16,11 @@ TOKEN = re.compile(r'''\s+|//.*|/\*.*?\*/|(?P<word>[A-Za-z_][A-Za-z0-9_$]*)|(?P<
     |(?P<symbol>\|->|\|=>|\[\*|\#\#|<<|>>|<=|>=|==|!=|&&|\|\||~&|~\||~\^|\^~|[(){}\[\],;:?@.\#+\-<>&|^~!=*/%])''', re.X)
 KEYWORDS = set('sequence endsequence assert assume property posedge disable iff or and intersect throughout'.split())
 FOREIGN = set('''within first_match strong weak not if else case always nexttime eventually until s_always s_nexttime
-    s_eventually s_until s_until_with until_with implies accept_on reject_on cover restrict default clocking negedge edge local'''.split())
+    s_eventually s_until s_until_with until_with implies accept_on reject_on cover restrict default clocking negedge
+    edge local'''.split())
 FUNCTIONS = set('$rose $fell $stable $changed $onehot $onehot0'.split())
-LEVELS = [['||'], ['&&'], ['|'], ['^', '~^', '^~'], ['&'], ['==', '!='], ['<', '<=', '>', '>='], ['<<', '>>'], ['+', '-']]
+LEVELS = [['||'], ['&&'], ['|'], ['^', '~^', '^~'], ['&'], ['==', '!='], ['<', '<=', '>', '>='], ['<<', '>>'],
+          ['+', '-']]
 UNARY = '! ~ & ~& | ~| ^ ~^ ^~'.split()
 MOST = 64
 
@@ -86,12 +89,14 @@ def rules(symbol):
         return [['sequence', word, ';', n('seq'), *semicolon, 'endsequence', *closing] for word, closings in NAMES
                 for semicolon in ([], [';']) for closing in closings]
     if name == 'assertion':
-        return [[*label, verb, 'property', '(', '@', '(', 'posedge', n('path'), ')', *disable, n('prop', inner), ')', ';']
+        return [[*label, verb, 'property', '(', '@', '(', 'posedge', n('path'), ')', *disable, n('prop', inner), ')',
+                 ';']
                 for label in ([], ['NAME', ':']) for verb in ('assert', 'assume')
                 for disable in ([], ['disable', 'iff', '(', n('expr', less(inner)), ')'])]
     if name == 'prop':
         brackets = [['(', n('prop', inner), ')']] if deep else []
-        first = [['first_match', '(', n('seq', inner), ')', arrow, n('seq')] for arrow in ('|->', '|=>')] if deep else [['first_match', 'NEVER']]
+        first = [['first_match', '(', n('seq', inner), ')', arrow, n('seq')]
+                 for arrow in ('|->', '|=>')] if deep else [['first_match', 'NEVER']]
         return brackets + first + [[n('seq')], [n('seq'), '|->', n('seq')], [n('seq'), '|=>', n('seq')]]
     if name == 'seq':
         return [[n('and_seq')], [n('seq'), 'or', n('and_seq')]]
@@ -116,7 +121,8 @@ def rules(symbol):
     if name == 'path':
         return [['NAME'], [n('path'), '.', 'WORD']]
     if name == 'expr':
-        return [[('level', depth, 0)]] + ([[('level', depth, 0), '?', n('expr', inner), ':', n('expr', inner)]] if deep else [])
+        return [[('level', depth, 0)]] + ([[('level', depth, 0), '?', n('expr', inner), ':', n('expr', inner)]] if deep
+                                          else [])
     if name == 'level':
         if symbol[2] == len(LEVELS):
             return [[n('unary')]]
@@ -126,8 +132,10 @@ def rules(symbol):
         return [[n('primary')]] + ([[operator, n('unary', inner)] for operator in UNARY] if deep else [])
     if name == 'primary':
         if not deep:
-            return [['NUMBER'], [n('path')], ['$past', 'NEVER'], ['FUNCTION', 'NEVER']]  # it is the bracket that is too deep
-        return [['NUMBER'], [n('path')], [n('path'), '[', 'NUMBER', ']'], [n('path'), '[', 'NUMBER', ':', 'NUMBER', ']'],
+            # it is the bracket that is too deep
+            return [['NUMBER'], [n('path')], ['$past', 'NEVER'], ['FUNCTION', 'NEVER']]
+        return [['NUMBER'], [n('path')], [n('path'), '[', 'NUMBER', ']'],
+                [n('path'), '[', 'NUMBER', ':', 'NUMBER', ']'],
                 ['{', n('parts', inner), '}'], ['(', n('expr', inner), ')'], ['$past', '(', n('expr', inner), ')'],
                 ['$past', '(', n('expr', inner), ',', 'BOUND1-64', ')'], ['FUNCTION', '(', n('expr', inner), ')']]
     if name == 'parts':
@@ -140,7 +148,8 @@ NAMES = []
 
 def names_for(tokens):
     """A sequence's closing name is its own: one rule for each word that stands behind `sequence`."""
-    words = {text for (_, before, _), (kind, text, at) in zip(tokens, tokens[1:]) if before == 'sequence' and passes('NAME', (kind, text, at))}
+    words = {text for (_, before, _), (kind, text, at) in zip(tokens, tokens[1:]) if before == 'sequence'
+             and passes('NAME', (kind, text, at))}
     NAMES[:] = [(f'AGAIN {word}', ([], [':', f'AGAIN {word}'])) for word in sorted(words)] + [('NAME', ([],))]
 
 
@@ -272,12 +281,13 @@ BASES = [
     'counter: assert property (@(posedge clk) (a ##1 b) and (c throughout (d ##2 e)) |-> x[3:0] == 4\'hA);',
     'assert property (@(posedge clk) ((a |-> b)));',
     'assert property (@(posedge clk) {a, b[1], 2\'b01} != $past(v, 2) ? p + q << 1 : ~|r |-> ##1 (s[*0:1] ##1 t));',
-    'sequence go; ##1 x; endsequence clear: assert property (@(posedge clk) $rose(a) && $onehot0({b, c}) |=> go and !(d ^ e));',
+    'sequence go; ##1 x; endsequence clear: assert property (@(posedge clk) $rose(a) && $onehot0({b, c}) '
+    '|=> go and !(d ^ e));',
     'assert property (@(posedge clk) (a) ##1 (b ##1 c)[*2] or d & e | f |-> (g));',
 ]
-EXTRA = '''( ) { } [ [* ] , ; : ? @ . ## # |-> |=> + - << >> < <= > >= == != & && | || ^ ~ ~& ~| ~^ ^~ ! = * / % a counter sequence
-    endsequence assert property posedge disable iff or and throughout first_match intersect within s_until not if 0 128 3 4'd3 $past
-    $rose $countones $'''.split()
+EXTRA = '''( ) { } [ [* ] , ; : ? @ . ## # |-> |=> + - << >> < <= > >= == != & && | || ^ ~ ~& ~| ~^ ^~ ! = * / % a
+    counter sequence endsequence assert property posedge disable iff or and throughout first_match intersect within
+    s_until not if 0 128 3 4'd3 $past $rose $countones $'''.split()
 
 
 def mutated(seed, count, bases):
@@ -308,11 +318,14 @@ def foreign_words():
     texts = []
     for word in sorted(FOREIGN) + ['property', 'iff']:
         texts += [f'{word} x;', f'{word}: assert property (@(posedge c) a);', f'assert property (@(posedge {word}) a);',
-                  f'assert property (@(posedge c) {word});', f'assert property (@(posedge c) a {word} b);', f'sequence {word}; a; endsequence',
-                  f'counter {word} [2];', f'assert property (@(posedge c) x.{word});', f'assert {word} (@(posedge c) a);',
+                  f'assert property (@(posedge c) {word});', f'assert property (@(posedge c) a {word} b);',
+                  f'sequence {word}; a; endsequence',
+                  f'counter {word} [2];', f'assert property (@(posedge c) x.{word});',
+                  f'assert {word} (@(posedge c) a);',
                   f'assert property (@({word} c) a);', f'assert property (@(posedge c) disable {word} (r) a);',
                   f'assert property (@(posedge c) disable iff ({word}) a);', f'counter n [2] {word}(a);',
-                  f'sequence s; a; endsequence : {word} assert property (@(posedge c) s);', f'sequence s; a {word} endsequence']
+                  f'sequence s; a; endsequence : {word} assert property (@(posedge c) s);',
+                  f'sequence s; a {word} endsequence']
     return texts
 
 
@@ -320,42 +333,66 @@ def asserted(text):
     return f'assert property (@(posedge c) {text});'
 
 
-SMALLEST = ['a', '1', "'hF", 'a.b', 'a[0]', 'a[1:0]', '{a}', '{a, b}', '(a)', '$past(a)', '$past(a, 1)', '$rose(a)', '$fell(a)', '$stable(a)',
-            '$changed(a)', '$onehot(a)', '$onehot0(a)', '!a', '~a', '&a', '~&a', '|a', '~|a', '^a', '~^a', '^~a', 'a ? b : c', 'a ##1 b',
-            '##0 a', '##[0:1] a', 'a[*0]', 'a[*0:1]', '(a ##1 b)', '(a ##1 b)[*2]', 'a throughout b', 'a and b', 'a or b', 'a intersect b', 'a |-> b', 'a |=> b',
-            '(a |-> b)', '((a |=> b))', '(s)', '((s))', 's[*2]', 's throughout a', '(a |-> b) |-> c', 'a |-> (b |-> c)', 'a |-> b |-> c',
-            '(a |-> b) and c', '(a ##1 b) + c', '(a ##1 b) && c', '(a) && c', '((a)[1])', 'a[1][2]', 'a ##1', 'a[*]', 'a[+]', 'a ##[1:$] b', 'a[*1:$]',
-            'a throughout', 'a[*1][*2]', '(a[*1])[*2]', 'a ##1 ##2 b', '##1 ##2 a', '##1 (##2 a)', 'a or', 'and a', 'a and or b', 'a intersect', 'intersect a', 'a intersect and b',
-            'a and b intersect c', 'a intersect b and c', 'a intersect b intersect c', 'a throughout b intersect c', 'a intersect b throughout c',
-            '(a ##1 b) intersect c', '(a |-> b) intersect c', 'a + b intersect c', 'a intersect.b', '$', '$time', '$countones(a)',
-            'a * b', 'a / b', 'a % b', 'a ** b', '+a', '-a', 'a !b', 'a = b', 'a # b', '@a', 'a ? b', 'a ? b : c : d', 'a ? b ? c : d : e', '{}', '{a,}', '()',
-            'a,', "a ##1'b1 b", 'posedge', 'disable', 'a.posedge', 'clear', 'load', 'add', 'sub', 'counter', 'counter.x', 'x.counter[1]']
-BOUNDS = ['a |-> ##[3:1] b', 'a |-> ##128 b', '##127 a', '##[127:127] a', '##[0:128] a', '##[128:128] a', '##[2:2] a', '##[1_0:9] a', "##4'd3 a", "##'d3 a",
-          'a[*127]', 'a[*128]', 'a[*2:1]', 'a[*0:127]', 'a[*0:128]', "a[*'d2]", '$past(a, 0)', '$past(a, 64)', '$past(a, 65)', "$past(a, 4'd3)", "v[4'd3]", "v['d3:2]", 'v[99999]']
+SMALLEST = ['a', '1', "'hF", 'a.b', 'a[0]', 'a[1:0]', '{a}', '{a, b}', '(a)', '$past(a)', '$past(a, 1)', '$rose(a)',
+            '$fell(a)', '$stable(a)',
+            '$changed(a)', '$onehot(a)', '$onehot0(a)', '!a', '~a', '&a', '~&a', '|a', '~|a', '^a', '~^a', '^~a',
+            'a ? b : c', 'a ##1 b',
+            '##0 a', '##[0:1] a', 'a[*0]', 'a[*0:1]', '(a ##1 b)', '(a ##1 b)[*2]', 'a throughout b', 'a and b',
+            'a or b', 'a intersect b', 'a |-> b', 'a |=> b',
+            '(a |-> b)', '((a |=> b))', '(s)', '((s))', 's[*2]', 's throughout a', '(a |-> b) |-> c', 'a |-> (b |-> c)',
+            'a |-> b |-> c',
+            '(a |-> b) and c', '(a ##1 b) + c', '(a ##1 b) && c', '(a) && c', '((a)[1])', 'a[1][2]', 'a ##1', 'a[*]',
+            'a[+]', 'a ##[1:$] b', 'a[*1:$]',
+            'a throughout', 'a[*1][*2]', '(a[*1])[*2]', 'a ##1 ##2 b', '##1 ##2 a', '##1 (##2 a)', 'a or', 'and a',
+            'a and or b', 'a intersect', 'intersect a', 'a intersect and b',
+            'a and b intersect c', 'a intersect b and c', 'a intersect b intersect c', 'a throughout b intersect c',
+            'a intersect b throughout c',
+            '(a ##1 b) intersect c', '(a |-> b) intersect c', 'a + b intersect c', 'a intersect.b', '$', '$time',
+            '$countones(a)',
+            'a * b', 'a / b', 'a % b', 'a ** b', '+a', '-a', 'a !b', 'a = b', 'a # b', '@a', 'a ? b', 'a ? b : c : d',
+            'a ? b ? c : d : e', '{}', '{a,}', '()',
+            'a,', "a ##1'b1 b", 'posedge', 'disable', 'a.posedge', 'clear', 'load', 'add', 'sub', 'counter',
+            'counter.x', 'x.counter[1]']
+BOUNDS = ['a |-> ##[3:1] b', 'a |-> ##128 b', '##127 a', '##[127:127] a', '##[0:128] a', '##[128:128] a', '##[2:2] a',
+          '##[1_0:9] a', "##4'd3 a", "##'d3 a",
+          'a[*127]', 'a[*128]', 'a[*2:1]', 'a[*0:127]', 'a[*0:128]', "a[*'d2]", '$past(a, 0)', '$past(a, 64)',
+          '$past(a, 65)', "$past(a, 4'd3)", "v[4'd3]", "v['d3:2]", 'v[99999]']
 WIDTHS = ['0', '1', '128', '129', "8'd4", 'w', '1_2']
 
 
 def nested(count):
     """Nesting of each kind: so deep, within what is left behind `property (`."""
     deep = '(' * count + 'a' + ')' * count
-    return [asserted(deep), asserted('!' * count + 'a'), asserted('a ? b : ' * count + 'c'), asserted('a throughout ' * count + 'b'),
-            asserted('{' * count + 'a' + '}' * count), asserted('$rose(' * count + 'a' + ')' * count), asserted('(' * (count - 1) + 'a[0]' + ')' * (count - 1)),
-            asserted('(' * (count - 1) + 'a[*2]' + ')' * (count - 1)), asserted('(' * (count - 1) + '##[1:2] a' + ')' * (count - 1)),
-            asserted('(' * count + 'a |-> b' + ')' * count), asserted('b ##1 ' + deep), asserted('a ? ' * count + 'b' + ' : c' * count),
+    return [asserted(deep), asserted('!' * count + 'a'), asserted('a ? b : ' * count + 'c'),
+            asserted('a throughout ' * count + 'b'),
+            asserted('{' * count + 'a' + '}' * count), asserted('$rose(' * count + 'a' + ')' * count),
+            asserted('(' * (count - 1) + 'a[0]' + ')' * (count - 1)),
+            asserted('(' * (count - 1) + 'a[*2]' + ')' * (count - 1)),
+            asserted('(' * (count - 1) + '##[1:2] a' + ')' * (count - 1)),
+            asserted('(' * count + 'a |-> b' + ')' * count), asserted('b ##1 ' + deep),
+            asserted('a ? ' * count + 'b' + ' : c' * count),
             f'sequence s; {"(" * (count + 1)}a ##1 b{")" * (count + 1)}; endsequence ' + asserted('s'),
             f'assert property (@(posedge c) disable iff ({"(" * (count - 1)}r{")" * (count - 1)}) a);',
             f'counter n [2] clear({deep}); ' + asserted('a'), f'counter n [2] add({deep}, {deep}); ' + asserted('a')]
 
 
 def texts_of_rules():
-    whole = ['', '  ', '// only a comment', 'counter n [2];', 'sequence s; a; endsequence', 'sequence s; a endsequence : s', asserted('a'),
-             'x: ' + asserted('a'), 'assume property (@(posedge c.d) a);', 'assert property (@(posedge c) disable iff (r) a);',
-             'sequence s; a; endsequence : t ' + asserted('a'), 'sequence s; a; ; endsequence ' + asserted('a'), asserted('a') + ' ;',
-             'counter n [2] load(a, b) clear(c); ' + asserted('a'), 'counter n [2] sub(a, b) add(a, b); ' + asserted('a'),
-             'counter n [2] clear(a, b); ' + asserted('a'), 'counter n [2] add(a); ' + asserted('a'), 'counter: ' + asserted('a'), 'clear: ' + asserted('a'),
-             'load: ' + asserted('a'), 'counter counter [1]; ' + asserted('counter'), 'sequence sequence; a; endsequence', 'assert (a);', 'cover property (a);',
-             'property p; a; endproperty', asserted('a') + ' property p;', asserted('a') + ' else $error("x");'[:5], 'x: y: ' + asserted('a')]
-    return (whole + [asserted(text) for text in SMALLEST + BOUNDS] + [f'counter n [{width}]; ' + asserted('a') for width in WIDTHS] + nested(63) + nested(64))
+    whole = ['', '  ', '// only a comment', 'counter n [2];', 'sequence s; a; endsequence',
+             'sequence s; a endsequence : s', asserted('a'),
+             'x: ' + asserted('a'), 'assume property (@(posedge c.d) a);',
+             'assert property (@(posedge c) disable iff (r) a);',
+             'sequence s; a; endsequence : t ' + asserted('a'), 'sequence s; a; ; endsequence ' + asserted('a'),
+             asserted('a') + ' ;',
+             'counter n [2] load(a, b) clear(c); ' + asserted('a'),
+             'counter n [2] sub(a, b) add(a, b); ' + asserted('a'),
+             'counter n [2] clear(a, b); ' + asserted('a'), 'counter n [2] add(a); ' + asserted('a'),
+             'counter: ' + asserted('a'), 'clear: ' + asserted('a'),
+             'load: ' + asserted('a'), 'counter counter [1]; ' + asserted('counter'),
+             'sequence sequence; a; endsequence', 'assert (a);', 'cover property (a);',
+             'property p; a; endproperty', asserted('a') + ' property p;', asserted('a') + ' else $error("x");'[:5],
+             'x: y: ' + asserted('a')]
+    return (whole + [asserted(text) for text in SMALLEST + BOUNDS]
+            + [f'counter n [{width}]; ' + asserted('a') for width in WIDTHS] + nested(63) + nested(64))
 
 
 # the first match of an antecedent
@@ -364,19 +401,28 @@ FIRST_BASES = [
     'r: assume property (@(posedge top.clk) disable iff (!rst) (first_match((req[*0:2]) ##1 s) |=> ##[1:4] gnt));',
     'assert property (@(posedge clk) ((first_match(a throughout b or c and d) |-> e ##1 (f |-> g))));',
 ]
-FIRSTS = ['first_match(a) |-> b', 'first_match(a) |=> b', '(first_match(a) |-> b)', '((first_match((a)) |=> (b)))', 'first_match(a)', 'first_match a |-> b',
-          'first_match', 'first_match()', 'first_match() |-> b', 'first_match(a', 'first_match(a |-> b)', 'first_match(a |-> b) |-> c', 'first_match(a) ##1 b |-> c',
-          'a ##1 first_match(b) |-> c', '1 |-> first_match(a)', 'first_match(a) |-> first_match(b)', 'first_match(first_match(a)) |-> b', '(first_match(a)) |-> b',
-          'first_match(a)[*2] |-> b', 'first_match(a) or b |-> c', 'a or first_match(b) |-> c', 'first_match(a) |-> b |-> c', '(first_match(a) |-> b) |-> c',
-          'a |-> (first_match(b) |-> c)', 'first_match(a) && b |-> c', 'first_match(a, b) |-> c', 'first_match(a) |->', 'first_match |-> b', 'first_match[*2] |-> b',
-          'first_match.x |-> b', 'x.first_match |-> b', 'a throughout first_match(b) |-> c', 'a intersect first_match(b) |-> c', '!first_match(a) |-> b',
-          'first_match(a ##[1:3] b)', 'first_match(##2 a) |=> ##2 b', 'first_match(a[*0:1]) |-> b', 'first_match(a[*2:1]) |-> b']
+FIRSTS = ['first_match(a) |-> b', 'first_match(a) |=> b', '(first_match(a) |-> b)', '((first_match((a)) |=> (b)))',
+          'first_match(a)', 'first_match a |-> b',
+          'first_match', 'first_match()', 'first_match() |-> b', 'first_match(a', 'first_match(a |-> b)',
+          'first_match(a |-> b) |-> c', 'first_match(a) ##1 b |-> c',
+          'a ##1 first_match(b) |-> c', '1 |-> first_match(a)', 'first_match(a) |-> first_match(b)',
+          'first_match(first_match(a)) |-> b', '(first_match(a)) |-> b',
+          'first_match(a)[*2] |-> b', 'first_match(a) or b |-> c', 'a or first_match(b) |-> c',
+          'first_match(a) |-> b |-> c', '(first_match(a) |-> b) |-> c',
+          'a |-> (first_match(b) |-> c)', 'first_match(a) && b |-> c', 'first_match(a, b) |-> c', 'first_match(a) |->',
+          'first_match |-> b', 'first_match[*2] |-> b',
+          'first_match.x |-> b', 'x.first_match |-> b', 'a throughout first_match(b) |-> c',
+          'a intersect first_match(b) |-> c', '!first_match(a) |-> b',
+          'first_match(a ##[1:3] b)', 'first_match(##2 a) |=> ##2 b', 'first_match(a[*0:1]) |-> b',
+          'first_match(a[*2:1]) |-> b']
 
 
 def firsts_nested(count):
     deep = '(' * count + 'a' + ')' * count
-    return [asserted(f'first_match({deep}) |-> b'), asserted(f'first_match({deep[1:-1]}) |-> b'), asserted(f'first_match(a) |-> {deep}'),
-            asserted('(' * count + 'first_match(a) |-> b' + ')' * count), asserted('(' * (count - 1) + 'first_match(a) |-> b' + ')' * (count - 1))]
+    return [asserted(f'first_match({deep}) |-> b'), asserted(f'first_match({deep[1:-1]}) |-> b'),
+            asserted(f'first_match(a) |-> {deep}'),
+            asserted('(' * count + 'first_match(a) |-> b' + ')' * count),
+            asserted('(' * (count - 1) + 'first_match(a) |-> b' + ')' * (count - 1))]
 
 
 def main(arguments):
@@ -385,7 +431,8 @@ def main(arguments):
             print(verdict(line.rstrip('\n')))
         return
     texts = BASES + texts_of_rules() + mutated(16, 400, BASES) + foreign_words()
-    texts += FIRST_BASES + [asserted(text) for text in FIRSTS] + firsts_nested(63) + firsts_nested(64) + mutated(43, 200, FIRST_BASES)
+    texts += FIRST_BASES + [asserted(text)
+                            for text in FIRSTS] + firsts_nested(63) + firsts_nested(64) + mutated(43, 200, FIRST_BASES)
     with open(f'{arguments[1]}/data/texts.txt', 'w') as out:
         out.writelines(text + '\n' for text in texts)
     # what stands at the roots of trees was worked out by hand

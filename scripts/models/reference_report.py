@@ -1,8 +1,11 @@
 #!/usr/bin/env python3
-"""An independent reading of a dump and one assertion of the form  [NAME:] assert property (@(posedge path) path |-> path);
+"""An independent reading of a dump and one assertion of the form
+
+    [NAME:] assert property (@(posedge path) path |-> path);
 
 It shares nothing with svamon: it keeps every value of every clock edge and looks at each attempt from the words of the
-standard. It writes the report that svamon must write. judge_examples.py does the same for whole texts; reference_counts.py takes the reader from here.
+standard. It writes the report that svamon must write. judge_examples.py does the same for whole texts;
+reference_counts.py takes the reader from here.
 
     scripts/models/reference_report.py DUMP ASSERTION > REPORT
 """
@@ -69,7 +72,8 @@ def sampled(paths, steps, clock, names):
 
 def main(dump, assertion):
     paths, steps = read_dump(open(dump).read())
-    m = re.match(r'\s*(?:(\w+)\s*:)?\s*assert\s+property\s*\(\s*@\s*\(\s*posedge\s+([\w.$]+)\s*\)\s*([\w.$]+)\s*(\|->|\|=>)\s*([\w.$]+)\s*\)\s*;\s*$', open(assertion).read())
+    m = re.match(r'\s*(?:(\w+)\s*:)?\s*assert\s+property\s*\(\s*@\s*\(\s*posedge\s+([\w.$]+)\s*\)'
+                 r'\s*([\w.$]+)\s*(\|->|\|=>)\s*([\w.$]+)\s*\)\s*;\s*$', open(assertion).read())
     name, clock, first, arrow, second = m.groups()
     rows = sampled(paths, steps, clock, [first, second])
     counts = {'holds': 0, 'vacuous': 0, 'fails': 0, 'disabled': 0, 'open': 0}

@@ -1,15 +1,16 @@
 #!/usr/bin/env python3
-"""Random typed expressions and counters with their values, by an independent reading of IEEE 1800-2017, 11.4 to 11.8 and 16.9.3.
+"""Random typed expressions and counters with their values, by an independent reading of IEEE 1800-2017, 11.4 to 11.8
+and 16.9.3.
 
-It shares nothing with svamon: a tree is a tuple, a value a Python integer, and a counter is run tick by tick. Every draw is from one
-seed, so each run writes the same two files:
+It shares nothing with svamon: a tree is a tuple, a value a Python integer, and a counter is run tick by tick. Every
+draw is from one seed, so each run writes the same two files:
 
     scripts/models/reference_values.py EXPRESSIONS VALUES
 
-EXPRESSIONS has a line for each word of a small language in which operators stand behind their operands: `trace` begins a new trace, `row`
-adds a row of signals, `counter` a counter with its clauses, `count` runs the counters, and `value W` is an expression in a context of W
-bits (W = 0: its own width). A line that begins with `#` is the expression as one writes it. VALUES has, for each `value` line, the own
-width and the value at each tick.
+EXPRESSIONS has a line for each word of a small language in which operators stand behind their operands: `trace` begins
+a new trace, `row` adds a row of signals, `counter` a counter with its clauses, `count` runs the counters, and `value W`
+is an expression in a context of W bits (W = 0: its own width). A line that begins with `#` is the expression as one
+writes it. VALUES has, for each `value` line, the own width and the value at each tick.
 """
 import random
 import sys
@@ -112,7 +113,8 @@ def value(tree, tick, size, trace):
     if kind == 'past':
         return own(tree[1], tick - tree[2]) if tick >= tree[2] else 0
     now, before = own(tree[2]), own(tree[2], tick - 1) if tick else 0
-    return int({'$rose': now & 1 > before & 1, '$fell': now & 1 < before & 1, '$stable': now == before, '$changed': now != before}[tree[1]])
+    return int({'$rose': now & 1 > before & 1, '$fell': now & 1 < before & 1, '$stable': now == before,
+                '$changed': now != before}[tree[1]])
 
 
 def leaf(names):
@@ -136,7 +138,8 @@ def expression(names, depth):
     if kind <= 2:
         return ('arithmetic', part(), chain(draw.choice(LEVELS)))
     if kind == 3:
-        return ('shift', part(), [(op, draw.choice([('constant', 4, draw.randrange(9)), part()])) for op, _ in chain(['<<', '>>'])])
+        return ('shift', part(), [(op, draw.choice([('constant', 4, draw.randrange(9)), part()]))
+                                  for op, _ in chain(['<<', '>>'])])
     if kind == 4:
         return ('compare', part(), chain(draw.choice([['==', '!='], ['<', '<=', '>', '>=']])))
     if kind == 5:
@@ -215,7 +218,8 @@ def run_counters(counters, trace):
         after = []
         for place, (bits, clauses) in enumerate(counters):
             true = lambda name: name in clauses and value(clauses[name][0], tick, width(clauses[name][0]), trace) != 0
-            by = lambda name: value(clauses[name][1], tick, max(bits, width(clauses[name][1])), trace) & ((1 << bits) - 1) if true(name) else 0
+            by = lambda name: value(clauses[name][1], tick, max(bits, width(clauses[name][1])),
+                                    trace) & ((1 << bits) - 1) if true(name) else 0
             if true('clear'):
                 after.append(0)
             elif true('load'):
@@ -231,7 +235,8 @@ def main():
         signals = [('signal', some_width(), place) for place in range(draw.randint(1, 5))]
         rows = []
         for _ in range(TICKS):
-            rows.append([rows[-1][place] if rows and draw.randrange(3) == 0 else number(bits) for _, bits, place in signals])
+            rows.append([rows[-1][place] if rows and draw.randrange(3) == 0 else number(bits)
+                         for _, bits, place in signals])
         lines.append('trace')
         lines += ['row ' + ' '.join(map(str, row)) for row in rows]
         widths = [draw.choice([1, 2, 3, 8, 64, 128]) for _ in range(draw.randrange(4))]
@@ -243,7 +248,8 @@ def main():
                 if draw.randrange(3) > (1 if name in ('clear', 'load') else 0):
                     clauses[name] = [expression(names, 1) for _ in range(1 if name == 'clear' else 2)]
             counters.append((bits, clauses))
-            lines.append(' '.join(['counter', str(bits)] + [word for name, trees in clauses.items() for tree in trees + [None]
+            lines.append(' '.join(['counter', str(bits)]
+                                  + [word for name, trees in clauses.items() for tree in trees + [None]
                                                             for word in (words(tree) if tree else [name])]))
         lines.append('count')
         trace = {'rows': rows}
@@ -263,7 +269,8 @@ def main():
         for tree, size, place, trace in values:
             if tree == 'counter':
                 tree, size = ('counter', size, place), 0
-            out.write(' '.join([str(width(tree))] + [str(value(tree, tick, size or width(tree), trace)) for tick in range(TICKS)]) + '\n')
+            out.write(' '.join([str(width(tree))]
+                               + [str(value(tree, tick, size or width(tree), trace)) for tick in range(TICKS)]) + '\n')
 
 
 if __name__ == '__main__':

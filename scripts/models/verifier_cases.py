@@ -139,7 +139,8 @@ def limit_rows():
 
 
 def spelled_cases():
-    """Programs spelled by hand, with their answers. Of several faults the lowest part decides, then the lowest instruction."""
+    """Programs spelled by hand, with their answers. Of several faults the lowest part decides, then the lowest
+    instruction."""
     yield from ((spelled(sample=it, bare=True), answer) for it, answer in sample_cases())
     yield from ((spelled(first=it), answer) for it, answer in block_cases())
     yield from ((spelled(limits=it), answer) for it, answer in limit_rows())

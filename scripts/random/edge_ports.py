@@ -1,13 +1,15 @@
 #!/usr/bin/env python3
-"""Whether the rules of every port at the edges of a port file have no fault: scripts/random/edge_ports.py SVAMON | --write
+"""Whether the rules of every port at the edges of a port file have no fault.
 
-For each port of `edge_ports` (scripts/models/axi4_rules.py: every width of data, IDs of 1 and 16 bits, no wait, one tick and 64, both modes, both
-cases, with and without watched IDs) it writes a dump that has the port's signals at their widths and twelve ticks of random values, runs
-`svamon check` and `svamon judge` with --axi on an empty text, and `svamon check` on what `svamon rules` prints: all must write one report,
-with a monitor for each rule of the table.
+    scripts/random/edge_ports.py SVAMON | --write
 
-With --write it writes what the gate runs instead: the ports of crates/oracle_reports, in which those ports that have their signals in common
-stand in one port file, and what must be printed of each, by axi4_judge.py.
+For each port of `edge_ports` (scripts/models/axi4_rules.py: every width of data, IDs of 1 and 16 bits, no wait, one
+tick and 64, both modes, both cases, with and without watched IDs) it writes a dump that has the port's signals at their
+widths and twelve ticks of random values, runs `svamon check` and `svamon judge` with --axi on an empty text, and
+`svamon check` on what `svamon rules` prints: all must write one report, with a monitor for each rule of the table.
+
+With --write it writes what the gate runs instead: the ports of crates/oracle_reports, in which those ports that have
+their signals in common stand in one port file, and what must be printed of each, by axi4_judge.py.
 """
 import itertools
 import os
@@ -78,7 +80,8 @@ def main(svamon):
             vcd, ports = written(f"{room}/top.vcd", dump(port, chance)), written(f"{room}/ports.txt", line)
             rules = written(f"{room}/rules.sva", run([svamon, "rules", "--axi", ports]))
             report = run([svamon, "check", "--vcd", vcd, "--sva", empty, "--axi", ports])
-            others = [run([svamon, "judge", "--vcd", vcd, "--sva", empty, "--axi", ports]), run([svamon, "check", "--vcd", vcd, "--sva", rules])]
+            others = [run([svamon, "judge", "--vcd", vcd, "--sva", empty, "--axi", ports]),
+                      run([svamon, "check", "--vcd", vcd, "--sva", rules])]
             named = re.findall(r"(?m)^monitor (\S+) ", report)
             wanted = [tokens[0] for tokens in axi4_rules.rules(port) if "assert" in tokens]
             if others != [report, report] or named != wanted:
@@ -91,9 +94,11 @@ def cases():
     """The port files of the gate's cases: the twelve ports that share their signals."""
     for at, (data, width, case) in enumerate(itertools.product((8, 16, 32, 64, 128), (1, 16), ("lower", "upper"))):
         prefix, ids = ("top.u.s_", "", "axi_")[at % 3], "1,0" if width == 1 else "65535,0,7"
-        own = f"clock=top.clk reset=top.rst_n prefix={prefix} addr={12 + at * 52 // 19} data={data} id={width} case={case}"
+        own = (f"clock=top.clk reset=top.rst_n prefix={prefix} addr={12 + at * 52 // 19} data={data} id={width} "
+               f"case={case}")
         varied = itertools.product((0, 1, 64), ("multi", "single"), ("", f" watch={ids}"))
-        yield "".join(f"port p{n} {own} wait={wait} mode={mode}{watch}\n" for n, (wait, mode, watch) in enumerate(varied))
+        yield "".join(f"port p{n} {own} wait={wait} mode={mode}{watch}\n"
+                      for n, (wait, mode, watch) in enumerate(varied))
 
 
 def summed(report):

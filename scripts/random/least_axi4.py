@@ -1,10 +1,12 @@
 #!/usr/bin/env python3
-"""Runs every AXI4 rule over a least trace that makes it fail, and over one that makes it hold: scripts/random/least_axi4.py SVAMON
+"""Runs every AXI4 rule over a least trace that makes it fail, and over one that makes it hold.
 
-For a port in mode multi, one in mode single and one with watched IDs it draws traces of one clock, then of two, and so on, until
-each rule has one in which the judge of rules (axi4_judge.py, which shares no text with svamon) lets an attempt of it fail, and
-one in which it lets one hold. Over the dump of each of them `svamon check` and `svamon judge` must print that judge's report.
-Before that come traces whose answers were worked out by hand.
+    scripts/random/least_axi4.py SVAMON
+
+For a port in mode multi, one in mode single and one with watched IDs it draws traces of one clock, then of two, and so
+on, until each rule has one in which the judge of rules (axi4_judge.py, which shares no text with svamon) lets an
+attempt of it fail, and one in which it lets one hold. Over the dump of each of them `svamon check` and `svamon judge`
+must print that judge's report. Before that come traces whose answers were worked out by hand.
 """
 import os
 import random
@@ -22,7 +24,8 @@ PORTS = (BASE, BASE + " mode=single", BASE + " mode=single watch=3,5")
 DRAWS, MOST = 20_000, 7
 EDGES = {
     "len": (0, 1, 2, 3, 7, 15, 16), "size": (0, 1, 2, 3, 4), "burst": (0, 1, 2, 3), "id": (3, 5, 3, 0),
-    "addr": (0, 8, 0x10, 0x18, 0x0A, 0xFF8, 0xFFF), "resp": (0, 1, 2), "cache": (0, 1, 2, 4, 8, 15), "strb": (0, 1, 255),
+    "addr": (0, 8, 0x10, 0x18, 0x0A, 0xFF8, 0xFFF), "resp": (0, 1, 2), "cache": (0, 1, 2, 4, 8, 15),
+    "strb": (0, 1, 255),
 }
 
 
@@ -87,7 +90,8 @@ def reports(svamon, room, line, rows):
             it.write(text)
     made = []
     for command in ("check", "judge"):
-        ran = subprocess.run([svamon, command, "--vcd", vcd, "--sva", sva, "--axi", ports], capture_output=True, text=True)
+        ran = subprocess.run([svamon, command, "--vcd", vcd, "--sva", sva, "--axi", ports], capture_output=True,
+                             text=True)
         made.append(ran.stdout)
     wanted = axi4_judge.report(dump_of(port, rows), line + "\n")
     if made != [wanted, wanted]:
@@ -105,7 +109,8 @@ def worked():
     yield [burst(3, 1, 0xFF8)], ["fail p_aw_4k start 0 clock 0"], []
     yield [{"awvalid": 1}, {}], ["fail p_aw_hold start 0 clock 1"], []
     yield [{"arvalid": 1, "arready": 1, "rvalid": 1}, {}], ["fail p_r_after_ar start 0 clock 0"], []
-    yield [{"arvalid": 1, "arready": 1}, {"rvalid": 1}], ["monitor p_r_after_ar holds 1 vacuous 1 fails 0 disabled 0 open 0"], []
+    yield [{"arvalid": 1, "arready": 1},
+           {"rvalid": 1}], ["monitor p_r_after_ar holds 1 vacuous 1 fails 0 disabled 0 open 0"], []
     whole = ("p_aw_excl_align", "p_aw_excl_bytes", "p_aw_excl_len")
     yield [burst(2, 3, 0x10, awlock=1)], [], [f"fail {it} start 0 clock 0" for it in whole]
     yield [burst(2, 3, 0x18, awlock=1)], ["fail p_aw_excl_align start 0 clock 0"], []
@@ -123,7 +128,8 @@ def main(svamon):
             traces += 1
         for line in PORTS:
             names, found = least_traces(draw, axi4_rules.port_of(line, 1))
-            lacking += [f"{name} {kind}" for name in sorted(names) for kind in ("fails", "holds") if (name, kind) not in found]
+            lacking += [f"{name} {kind}" for name in sorted(names) for kind in ("fails", "holds")
+                        if (name, kind) not in found]
             for rows in found.values():
                 reports(svamon, room, line, rows)
                 traces += 1

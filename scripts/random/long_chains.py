@@ -26,7 +26,8 @@ HEAD = "r: assert property (@(posedge top.clk) "
 
 
 def cases(sign, parts):
-    """Texts with a chain of so many parts, each with the status, standard output and standard error that it must have."""
+    """Texts with a chain of so many parts, each with the status, standard output and standard error that it must
+    have."""
     chain = f" {sign} ".join(["top.y"] * parts)
     rule = f"{HEAD}top.x |-> top.y);\n"
     yield "not used", f"sequence s; {chain} endsequence\n{rule}", (1, REPORT, "")

@@ -1,5 +1,7 @@
 #!/usr/bin/env python3
-"""Compares svamon with axi4_judge.py on random AXI4 ports and dumps: scripts/random/random_axi4.py SVAMON [CASES [SEED]]
+"""Compares svamon with axi4_judge.py on random AXI4 ports and dumps.
+
+    scripts/random/random_axi4.py SVAMON [CASES [SEED]]
 
 SVAMON is the program. Each case is a port file of one or two ports and a dump with their signals. For
 it `check --axi`, `check` over the text that `rules --axi` prints behind a text of its own, and
@@ -53,7 +55,8 @@ def payload(name, size, watch):
     """A value of a payload signal, at the edges of what the rules ask."""
     edges = {
         "len": [0, 0, 1, 3, 7, 15, 15, 16, 255], "size": [0, 0, 1, 2, 3, 4, 7], "burst": [0, 1, 1, 2, 2, 3],
-        "addr": [0, 8, 0xFF8, 0xFC0, 0xFFF, 0x100, 2 ** size - 1, 2 ** size - 8], "id": [0, 1, 2 ** size - 1, *watch, *watch],
+        "addr": [0, 8, 0xFF8, 0xFC0, 0xFFF, 0x100, 2 ** size - 1, 2 ** size - 8],
+        "id": [0, 1, 2 ** size - 1, *watch, *watch],
         "resp": [0, 0, 1, 2],
     }
     values = edges.get(name, [])
@@ -111,7 +114,8 @@ def dump_of(ports):
     dump.lines.append("#0")
     dump.change({"top.clk": 0})
     for clock in range(clocks):
-        rows = [next_row(row, names, port["watch"], chance) for row, names, port, chance in zip(rows, named, ports, chances)]
+        rows = [next_row(row, names, port["watch"], chance)
+                for row, names, port, chance in zip(rows, named, ports, chances)]
         in_reset = max(0, in_reset - 1) or draw.randrange(40) // 39
         values = {names[n][0]: value for row, names in zip(rows, named) for n, value in row.items()}
         values["top.rst_n"] = 0 if in_reset else 1

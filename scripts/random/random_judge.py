@@ -1,16 +1,20 @@
 #!/usr/bin/env python3
-"""Compares svamon with an independent judge on random dumps and texts: scripts/random/random_judge.py SVAMON [CASES [SEED]]
+"""Compares svamon with an independent judge on random dumps and texts.
 
-SVAMON is the program. Each case is a dump of some signals over some clocks, and a text with counters, named sequences and assertions. In one
-case of four sides may be degenerate, admit an empty match or weigh about 127 or more, and then a refusal is compared. Values of expressions
-and counters are those of reference_values.py, verdicts those of judge_examples.py, which tries all matches; nothing is taken from svamon.
+    scripts/random/random_judge.py SVAMON [CASES [SEED]]
 
-Drawn are: each form of sequence; antecedents in first_match; the operators and functions of expressions, and numbers of each base; brackets where the grammar asks for
-them, and now and then where it doesn't; zeros of a dump written as 0, x or z; changes before the edge and in its step; changes left out where
-the value stays; pulses between the steps; a clock that falls to x or z, or is 1 at first; two names of one variable, in other scopes. Not drawn are
-$dumpoff, faults but Y5, Y6 and Y9, and traces of more than 20 clocks. It stops at the first case whose report, refusal or status differs,
-or that takes over a minute, and leaves its files in the working folder. A case that `check` doesn't compile (K2), by
-any team, is compared by `judge` alone, and counted; more than one in a thousand is told as a difference.
+SVAMON is the program. Each case is a dump of some signals over some clocks, and a text with counters, named sequences
+and assertions. In one case of four sides may be degenerate, admit an empty match or weigh about 127 or more, and then a
+refusal is compared. Values of expressions and counters are those of reference_values.py, verdicts those of
+judge_examples.py, which tries all matches; nothing is taken from svamon.
+
+Drawn are: each form of sequence; antecedents in first_match; the operators and functions of expressions, and numbers of
+each base; brackets where the grammar asks for them, and now and then where it doesn't; zeros of a dump written as 0, x
+or z; changes before the edge and in its step; changes left out where the value stays; pulses between the steps; a clock
+that falls to x or z, or is 1 at first; two names of one variable, in other scopes. Not drawn are $dumpoff, faults but
+Y5, Y6 and Y9, and traces of more than 20 clocks. It stops at the first case whose report, refusal or status differs, or
+that takes over a minute, and leaves its files in the working folder. A case that `check` doesn't compile (K2), by any
+team, is compared by `judge` alone, and counted; more than one in a thousand is told as a difference.
 """
 import pathlib
 import re
@@ -27,12 +31,14 @@ MARK = '`'
 SECONDS = 60
 TOO_LONG = ('', 'svamon: K2 CodeTooLong\n', 2)
 # Each case is checked by each of these teams, through each of these windows.
-TEAMS = [('check', '--workers', workers, '--window', window) for workers in ('1', '2', '4', '64') for window in ('1', '3', '1024')]
+TEAMS = [('check', '--workers', workers, '--window', window) for workers in ('1', '2', '4', '64')
+         for window in ('1', '3', '1024')]
 draw = values.draw
 
 
 # sequences, as tuples; the operators from the tightest
-LOOSENESS = {'boolean': 0, 'name': 0, 'repeat': 1, 'delay': 2, 'lead': 2, 'throughout': 3, 'intersect': 4, 'and': 5, 'or': 6}
+LOOSENESS = {'boolean': 0, 'name': 0, 'repeat': 1, 'delay': 2, 'lead': 2, 'throughout': 3, 'intersect': 4, 'and': 5,
+             'or': 6}
 
 
 def bounds():
@@ -135,7 +141,8 @@ def chain(tree):
     level = next(place for place, ops in enumerate(LEVELS, 2) if tree[2][0][0] in ops)
     mixed = level if all(op in LEVELS[level - 2] for op, _ in tree[2]) else None
     ops = [(draw.choice(['~^', '^~']) if op == '~^' else op, operand) for op, operand in tree[2]]
-    return level, plain(tree[1], mixed or 0) + ''.join(' %s %s' % (op, plain(operand, level - 1)) for op, operand in ops)
+    return level, plain(tree[1], mixed or 0) + ''.join(' %s %s' % (op, plain(operand, level - 1))
+                                                       for op, operand in ops)
 
 
 def loose(tree):
@@ -198,7 +205,8 @@ def written(tree, loosest=6):
 
 
 def fault_of(tree, bodies, trace, kind, is_first, is_consequent):
-    """What is wrong with a side, as its rank and line. The antecedent of |=> is judged as it is rewritten, and of first_match the first match."""
+    """What is wrong with a side, as its rank and line. The antecedent of |=> is judged as it is rewritten, and of
+    first_match the first match."""
     is_rewritten = kind == '|=>' and not is_consequent
     if weight(tree, bodies) + 2 * is_rewritten > HEAVIEST:
         return 0, 'Y9 TooWide'
@@ -219,7 +227,8 @@ def heavier(tree, bodies):
 
 
 def side(names, bodies, trace, kind, is_first, is_consequent, wanted):
-    """A sequence for a side of an assertion, and what is wrong with it: nothing, or, if it is there, the wanted fault."""
+    """A sequence for a side of an assertion, and what is wrong with it: nothing, or, if it is there, the wanted
+    fault."""
     while True:
         tree = sequence(names, len(bodies), draw.choice([0, 1, 1, 2, 3]))
         if wanted == 'Y9' or not wanted and draw.randrange(16) == 0:
@@ -249,7 +258,8 @@ def declared_sequences(names):
 
 
 def declaration(place, tree):
-    return 'sequence n%d; %s%s endsequence%s' % (place, written(tree), draw.choice(['', ';']), draw.choice(['', ': n%d' % place]))
+    return 'sequence n%d; %s%s endsequence%s' % (place, written(tree), draw.choice(['', ';']),
+                                                 draw.choice(['', ': n%d' % place]))
 
 
 def counter_text(place, bits, clauses):
@@ -332,13 +342,15 @@ def random_trace():
     signals = [('signal', draw.choice([1, 1, 1, 2, 3, 8]), place) for place in range(draw.randint(1, 5))]
     rows = []
     for _ in range(values.TICKS):
-        rows.append([rows[-1][place] if rows and draw.randrange(2) else values.number(bits) for _, bits, place in signals])
+        rows.append([rows[-1][place] if rows and draw.randrange(2) else values.number(bits)
+                     for _, bits, place in signals])
     widths = [draw.choice([1, 2, 3, 8]) for _ in range(draw.randrange(3))]
     names = signals + [('counter', bits, place) for place, bits in enumerate(widths)]
     counters = []
     for bits in widths:
         chosen = [name for name in ('clear', 'load', 'add', 'sub') if draw.randrange(3)]
-        counters.append((bits, {name: [values.expression(names, 1) for _ in range(1 if name == 'clear' else 2)] for name in chosen}))
+        counters.append((bits, {name: [values.expression(names, 1) for _ in range(1 if name == 'clear' else 2)]
+                                for name in chosen}))
     trace = {'rows': rows}
     values.run_counters(counters, trace)
     return signals, counters, names, trace
@@ -357,15 +369,18 @@ def assertion(place, names, bodies, trace, wanted):
         first = matcher(antecedent, bodies, trace)
         first = judge.following(first) if kind == '|=>' else first
         first = judge.first_match(first) if is_first else first
-        shape = '%s%s %s %%s' % (MARK, 'first_match(%s)' % written(antecedent) if is_first else written(antecedent), kind)
+        shape = '%s%s %s %%s' % (MARK, 'first_match(%s)' % written(antecedent) if is_first else written(antecedent),
+                                 kind)
     consequent, fault = side(names, bodies, trace, kind, False, True, wanted)
     faults.append(fault)
     shape = shape.replace('%s', MARK + written(consequent))
     if draw.randrange(6) == 0 and kind:
         shape = '(%s)' % shape
-    line = '%s%s property (@(posedge tb.clk) %s%s);' % (label + ': ' if label else '', draw.choice(['assert', 'assert', 'assume']),
+    line = '%s%s property (@(posedge tb.clk) %s%s);' % (label + ': ' if label else '',
+                                                        draw.choice(['assert', 'assert', 'assume']),
                                                         'disable iff (%s) ' % plain(off) if off else '', shape)
-    taken = (label or 'assert_%d' % (place + 1), first, matcher(consequent, bodies, trace), truth(off, trace) if off else judge.NEVER)
+    taken = (label or 'assert_%d' % (place + 1), first, matcher(consequent, bodies, trace),
+             truth(off, trace) if off else judge.NEVER)
     return line, faults, taken
 
 
@@ -418,11 +433,13 @@ def main():
             answers = {('judge',): answers['judge',]}
         for command, answer in answers.items():
             if answer != (report, refused, status):
-                print('case %d of seed %d differs (%s): status %d, not %d' % (number, seed, ' '.join(command), answer[2], status))
+                print('case %d of seed %d differs (%s): status %d, not %d' % (number, seed, ' '.join(command),
+                                                                              answer[2], status))
                 print(text + '--- svamon\n' + answer[0] + answer[1] + '--- by the definition\n' + report + refused)
                 return 1
         refusals += status == 2
-        attempts += sum(int(word) for line in report.splitlines() if line.startswith('total') for word in line.split()[2::2])
+        attempts += sum(int(word) for line in report.splitlines() if line.startswith('total')
+                        for word in line.split()[2::2])
     for made in (dump_file, text_file, report_file):
         made.unlink()
     found = '%d cases of seed %d, %d of them refused, %d too long to compile, %d attempts: all the same'

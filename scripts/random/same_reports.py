@@ -1,9 +1,10 @@
 #!/usr/bin/env python3
 """Whether `check` and `judge` write the same: scripts/random/same_reports.py SVAMON
 
-Over each example, and each text of oracle_suites and of oracle_texts over a dump of random values of all the names in them, it compares what
-`svamon check` writes by 1, 4, 2 and 64 workers through windows of 1, 7, 1,000 and 65,536 clocks, and its status, with what `svamon judge` writes. A text that
-`check` can't compile (K1 to K4), or on which the slow `judge` takes over ten seconds, is counted apart.
+Over each example, and each text of oracle_suites and of oracle_texts over a dump of random values of all the names in
+them, it compares what `svamon check` writes by 1, 4, 2 and 64 workers through windows of 1, 7, 1,000 and 65,536 clocks,
+and its status, with what `svamon judge` writes. A text that `check` can't compile (K1 to K4), or on which the slow
+`judge` takes over ten seconds, is counted apart.
 """
 import os
 import random
@@ -26,7 +27,8 @@ def run(words):
 
 
 def compare(svamon, vcd, text, *more):
-    """Whether there is a report, after a comparison; nothing where the text can't be compiled, or not be judged in time."""
+    """Whether there is a report, after a comparison; nothing where the text can't be compiled, or not be judged in
+    time."""
     files = ["--vcd", vcd, "--sva", text, *more]
     judged = run([svamon, "judge", *files])
     if judged is None:
@@ -76,14 +78,16 @@ def with_names(crate):
 def compare_texts(svamon, crate, file, room):
     chance, counts = random.Random(1), [0, 0, 0]
     for line in texts_of(f"{DATA}/{crate}/data/{file}"):
-        widths = with_names(crate) or {path: 1 if re.search(r"(^|\.)(c|clk|r|rst)$", path) else chance.randint(1, 4) for path in re.findall(WORDS, line)}
+        widths = with_names(crate) or {path: 1 if re.search(r"(^|\.)(c|clk|r|rst)$", path) else chance.randint(1, 4)
+                                       for path in re.findall(WORDS, line)}
         with open(f"{room}/top.vcd", "w") as it:
             it.write(dump(widths, chance))
         with open(f"{room}/text.sva", "w", newline="") as it:
             it.write(line + "\n")
         told = compare(svamon, f"{room}/top.vcd", f"{room}/text.sva")
         counts[2 if told is None else int(told)] += 1
-    print(f"same_reports: {crate}: {counts[1]} texts with a report, {counts[0]} refused, all the same; {counts[2]} not compiled, or not judged in time")
+    print(f"same_reports: {crate}: {counts[1]} texts with a report, {counts[0]} refused, all the same; "
+          f"{counts[2]} not compiled, or not judged in time")
 
 
 def main(svamon):

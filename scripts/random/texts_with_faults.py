@@ -1,14 +1,15 @@
 #!/usr/bin/env python3
 """Writes the texts of crates/oracle_suites and what each must answer: scripts/random/texts_with_faults.py
 
-A fault's place is marked by a caret in the pieces below, and the answer is worked out from the marks and the order of the kinds alone:
-Y1, Y2, Y3, Y4, Y7, Y8, Y9, Y5, Y6, then the lowest byte. No program of this repository is asked.
+A fault's place is marked by a caret in the pieces below, and the answer is worked out from the marks and the order of
+the kinds alone: Y1, Y2, Y3, Y4, Y7, Y8, Y9, Y5, Y6, then the lowest byte. No program of this repository is asked.
 """
 import itertools
 import pathlib
 
 DATA = pathlib.Path(__file__).resolve().parents[2] / 'crates' / 'oracle_suites'
-ORDER = ['Y1 UnknownName', 'Y2 Duplicate', 'Y3 WiderThan128', 'Y4 SliceRange', 'Y7 OtherClock', 'Y8 CyclicSequence', 'Y9 TooWide', 'Y5 Degenerate', 'Y6 AdmitsEmpty']
+ORDER = ['Y1 UnknownName', 'Y2 Duplicate', 'Y3 WiderThan128', 'Y4 SliceRange', 'Y7 OtherClock', 'Y8 CyclicSequence',
+         'Y9 TooWide', 'Y5 Degenerate', 'Y6 AdmitsEmpty']
 NAMES = [('top.clk', 1), ('top.a', 1), ('top.b', 1), ('top.d', 8), ('top.w', 100), ('top.v', 128), ('g', 8)]
 
 FIRST = 'r: assert property (@(posedge top.clk) top.a |-> top.b);'
@@ -64,11 +65,16 @@ BORDERS = [
     (None, 'counter c [4]; ' + on_clock('t', 'c[3:0] == 2')),
     (None, FIRST + ' t: assert property (@(posedge top . clk) top.b);'),
     ('Y7 OtherClock', FIRST + ' t: assert property (@(posedge ^top.clk.x) top.b);'),
-    ('Y7 OtherClock', FIRST + ' t: assert property (@(posedge ^top.b) top.b); w: assert property (@(posedge top.a) top.b);'),
-    ('Y8 CyclicSequence', 'sequence t; s endsequence sequence ^s; top.a ##1 u endsequence sequence u; s endsequence ' + FIRST),
-    ('Y8 CyclicSequence', 'sequence t; top.a ##1 s endsequence sequence u; t endsequence sequence ^s; s endsequence ' + on_clock('r', 'u')),
-    ('Y8 CyclicSequence', 'sequence ^s; top.a throughout (top.b or t) endsequence sequence t; s[*0] endsequence ' + FIRST),
-    (None, 'sequence s; t ##1 t endsequence sequence t; u and u endsequence sequence u; top.a endsequence ' + on_clock('r', 's')),
+    ('Y7 OtherClock', FIRST + ' t: assert property (@(posedge ^top.b) top.b); '
+     'w: assert property (@(posedge top.a) top.b);'),
+    ('Y8 CyclicSequence', 'sequence t; s endsequence sequence ^s; top.a ##1 u endsequence sequence u; s endsequence '
+     + FIRST),
+    ('Y8 CyclicSequence', 'sequence t; top.a ##1 s endsequence sequence u; t endsequence sequence ^s; s endsequence '
+     + on_clock('r', 'u')),
+    ('Y8 CyclicSequence', 'sequence ^s; top.a throughout (top.b or t) endsequence sequence t; s[*0] endsequence '
+     + FIRST),
+    (None, 'sequence s; t ##1 t endsequence sequence t; u and u endsequence sequence u; top.a endsequence '
+     + on_clock('r', 's')),
     (None, on_clock('t', 'top.a[*63] ##1 top.a[*63]')),
     ('Y9 TooWide', on_clock('t', '^top.a[*64] ##1 top.a[*64]')),
     (None, on_clock('t', 'top.a[*125] |=> top.b')),
@@ -128,7 +134,8 @@ BORDERS = [
     ('Y6 AdmitsEmpty', on_clock('t', 'first_match(top.a ##[1:3] top.b) |-> ^top.a[*0:1]')),
     ('Y1 UnknownName', on_clock('t', 'first_match(top.a ##1 ^top.x) |-> top.a[*0:1]')),
     ('Y8 CyclicSequence', 'sequence ^s; top.a ##1 s endsequence ' + on_clock('t', 'first_match(s) |-> top.b')),
-    ('Y5 Degenerate', 'sequence s; top.a ##1 top.b endsequence sequence u; s intersect top.a endsequence ' + on_clock('t', '^u')),
+    ('Y5 Degenerate', 'sequence s; top.a ##1 top.b endsequence sequence u; s intersect top.a endsequence '
+     + on_clock('t', '^u')),
     (None, 'sequence s; top.a ##1 top.b endsequence sequence u; s intersect top.a endsequence ' + FIRST),
     (None, 'counter c [4] add(c < d, 1); counter d [8] load(c == 3, d + 1); ' + FIRST),
     ('Y1 UnknownName', on_clock('t', 'top.a ##1 ^d')),
@@ -156,8 +163,10 @@ BORDERS = [
 
 # expressions with their own widths, by the standard's table of widths (IEEE 1800-2017, table 11-21)
 WIDTHS = [
-    ('5', 32), ("8'hFF", 8), ('top.d', 8), ('top.d[3:1]', 3), ('top.d[2]', 1), ('~top.d', 8), ('!top.d', 1), ('~&top.d', 1),
-    ('$past(top.d, 2)', 8), ('$rose(top.d)', 1), ('$onehot0(top.d)', 1), ('top.a ? top.a : top.d', 8), ('top.d ? top.a : top.a', 1),
+    ('5', 32), ("8'hFF", 8), ('top.d', 8), ('top.d[3:1]', 3), ('top.d[2]', 1), ('~top.d', 8), ('!top.d', 1),
+    ('~&top.d', 1),
+    ('$past(top.d, 2)', 8), ('$rose(top.d)', 1), ('$onehot0(top.d)', 1), ('top.a ? top.a : top.d', 8),
+    ('top.d ? top.a : top.a', 1),
     ('{top.d, top.a}', 9), ('{top.d}', 8), ("top.d + 9'd1 << 10'd1 + 11'd1", 9),
     *[(f"top.d {sign} 9'd1", 9) for sign in ('+', '-', '&', '|', '^', '~^', '^~')],
     *[(f"top.d {sign} 9'd1", 8) for sign in ('<<', '>>')],

@@ -1,8 +1,8 @@
 #!/usr/bin/env python3
 """Stamps that say that a crate's must-fail edits were tried (crates/NAME/must-fail/TRIED.md).
 
-`scripts/tools/stamps.py NAME ..` writes those of crates whose edits a green run of `make test` tried, on this very text, or
-one of `rt ci NAME ..` over a copy of the tree: whoever calls this has seen it.
+`scripts/tools/stamps.py NAME ..` writes those of crates whose edits a green run of `make test` tried, on this very
+text, or one of `rt ci NAME ..` over a copy of the tree: whoever calls this has seen it.
 """
 import hashlib
 import os
@@ -25,7 +25,8 @@ def kit():
 
 
 def logic_of(kit_line):
-    """What a line of `rt version` says of the logic in which proofs are checked, and not of the kit that it came with."""
+    """What a line of `rt version` says of the logic in which proofs are checked, and not of the kit that it came
+    with."""
     return kit_line.partition(" logic ")[2] or kit_line
 
 
@@ -55,7 +56,8 @@ def edits_of(crate):
 
 
 def stamp_of(crate):
-    """What a crate's stamp says: `tree`, of which text, `rt`, by which kit, and `on the tree`, if tried on another text."""
+    """What a crate's stamp says: `tree`, of which text, `rt`, by which kit, and `on the tree`, if tried on another
+    text."""
     try:
         with open(f"{crate}/must-fail/TRIED.md") as it:
             return dict(re.findall(r"(?m)^(tree|rt|on the tree):? (\w.*?),?$", it.read()))
@@ -64,7 +66,8 @@ def stamp_of(crate):
 
 
 def is_tried(crate, kit_line):
-    """Whether the crate has a stamp that says of it as it stands, and of this toolchain's logic, that its edits were tried."""
+    """Whether the crate has a stamp that says of it as it stands, and of this toolchain's logic, that its edits were
+    tried."""
     said = stamp_of(crate)
     return said.get("tree") == tree_of(crate) and logic_of(said.get("rt", "")) == logic_of(kit_line)
 
