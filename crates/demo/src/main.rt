@@ -15,8 +15,8 @@
 //! ```
 //!
 //! `make demo` runs it without proof (`rt try`), for a first look; the gate proves it, and compares
-//! what it prints with `stdout`, which `scripts/judge_examples.py` worked out from the definition
-//! by trying all matches. The definitions are those of `cli::judge_one` (`cli/specs`).
+//! what it prints with `stdout`, which `scripts/models/judge_examples.py` worked out from the
+//! definition by trying all matches. The definitions are those of `cli::judge_one` (`cli/specs`).
 //!
 //! Not promised: that the files are there; an error of a file ends the program with that error.
 #![tactic(auto)]

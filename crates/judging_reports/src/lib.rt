@@ -1,13 +1,12 @@
-//! The report on a suite of assertions over a dump, by the slow judge or by programs.
+//! The report on a suite of assertions over a dump, by the slow judge.
 //!
 //! ```text
 //! let report = report_by_judge(alloc, &dump, &suite, 1024)?;  // or why its clock is none
-//! let report = report_by_programs(alloc, dump, clocks, &suite, 1024)?;
 //! ```
 //!
-//! Both come to the same by their contracts: a line for each assertion, with the verdicts of the
-//! definition on the attempts at all ticks, over the rows of the signals at the ticks of the clock
-//! and what the suite's counters count over these.
+//! It has a line for each assertion, with the verdicts of the definition on the attempts at all
+//! ticks, over the rows of the signals at the ticks of the clock and what the suite's counters
+//! count over these. A report by programs comes to the same, by its own contract (`cli_lines`).
 //!
 //! The definitions: which variables a suite's paths name, `specs/Named.antt`; the verdicts and
 //! lines of assertions over rows, `specs/Judged.antt`; the report, `specs/Reported.antt`.

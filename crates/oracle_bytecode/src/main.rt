@@ -10,10 +10,10 @@
 //! 5356414d                   B3 Truncated 4
 //! ```
 //!
-//! The gate compares what it prints with `stdout`; `scripts/bytecode_cases.py` made files and
-//! answers, with a reader of its own, and `scripts/random_bytecode.py` compares random mutants in a
-//! `cases.txt` of theirs. With a file's name as its word it prints how long reading and writing
-//! that file took at best (`bench/bytecode`).
+//! The gate compares what it prints with `stdout`; `scripts/models/bytecode_cases.py` made files
+//! and answers, with a reader of its own, and `scripts/random/random_bytecode.py` compares random
+//! mutants in a `cases.txt` of theirs. With a file's name as its word it prints how long reading
+//! and writing that file took at best (`bench/bytecode`).
 //!
 //! What is answered is said by the contracts of `decode`, `encode` and `upgrade` of
 //! `bytecode_files`; the definitions stand in its `specs/Spelling.antt`, and in

@@ -17,9 +17,10 @@
 //! behind a thousand steps and more, a sum of their lines. A step for which there was no memory is
 //! made once more, so `make allocations` can refuse each allocation in turn.
 //!
-//! The gate compares that with `stdout`; `scripts/core_cases.py` made the cases, with the answers
-//! of a core of its own. What a step does is said by the contract of `workers_core::Core::step`;
-//! the definitions stand in `workers_core/specs` (`States.antt`, `Floors.antt`).
+//! The gate compares that with `stdout`; `scripts/models/core_cases.py` made the cases, with the
+//! answers of a core of its own. What a step does is said by the contract of
+//! `workers_core::Core::step`; the definitions stand in `workers_core/specs` (`States.antt`,
+//! `Floors.antt`).
 //!
 //! Not promised: that each list of steps occurs.
 #![tactic(auto)]

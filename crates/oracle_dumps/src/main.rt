@@ -11,7 +11,7 @@
 //! Of each it prints how many paths can be bound, how many steps, changes and ticks there are, or
 //! the fault of the dump or of the clock; then the values of the paths at the first two ticks, the
 //! middle one and the last. The gate compares that with `stdout`, which
-//! `scripts/reference_counts.py` counted with a reader of its own.
+//! `scripts/models/reference_counts.py` counted with a reader of its own.
 //!
 //! What is read is said by the contracts of `vcd_reader` and `cycle_window`; the definitions stand
 //! in their `specs/`: `Dump.antt` of what a dump says, `Ticks.antt` of its ticks and rows.

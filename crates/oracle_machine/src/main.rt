@@ -12,8 +12,8 @@
 //!
 //! Of each case it prints its line, for each clock a line `ticks T (START VERDICT CLOCK) ..`, and a
 //! line `open START ..` of the attempts that are live behind the last clock. The gate compares that
-//! with `stdout`; `scripts/machine_cases.py` made the cases, with the answers of a machine of its
-//! own (`scripts/machine_model.py`).
+//! with `stdout`; `scripts/models/machine_cases.py` made the cases, with the answers of a machine
+//! of its own (`scripts/models/machine_model.py`).
 //!
 //! With a file of hexadecimal digits and a number of clocks as its words it runs the program of
 //! that file over so many clocks of a made-up trace, and prints how long they took, for

@@ -2,10 +2,10 @@
 //! memory can be refused in turn.
 //!
 //! The gate compares what is printed with `stdout`, which was worked out by hand; then it refuses
-//! each allocation in turn (`scripts/fail_alloc -1`): the line of the call at which it was refused
-//! is `out of memory`, or the right one, and all other lines are the right ones, that of the same
-//! call again among them. A step of a core for which there was no memory is made once more at once,
-//! and is then to succeed.
+//! each allocation in turn (`scripts/tools/fail_alloc -1`): the line of the call at which it was
+//! refused is `out of memory`, or the right one, and all other lines are the right ones, that of
+//! the same call again among them. A step of a core for which there was no memory is made once more
+//! at once, and is then to succeed.
 //!
 //! ```text
 //! read_dump: 6 steps

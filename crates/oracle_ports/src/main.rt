@@ -10,16 +10,16 @@
 //! part q                    X4 BadLine 1
 //! ```
 //!
-//! The gate compares that with `stdout`; `scripts/axi4_rules.py` made ports and answers, with a
-//! reader and a table of its own. With a file's name as its word it prints the rules of the ports
-//! of that file, for the scripts that judge them.
+//! The gate compares that with `stdout`; `scripts/models/axi4_rules.py` made ports and answers,
+//! with a reader and a table of its own. With a file's name as its word it prints the rules of the
+//! ports of that file, for the scripts that judge them.
 //!
 //! What is answered is said by the contracts of `axi4_rules::read_ports` and `rules`; the
 //! definitions stand in `axi4_rules/specs`. The table is the project's own choice, written after
 //! Arm IHI 0022; `docs/AXI4.md` has it in words.
 //!
 //! Not promised: that the rules are all of AXI4, nor what they mean on a trace: see
-//! `scripts/axi4_judge.py`.
+//! `scripts/models/axi4_judge.py`.
 #![tactic(auto)]
 
 mod count;

@@ -3,7 +3,7 @@
 //! `data/reports.txt` has 166 small dumps and texts, with reports and faults that were worked out
 //! by hand from the standard. `data/ports.txt` has port files of AXI4 ports, of which sums of the
 //! reports are printed; they must be those of a judge who shares no text with svamon
-//! (`scripts/axi4_judge.py`).
+//! (`scripts/models/axi4_judge.py`).
 //!
 //! Each text goes through `check_one` by windows of 1, 2, 3, 1,000, 1,024 and 65,536 clocks and
 //! through

@@ -5,7 +5,7 @@
 //! behind byte 2 a dump with their signals at their widths. Together they have every width of data,
 //! IDs of 1 and 16 bits, a wait of 0, 1 and 64 ticks, both modes, both cases, with and without
 //! watched IDs. Of each case a line is printed: how many bytes the report has, and their sum.
-//! `scripts/edge_ports.py --write` writes the cases, and what must be printed.
+//! `scripts/random/edge_ports.py --write` writes the cases, and what must be printed.
 
 use crate::runs::{Answer, checked_answer, judged_answer};
 use anyhow::{Context, Result, bail};

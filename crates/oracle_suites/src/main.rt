@@ -9,10 +9,10 @@
 //! sequence s; top.y endsequence r: assert ..                  Y1 UnknownName 12
 //! ```
 //!
-//! The gate compares that with `stdout`: `scripts/texts_with_faults.py` made texts with their
-//! faults, and the verdicts were worked out by hand from IEEE 1800-2017, 16.9 to 16.12. With two
-//! files' names as its words it checks the second file as one text over the paths of the first, a
-//! path and a width a line, and prints how long that took (`bench/suites`).
+//! The gate compares that with `stdout`: `scripts/random/texts_with_faults.py` made texts with
+//! their faults, and the verdicts were worked out by hand from IEEE 1800-2017, 16.9 to 16.12. With
+//! two files' names as its words it checks the second file as one text over the paths of the first,
+//! a path and a width a line, and prints how long that took (`bench/suites`).
 //!
 //! What is answered is said by the contracts of `types::check` and `judging::judge`; the
 //! definitions stand in `types/specs` (`Faults.antt`), `types_suites/specs` (`Suites.antt`) and

@@ -10,9 +10,9 @@
 //! a || b && c                                        root || 2
 //! ```
 //!
-//! The gate compares that with `stdout`. `scripts/reference_parser.py`, an Earley recogniser over
-//! the grammar as `docs/DEFINITIONS.md` has it, worked out which texts are files and where others
-//! go wrong; the roots were worked out by hand from the standard's table of precedence (IEEE
+//! The gate compares that with `stdout`. `scripts/models/reference_parser.py`, an Earley recogniser
+//! over the grammar as `docs/DEFINITIONS.md` has it, worked out which texts are files and where
+//! others go wrong; the roots were worked out by hand from the standard's table of precedence (IEEE
 //! 1800-2017, table 11-2, and 16.9 for sequences). With a file's name as its word it reads that
 //! file as one text, and prints how long cutting it into tokens and reading them took.
 //!

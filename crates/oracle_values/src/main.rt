@@ -12,7 +12,8 @@
 //! ```
 //!
 //! Of each line `value` it prints the own width and the value at each tick. The gate compares that
-//! with `stdout`; `scripts/reference_values.py` made traces and values, by an evaluator of its own.
+//! with `stdout`; `scripts/models/reference_values.py` made traces and values, by an evaluator of
+//! its own.
 //!
 //! What is printed is said by the contracts of `expressions::value` and `count`; the definitions
 //! stand in `expressions/specs` (`Terms.antt`, `Counters.antt`).

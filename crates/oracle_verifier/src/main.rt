@@ -10,9 +10,9 @@
 //! 5356414d01..  F11 StackTooShort 1
 //! ```
 //!
-//! The gate compares that with `stdout`; `scripts/verifier_cases.py` and
-//! `scripts/verifier_model.py`, a verifier of their own, made files and answers. With a file's name
-//! as its word it prints how long verifying that file took at best (`bench/verifier`).
+//! The gate compares that with `stdout`; `scripts/models/verifier_cases.py` and
+//! `scripts/models/verifier_model.py`, a verifier of their own, made files and answers. With a
+//! file's name as its word it prints how long verifying that file took at best (`bench/verifier`).
 //!
 //! What is answered is said by the contracts of `verifier::verify` and `least_limits`; the
 //! definitions stand in `verifier/specs` and `verifier_inference/specs`.

@@ -1,6 +1,6 @@
 //! Tests of `cli`: devices that fail, words, and the lines of faults that no small text or dump
 //! brings. What reports say of dumps and texts is a table, that of `oracle_reports`; files of
-//! bytecode are tried in `trials_code`, and what is compiled in `trials_cli`.
+//! bytecode are tried in `trials_code`, and what is compiled in `trials_programs`.
 //!
 //! They stand above `cli`, so that the gate proves that crate once, and not once more beside its
 //! tests. A test is proved, too, and one that holds a value of many variants over a `?` is dear: it

@@ -1,5 +1,5 @@
 //! Tests of what reads a text, from `parser` to `types`, on happy paths: what no table of a program
-//! `oracle_*` reaches by itself. What tokens are is tried in `trials_texts`.
+//! `oracle_*` reaches by itself. What tokens are is tried in `trials_tokens`.
 //!
 //! A text is cut and read, and then looked at: which items a file has, which fault of names and
 //! widths stands where, what a name stands for, which columns a text reads, and what its suite has.
