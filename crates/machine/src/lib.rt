@@ -4,7 +4,8 @@
 //! live, and settles the attempts. It tests no operand, no jump, no reach into the history, no room
 //! of a pool and no budget, since a program that the verifier accepted never fails such a test; and
 //! it takes no memory, since `Machine::new` took all. Sample code without jumps is decoded once, to
-//! steps over places; code with a jump runs over a stack of operands.
+//! steps over places; code with a jump runs over a stack of operands. Where nothing is live and the
+//! clock's own attempt is vacuous at once, as at most clocks of most rules, no pool is touched.
 //!
 //! ```text
 //! let mut machine = Machine::new(alloc, verify(alloc, program)?)?;
@@ -27,6 +28,7 @@ mod live;
 mod machine;
 mod memory;
 mod obligations;
+mod quiet;
 mod row;
 mod sample_code;
 

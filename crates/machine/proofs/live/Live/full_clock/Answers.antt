@@ -14,7 +14,7 @@ use Rattle.machine_visits.specs.declared.obligation.ObligationRecord.{Obligation
 use Rattle.machine_visits.specs.Records.{attempt_of, obligation_of}
 use Rattle.machine.proofs.LessLaws.{visit_attempts-less, visit_obligations-less, settle_all-less, disable_all-less}
 use Rattle.machine.proofs.ClockLaws as laws
-use Rattle.machine.proofs.live.Live.clock.Goals as goal
+use Rattle.machine.proofs.live.Live.full_clock.Goals as goal
 
 -- the same over an equal list
 same-live : (p : ProgramData) (atoms : List Bool) (now : ℕ) (xs ys : List Attempt) (left : ℕ) (r : Ran Visits) → xs ≡ ys
