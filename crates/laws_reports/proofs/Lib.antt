@@ -2,6 +2,9 @@ pub mod OneReport
 pub mod TokenLaws
 pub mod ItemLaws
 pub mod Unrefused
+pub mod NamedLaws
+pub mod ReadLaws
+pub mod ManyLaws
 pub mod CauseLaws
 pub mod AttemptLaws
 pub mod PairLaws

@@ -5,6 +5,8 @@ use Rattle.types_names.specs.Scopes.{Scope}
 use Rattle.types_suites.specs.Texts.{assertions_of, label_text}
 use Rattle.compiler.specs.declared.fault.CompileFault.{CompileFault}
 use Rattle.compiler.specs.declared.fault.CompileFault.TheVariants.{TooManyAtoms, CodeTooLong}
+use Rattle.compiler.specs.declared.fault.CompileFault.TheVariants.{TooManySlots, TextTooLong}
+use Rattle.compiler.specs.declared.fault.CompileFault.TheVariants.{Memory}
 use Rattle.laws_suites.specs.Small.{HasManyBooleans, IsSmallText}
 use Rattle.vcd_reader.specs.Dump.{Contents}
 use Rattle.cli_faults.specs.declared.fault.Fault.TheVariants.{Compile}
@@ -12,13 +14,17 @@ use Rattle.cli.specs.Named.{scope_over}
 use Rattle.cli.specs.Reported.{HasItems}
 use Rattle.cli.specs.Outcomes.{IsNotCompiled}
 use Rattle.cli.specs.Builds.{SaysNone}
+use Rattle.laws_reports.specs.ReadInText.{ReadsMany, HasLongName}
 
--- K1: over 127 booleans are written. K2: the assertion isn't small. The slots of K3 and the texts
--- of K4 are those of the suite, whose clauses name them.
-abbrev pub IsCause : Scope → List ItemForm → AssertionForm → CompileFault → Type 0
-IsCause s items a TooManyAtoms = HasManyBooleans s items a
-IsCause s items a CodeTooLong = IsSmallText s items a → ⊥
-IsCause s items a fault = Unit {0}
+-- K1: over 127 booleans are written. K2: the assertion isn't small. K3: it reads over 255 signals
+-- and counters. K4: its name, its clock's path or that of a signal that it reads has over 65,535
+-- bytes. So many assertions stand before it.
+abbrev pub IsCause : Scope → List ItemForm → ℕ → AssertionForm → CompileFault → Type 0
+IsCause s items before a TooManyAtoms = HasManyBooleans s items a
+IsCause s items before a CodeTooLong = IsSmallText s items a → ⊥
+IsCause s items before a TooManySlots = ReadsMany s items a
+IsCause s items before a TextTooLong = HasLongName s items before a
+IsCause s items before a Memory = Unit {0}
 
 -- It stands of the assertion at a place among those of the text.
 pub record HasCause (c : Contents) (text : List ℕ) (place : ℕ) (fault : CompileFault) : Type 0 where
@@ -26,7 +32,7 @@ pub record HasCause (c : Contents) (text : List ℕ) (place : ℕ) (fault : Comp
   pub spelled : HasItems text items
   pub assertion : AssertionForm
   pub is : slice_get (assertions_of items) place ≡ Some assertion
-  pub cause : IsCause (scope_over c.variables items) items assertion fault
+  pub cause : IsCause (scope_over c.variables items) items place assertion fault
 
 -- Some assertion of a text that isn't compiled has the cause.
 abbrev pub FaultsHaveCauses : Type 0

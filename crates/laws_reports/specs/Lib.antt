@@ -1,4 +1,5 @@
 pub mod Laws
+pub mod ReadInText
 pub mod Causes
 pub mod Same
 pub mod Suites

@@ -20,7 +20,8 @@ pub fn refusal_law()
 {}
 
 /// Where a text isn't compiled, the cause stands of one of its assertions, and where a build has no
-/// program, of one of the name.
+/// program, of one of the name. The cause of K1 to K4 is one of the text: many booleans, an
+/// assertion that isn't small, many signals and counters that are read, or a long name or path.
 pub fn cause_law()
     ensures check { FaultsHaveCauses }
     ensures build { BuildFaultsHaveCauses }
