@@ -1,10 +1,12 @@
-//! Trials of the parts of a machine: `machine_ring`, `machine_pool` and `machine_samples`.
+//! Trials of the parts of a machine: `machine_ring`, `machine_pool`, `machine_samples` and
+//! `machine_decoded`.
 //!
 //! A ring keeps the last rows of a monitor: the tests look back each number of pushes at each slot,
 //! beside a plain list of all rows that were pushed. A pool holds the attempts that are not
 //! decided: walks over its records, as `count_down`, which retires some and sets the others, are
 //! proved against its contract, and tests stand beside a plain list. Sample code is run over three
-//! rows, each instruction at an edge, with values that were worked out by hand.
+//! rows, each instruction at an edge, with values that were worked out by hand; what decoded code
+//! leaves stands beside.
 //!
 //! ```text
 //! let mut pool = Pool::new(rt.alloc(), 4)?;

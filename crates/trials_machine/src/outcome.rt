@@ -1,15 +1,17 @@
 //! What sample code leaves, of a program with the signals `x` of 8 bits and `y` of 128, a counter
 //! of 128 bits, and one atom.
 
-ghost use Rattle.std.specs.Prelude.{◌≡◌, ◌<◌, IfOk, IsTrue};
+ghost use Rattle.std.specs.Prelude.{◌≡◌, ◌<◌, length, IfOk, IsTrue};
 ghost use Rattle.bytecode.specs.Instructions.{frame_of};
 ghost use Rattle.bytecode.specs.Programs.{data_of};
 ghost use Rattle.verifier.specs.Programs.{IsAccepted};
 ghost use Rattle.machine_samples.specs.Memory.{AreRows};
+ghost use Rattle.machine_decoded.specs.Decoded.{IsNewest};
 ghost use Rattle.machine_definition.specs.Values.{AreValues};
 
 use bytecode::Program;
 use bytecode_files::decode;
+use machine_decoded::Decoded;
 use machine_ring::Ring;
 use machine_samples::{Stack, run};
 use signals::Bits;
@@ -94,40 +96,44 @@ fn new_ring(alloc: Global, program: &Program, widths: &[u8]) -> Result<Ring, All
     Ring::new(alloc, usize::from(program.limits.history), widths.len())
 }
 
-/// Pushes a row of which each value fits.
-fn push_row(program: &Program, widths: &[u8], ring: &mut Ring, row: &[u128])
+/// Pushes a row, where each value fits, and answers whether they do.
+fn push_row(program: &Program, widths: &[u8], ring: &mut Ring, row: &[u128]) -> bool
     requires { AreRows (data_of program.now) widths.now ring.old }
-    ensures { AreRows (data_of program.now) widths.now ring.new }
+    ensures rows { AreRows (data_of program.now) widths.now ring.new }
+    ensures newest { IsTrue result → IsNewest row.now ring.new }
 {
-    if fits(widths, row) {
+    let fit = fits(widths, row);
+    if fit {
         ring.push(row);
     }
+    fit
 }
 
-/// What the sample code of an accepted program leaves over the rows.
-fn run_over_rows(alloc: Global, program: &Program) -> Result<Option<Outcome>, AllocError>
-    requires { IsAccepted (data_of program.now) }
+/// Whether the counters and atoms that tests begin with are those of a program.
+fn begins(program: &Program, counters: &[u128], atoms: &[bool]) -> bool
+    ensures counters { IsTrue result → AreValues (data_of program.now).counters counters.now }
+    ensures atoms { IsTrue result → length atoms.now ≡ (data_of program.now).header.atoms }
 {
-    let frame = Frame::of(alloc, program)?;
-    let widths = frame.slots.as_slice();
-    let mut ring = new_ring(alloc, program, widths)?;
-    for row in &ROWS {
-        push_row(program, widths, &mut ring, row);
-    }
+    usize::from(program.atoms) == atoms.len() && fits(program.counters.as_slice(), counters)
+}
+
+/// What a run over a stack leaves.
+fn left_by_stack(
+    alloc: Global,
+    program: &Program,
+    widths: &[u8],
+    ring: &Ring,
+) -> Result<Option<Outcome>, AllocError>
+    requires accepted { IsAccepted (data_of program.now) }
+    requires rows { AreRows (data_of program.now) widths.now ring.now }
+{
     let mut counters = [9u128];
     let mut atoms = [true];
-    if program.atoms != 1 || !fits(program.counters.as_slice(), &counters) {
+    if !begins(program, &counters, &atoms) {
         return Ok(None);
     }
     let mut stack = Stack::new(alloc)?;
-    let ticks = run(
-        program,
-        widths,
-        &ring,
-        &mut stack,
-        &mut atoms,
-        &mut counters,
-    );
+    let ticks = run(program, widths, ring, &mut stack, &mut atoms, &mut counters);
     Ok(Some(Outcome {
         counter: counters[0],
         atom: atoms[0],
@@ -135,7 +141,59 @@ fn run_over_rows(alloc: Global, program: &Program) -> Result<Option<Outcome>, Al
     }))
 }
 
-/// What so many instructions leave; none where the program is refused.
+/// What a run of decoded code leaves; none where code has a jump.
+fn left_by_steps(
+    alloc: Global,
+    program: &Program,
+    widths: &[u8],
+    ring: &Ring,
+    row: &[u128],
+) -> Result<Option<Outcome>, AllocError>
+    requires accepted { IsAccepted (data_of program.now) }
+    requires rows { AreRows (data_of program.now) widths.now ring.now }
+    requires newest { IsNewest row.now ring.now }
+{
+    let mut counters = [9u128];
+    let mut atoms = [true];
+    if !begins(program, &counters, &atoms) {
+        return Ok(None);
+    }
+    let Some(mut decoded) = Decoded::of(alloc, program, widths)? else {
+        return Ok(None);
+    };
+    let ticks = decoded.run(program, ring, row, &mut atoms, &mut counters);
+    Ok(Some(Outcome {
+        counter: counters[0],
+        atom: atoms[0],
+        ticks,
+    }))
+}
+
+/// What the sample code of an accepted program leaves over the rows; none where decoded code leaves
+/// something else.
+fn run_over_rows(alloc: Global, program: &Program) -> Result<Option<Outcome>, AllocError>
+    requires { IsAccepted (data_of program.now) }
+{
+    let frame = Frame::of(alloc, program)?;
+    let widths = frame.slots.as_slice();
+    let mut ring = new_ring(alloc, program, widths)?;
+    for row in &ROWS[..2] {
+        push_row(program, widths, &mut ring, row);
+    }
+    let newest = &ROWS[2];
+    if !push_row(program, widths, &mut ring, newest) {
+        return Ok(None);
+    }
+    let left = left_by_stack(alloc, program, widths, &ring)?;
+    let decoded = left_by_steps(alloc, program, widths, &ring, newest)?;
+    if decoded.is_some() && decoded != left {
+        return Ok(None);
+    }
+    Ok(left)
+}
+
+/// What so many instructions leave; none where the program is refused, or decoded code leaves
+/// something else.
 pub(crate) fn outcome_of(
     alloc: Global,
     count: u16,

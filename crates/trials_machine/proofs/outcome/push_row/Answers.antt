@@ -5,9 +5,9 @@ use Rattle.machine_samples.specs.Memory.{AreRows}
 use Rattle.machine_samples.proofs.RowLaws.{AreRows-pushed}
 use Rattle.trials_machine.proofs.outcome.push_row.Goals as goal
 
-pub returns-then-fits : goal.returns-then-fits
-returns-then-fits c =
+pub returns-then-fit-clause-rows : goal.returns-then-fit-clause-rows
+returns-then-fit-clause-rows c =
     let p = data_of c.args.program.now in
     let widths = c.args.widths.now in
     subst (λ (h : History). AreRows p widths h) (sym c.push.ensures)
-    (AreRows-pushed p widths c.args.ring.now c.args.row.now (c.fits.ensures c.if-fits.true) c.requires)
+    (AreRows-pushed p widths c.args.ring.now c.args.row.now (c.fits-fit.ensures c.if-fit.true) c.requires)
