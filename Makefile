@@ -19,7 +19,7 @@ PROGRAM := examples/fails_at_its_tick/program.svm
 FILES = --vcd examples/$(1)/dump.vcd --sva examples/$(1)/assertion.sva
 
 help:
-	@echo 'make demo             shows the reports on examples/ within three minutes; unproved and slow'
+	@echo 'make demo             shows the reports on examples/ within a minute; unproved and slow'
 	@echo 'make try VCD= SVA=    the same for a small dump and a text of your own'
 	@echo 'make install PREFIX=  proves and builds svamon, and puts it into PREFIX/bin (PREFIX is $(PREFIX))'
 	@echo 'make test             the gate: proves all from nothing, and runs tests, programs, and the edits of what'
