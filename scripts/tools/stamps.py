@@ -11,8 +11,8 @@ import subprocess
 import sys
 
 ROOT = os.path.dirname(os.path.dirname(os.path.dirname(os.path.realpath(__file__))))
-TEXT = """Each edit of this folder was tried, and the prover refused it{where}: {who} wrote this.
-CONTRIBUTING.md says what the two lines say, and what they don't.
+TEXT = """Each edit of this folder was tried, and the prover refused it{where}:
+{who} wrote this. CONTRIBUTING.md says what the two lines say, and what they don't.
 
 tree: {tree}
 rt: {kit}
