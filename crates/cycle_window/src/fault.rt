@@ -25,7 +25,7 @@ pub enum WindowFault {
     #[error("C5 SignalWidth {0}")]
     SignalWidth(String),
     /// There was no memory.
-    #[error("out of memory")]
+    #[error("OutOfMemory")]
     Memory,
 }
 

@@ -26,7 +26,7 @@ pub enum JobFault {
     #[error("C5 SignalWidth {0}")]
     SignalWidth(String),
     /// There was no memory.
-    #[error("out of memory")]
+    #[error("OutOfMemory")]
     Memory,
 }
 
