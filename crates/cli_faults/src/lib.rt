@@ -16,7 +16,6 @@
 //! Not promised: the lines of faults, which tests show.
 #![tactic(auto)]
 
-mod code_lines;
 mod fault;
 mod lines;
 mod report_totals;

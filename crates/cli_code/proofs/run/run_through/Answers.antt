@@ -16,9 +16,9 @@ returns-in_err-report-clause-refused g c =
     let held = g.W.Sink.state c.args.out.now in
     let r = run_of c.args.code.now before after held held in
     let fault = c.in_err-report.field-0.0 in
-    err_is c.from_residual-in_err-report.result fault (WhyRunFails c.args.size r)
+    err_is c.from_residual-in_err-report.result fault (WhyRunFails r)
     c.from_residual-in_err-report.ensures.1
-    (refused_run c.args.size r read.0 read.1 c.in_ok-dump.ensures.counted
+    (refused_run r read.0 read.1 c.in_ok-dump.ensures.counted
     (record { held = refl; counted = refl }) fault (c.in_err-report.ensures.err read.0 read.2))
 
 pub returns-in-Ok-clause-answered : goal.returns-in-Ok-clause-answered
