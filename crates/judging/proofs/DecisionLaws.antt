@@ -115,13 +115,20 @@ module _ (B : Type 0) (value : B → ℕ → Bool) (n : ℕ) where
           (λ j from inside. from_end e j below is inside)
           ∙ far_enough s e e room (omega arith))
 
+      -- whether the antecedent ends there, with an obligation that can't be kept
+      pub broken_here : (e : ℕ) → e < n
+          → (marks ends (e + 1) && not (some_in e room (links consequents e)))
+          ≡ (is_leading (sat value n) r 0 (e + 1) && not (is_possible value s n e))
+      broken_here e below =
+          failed_at e below (marks ends (e + 1)) refl
+          ∙ ap (λ b. b && not (is_possible value s n e)) (at (e + 1) (omega arith))
+
       pub failed_law : some_in 0 n (λ e. marks ends (e + 1) && not (some_in e room (links consequents e)))
           ≡ is_failed value r s n 0
       failed_law =
           some_in-same 0 n (λ e. marks ends (e + 1) && not (some_in e room (links consequents e)))
           (λ e. is_leading (sat value n) r 0 (e + 1) && not (is_possible value s n e))
-          (λ e from below. failed_at e below (marks ends (e + 1)) refl
-          ∙ ap (λ b. b && not (is_possible value s n e)) (at (e + 1) (omega arith)))
+          (λ e from below. broken_here e below)
 
       kept_at : (e : ℕ) → e < n → (b : Bool) → marks ends (e + 1) ≡ b
           → (not b || some_in e (n + 1) (links consequents e)) ≡ (not b || is_kept value s n e)
@@ -175,7 +182,7 @@ first_true_of-same i (suc n) p q same =
     ∙ ap (λ o. if q i then Some i else o)
     (first_true_of-same (i + 1) n p q (λ k from below. same k (omega arith) (omega arith)))
 
-first_true-same : (i e : ℕ) (p q : ℕ → Bool) → ((k : ℕ) → i ≤ k → k < e → p k ≡ q k)
+pub first_true-same : (i e : ℕ) (p q : ℕ → Bool) → ((k : ℕ) → i ≤ k → k < e → p k ≡ q k)
     → first_true i e p ≡ first_true i e q
 unfolding first_true
 first_true-same i e p q same = first_true_of-same i (e - i) p q (λ k from below. same k from (omega arith))

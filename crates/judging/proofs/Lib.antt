@@ -4,3 +4,4 @@ pub mod FormLaws
 pub mod ShiftLaws
 pub mod DecisionLaws
 pub mod ExtentLaws
+pub mod CauseLaws

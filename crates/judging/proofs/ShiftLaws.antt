@@ -8,7 +8,7 @@ use Rattle.assertions.specs.declared.decision.Decision.{Decision}
 use Rattle.assertions.specs.declared.decision.Decision.TheVariants.{Held, Vacuously, Failed}
 use Rattle.assertions.specs.Segments.{Seq, one, none, chop, fuse, either, both, meet, during, times, Chain, sat}
 use Rattle.assertions.specs.Segments.{Matches}
-use Rattle.assertions.specs.Attempts.{Antecedent, MatchesBy, Leads, IsEnd, IsDecided, decision}
+use Rattle.assertions.specs.Attempts.{Antecedent, MatchesBy, Leads, IsEnd, IsBroken, IsDecided, decision}
 use Rattle.assertions.proofs.Segments.{Matches-forward, Chain-forward}
 use Rattle.assertions.proofs.Attempts.{decision-IsDecided, IsDecided-decision}
 
@@ -165,11 +165,11 @@ module _ (B : Type 0) (value here : B → ℕ → Bool) (c n : ℕ) (same : (b :
       → Leads (sat value (c + n)) r i j
   raise_led r = raise_by r.first r.sequence
 
-  end_down : (r : Antecedent B) (e : ℕ) → IsEnd value r (c + n) c e → IsEnd here r n 0 (e - c)
+  pub end_down : (r : Antecedent B) (e : ℕ) → IsEnd value r (c + n) c e → IsEnd here r n 0 (e - c)
   end_down r e h =
       (omega arith, omega (arith, h.0, h.1), lower_led r c (e + 1) 0 (e - c + 1) (omega arith) (omega (arith, h.0)) h.2)
 
-  end_up : (r : Antecedent B) (e : ℕ) → IsEnd here r n 0 e → IsEnd value r (c + n) c (c + e)
+  pub end_up : (r : Antecedent B) (e : ℕ) → IsEnd here r n 0 e → IsEnd value r (c + n) c (c + e)
   end_up r e h = (omega arith, omega (arith, h.1), raise_led r c (c + e + 1) 0 (e + 1) (omega arith) (omega arith) h.2)
 
   -- an end lies where it does beside the first tick
@@ -177,6 +177,14 @@ module _ (B : Type 0) (value here : B → ℕ → Bool) (c n : ℕ) (same : (b :
   end_at r e from h =
       let same_end : c + (e - c) ≡ e = omega arith in subst (λ k. IsEnd value r (c + n) c k) same_end
       (end_up r (e - c) h)
+
+  -- an obligation that is broken
+  pub broken_down : (s : Seq B) (e : ℕ) → IsBroken value s (c + n) (c + e) → IsBroken here s n e
+  broken_down s e h j m = h (c + j) (raise s (c + e) (c + j) e j refl refl m)
+
+  pub broken_up : (s : Seq B) (e : ℕ) → IsBroken here s n e → IsBroken value s (c + n) (c + e)
+  broken_up s e h j m =
+      h (j - c) (lower s (c + e) j e (j - c) refl (omega (arith, forward s (c + e) j m)) m)
 
   decided_down : (r : Antecedent B) (s : Seq B) (d : Decision) → IsDecided value r s (c + n) c d
       → IsDecided here r s n 0 d
@@ -198,11 +206,7 @@ module _ (B : Type 0) (value here : B → ℕ → Bool) (c n : ℕ) (same : (b :
 
   decided_up : (r : Antecedent B) (s : Seq B) (d : Decision) → IsDecided here r s n 0 d
       → IsDecided value r s (c + n) c d
-  decided_up r s Failed h = (
-    c + h.0,
-    end_up r h.0 h.1,
-    λ j m. h.2 (j - c) (lower s (c + h.0) j h.0 (j - c) refl (omega (arith, forward s (c + h.0) j m)) m),
-  )
+  decided_up r s Failed h = (c + h.0, end_up r h.0 h.1, broken_up s h.0 h.2)
   decided_up r s Held h = (
     (c + h.0.0, end_up r h.0.0 h.0.1),
     λ e end.

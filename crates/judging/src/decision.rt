@@ -7,10 +7,10 @@ ghost use Rattle.assertions.specs.Attempts.{decide};
 ghost use Rattle.assertions.specs.Shapes.{written_form, shape};
 ghost use Rattle.judging.specs.Courses.{decision_from};
 
-use crate::ends::ends_from;
-use crate::outlook::{obligations_at, outlook_of};
-use crate::row::{leading_row, only, some_mark};
+use crate::outlook::outlook_of;
+use crate::row::some_mark;
 use crate::seen::Seen;
+use crate::sides::sides_of;
 use assertions::{Assertion, Decision, HEAVIEST, Sequence, weight_of};
 use std::alloc::{AllocError, Global};
 
@@ -52,15 +52,9 @@ pub(crate) fn decision_of(
     ensures { IfOk result (λ d. d ≡ decision_from seen.now.values assertion.now) }
 {
     let below = seen.values.len();
-    let count = most_ticks(&assertion.antecedent).max(below) + 1;
-    let start = only(alloc, 0, true, count)?;
-    let antecedents = ends_from(alloc, &assertion.antecedent, seen, start.as_slice())?;
-    let row = leading_row(alloc, antecedents.row(0), assertion.first, count)?;
-    let ends = row.as_slice();
-    let goes_on = some_mark(ends, below + 1, count);
-    let room = below + most_ticks(&assertion.consequent) + 1;
-    let obligations = obligations_at(alloc, ends, below, room)?;
-    let consequents = ends_from(alloc, &assertion.consequent, seen, obligations.as_slice())?;
-    let all = outlook_of(ends, &consequents, below, room);
+    let sides = sides_of(alloc, assertion, seen)?;
+    let ends = sides.ends.as_slice();
+    let goes_on = some_mark(ends, below + 1, sides.count);
+    let all = outlook_of(ends, &sides.consequents, below, sides.room);
     Ok(choose(all.broken, goes_on, all.ends, all.kept))
 }
