@@ -16,7 +16,7 @@ ghost use Rattle.cli_faults.specs.Runs.{run_of};
 use crate::programs::{lines_fault, report_by_programs};
 use crate::text::{file_of, suite_of};
 use assertions::Suite;
-use cli_faults::{Fault, totals};
+use cli_faults::{Fault, written};
 use cli_lines::{Gate, suite_report};
 use cycle_window::{Clocks, WindowSize};
 use laws_suites::suite_law;
@@ -25,7 +25,7 @@ use std::alloc::Global;
 use std::sync::Wait;
 use std::thread::Threads;
 use vcd_reader::{Dump, read_dump};
-use verdicts::{Report, ReportFault, write_report};
+use verdicts::Report;
 use workers_core::TeamSize;
 
 /// A suite, and the ticks of its clock.
@@ -116,12 +116,7 @@ pub(crate) fn check_through<'a, S: Source, W: Sink>(
 {
     let dump = read_dump(alloc, source)?;
     let report = report_checked(alloc, dump, text, size)?;
-    // An arm knows which fault it is; by `?` the search doesn't find why that one stands.
-    match write_report(alloc, &report, out) {
-        Ok(()) => Ok(totals(&report)),
-        Err(ReportFault::Memory) => Err(Fault::Memory),
-        Err(ReportFault::Write) => Err(Fault::Report(ReportFault::Write)),
-    }
+    written(alloc, &report, out)
 }
 
 /// The same by a team.
@@ -142,10 +137,5 @@ pub(crate) fn check_by_team<'a, S: Source, W: Sink, G: Gate + Sync, R: Threads +
 {
     let dump = read_dump(alloc, source)?;
     let report_of_all = report_by_team(rt, alloc, dump, text, team, size, gate)?;
-    // An arm knows which fault it is; by `?` the search doesn't find why that one stands.
-    match write_report(alloc, &report_of_all, out) {
-        Ok(()) => Ok(totals(&report_of_all)),
-        Err(ReportFault::Memory) => Err(Fault::Memory),
-        Err(ReportFault::Write) => Err(Fault::Report(ReportFault::Write)),
-    }
+    written(alloc, &report_of_all, out)
 }

@@ -9,13 +9,13 @@ ghost use Rattle.cli.specs.Outcomes.{WhyNoReport, IsAnswered, WhyRunRefused};
 ghost use Rattle.cli_faults.specs.Runs.{run_of};
 
 use crate::text::{file_of, suite_of};
-use cli_faults::{Fault, totals};
+use cli_faults::{Fault, written};
 use cycle_window::WindowSize;
 use judging_reports::report_by_judge;
 use signals::{Sink, Source};
 use std::alloc::Global;
 use vcd_reader::{Dump, read_dump};
-use verdicts::{Report, ReportFault, write_report};
+use verdicts::Report;
 
 /// The report on a text over a dump.
 fn report_judged<'a>(
@@ -51,10 +51,5 @@ pub(crate) fn run_through<'a, S: Source, W: Sink>(
 {
     let dump = read_dump(alloc, source)?;
     let report = report_judged(alloc, &dump, text, size)?;
-    // An arm knows which fault it is; by `?` the search doesn't find why that one stands.
-    match write_report(alloc, &report, out) {
-        Ok(()) => Ok(totals(&report)),
-        Err(ReportFault::Memory) => Err(Fault::Memory),
-        Err(ReportFault::Write) => Err(Fault::Report(ReportFault::Write)),
-    }
+    written(alloc, &report, out)
 }

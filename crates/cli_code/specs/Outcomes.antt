@@ -16,7 +16,8 @@ use Rattle.verdicts.specs.Lines.{ReportData}
 use Rattle.verdicts.specs.Texts.{report_text}
 use Rattle.machine_runs.specs.Reported.{Reports, WhyNoRun}
 use Rattle.cli_faults.specs.declared.fault.Fault.{Fault}
-use Rattle.cli_faults.specs.declared.fault.Fault.TheVariants.{Vcd, BadSize, BadWorkers, Window, Report, Code}
+use Rattle.cli_faults.specs.declared.fault.Fault.TheVariants.{Vcd, BadSize, BadWorkers, Window}
+use Rattle.cli_faults.specs.declared.fault.Fault.TheVariants.{Report, Code}
 use Rattle.cli_faults.specs.declared.fault.Fault.TheVariants.{Refused, Memory}
 use Rattle.cli_faults.specs.Runs.{Run, totals_of, IsUnwritten, IsUnread, IsOutOfMemory}
 use Rattle.cli_faults.specs.Runs.{IsOutOfRange}

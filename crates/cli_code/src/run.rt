@@ -12,14 +12,14 @@ ghost use Rattle.cli_code.specs.Outcomes.{HasRunReport, WhyNoRunReport, IsRunAns
 ghost use Rattle.cli_code.specs.Outcomes.{WhyRunFails, WhyNotRun};
 
 use crate::verify::verified_of;
-use cli_faults::{Fault, totals};
+use cli_faults::{Fault, written};
 use cycle_window::WindowSize;
 use signals::{Sink, Source};
 use std::alloc::Global;
 use std::sync::Wait;
 use std::thread::Threads;
 use vcd_reader::{Dump, read_dump};
-use verdicts::{Report, ReportFault, write_report};
+use verdicts::Report;
 use workers::{Gate, report_run};
 use workers_core::TeamSize;
 
@@ -60,12 +60,7 @@ fn run_through<S: Source, W: Sink, G: Gate + Sync, R: Threads + Wait + Sync>(
 {
     let dump = read_dump(alloc, source)?;
     let report = report_of(rt, alloc, dump, code, team, size, gate)?;
-    // An arm knows which fault it is; by `?` the search doesn't find why that one stands.
-    match write_report(alloc, &report, out) {
-        Ok(()) => Ok(totals(&report)),
-        Err(ReportFault::Memory) => Err(Fault::Memory),
-        Err(ReportFault::Write) => Err(Fault::Report(ReportFault::Write)),
-    }
+    written(alloc, &report, out)
 }
 
 /// Runs the program that bytes spell over the dump that a source gives, on the clock that it names,
