@@ -29,7 +29,7 @@ use Rattle.cli.specs.Dumps.{width_named}
 use Rattle.vcd_reader.specs.declared.dump.Dump.{Dump}
 use Rattle.vcd_reader.specs.Variables.{Declared, variable_named, size_of}
 use Rattle.vcd_reader.specs.Held.{HoldsContents, variables_of}
-use Rattle.cycle_window.specs.Bound.{Misfit, misfit, IsClock}
+use Rattle.cycle_window.specs.Bound.{Misfit, misfit, HasClock, IsClock}
 use Rattle.vcd_reader.specs.Dump.{Contents}
 use Rattle.cycle_window.specs.Ticks.{ticks_of, row_of}
 use Rattle.verdicts.specs.Lines.{LineData, ReportData, report_of}
@@ -86,7 +86,7 @@ all_watched vs (s ∷ ss) h = (h.0, all_watched vs ss h.1)
 
 -- the clock of a suite is there
 pub has_clock : (vs : List Declared) (path : List ℕ) (code : ℕ) → IsClock vs path code
-    → misfit vs (variable_named vs path) 1 ≡ None
+    → HasClock vs path
 has_clock vs path code (v, named, bit, is) =
     ap (λ (o : Option ℕ). misfit vs o 1) named
     ∙ ap (λ (b : Bool). cond b None (Some Misfit.OtherWidth)) (eq-eqb (size_of vs v) 1 bit)

@@ -55,7 +55,7 @@ use Rattle.vcd_reader.specs.Variables.{Declared, variable_named, size_of}
 use Rattle.vcd_reader.specs.Dump.{Contents}
 use Rattle.cycle_window.specs.declared.fault.WindowFault.{WindowFault}
 use Rattle.cycle_window.specs.declared.fault.WindowFault.TheVariants as windows
-use Rattle.cycle_window.specs.Bound.{IsClockFault, misfit}
+use Rattle.cycle_window.specs.Bound.{IsClockFault, HasClock}
 use Rattle.cli_faults.specs.declared.fault.Fault.{Fault}
 use Rattle.cli_faults.specs.declared.fault.Fault.TheVariants.{
   Vcd,
@@ -266,7 +266,7 @@ none_by_programs c text e h = h
 
 pub uncompiled : (c : Contents) (text : List ℕ) (suite : Suite) (e : LinesFault)
     → SaysSuite c text suite
-    → misfit c.variables (variable_named c.variables (string_bytes suite.clock)) 1 ≡ None
+    → HasClock c.variables (string_bytes suite.clock)
     → WhyNoLines suite e → WhyNoneByPrograms c text (lines_fault e)
 uncompiled c text suite (Program compiles.TooManyAtoms) says clock h =
     record { suite = suite; says = says; clock = clock; why = h }

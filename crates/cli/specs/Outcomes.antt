@@ -1,5 +1,5 @@
 -- What a run over a source, a text and a sink comes to.
-use Rattle.std.specs.Prelude.{◌≡◌, ℕ, ◌≤◌, List, None, string_bytes, false}
+use Rattle.std.specs.Prelude.{◌≡◌, ℕ, ◌≤◌, List, string_bytes, false}
 use Rattle.std.specs.Io.KnownBytes.{Appends}
 use Rattle.signals.specs.Source.{after_failure}
 use Rattle.signals.specs.Sink.{AppendsFront}
@@ -18,11 +18,10 @@ use Rattle.compiler.specs.declared.fault.CompileFault.{CompileFault}
 use Rattle.compiler.specs.declared.fault.CompileFault.TheVariants as compiles
 use Rattle.cli_lines.specs.Faults.{HasNoProgram, HasBadCount}
 use Rattle.vcd_reader.specs.declared.fault.VcdFault.TheVariants as dumps
-use Rattle.vcd_reader.specs.Variables.{variable_named}
 use Rattle.vcd_reader.specs.Dump.{Contents, Gave, GaveDump}
 use Rattle.cycle_window.specs.declared.fault.WindowFault.{WindowFault}
 use Rattle.cycle_window.specs.declared.fault.WindowFault.TheVariants as windows
-use Rattle.cycle_window.specs.Bound.{misfit, IsClockFault}
+use Rattle.cycle_window.specs.Bound.{HasClock, IsClockFault}
 use Rattle.verdicts.specs.declared.write.ReportFault.TheVariants as reports
 use Rattle.verdicts.specs.Lines.{ReportData}
 use Rattle.verdicts.specs.Texts.{report_text}
@@ -98,14 +97,14 @@ WhyNoReport c text _ = ⊥
 pub record IsNotCompiled (c : Contents) (text : List ℕ) (fault : CompileFault) : Type 0 where
   pub suite : Suite
   pub says : SaysSuite c text suite
-  pub clock : misfit c.variables (variable_named c.variables (string_bytes suite.clock)) 1 ≡ None
+  pub clock : HasClock c.variables (string_bytes suite.clock)
   pub why : HasNoProgram suite fault
 
 -- The text says a suite that has a clock and whose assertions have programs, but too many.
 pub record HasNoJob (c : Contents) (text : List ℕ) : Type 0 where
   pub suite : Suite
   pub says : SaysSuite c text suite
-  pub clock : misfit c.variables (variable_named c.variables (string_bytes suite.clock)) 1 ≡ None
+  pub clock : HasClock c.variables (string_bytes suite.clock)
   pub why : HasBadCount suite
 
 -- why a text has no report by programs: it has none at all, one of its assertions has no program,

@@ -55,6 +55,10 @@ abbrev pub IsClock : List Declared → List ℕ → ℕ → Type 0
 IsClock vs path code =
     (v : ℕ) × (variable_named vs path ≡ Some v) × (size_of vs v ≡ 1) × (code ≡ code_number vs v)
 
+-- the path names a variable of one bit
+abbrev pub HasClock : List Declared → List ℕ → Type 0
+HasClock vs path = misfit vs (variable_named vs path) 1 ≡ None
+
 -- why there are no clocks
 abbrev pub IsClockFault : List Declared → List ℕ → WindowFault → Type 0
 IsClockFault vs path faults.NoClock = misfit vs (variable_named vs path) 1 ≡ Some Missing

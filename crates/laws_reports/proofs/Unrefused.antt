@@ -15,7 +15,7 @@ use Rattle.vcd_reader.specs.Variables.{variable_named}
 use Rattle.vcd_reader.specs.Dump.{Contents}
 use Rattle.cycle_window.specs.declared.fault.WindowFault.{WindowFault}
 use Rattle.cycle_window.specs.declared.fault.WindowFault.TheVariants as windows
-use Rattle.cycle_window.specs.Bound.{Misfit, Missing, OtherWidth, misfit}
+use Rattle.cycle_window.specs.Bound.{Misfit, Missing, OtherWidth, misfit, HasClock}
 use Rattle.verdicts.specs.Lines.{ReportData}
 use Rattle.cli_faults.specs.declared.fault.Fault.{Fault}
 use Rattle.cli_faults.specs.declared.fault.Fault.TheVariants.{
@@ -69,7 +69,7 @@ not_mistyped c text suite fault h k =
 -- The suite's clock is one.
 clock_fits : (c : Contents) (suite : Suite) (clock : ℕ) (signals : List ℕ)
     → IsBound c suite clock signals
-    → misfit c.variables (variable_named c.variables (string_bytes suite.clock)) 1 ≡ None
+    → HasClock c.variables (string_bytes suite.clock)
 clock_fits c suite clock signals h =
     ap (λ (o : Option ℕ). misfit c.variables o 1) h.clock_named
     ∙ ap (λ (size : ℕ). if size == 1 then None else Some OtherWidth) h.clock_bit
@@ -79,7 +79,7 @@ clock_misfits : (c : Contents) (text : List ℕ) (report : ReportData) (suite : 
     → misfit c.variables (variable_named c.variables (string_bytes suite.clock)) 1 ≡ Some m → ⊥
 clock_misfits c text report suite m h k e =
     let same = same_suites c text suite h.suite k h.says in
-    let fits : misfit c.variables (variable_named c.variables (string_bytes suite.clock)) 1 ≡ None =
+    let fits : HasClock c.variables (string_bytes suite.clock) =
     ap (λ (p : List ℕ). misfit c.variables (variable_named c.variables p) 1) same.clock
     ∙ clock_fits c h.suite h.reports.clock h.reports.signals h.reports.bound in
     absurd cc

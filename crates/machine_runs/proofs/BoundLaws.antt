@@ -32,8 +32,9 @@ use Rattle.cycle_window.specs.Bound.{
   first_refused,
   places_of,
   IsClock,
+  HasClock,
 }
-use Rattle.machine_runs.specs.Reported.{AreBound, HasClock, wanted_slot}
+use Rattle.machine_runs.specs.Reported.{AreBound, wanted_slot}
 
 -- the variables that the paths of signals name
 named-places : (vs : List Declared) (ss : List SlotData)
@@ -95,7 +96,7 @@ bound vs ss asked ps is are none =
 
 -- a clock of one bit is there
 pub has-clock : (vs : List Declared) (p : ProgramData) (code : ℕ) → IsClock vs p.header.clock code
-    → HasClock vs p
+    → HasClock vs p.header.clock
 has-clock vs p code (v, named, bit, is) =
     ap (λ (o : Option ℕ). misfit vs o 1) named
     ∙ ap (λ (b : Bool). cond b None (Some OtherWidth)) (eq-eqb (size_of vs v) 1 bit)

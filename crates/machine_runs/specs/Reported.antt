@@ -6,6 +6,7 @@ use Rattle.vcd_reader.specs.Dump.{Contents}
 use Rattle.cycle_window.specs.declared.fault.WindowFault.{WindowFault}
 use Rattle.cycle_window.specs.declared.fault.WindowFault.TheVariants as faults
 use Rattle.cycle_window.specs.Bound.{Wanted, Missing, OtherWidth, At, misfit, first_refused}
+use Rattle.cycle_window.specs.Bound.{HasClock}
 use Rattle.cycle_window.specs.Ticks.{ticks_of, row_of}
 use Rattle.verdicts.specs.Lines.{LineData, ReportData, report_of}
 use Rattle.machine_runs.specs.Lines.{IsLineOver}
@@ -40,10 +41,7 @@ pub record Reports (c : Contents) (p : ProgramData) (report : ReportData) : Type
 abbrev pub wanted_slot : SlotData → Wanted
 wanted_slot s = record { path = s.path; width = s.width }
 
--- The clock is there, and so are the signals.
-abbrev pub HasClock : List Declared → ProgramData → Type 0
-HasClock vs p = misfit vs (variable_named vs p.header.clock) 1 ≡ None
-
+-- the signals are there
 abbrev pub HasSignals : List Declared → ProgramData → Type 0
 HasSignals vs p = first_refused vs (map wanted_slot p.signals) ≡ None
 
@@ -54,9 +52,9 @@ WhyNoRun vs p faults.NoClock = misfit vs (variable_named vs p.header.clock) 1 �
 WhyNoRun vs p faults.ClockWidth =
     misfit vs (variable_named vs p.header.clock) 1 ≡ Some OtherWidth
 WhyNoRun vs p (faults.NoSignal path) =
-    HasClock vs p
+    HasClock vs p.header.clock
     × (first_refused vs (map wanted_slot p.signals) ≡ Some (At (string_bytes path) Missing))
 WhyNoRun vs p (faults.SignalWidth path) =
-    HasClock vs p
+    HasClock vs p.header.clock
     × (first_refused vs (map wanted_slot p.signals) ≡ Some (At (string_bytes path) OtherWidth))
 WhyNoRun vs p faults.Memory = Unit {0}

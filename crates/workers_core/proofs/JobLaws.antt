@@ -31,12 +31,13 @@ use Rattle.bytecode.specs.Values.{ProgramData}
 use Rattle.vcd_reader.specs.Variables.{Declared, size_of}
 use Rattle.cycle_window.specs.declared.fault.WindowFault.{WindowFault}
 use Rattle.cycle_window.specs.declared.fault.WindowFault.TheVariants as windows
-use Rattle.cycle_window.specs.Bound.{Wanted, OtherWidth, IsClock, IsClockFault, misfit, first_refused}
+use Rattle.cycle_window.specs.Bound.{Wanted, OtherWidth, IsClock, IsClockFault}
+use Rattle.cycle_window.specs.Bound.{misfit, first_refused, HasClock}
 use Rattle.machine_runs.specs.Reported.{wanted_slot}
 use Rattle.workers_core.specs.declared.job_fault.JobFault.{JobFault}
 use Rattle.workers_core.specs.declared.job_fault.JobFault.TheVariants as faults
 use Rattle.workers_core.specs.Faults.{window_fault}
-use Rattle.workers_core.specs.Wanted.{wanted_in, HasClock, IsGoodCount, SaysRefused, WhyNoJob, WhyUnfit}
+use Rattle.workers_core.specs.Wanted.{wanted_in, IsGoodCount, SaysRefused, WhyNoJob, WhyUnfit}
 
 abbrev signals_wanted : ProgramData → List Wanted
 signals_wanted p = map wanted_slot p.signals

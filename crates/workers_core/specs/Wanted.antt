@@ -5,7 +5,7 @@ use Rattle.std.specs.List.{flat_map}
 use Rattle.bytecode.specs.Values.{ProgramData}
 use Rattle.vcd_reader.specs.Variables.{Declared, variable_named}
 use Rattle.cycle_window.specs.Bound.{Wanted, Misfit, Missing, OtherWidth, Refused, At}
-use Rattle.cycle_window.specs.Bound.{misfit, first_refused}
+use Rattle.cycle_window.specs.Bound.{misfit, first_refused, HasClock}
 use Rattle.machine_runs.specs.Reported.{wanted_slot}
 use Rattle.workers_core.specs.declared.job_fault.JobFault.{JobFault}
 use Rattle.workers_core.specs.declared.job_fault.JobFault.TheVariants as faults
@@ -27,10 +27,6 @@ SaysRefused r (faults.NoSignal path) = r ≡ Some (At (string_bytes path) Missin
 SaysRefused r (faults.SignalWidth path) = r ≡ Some (At (string_bytes path) OtherWidth)
 SaysRefused r faults.Memory = Unit {0}
 SaysRefused r e = ⊥
-
--- the path names a variable of one bit
-abbrev pub HasClock : List Declared → List ℕ → Type 0
-HasClock vs path = misfit vs (variable_named vs path) 1 ≡ None
 
 -- a job has 1 to 4,096 programs
 abbrev pub IsBadCount : List ProgramData → Type 0
