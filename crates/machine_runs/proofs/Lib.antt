@@ -4,3 +4,4 @@ pub mod CountLaws
 pub mod RowLaws
 pub mod BoundLaws
 pub mod JoinLaws
+pub mod StreakLaws

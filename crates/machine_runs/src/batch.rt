@@ -1,9 +1,9 @@
 //! A batch.
 
-use signals::Decided;
+use crate::streaks::Streaks;
 
 /// What a monitor decided over a run of clocks.
-#[derive(Drop, Debug)]
+#[derive(Drop)]
 pub struct Batch {
     /// The monitor's number among those of its job.
     pub monitor: usize,
@@ -11,5 +11,5 @@ pub struct Batch {
     pub first: u64,
     pub end: u64,
     /// The attempts, by the clock at which they were decided, then by start.
-    pub decided: Vec<Decided>,
+    pub decided: Streaks,
 }

@@ -28,6 +28,10 @@
 
 mod batch;
 mod laws;
+mod streak;
+mod streaks;
 
 pub use batch::Batch;
 pub use laws::{batches_join, batches_law};
+pub use streak::Streak;
+pub use streaks::Streaks;

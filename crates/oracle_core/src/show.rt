@@ -1,7 +1,7 @@
 //! Steps, replies and batches as text.
 
 use anyhow::{Context, Result, bail};
-use machine_runs::Batch;
+use machine_runs::{Batch, Streak};
 use signals::{Decided, Verdict};
 use std::alloc::Global;
 use workers_core::{Reply, Step};
@@ -48,11 +48,19 @@ fn decided_text(alloc: Global, decided: &Decided) -> Result<String> {
     })
 }
 
+/// Adds the attempts of a streak.
+fn push_streak(alloc: Global, line: &mut String, streak: &Streak) -> Result<()> {
+    for place in 0..streak.count {
+        line.push_str(decided_text(alloc, &streak.at(place))?.as_str())?;
+    }
+    Ok(())
+}
+
 /// The line of a batch.
 pub fn batch_line(alloc: Global, batch: &Batch) -> Result<String> {
     let mut line = format!(in alloc; "batch {} {} {}", batch.monitor, batch.first, batch.end)?;
-    for decided in &batch.decided {
-        line.push_str(decided_text(alloc, decided)?.as_str())?;
+    for streak in batch.decided.as_slice() {
+        push_streak(alloc, &mut line, streak)?;
     }
     line.push_str("\n")?;
     Ok(line)

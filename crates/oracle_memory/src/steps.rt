@@ -47,7 +47,10 @@ fn letter(reply: Reply) -> &'static str {
 
 /// Adds a batch: its monitor, its clocks, and how many attempts it has.
 fn push_batch(line: &mut String, batch: &Batch) -> Result<(), AllocError> {
-    let count = batch.decided.len();
+    let mut count = 0_u64;
+    for streak in batch.decided.as_slice() {
+        count = count.saturating_add(streak.count);
+    }
     write!(
         line,
         ", {} {} {} {count}",

@@ -1,6 +1,6 @@
 //! A batch by its receipt, from another thread.
 
-use machine_runs::Batch;
+use machine_runs::{Batch, Streaks};
 use signals::{Decided, Verdict};
 use std::alloc::{AllocError, Global};
 use std::test::Fail;
@@ -9,11 +9,12 @@ use workers_board::Board;
 
 /// A batch of one attempt, which failed at its start.
 fn batch_of(alloc: Global, start: u64) -> Result<Batch, AllocError> {
-    let mut decided = Vec::new(alloc);
+    let mut decided = Streaks::new(alloc);
+    decided.reserve(1)?;
     decided.push(Decided {
         start,
         verdict: Verdict::Fails(start),
-    })?;
+    });
     Ok(Batch {
         monitor: 7,
         first: 0,
@@ -28,7 +29,10 @@ fn is_batch(batch: &Batch, start: u64) -> bool {
         start,
         verdict: Verdict::Fails(start),
     };
-    batch.monitor == 7 && batch.end == 1000 && batch.decided.as_slice() == [wanted].as_slice()
+    let [streak] = batch.decided.as_slice() else {
+        return false;
+    };
+    batch.monitor == 7 && batch.end == 1000 && streak.first == wanted && streak.count == 1
 }
 
 #[test]

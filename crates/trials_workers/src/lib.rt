@@ -29,4 +29,6 @@ mod job;
 #[cfg(test)]
 mod long;
 #[cfg(test)]
+mod streaks;
+#[cfg(test)]
 mod tests;

@@ -34,7 +34,7 @@ pub(crate) fn take_round(
 {
     for number in 0..published.len() {
         let batch = board.read(&published[number].receipt);
-        lines[number].take_in(batch.decided.as_slice())?;
+        lines[number].take_streaks(&batch.decided)?;
     }
     Ok(())
 }

@@ -24,18 +24,7 @@ use Rattle.std.proofs.Common.{
   arith,
   append_assoc,
 }
-use Rattle.std.specs.Prelude.{
-  slice_index,
-  slice_range,
-  vec_len,
-  vec_capacity,
-  Result,
-  Ok,
-  Err,
-  is_ok,
-  IsOk,
-  false,
-}
+use Rattle.std.specs.Prelude.{slice_index, slice_range}
 use Rattle.std.proofs.lemmas.List.{append-nil}
 use Rattle.vcd_reader.specs.Variables.{size_of}
 use Rattle.machine.specs.Running.{Running, IsClock}
@@ -126,9 +115,8 @@ module _ (old : Monitor) (row : List ℕ) (out more : List Decided) (machine : R
   pub one-more : (new : Monitor) → new.machine ≡ machine → new.from ≡ old.from → new.to ≡ old.to →
       new.attempts ≡ old.attempts → new.since ≡ old.since →
       new.decided.items ≡ old.decided.items ++ more →
-      vec_len new.decided ≡ vec_len old.decided + length more →
-      vec_capacity old.decided ≤ vec_capacity new.decided → IsOneMore old row new
-  one-more new is from to attempts since told len capacity =
+      old.decided.room ≤ new.decided.room + length more → IsOneMore old row new
+  one-more new is from to attempts since told room =
       let same : length more ≡ length h.decided = ap length decided-is in
       let all = counted.all in
       let next = counted.next in
@@ -153,14 +141,8 @@ module _ (old : Monitor) (row : List ℕ) (out more : List Decided) (machine : R
             (sym is);
         told = told ∙ ap (λ (ds : List Decided). old.decided.items ++ ds) decided-is;
         now = omega arith;
-        live = omega arith;
-        capacity = capacity;
+        room = omega arith;
       }
-
--- a result that is a success
-pub is-success : {A E : Type 0} (r : Result A E) → is_ok r ≡ false → IsOk r → ⊥
-is-success (Ok a) h k = absurd cc
-is-success (Err e) h k = absurd cc
 
 pub same-all : (a b c : Monitor) → IsSame a b → IsSame b c → IsSame a c
 same-all a b c h k =

@@ -1,6 +1,5 @@
 -- Where a monitor stands in a window.
-use Rattle.std.specs.Prelude.{◌≡◌, ℕ, ◌+◌, ◌≤◌, List, [], ◌++◌, length, map, slice_range, vec_len}
-use Rattle.std.specs.Prelude.{vec_capacity}
+use Rattle.std.specs.Prelude.{◌≡◌, ℕ, ◌+◌, ◌≤◌, List, [], ◌++◌, length, map, slice_range}
 use Rattle.signals.specs.declared.verdict.Decided.{Decided}
 use Rattle.bytecode.specs.Values.{ProgramData}
 use Rattle.vcd_reader.specs.Variables.{size_of}
@@ -78,9 +77,8 @@ pub record IsOneMore (old : Monitor) (row : List ℕ) (new : Monitor) : Type 0 w
       ≡ done (record { state = new.machine.state; decided = decided }) left
   pub told : new.decided.items ≡ old.decided.items ++ decided
   pub now : new.machine.state.standing.now ≡ old.machine.state.standing.now + 1
-  pub live : length new.machine.state.standing.attempts + vec_len new.decided
-      ≡ length old.machine.state.standing.attempts + vec_len old.decided + 1
-  pub capacity : vec_capacity old.decided ≤ vec_capacity new.decided
+  pub room : length new.machine.state.standing.attempts + old.decided.room
+      ≤ length old.machine.state.standing.attempts + new.decided.room + 1
 
 -- over these rows it went on from one state to the other
 pub record HasGone (rows : List (List ℕ)) (old new : Monitor) : Type 0 where

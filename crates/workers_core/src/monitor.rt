@@ -2,7 +2,7 @@
 
 ghost use Rattle.std.specs.Prelude.{◌≡◌, IfOk, OnOk, ◌+◌, ◌-◌, ◌^◌, ◌<◌, ◌≤◌, length};
 ghost use Rattle.std.specs.Prelude.{slice_range};
-ghost use Rattle.std.specs.Prelude.{vec_len, vec_capacity};
+ghost use Rattle.std.specs.Prelude.{vec_capacity};
 ghost use Rattle.vcd_reader.specs.Dump.{Contents};
 ghost use Rattle.cycle_window.specs.Held.{end_in, IsOver};
 ghost use Rattle.workers_core.specs.States.{advanced};
@@ -11,7 +11,7 @@ ghost use Rattle.machine_definition.specs.Runs.{open_ones};
 use arrayvec::ArrayVec;
 use cycle_window::Window;
 use machine::Machine;
-use machine_runs::Batch;
+use machine_runs::{Batch, Streaks};
 use signals::Decided;
 use std::alloc::{AllocError, Global};
 use std::mem;
@@ -34,7 +34,7 @@ pub struct Monitor {
     pub(crate) attempts: usize,
     /// The clock from which on the decided attempts are kept.
     pub(crate) since: u64,
-    pub(crate) decided: Vec<Decided>,
+    pub(crate) decided: Streaks,
     ghost wide: { to - from ≤ vec_capacity row },
 }
 
@@ -72,7 +72,7 @@ impl Monitor {
             row,
             attempts,
             since: 0,
-            decided: Vec::new(alloc),
+            decided: Streaks::new(alloc),
         })
     }
 
@@ -81,24 +81,21 @@ impl Monitor {
     fn clock(&mut self, decided: &mut ArrayVec<Decided, 1024>)
         requires row { AreSampled self.old.machine.program self.old.row.items }
         requires room { self.old.machine.program.header.limits.attempts ≤ 1024 }
-        requires spare { vec_len self.old.decided
-            + length self.old.machine.state.standing.attempts + 1 ≤ vec_capacity self.old.decided }
+        requires spare { length self.old.machine.state.standing.attempts + 1
+            ≤ self.old.decided.room }
         requires more { self.old.machine.state.standing.now + 1 < 2 ^ 64 }
         ensures { IsOneMore self.old self.old.row.items self.new }
     {
         decided.clear();
         let row = self.row.as_slice();
         self.machine.clock(row, decided);
-        let kept = self.decided.extend_from_slice(decided.as_slice());
-        prove!(kept.is_ok());
+        self.decided.extend(decided.as_slice());
     }
 
     /// Makes room for what so many clocks decide: an attempt each, and those that are live.
     pub fn reserve(&mut self, clocks: u64) -> Result<(), AllocError>
         ensures same { IsUnmoved self.old self.new }
-        ensures room { OnOk result (vec_len self.new.decided
-            + self.new.attempts + clocks
-            ≤ vec_capacity self.new.decided) }
+        ensures room { OnOk result (self.new.attempts + clocks ≤ self.new.decided.room) }
     {
         let Some(room) = self.attempts.checked_add(clocks as usize) else {
             return Err(AllocError);
@@ -111,9 +108,8 @@ impl Monitor {
         requires stands { Stands window.now self.old }
         requires ahead { self.old.machine.state.standing.now ≤ to }
         requires inside { to ≤ end_in window.now }
-        requires spare { vec_len self.old.decided
-            + length self.old.machine.state.standing.attempts
-            + (to - self.old.machine.state.standing.now) ≤ vec_capacity self.old.decided }
+        requires spare { length self.old.machine.state.standing.attempts
+            + (to - self.old.machine.state.standing.now) ≤ self.old.decided.room }
         ensures stands { Stands window.now self.new }
         ensures same { IsSame self.old self.new }
         ensures place { self.new.machine.state.standing.now ≡ to }
@@ -144,7 +140,7 @@ impl Monitor {
         ensures batch { batch_state result ≡ batch number (monitor_state self.old) }
         ensures cleared { IsCleared self.old self.new }
     {
-        let decided = mem::replace(&mut self.decided, Vec::new(alloc));
+        let decided = mem::replace(&mut self.decided, Streaks::new(alloc));
         let first = self.since;
         let end = self.machine.now();
         self.since = end;

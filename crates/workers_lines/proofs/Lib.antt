@@ -4,3 +4,4 @@ pub mod CoreLaws
 pub mod TurnLaws
 pub mod LineLaws
 pub mod TakenLaws
+mod StreakLaws

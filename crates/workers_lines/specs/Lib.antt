@@ -1,3 +1,4 @@
+pub mod Growing
 pub mod Lines
 pub mod Rounds
 pub mod Taken

@@ -2,12 +2,14 @@
 
 ghost use Rattle.std.specs.Prelude.{◌≡◌, ◌+◌, ◌^◌, ◌<◌, ◌∷◌, ◌++◌, [], List, OnOk, length};
 ghost use Rattle.std.specs.Prelude.{filter_map, string_bytes};
-ghost use Rattle.signals.specs.declared.verdict.Verdict.{Verdict};
 ghost use Rattle.signals.specs.declared.verdict.Decided.{Decided};
-ghost use Rattle.verdicts.specs.Tallies.{tally_of};
 ghost use Rattle.verdicts.specs.Lines.{line};
+ghost use Rattle.verdicts.specs.Tallies.{is_fails};
 ghost use Rattle.machine_runs.specs.Lines.{failure_of, line_over, attempts_of};
+ghost use Rattle.machine_runs.specs.Streaks.{attempts_in};
+ghost use Rattle.workers_lines.specs.Growing.{more_of};
 
+use machine_runs::{Streak, Streaks};
 use signals::{Decided, Verdict};
 use std::alloc::{AllocError, Global};
 use verdicts::{Counts, Failure, Line};
@@ -19,32 +21,31 @@ pub struct GrowingLine {
     pub(crate) fails: Vec<Failure>,
 }
 
-/// The counts with one more verdict.
-fn counts_with(counts: Counts, verdict: Verdict) -> Counts
-    requires { attempts_of counts + 1 < 2 ^ 64 }
-    ensures all { attempts_of result ≡ attempts_of counts + 1 }
-    ensures tally { (before : List Verdict) → counts ≡ tally_of before
-        → result ≡ tally_of (before ++ verdict ∷ []) }
+/// The counts with so many more verdicts of that kind.
+fn counts_with(counts: Counts, verdict: Verdict, many: u64) -> Counts
+    requires { attempts_of counts + many < 2 ^ 64 }
+    ensures all { attempts_of result ≡ attempts_of counts + many }
+    ensures more { result ≡ more_of counts verdict many }
 {
     match verdict {
         Verdict::Holds(_) => Counts {
-            holds: counts.holds + 1,
+            holds: counts.holds + many,
             ..counts
         },
         Verdict::Vacuous(_) => Counts {
-            vacuous: counts.vacuous + 1,
+            vacuous: counts.vacuous + many,
             ..counts
         },
         Verdict::Fails(_) => Counts {
-            fails: counts.fails + 1,
+            fails: counts.fails + many,
             ..counts
         },
         Verdict::Disabled(_) => Counts {
-            disabled: counts.disabled + 1,
+            disabled: counts.disabled + many,
             ..counts
         },
         Verdict::Open => Counts {
-            still_open: counts.still_open + 1,
+            still_open: counts.still_open + many,
             ..counts
         },
     }
@@ -67,6 +68,27 @@ fn push_failure(fails: &mut Vec<Failure>, one: Decided) -> Result<(), AllocError
     }
 }
 
+/// Whether it is a failure.
+fn is_failure(verdict: Verdict) -> bool
+    ensures { result ≡ is_fails verdict }
+{
+    matches!(verdict, Verdict::Fails(_))
+}
+
+/// Adds the attempts of the streak where they failed.
+fn push_failures(fails: &mut Vec<Failure>, streak: &Streak) -> Result<(), AllocError>
+    ensures { OnOk result (fails.new.items
+        ≡ fails.old.items ++ filter_map failure_of (attempts_in streak.now)) }
+{
+    if !is_failure(streak.first.verdict) {
+        return Ok(());
+    }
+    for place in 0..streak.count {
+        push_failure(fails, streak.at(place))?;
+    }
+    Ok(())
+}
+
 impl GrowingLine {
     ghost use Rattle.workers_lines.specs.Taken.{TookIn};
 
@@ -80,16 +102,16 @@ impl GrowingLine {
         }
     }
 
-    /// Takes in one attempt.
-    fn note(&mut self, one: Decided) -> Result<(), AllocError>
-        requires { attempts_of self.old.counts + 1 < 2 ^ 64 }
+    /// Takes in the attempts of a streak.
+    fn take_streak(&mut self, streak: &Streak) -> Result<(), AllocError>
+        requires { attempts_of self.old.counts + streak.now.count < 2 ^ 64 }
         ensures count { OnOk result
-            (attempts_of self.new.counts ≡ attempts_of self.old.counts + 1) }
+            (attempts_of self.new.counts ≡ attempts_of self.old.counts + streak.now.count) }
         ensures took { (before : List Decided) → TookIn self.old before
-            → OnOk result (TookIn self.new (before ++ one ∷ [])) }
+            → OnOk result (TookIn self.new (before ++ attempts_in streak.now)) }
     {
-        push_failure(&mut self.fails, one)?;
-        self.counts = counts_with(self.counts, one.verdict);
+        push_failures(&mut self.fails, streak)?;
+        self.counts = counts_with(self.counts, streak.first.verdict, streak.count);
         Ok(())
     }
 
@@ -100,7 +122,19 @@ impl GrowingLine {
             → OnOk result (TookIn self.new (before ++ attempts.now)) }
     {
         for one in attempts {
-            self.note(*one)?;
+            self.take_streak(&Streak::of(*one))?;
+        }
+        Ok(())
+    }
+
+    /// Takes in attempts that are kept as streaks, in their order.
+    pub fn take_streaks(&mut self, attempts: &Streaks) -> Result<(), AllocError>
+        requires { attempts_of self.old.counts + length attempts.now.items < 2 ^ 64 }
+        ensures took { (before : List Decided) → TookIn self.old before
+            → OnOk result (TookIn self.new (before ++ attempts.now.items)) }
+    {
+        for streak in attempts.as_slice() {
+            self.take_streak(streak)?;
         }
         Ok(())
     }

@@ -39,7 +39,7 @@ fn take_batch(lines: &mut [GrowingLine], batch: &Batch) -> Result<(), AllocError
     if batch.monitor >= lines.len() {
         return Ok(());
     }
-    lines[batch.monitor].take_in(batch.decided.as_slice())
+    lines[batch.monitor].take_streaks(&batch.decided)
 }
 
 /// The lines of so many monitors, which took in what each published, in the order in which it did.

@@ -1,57 +1,42 @@
 //! How many verdicts of each kind a batch has.
 
-ghost use Rattle.std.specs.Prelude.{◌≡◌};
-ghost use Rattle.verdicts.specs.Tallies.{is_holds, is_vacuous, is_fails, is_disabled};
-ghost use Rattle.workers_tally.specs.Counts.{count_of, counts_of};
+ghost use Rattle.std.specs.Prelude.{◌≡◌, ◌^◌};
+ghost use Rattle.machine_runs.specs.Streaks.{attempts_in};
+ghost use Rattle.workers_tally.specs.Counts.{counts_of};
+ghost use Rattle.workers_tally.specs.Shares.{EachAtMost};
 
-use machine_runs::Batch;
-use signals::{Decided, Verdict};
+use machine_runs::{Batch, Streak};
+use signals::Verdict;
 
-fn count_holds(decided: &[Decided]) -> u64
-    ensures { result ≡ count_of is_holds decided.now }
+/// How many attempts of the streak hold, are vacuous, fail and are disabled.
+fn streak_counts(streak: &Streak) -> [u64; 4]
+    ensures { result ≡ counts_of (attempts_in streak.now) }
 {
-    decided
-        .iter()
-        .filter(|d| matches!(d.verdict, Verdict::Holds(_)))
-        .count() as u64
-}
-
-fn count_vacuous(decided: &[Decided]) -> u64
-    ensures { result ≡ count_of is_vacuous decided.now }
-{
-    decided
-        .iter()
-        .filter(|d| matches!(d.verdict, Verdict::Vacuous(_)))
-        .count() as u64
-}
-
-fn count_fails(decided: &[Decided]) -> u64
-    ensures { result ≡ count_of is_fails decided.now }
-{
-    decided
-        .iter()
-        .filter(|d| matches!(d.verdict, Verdict::Fails(_)))
-        .count() as u64
-}
-
-fn count_disabled(decided: &[Decided]) -> u64
-    ensures { result ≡ count_of is_disabled decided.now }
-{
-    decided
-        .iter()
-        .filter(|d| matches!(d.verdict, Verdict::Disabled(_)))
-        .count() as u64
+    let count = streak.count;
+    match streak.first.verdict {
+        Verdict::Holds(_) => [count, 0, 0, 0],
+        Verdict::Vacuous(_) => [0, count, 0, 0],
+        Verdict::Fails(_) => [0, 0, count, 0],
+        Verdict::Disabled(_) => [0, 0, 0, count],
+        Verdict::Open => [0, 0, 0, 0],
+    }
 }
 
 /// How many verdicts of the batch hold, are vacuous, fail and are disabled.
 pub(crate) fn batch_counts(batch: &Batch) -> [u64; 4]
+    requires { EachAtMost (counts_of batch.now.decided.items) (2 ^ 56) }
     ensures { result ≡ counts_of batch.now.decided.items }
 {
-    let decided = batch.decided.as_slice();
-    [
-        count_holds(decided),
-        count_vacuous(decided),
-        count_fails(decided),
-        count_disabled(decided),
-    ]
+    let mut holds = 0;
+    let mut vacuous = 0;
+    let mut fails = 0;
+    let mut disabled = 0;
+    for streak in batch.decided.as_slice() {
+        let counts = streak_counts(streak);
+        holds += counts[0];
+        vacuous += counts[1];
+        fails += counts[2];
+        disabled += counts[3];
+    }
+    [holds, vacuous, fails, disabled]
 }

@@ -21,8 +21,8 @@ below-other zero (suc n) lt other = omega arith
 below-other (suc k) zero lt other = absurd (omega (arith, lt))
 below-other (suc k) (suc n) lt other = omega (arith, below-other k n (omega (arith, lt)) (λ e. other (ap suc e)))
 
-pub take_in-requires : goal.take_in-requires
-take_in-requires c =
+pub take_streaks-requires : goal.take_streaks-requires
+take_streaks-requires c =
     let n = c.loop-number.number in
     let ls = c.loop-number.lines.items in
     let pub_ = c.args.published.now in
@@ -34,8 +34,8 @@ take_in-requires c =
     sym (c.loop-number.invariant.rest n (omega arith)) ∙ get-some ls n l inside
     ∙ ap (λ x. Some x) (sym c.index_mut.ensures.value) in
     let at : slice_get pub_ n ≡ Some p = get-some pub_ n p lt ∙ ap (λ x. Some x) (sym c.index-published-number.is) in
-    let same : c.as_slice.result.now ≡ (shown_by p.receipt).decided.items =
-    c.as_slice.ensures.value ∙ ap (λ (b : Batch). b.decided.items) c.read-batch.ensures
+    let same : c.read-batch.result.now.decided.items ≡ (shown_by p.receipt).decided.items =
+    ap (λ (b : Batch). b.decided.items) c.read-batch.ensures
     ∙ ap (λ (q : Published). (shown_by q.receipt).decided.items) (sym c.index-published-number.is) in
     omega (arith, c.requires.room n l p old at, ap (λ (ds : List Decided). length ds) same)
 
@@ -54,14 +54,14 @@ loop-number-preserved c =
     let inv = c.loop-number.invariant in
     let l : GrowingLine = c.index_mut.result.now in
     let p : Published = c.index-published-number.result in
-    let new : GrowingLine = c.take_in.new.self in
+    let new : GrowingLine = c.take_streaks.new.self in
     let lt : n < length pub_ = c.loop-number-test.true in
     let inside : n < length ls = omega (arith, inv.long, c.requires.long, lt) in
     let old : slice_get c.args.lines.now.items n ≡ Some l =
     sym (inv.rest n (omega arith)) ∙ get-some ls n l inside ∙ ap (λ x. Some x) (sym c.index_mut.ensures.value) in
     let at : slice_get pub_ n ≡ Some p = get-some pub_ n p lt ∙ ap (λ x. Some x) (sym c.index-published-number.is) in
-    let same : c.as_slice.result.now ≡ (shown_by p.receipt).decided.items =
-    c.as_slice.ensures.value ∙ ap (λ (b : Batch). b.decided.items) c.read-batch.ensures
+    let same : c.read-batch.result.now.decided.items ≡ (shown_by p.receipt).decided.items =
+    ap (λ (b : Batch). b.decided.items) c.read-batch.ensures
     ∙ ap (λ (q : Published). (shown_by q.receipt).decided.items) (sym c.index-published-number.is) in
     record {
       long = length-set ls n new ∙ inv.long;
@@ -74,7 +74,7 @@ loop-number-preserved c =
           let one : v ≡ p = some-is v p (sym here ∙ at) in
           subst (λ (ds : List Decided). TookIn new (before ++ ds)) (same
           ∙ ap (λ (r : Published). (shown_by r.receipt).decided.items) (sym one))
-          (c.in_ok-take_in.ensures.took before (subst (λ (z : GrowingLine). TookIn z before) is took)))
+          (c.in_ok-take_streaks.ensures.took before (subst (λ (z : GrowingLine). TookIn z before) is took)))
           i y now less x q was here;
       rest = λ i le. get-other ls n i new (λ e. omega (arith, e, le)) ∙ inv.rest i (omega (arith, le));
     }

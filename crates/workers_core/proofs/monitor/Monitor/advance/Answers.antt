@@ -88,7 +88,7 @@ loop-clock-preserved c =
       now = omega (arith, step.now, inv.now);
       ahead = omega (arith, inv.ahead);
       most = omega (arith, c.loop-clock-test.true);
-      spare = omega (arith, step.live, step.capacity, inv.spare, c.loop-clock-test.true);
+      spare = omega (arith, step.room, inv.spare, c.loop-clock-test.true);
       gone = λ k over.
           let ticks = ticks_of k (clock_in (columns_in w)) in
           laws.gone-more (row_of k (variables_in w old)) ticks old.machine.state.standing.now

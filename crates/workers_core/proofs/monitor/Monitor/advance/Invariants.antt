@@ -1,5 +1,4 @@
 use Rattle.std.proofs.Common.{◌≡◌, ◌+◌, ◌-◌, ◌≤◌, length}
-use Rattle.std.specs.Prelude.{vec_len, vec_capacity}
 use Rattle.vcd_reader.specs.Dump.{Contents}
 use Rattle.cycle_window.specs.Held.{IsOver}
 use Rattle.machine_runs.specs.Batches.{rows_between}
@@ -13,8 +12,7 @@ invariant-loop-clock l = record {
   now : l.self.machine.state.standing.now ≡ l.clock;
   ahead : l.fn.self.machine.state.standing.now ≤ l.clock;
   most : l.clock ≤ l.to;
-  spare : vec_len l.self.decided + length l.self.machine.state.standing.attempts + (l.to - l.clock)
-      ≤ vec_capacity l.self.decided;
+  spare : length l.self.machine.state.standing.attempts + (l.to - l.clock) ≤ l.self.decided.room;
   gone : (c : Contents) → IsOver l.window c →
       HasGone (rows_between (seen l.window c l.fn.self) l.fn.self.machine.state.standing.now
       l.clock)

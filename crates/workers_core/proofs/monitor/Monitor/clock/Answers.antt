@@ -1,7 +1,7 @@
 use Rattle.std.proofs.Common.{◌≡◌, ◌++◌, Bool, List, cond, sym, refl, ap, ◌∙◌, length, arith}
 use Rattle.std.proofs.Common.{ℕ, map, subst}
 use Rattle.std.proofs.Math.Logic.{∥∥₁_elim}
-use Rattle.std.specs.Prelude.{◌+◌, vec_len}
+use Rattle.std.specs.Prelude.{◌+◌, ◌≤◌}
 use Rattle.signals.specs.declared.verdict.Decided.{Decided}
 use Rattle.bytecode.specs.Values.{SlotData}
 use Rattle.machine.specs.Running.{IsClock}
@@ -17,23 +17,20 @@ clock-requires-clause-row c =
     row-values f.0 f.2 f.1 row widths (c.as_slice-row.ensures.value ∙ f.3) f.4
     (λ i. (c.type_inv.row i).fits))
 
-pub prove-unreachable-requires : goal.prove-unreachable-requires
-prove-unreachable-requires c =
+pub extend-requires : goal.extend-requires
+extend-requires c =
     let old = c.args.self.now in
     let few =
     laws.few old c.as_slice-row.result.now c.clear.new.self.items c.clock.new.out.items
     c.clock.new.self c.clock.ensures.clock c.clear.ensures in
     let same : length c.as_slice.result.now ≡ length c.clock.new.out.items =
     ap length c.as_slice.ensures.value in
-    laws.is-success c.extend_from_slice-kept.result (sym c.is_ok.ensures.value ∙ c.if-prove.true)
-    (c.extend_from_slice-kept.ensures.succeeds (omega (arith, few, same, c.requires.spare)))
+    omega (arith, few, same, c.requires.spare)
 
 pub returns : goal.returns
 returns c =
     let old = c.args.self.now in
-    let kept = c.extend_from_slice-kept in
-    let yes = sym c.is_ok.ensures.value ∙ c.if-prove.false in
-    let slice = c.as_slice.result.now in
+    let kept = c.extend in
     let row = old.row.items in
     let clock =
     subst (λ (r : List ℕ).
@@ -52,9 +49,6 @@ returns c =
       wide = _;
     }) refl refl refl refl refl
     (kept.ensures.items
-    ∙ ap (λ (b : Bool). cond b (old.decided.items ++ slice) old.decided.items) yes
     ∙ ap (λ (ds : List Decided). old.decided.items ++ ds) c.as_slice.ensures.value)
-    (kept.ensures.len
-    ∙ ap (λ (b : Bool). cond b (vec_len old.decided + length slice) (vec_len old.decided)) yes
-    ∙ ap (λ (ds : List Decided). vec_len old.decided + length ds) c.as_slice.ensures.value)
-    kept.ensures.capacity
+    (subst (λ (ds : List Decided). old.decided.room ≤ kept.new.self.room + length ds)
+    c.as_slice.ensures.value kept.ensures.room)

@@ -1,0 +1,88 @@
+//! Attempts that were decided alike, one after another.
+
+ghost use Rattle.std.specs.Prelude.{◌≡◌, ◌+◌, ◌^◌, ◌<◌, ◌≤◌, IfSome};
+ghost use Rattle.machine_runs.specs.Ages.{clock_of, later};
+
+use signals::{Decided, Verdict};
+
+/// Attempts that began at clocks one after another, and came to the same, each at the same age. A
+/// streak is at most as long as its starts and clocks are below 2^64.
+#[derive(Clone, Copy)]
+pub struct Streak {
+    pub first: Decided,
+    /// How many there are.
+    pub count: u64,
+    ghost starts: { first.start + count ≤ 2 ^ 64 },
+    ghost clocks: { clock_of first.verdict + count ≤ 2 ^ 64 },
+}
+
+/// The verdict so many clocks later.
+fn verdict_later(verdict: Verdict, clocks: u64) -> Verdict
+    requires { clock_of verdict + clocks < 2 ^ 64 }
+    ensures { result ≡ later clocks verdict }
+{
+    match verdict {
+        Verdict::Holds(clock) => Verdict::Holds(clock + clocks),
+        Verdict::Vacuous(clock) => Verdict::Vacuous(clock + clocks),
+        Verdict::Fails(clock) => Verdict::Fails(clock + clocks),
+        Verdict::Disabled(clock) => Verdict::Disabled(clock + clocks),
+        Verdict::Open => Verdict::Open,
+    }
+}
+
+impl Streak {
+    ghost use Rattle.std.specs.Prelude.{◌≡◌, ◌<◌, ◌∷◌, ◌++◌, [], IfSome};
+    ghost use Rattle.machine_runs.specs.Ages.{nth};
+    ghost use Rattle.machine_runs.specs.Streaks.{attempts_in};
+
+    /// Of one attempt.
+    pub fn of(one: Decided) -> Streak
+        ensures attempts { attempts_in result ≡ one ∷ [] }
+        ensures count { result.count ≡ 1 }
+    {
+        Streak {
+            first: one,
+            count: 1,
+        }
+    }
+
+    /// The attempt of a place, counted from 0.
+    pub fn at(&self, place: u64) -> Decided
+        requires { place < self.now.count }
+        ensures { result ≡ nth self.now.first place }
+    {
+        let first = self.first;
+        Decided {
+            start: first.start + place,
+            verdict: verdict_later(first.verdict, place),
+        }
+    }
+
+    /// The streak with one more attempt, where that goes on with it.
+    #[inline]
+    pub(crate) fn with(&self, one: Decided) -> Option<Streak>
+        ensures { IfSome result (λ s. attempts_in s ≡ attempts_in self.now ++ one ∷ []) }
+    {
+        let first = self.first;
+        let count = self.count.checked_add(1)?;
+        if one.start.checked_sub(first.start)? != self.count
+            || clocks_between(first.verdict, one.verdict)? != self.count
+        {
+            return None;
+        }
+        Some(Streak { first, count })
+    }
+}
+
+/// How many clocks later the other verdict is, where it is of the same kind.
+fn clocks_between(from: Verdict, to: Verdict) -> Option<u64>
+    ensures { IfSome result (λ clocks. to ≡ later clocks from) }
+{
+    match (from, to) {
+        (Verdict::Holds(a), Verdict::Holds(b)) => b.checked_sub(a),
+        (Verdict::Vacuous(a), Verdict::Vacuous(b)) => b.checked_sub(a),
+        (Verdict::Fails(a), Verdict::Fails(b)) => b.checked_sub(a),
+        (Verdict::Disabled(a), Verdict::Disabled(b)) => b.checked_sub(a),
+        _ => None,
+    }
+}
