@@ -9,4 +9,4 @@ pub mod ClockLaws
 pub mod LessLaws
 pub mod RowLaws
 pub mod MemoryLaws
-pub mod QuietLaws
+pub mod OwnLaws
