@@ -1,5 +1,4 @@
-use Rattle.std.proofs.Common.{ℕ, List, [], ◌∷◌, ◌++◌, ◌-◌, Some, None, sym, ap, ◌∙◌, arith}
-use Rattle.signals.specs.declared.verdict.Decided.{Decided}
+use Rattle.std.proofs.Common.{ℕ, List, [], ◌∷◌, ◌++◌, ◌-◌, Some, None, sym, ap, ◌∙◌}
 use Rattle.machine_definition.specs.Outcomes.{done}
 use Rattle.machine_definition.specs.Clocks.{Attempt}
 use Rattle.machine_pool.specs.Pooled.{Pooled}
@@ -26,7 +25,8 @@ pub returns-in-None-clause-settled : goal.returns-in-None-clause-settled
 returns-in-None-clause-settled c =
     let live =
     ap (λ (q : Pooled AttemptRecord). attempts_in q.live) c.open-slot.ensures.pool
-    ∙ ap (λ (l : List (ℕ × AttemptRecord)). attempts_in (l ++ (c.open-slot.result, c.args.attempt) ∷ [])) c.requires.none in
+    ∙ ap (λ (l : List (ℕ × AttemptRecord)). attempts_in (l ++ (c.open-slot.result, c.args.attempt) ∷ []))
+    c.requires.none in
     record {
       decided = [];
       told = sym (laws.none-more c.args.out.now.items);

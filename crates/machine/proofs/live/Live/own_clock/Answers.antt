@@ -1,9 +1,9 @@
-use Rattle.std.proofs.Common.{◌≡◌, ℕ, ◌+◌, ◌*◌, ◌≤◌, Bool, List, [], ◌∷◌, refl, sym, ap, ◌∙◌, arith}
+use Rattle.std.proofs.Common.{◌≡◌, ◌+◌, List, [], ◌∷◌, refl, sym, ap, ◌∙◌, arith}
 use Rattle.bytecode.specs.Programs.{data_of}
-use Rattle.machine_definition.specs.Outcomes.{Ran, done}
+use Rattle.machine_definition.specs.Outcomes.{done}
 use Rattle.machine_definition.specs.Clocks.{Attempt, Obligation, Standing, visited, settle_all, clock_after}
 use Rattle.machine_visits.specs.Records.{attempt_of, made_by}
-use Rattle.machine.specs.Live.{attempts_in, obligations_in, standing_of, new_attempt, with_new}
+use Rattle.machine.specs.Live.{attempts_in, standing_of, new_attempt, with_new}
 use Rattle.machine.specs.Own.{own_visits}
 use Rattle.machine.proofs.LessLaws.{visit_attempts-less, visit_obligations-less, settle_all-less, disable_all-less}
 use Rattle.machine.proofs.ClockLaws as laws
