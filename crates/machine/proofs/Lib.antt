@@ -8,5 +8,6 @@ pub mod DisableLaws
 pub mod ClockLaws
 pub mod LessLaws
 pub mod RowLaws
+pub mod SampleLaws
 pub mod MemoryLaws
-pub mod QuietLaws
+pub mod OwnLaws

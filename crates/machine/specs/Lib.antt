@@ -1,5 +1,5 @@
 pub mod Live
-pub mod Quiet
+pub mod Own
 pub mod Code
 pub mod SampleCode
 pub mod Running

@@ -4,8 +4,10 @@
 //! live, and settles the attempts. It tests no operand, no jump, no reach into the history, no room
 //! of a pool and no budget, since a program that the verifier accepted never fails such a test; and
 //! it takes no memory, since `Machine::new` took all. Sample code without jumps is decoded once, to
-//! steps over places; code with a jump runs over a stack of operands. Where nothing is live and the
-//! clock's own attempt is vacuous at once, as at most clocks of most rules, no pool is touched.
+//! steps over places, of which the first hold the row; the ring has it only where the program keeps
+//! a history. Code with a jump runs over a stack of operands. Where nothing is live before a clock,
+//! as at most clocks of most rules, no pool is walked: the clock's own attempt and obligation are
+//! visited and settled alone, and a pool is touched only by what stays live.
 //!
 //! ```text
 //! let mut machine = Machine::new(alloc, verify(alloc, program)?)?;
@@ -28,8 +30,9 @@ mod live;
 mod machine;
 mod memory;
 mod obligations;
-mod quiet;
+mod own;
 mod row;
 mod sample_code;
+mod stacked;
 
 pub use machine::Machine;

@@ -1,7 +1,6 @@
 //! What is live between clocks.
 
 ghost use Rattle.std.specs.Prelude.{◌≡◌, ◌+◌, ◌^◌, ◌<◌, ◌≤◌, ◌++◌, ◌∷◌, [], Some, length};
-ghost use Rattle.std.specs.Prelude.{IfSome};
 ghost use Rattle.bytecode.specs.Programs.{data_of};
 ghost use Rattle.verifier.specs.Programs.{IsAccepted};
 ghost use Rattle.machine_definition.specs.Clocks.{disabling};
@@ -10,17 +9,18 @@ ghost use Rattle.machine.specs.Code.{AreBasesOf};
 ghost use Rattle.machine.specs.Live.{attempts_in, obligations_in, standing_of, new_attempt};
 ghost use Rattle.machine.specs.Live.{with_new};
 ghost use Rattle.machine.specs.Live.{live_budget, ArePoolsOf, HasAdvanced};
-ghost use Rattle.machine.specs.Quiet.{IsQuiet};
 
 use crate::attempts::{disable_attempts, settle_attempts, visit_attempts};
 use crate::bases::Bases;
 use crate::obligations::{drop_obligations, visit_obligations};
-use crate::quiet::left_if_vacuous;
+use crate::own::{
+    disable_own_attempt, own_attempt, settle_own_attempt, visit_own_attempt, visit_own_obligation,
+};
 use arrayvec::ArrayVec;
 use bytecode::Program;
 use machine_pool::Pool;
 use machine_visits::{AttemptRecord, ObligationRecord};
-use signals::{Decided, Verdict};
+use signals::Decided;
 
 /// The live attempts and obligations, and the number of clocks that were run.
 #[derive(Drop)]
@@ -116,31 +116,47 @@ impl Live {
         self.now += 1;
     }
 
-    /// The ticks that are left after a clock that isn't disabled, if nothing is live and its
-    /// attempt is vacuous at once; none where that isn't so.
-    fn left_if_quiet(
-        &self,
+    /// A clock before which nothing is live: no pool is walked.
+    fn own_clock(
+        &mut self,
         program: &Program,
         bases: &Bases,
         atoms: &[bool],
-        left: u64,
-    ) -> Option<u64>
+        left: &mut u64,
+        out: &mut ArrayVec<Decided, 1024>,
+    )
         requires accepted { IsAccepted (data_of program.now) }
         requires bases { AreBasesOf (data_of program.now) bases.now }
         requires atoms { length atoms.now ≡ (data_of program.now).header.atoms }
-        requires budget { live_budget (data_of program.now) ≤ left }
-        ensures quiet { IfSome result (IsQuiet (data_of program.now)
-            (standing_of self.entry.now.now self.entry.now.attempts self.entry.now.obligations)
-            atoms.now left) }
-        ensures fewer { IfSome result (λ rest. rest ≤ left) }
+        requires more { self.old.now + 1 < 2 ^ 64 }
+        requires pools { ArePoolsOf (data_of program.now)
+            self.old.attempts.cap self.old.obligations.cap }
+        requires no_attempt { self.old.attempts.live ≡ [] }
+        requires no_obligation { self.old.obligations.live ≡ [] }
+        requires budget { live_budget (data_of program.now) ≤ left.old }
+        requires room { length out.old.items + (data_of program.now).header.limits.attempts ≤ 1024 }
+        ensures pools { ArePoolsOf (data_of program.now)
+            self.new.attempts.cap self.new.obligations.cap }
+        ensures fewer { left.new ≤ left.old }
+        ensures advanced { HasAdvanced (data_of program.now)
+            (standing_of self.old.now self.old.attempts self.old.obligations) atoms.now
+            left.old out.old.items
+            (standing_of self.new.now self.new.attempts self.new.obligations)
+            left.new out.new.items }
     {
-        if self.attempts.len() != 0 || self.obligations.len() != 0 {
-            return None;
-        }
+        let now = self.now;
         if is_disabled(program, atoms) {
-            return None;
+            disable_own_attempt(now, left, out);
+            self.now += 1;
+            return;
         }
-        left_if_vacuous(program, bases.antecedent.as_slice(), atoms, left)
+        let visit = visit_own_attempt(program, bases.antecedent.as_slice(), atoms, left);
+        let attempt = own_attempt(program, now).visited_record(visit, now);
+        let after = bases.consequent.as_slice();
+        let opened = &mut self.obligations;
+        let fates = visit_own_obligation(visit.accepted, program, after, atoms, now, opened, left);
+        settle_own_attempt(attempt, fates, now, &mut self.attempts, left, out);
+        self.now += 1;
     }
 
     /// A clock after its sample code, which gave these atoms: it adds what it decides to `out`,
@@ -172,14 +188,8 @@ impl Live {
             (standing_of self.new.now self.new.attempts self.new.obligations)
             left.new out.new.items }
     {
-        if let Some(rest) = self.left_if_quiet(program, bases, atoms, *left) {
-            *left = rest;
-            let verdict = Verdict::Vacuous(self.now);
-            out.push(Decided {
-                start: self.now,
-                verdict,
-            });
-            self.now += 1;
+        if self.attempts.len() == 0 && self.obligations.len() == 0 {
+            self.own_clock(program, bases, atoms, left, out);
             return;
         }
         self.full_clock(program, bases, atoms, left, out);

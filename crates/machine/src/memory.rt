@@ -6,12 +6,11 @@ ghost use Rattle.bytecode.specs.Programs.{data_of};
 ghost use Rattle.verifier.specs.Programs.{IsAccepted};
 ghost use Rattle.machine_definition.specs.Machine.{opening};
 ghost use Rattle.machine.specs.Code.{AreBasesOf};
-ghost use Rattle.machine.specs.Memory.{IsLiveAtFirst, IsMemory, state_of};
+ghost use Rattle.machine.specs.Memory.{IsLiveAtFirst, IsMemory, state_of, running_of};
 ghost use Rattle.machine.specs.Running.{IsClock, IsRowOf};
 
 use crate::bases::Bases;
 use crate::live::Live;
-use crate::row::push_row;
 use crate::sample_code::SampleCode;
 use arrayvec::ArrayVec;
 use bytecode::Program;
@@ -32,7 +31,6 @@ pub(crate) struct Memory {
     pub(crate) bases: Bases,
     pub(crate) frame: Frame,
     pub(crate) history: Ring,
-    pub(crate) row: Vec<u128>,
     pub(crate) code: SampleCode,
     pub(crate) atoms: Vec<bool>,
     pub(crate) counters: Vec<u128>,
@@ -67,7 +65,7 @@ fn bases_in(alloc: Global, program: &Program) -> Result<Bases, AllocError>
 }
 
 /// So many zeros, with room behind them.
-fn zeros(alloc: Global, count: usize) -> Result<Vec<u128>, AllocError>
+pub(crate) fn zeros(alloc: Global, count: usize) -> Result<Vec<u128>, AllocError>
     ensures zeros { IfOk result (λ zeros. zeros.items ≡ replicate count 0) }
     ensures room { IfOk result (λ zeros. count + 8 ≤ vec_capacity zeros) }
 {
@@ -91,14 +89,14 @@ impl Memory {
     pub(crate) fn new(alloc: Global, program: &Program) -> Result<Memory, AllocError>
         requires { IsAccepted (data_of program.now) }
         ensures memory { IfOk result (λ memory. IsMemory (data_of program.now) memory) }
-        ensures opening { IfOk result (λ memory. state_of memory ≡ opening (data_of program.now)) }
+        ensures opening { IfOk result (λ memory.
+            state_of (data_of program.now) memory ≡ opening (data_of program.now)) }
     {
         let bases = bases_in(alloc, program)?;
         let frame = Frame::of(alloc, program)?;
         let code = SampleCode::new(alloc, program, frame.slots.as_slice())?;
         let slots = frame.slots.len();
         let history = Ring::new(alloc, program.limits.history as usize, slots)?;
-        let row = zeros(alloc, slots)?;
         let atoms = no_atoms(alloc, program.atoms as usize)?;
         let counters = zeros(alloc, program.counters.len())?;
         let live = live_at_first(alloc, program)?;
@@ -106,7 +104,6 @@ impl Memory {
             bases,
             frame,
             history,
-            row,
             code,
             atoms,
             counters,
@@ -128,21 +125,16 @@ impl Memory {
         requires room { length out.old.items + (data_of program.now).header.limits.attempts ≤ 1024 }
         requires more { self.old.live.now + 1 < 2 ^ 64 }
         ensures memory { IsMemory (data_of program.now) self.new }
-        ensures clock { IsClock
-            (record { program = data_of program.now; state = state_of self.old; spent = 0 })
+        ensures clock { IsClock (running_of (data_of program.now) self.old 0)
             signals.now out.old.items
-            (record { program = data_of program.now; state = state_of self.new; spent = result })
-            out.new.items }
+            (running_of (data_of program.now) self.new result) out.new.items }
     {
         let budget = u64::from(program.limits.budget);
-        let counters = self.counters.as_slice();
-        let row = self.row.as_mut_slice();
-        push_row(&mut self.history, row, signals, counters);
         let ticks = self.code.run(
             program,
             self.frame.slots.as_slice(),
-            &self.history,
-            self.row.as_slice(),
+            &mut self.history,
+            signals,
             self.atoms.as_mut_slice(),
             self.counters.as_mut_slice(),
         );

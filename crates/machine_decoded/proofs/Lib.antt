@@ -7,3 +7,5 @@ pub mod RunLaws
 pub mod ReadyLaws
 pub mod SolveLaws
 pub mod VecLaws
+pub mod RowLaws
+pub mod CopyLaws

@@ -1,7 +1,7 @@
 //! What sample code leaves, of a program with the signals `x` of 8 bits and `y` of 128, a counter
 //! of 128 bits, and one atom.
 
-ghost use Rattle.std.specs.Prelude.{◌≡◌, ◌<◌, length, IfOk, IsTrue};
+ghost use Rattle.std.specs.Prelude.{◌≡◌, ◌<◌, ◌∷◌, drop, length, IfOk, IsTrue};
 ghost use Rattle.bytecode.specs.Instructions.{frame_of};
 ghost use Rattle.bytecode.specs.Programs.{data_of};
 ghost use Rattle.verifier.specs.Programs.{IsAccepted};
@@ -101,6 +101,7 @@ fn push_row(program: &Program, widths: &[u8], ring: &mut Ring, row: &[u128]) -> 
     requires { AreRows (data_of program.now) widths.now ring.old }
     ensures rows { AreRows (data_of program.now) widths.now ring.new }
     ensures newest { IsTrue result → IsNewest row.now ring.new }
+    ensures fits { IsTrue result → AreValues widths.now row.now }
 {
     let fit = fits(widths, row);
     if fit {
@@ -141,6 +142,13 @@ fn left_by_stack(
     }))
 }
 
+/// Whether a row begins with the constant 1.
+fn begins_with_one(row: &[u128]) -> bool
+    ensures { IsTrue result → row.now ≡ 1 ∷ drop 1 row.now }
+{
+    row.first().copied() == Some(1)
+}
+
 /// What a run of decoded code leaves; none where code has a jump.
 fn left_by_steps(
     alloc: Global,
@@ -152,6 +160,7 @@ fn left_by_steps(
     requires accepted { IsAccepted (data_of program.now) }
     requires rows { AreRows (data_of program.now) widths.now ring.now }
     requires newest { IsNewest row.now ring.now }
+    requires fits { AreValues widths.now row.now }
 {
     let mut counters = [9u128];
     let mut atoms = [true];
@@ -161,7 +170,11 @@ fn left_by_steps(
     let Some(mut decoded) = Decoded::of(alloc, program, widths)? else {
         return Ok(None);
     };
-    let ticks = decoded.run(program, ring, row, &mut atoms, &mut counters);
+    if !begins_with_one(row) {
+        return Ok(None);
+    }
+    decoded.enter(program, &row[1..], &[]);
+    let ticks = decoded.run(program, ring, &mut atoms, &mut counters);
     Ok(Some(Outcome {
         counter: counters[0],
         atom: atoms[0],

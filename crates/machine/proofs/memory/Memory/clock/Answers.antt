@@ -7,6 +7,7 @@ use Rattle.machine_samples.specs.Runs.{HasRun}
 use Rattle.machine_samples.proofs.RowLaws.{AreRows-pushed}
 use Rattle.machine.specs.Live.{standing_of, HasAdvanced}
 use Rattle.machine.specs.Memory.{state_of}
+use Rattle.machine.specs.SampleCode.{rows_of}
 use Rattle.machine.proofs.RowLaws.{whole-row}
 use Rattle.std.proofs.Math.ListN.{length-map}
 use Rattle.machine_definition.specs.Outcomes.{done}
@@ -22,20 +23,18 @@ counted f xs = rw length-map refl
 pub run-ticks-requires-clause-rows : goal.run-ticks-requires-clause-rows
 run-ticks-requires-clause-rows c =
     let p = data_of c.args.program.now in
-    let s = state_of c.args.self.now in
-    let counters = c.as_slice-counters.ensures.value in
-    let pushed-is : c.push_row.new.history
-    ≡ pushed c.args.self.now.history (1 ∷ (c.args.signals.now ++ c.args.self.now.counters.items)) =
-    c.push_row.ensures.pushed ∙ ap (λ l. pushed c.args.self.now.history (1 ∷ (c.args.signals.now ++ l))) counters in
+    subst (λ ws. AreRows p ws (rows_of p c.args.self.now.code c.args.self.now.history))
+    (sym c.as_slice.ensures.value) c.requires.memory.history
+
+pub run-ticks-requires-clause-values : goal.run-ticks-requires-clause-values
+run-ticks-requires-clause-values c =
+    let p = data_of c.args.program.now in
+    let row = 1 ∷ (c.args.signals.now ++ c.args.self.now.counters.items) in
     let here =
     whole-row p c.args.signals.now c.args.self.now.counters.items c.requires.row c.requires.memory.counters in
-    let widths = c.args.self.now.frame.slots.items in
-    let rows =
-    subst (AreRows p widths) (sym pushed-is)
-    (AreRows-pushed p widths c.args.self.now.history (1 ∷ (c.args.signals.now ++ c.args.self.now.counters.items))
-    (subst (λ ws. AreValues ws (1 ∷ (c.args.signals.now ++ c.args.self.now.counters.items)))
-    (sym c.requires.memory.history.slots) here) c.requires.memory.history) in
-    subst (λ ws. AreRows p ws c.push_row.new.history) (sym c.as_slice.ensures.value) rows
+    subst (λ l. AreValues c.as_slice.result.now (1 ∷ (c.args.signals.now ++ l)))
+    (sym c.as_mut_slice-2.ensures.value)
+    (subst (λ ws. AreValues ws row) (sym (c.as_slice.ensures.value ∙ c.requires.memory.history.slots)) here)
 
 pub overflow_sub-left : goal.overflow_sub-left
 overflow_sub-left c =
@@ -51,26 +50,20 @@ overflow_sub-result c = omega (arith, c.clock.ensures.fewer)
 pub returns-clause-memory : goal.returns-clause-memory
 returns-clause-memory c =
     let p = data_of c.args.program.now in
-    let s = state_of c.args.self.now in
-    let counters = c.as_slice-counters.ensures.value in
-    let pushed-is : c.push_row.new.history
-    ≡ pushed c.args.self.now.history (1 ∷ (c.args.signals.now ++ c.args.self.now.counters.items)) =
-    c.push_row.ensures.pushed ∙ ap (λ l. pushed c.args.self.now.history (1 ∷ (c.args.signals.now ++ l))) counters in
-    let here =
-    whole-row p c.args.signals.now c.args.self.now.counters.items c.requires.row c.requires.memory.counters in
+    let s = state_of p c.args.self.now in
     let widths = c.args.self.now.frame.slots.items in
-    let rows =
-    subst (AreRows p widths) (sym pushed-is)
-    (AreRows-pushed p widths c.args.self.now.history (1 ∷ (c.args.signals.now ++ c.args.self.now.counters.items))
-    (subst (λ ws. AreValues ws (1 ∷ (c.args.signals.now ++ c.args.self.now.counters.items)))
-    (sym c.requires.memory.history.slots) here) c.requires.memory.history) in
-    let is-rows : c.push_row.new.history.rows ≡ with_row p c.args.signals.now s =
+    let row = 1 ∷ (c.args.signals.now ++ c.args.self.now.counters.items) in
+    let before = rows_of p c.args.self.now.code c.args.self.now.history in
+    let after = rows_of p c.run-ticks.new.self c.run-ticks.new.history in
+    let pushed-is : after ≡ pushed before row =
+    c.run-ticks.ensures.pushed
+    ∙ ap (λ l. pushed before (1 ∷ (c.args.signals.now ++ l))) c.as_mut_slice-2.ensures.value in
+    let is-rows : after.rows ≡ with_row p c.args.signals.now s =
     ap (λ h. h.rows) pushed-is
-    ∙ ap (λ d. (1 ∷ (c.args.signals.now ++ c.args.self.now.counters.items)) ∷ take d c.args.self.now.history.rows)
-    c.requires.memory.history.depth in
+    ∙ ap (λ d. row ∷ take d before.rows) c.requires.memory.history.depth in
     let budget : c.from-budget.result ≡ p.header.limits.budget = c.from-budget.ensures in
     let ran =
-    subst (λ old. HasRun p c.push_row.new.history.rows old c.run-ticks.result c.run-ticks.new.atoms
+    subst (λ old. HasRun p after.rows old c.run-ticks.result c.run-ticks.new.atoms
     c.run-ticks.new.counters) c.as_mut_slice-2.ensures.value c.run-ticks.ensures.ran in
     let atoms-long = c.run-ticks.auto.atoms ∙ c.as_mut_slice.ensures.len ∙ vec-long c.args.self.now.atoms in
     let counters-long = c.run-ticks.auto.counters ∙ c.as_mut_slice-2.ensures.len ∙ vec-long c.args.self.now.counters in
@@ -81,16 +74,20 @@ returns-clause-memory c =
     (subst (λ bits. HasAdvanced p s.standing bits (c.from-budget.result - c.run-ticks.result) c.args.out.now.items
     new c.clock.new.left c.clock.new.out.items) (c.as_slice-atoms.ensures.value
     ∙ refilled c.args.self.now.atoms c.run-ticks.new.atoms atoms-long) c.clock.ensures.advanced) in
-    let row-long = c.push_row.auto.row ∙ c.as_mut_slice-row.ensures.len ∙ vec-long c.args.self.now.row in
+    let here =
+    whole-row p c.args.signals.now c.args.self.now.counters.items c.requires.row c.requires.memory.counters in
+    let rows =
+    subst (AreRows p widths) (sym pushed-is)
+    (AreRows-pushed p widths before row (subst (λ ws. AreValues ws row) (sym c.requires.memory.history.slots) here)
+    c.requires.memory.history) in
     let reached =
-    laws.reached-next p c.requires.accepted s c.args.signals.now c.push_row.new.history.rows is-rows
+    laws.reached-next p c.requires.accepted s c.args.signals.now after.rows is-rows
     c.run-ticks.result c.run-ticks.new.atoms c.run-ticks.new.counters ran c.args.out.now.items new
     c.clock.new.left c.clock.new.out.items on c.requires.memory.reached in
     record {
       bases = c.requires.memory.bases;
       code = c.run-ticks.ensures.code;
       history = rows;
-      row = ap length (refilled c.args.self.now.row c.push_row.new.row row-long) ∙ row-long ∙ c.requires.memory.row;
       atoms =
           ap length (refilled c.args.self.now.atoms c.run-ticks.new.atoms atoms-long) ∙ atoms-long
           ∙ c.requires.memory.atoms;
@@ -109,26 +106,20 @@ returns-clause-memory c =
 pub returns-clause-clock : goal.returns-clause-clock
 returns-clause-clock c =
     let p = data_of c.args.program.now in
-    let s = state_of c.args.self.now in
-    let counters = c.as_slice-counters.ensures.value in
-    let pushed-is : c.push_row.new.history
-    ≡ pushed c.args.self.now.history (1 ∷ (c.args.signals.now ++ c.args.self.now.counters.items)) =
-    c.push_row.ensures.pushed ∙ ap (λ l. pushed c.args.self.now.history (1 ∷ (c.args.signals.now ++ l))) counters in
-    let here =
-    whole-row p c.args.signals.now c.args.self.now.counters.items c.requires.row c.requires.memory.counters in
+    let s = state_of p c.args.self.now in
     let widths = c.args.self.now.frame.slots.items in
-    let rows =
-    subst (AreRows p widths) (sym pushed-is)
-    (AreRows-pushed p widths c.args.self.now.history (1 ∷ (c.args.signals.now ++ c.args.self.now.counters.items))
-    (subst (λ ws. AreValues ws (1 ∷ (c.args.signals.now ++ c.args.self.now.counters.items)))
-    (sym c.requires.memory.history.slots) here) c.requires.memory.history) in
-    let is-rows : c.push_row.new.history.rows ≡ with_row p c.args.signals.now s =
+    let row = 1 ∷ (c.args.signals.now ++ c.args.self.now.counters.items) in
+    let before = rows_of p c.args.self.now.code c.args.self.now.history in
+    let after = rows_of p c.run-ticks.new.self c.run-ticks.new.history in
+    let pushed-is : after ≡ pushed before row =
+    c.run-ticks.ensures.pushed
+    ∙ ap (λ l. pushed before (1 ∷ (c.args.signals.now ++ l))) c.as_mut_slice-2.ensures.value in
+    let is-rows : after.rows ≡ with_row p c.args.signals.now s =
     ap (λ h. h.rows) pushed-is
-    ∙ ap (λ d. (1 ∷ (c.args.signals.now ++ c.args.self.now.counters.items)) ∷ take d c.args.self.now.history.rows)
-    c.requires.memory.history.depth in
+    ∙ ap (λ d. row ∷ take d before.rows) c.requires.memory.history.depth in
     let budget : c.from-budget.result ≡ p.header.limits.budget = c.from-budget.ensures in
     let ran =
-    subst (λ old. HasRun p c.push_row.new.history.rows old c.run-ticks.result c.run-ticks.new.atoms
+    subst (λ old. HasRun p after.rows old c.run-ticks.result c.run-ticks.new.atoms
     c.run-ticks.new.counters) c.as_mut_slice-2.ensures.value c.run-ticks.ensures.ran in
     let atoms-long = c.run-ticks.auto.atoms ∙ c.as_mut_slice.ensures.len ∙ vec-long c.args.self.now.atoms in
     let counters-long = c.run-ticks.auto.counters ∙ c.as_mut_slice-2.ensures.len ∙ vec-long c.args.self.now.counters in
@@ -143,12 +134,12 @@ returns-clause-clock c =
       program = refl;
       decided = on.decided;
       left = c.clock.new.left;
-      ran = laws.came p c.requires.accepted s c.args.signals.now c.push_row.new.history.rows is-rows c.run-ticks.result
+      ran = laws.came p c.requires.accepted s c.args.signals.now after.rows is-rows c.run-ticks.result
           c.run-ticks.new.atoms c.run-ticks.new.counters ran c.args.out.now.items new c.clock.new.left
           c.clock.new.out.items on
           ∙ ap (λ cs.
           done (record {
-            state = record { standing = new; rows = c.push_row.new.history.rows; counters = cs };
+            state = record { standing = new; rows = after.rows; counters = cs };
             decided = on.decided;
           }) c.clock.new.left)
           (sym (refilled c.args.self.now.counters c.run-ticks.new.counters counters-long));

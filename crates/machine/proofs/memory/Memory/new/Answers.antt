@@ -12,6 +12,7 @@ use Rattle.machine_samples.specs.Memory.{AreRows}
 use Rattle.machine_definition.specs.Values.{AreValues}
 use Rattle.machine_samples.proofs.RowLaws.{AreRows-cleared}
 use Rattle.machine_definition.specs.Bounds.{IsReached}
+use Rattle.machine.specs.SampleCode.{rows_of}
 use Rattle.machine.specs.Live.{attempts_in, obligations_in}
 use Rattle.machine.proofs.VecLaws.{vec-long}
 use Rattle.machine.proofs.memory.Memory.new.Goals as goal
@@ -36,14 +37,21 @@ returns-clause-memory c =
     let first = c.in_ok-live.ensures in
     let attempts = ap (λ (q : Pooled AttemptRecord). attempts_in q.live) first.attempts in
     let obligations = ap (λ (q : Pooled ObligationRecord). obligations_in q.live) first.obligations in
+    let widths = c.as_slice.ensures.value in
+    let made : c.in_ok-history.history ≡ cleared p.header.limits.history (length c.as_slice.result.now) =
+    c.in_ok-history.ensures
+    ∙ ap (cleared p.header.limits.history)
+    (c.len-slots.ensures ∙ vec-long c.in_ok-frame.frame.slots ∙ ap length (sym widths)) in
+    let first-rows : rows_of p c.in_ok-code.code c.in_ok-history.history
+    ≡ cleared p.header.limits.history (length (frame_of p).slots) =
+    ap (rows_of p c.in_ok-code.code) made ∙ c.in_ok-code.ensures.rows p.header.limits.history refl
+    ∙ ap (cleared p.header.limits.history) (ap length (widths ∙ slots)) in
     record {
       bases = c.in_ok-bases.ensures;
-      code = c.in_ok-code.ensures;
+      code = c.in_ok-code.ensures.code;
       history =
-          subst (AreRows p c.in_ok-frame.frame.slots.items)
-          (sym (c.in_ok-history.ensures ∙ ap (cleared p.header.limits.history) long))
+          subst (AreRows p c.in_ok-frame.frame.slots.items) (sym first-rows)
           (AreRows-cleared p c.in_ok-frame.frame.slots.items slots);
-      row = ap length c.in_ok-row.ensures.zeros ∙ length-replicate c.len-slots.result 0 ∙ long;
       atoms = ap length c.in_ok-atoms.ensures.atoms ∙ length-replicate p.header.atoms false;
       counters =
           zeros-fit p.counters c.in_ok-counters.counters.items

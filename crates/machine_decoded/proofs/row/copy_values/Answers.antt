@@ -1,6 +1,6 @@
 use Rattle.std.proofs.Common.{◌∙◌, length-set}
-use Rattle.machine.proofs.RowLaws.{row-more}
-use Rattle.machine.proofs.row.copy_values.Goals as goal
+use Rattle.machine_decoded.proofs.CopyLaws.{row-more}
+use Rattle.machine_decoded.proofs.row.copy_values.Goals as goal
 
 pub loop-index-preserved : goal.loop-index-preserved
 loop-index-preserved c =

@@ -1,0 +1,51 @@
+//! Sample code over a stack of operands.
+
+ghost use Rattle.std.specs.Prelude.{◌≡◌, ◌≤◌, ◌∷◌, ◌++◌, length};
+ghost use Rattle.bytecode.specs.Programs.{data_of};
+ghost use Rattle.verifier.specs.Programs.{IsAccepted};
+ghost use Rattle.machine_definition.specs.Values.{AreValues};
+ghost use Rattle.machine_ring.specs.History.{pushed};
+ghost use Rattle.machine_samples.specs.Memory.{AreRows};
+ghost use Rattle.machine_samples.specs.Runs.{HasRun, longest_run};
+
+use bytecode::Program;
+use machine_decoded::fill_row;
+use machine_ring::Ring;
+use machine_samples::{Stack, run};
+
+/// The stack, and where the row of a clock is made.
+#[derive(Drop)]
+pub(crate) struct Stacked {
+    pub(crate) stack: Stack,
+    pub(crate) row: Vec<u128>,
+}
+
+impl Stacked {
+    /// Makes the row of a clock, pushes it on the history, and runs the code.
+    pub(crate) fn run(
+        &mut self,
+        program: &Program,
+        widths: &[u8],
+        history: &mut Ring,
+        signals: &[u128],
+        atoms: &mut [bool],
+        counters: &mut [u128],
+    ) -> u64
+        requires accepted { IsAccepted (data_of program.now) }
+        requires row { length self.old.row.items ≡ length widths.now }
+        requires rows { AreRows (data_of program.now) widths.now history.old }
+        requires values { AreValues widths.now (1 ∷ (signals.now ++ counters.old)) }
+        requires atoms { length atoms.old ≡ (data_of program.now).header.atoms }
+        requires counters { AreValues (data_of program.now).counters counters.old }
+        ensures row { length self.new.row.items ≡ length self.old.row.items }
+        ensures pushed { history.new ≡ pushed history.old (1 ∷ (signals.now ++ counters.old)) }
+        ensures ran { HasRun (data_of program.now) history.new.rows counters.old
+            result atoms.new counters.new }
+        ensures ticks { result ≤ longest_run (data_of program.now) }
+        ensures kept { AreValues (data_of program.now).counters counters.new }
+    {
+        fill_row(&mut self.row, signals, counters);
+        history.push(&self.row);
+        run(program, widths, history, &mut self.stack, atoms, counters)
+    }
+}
