@@ -15,8 +15,8 @@
 //! tables that say which places each part of a sequence reaches from which. The first decision ends
 //! it, or the last row does. Then it looks for the first of these ticks at which the disabling
 //! boolean was true. So each boolean is evaluated at most once at each tick, and at none behind the
-//! one that decides. `cause_of` says of an attempt that failed with which ticks its antecedent ended
-//! by then, and which of these is the first whose obligation is broken.
+//! one that decides. Of an attempt that failed, `cause_of` says with which ticks its antecedent
+//! ended by then, and which of these is the first whose obligation is broken.
 //!
 //! The definitions: the verdict is that of `assertions`, in its `specs/Attempts.antt`, and over
 //! rows in its `specs/Verdicts.antt`; rows and counts are those of `expressions`, in its
