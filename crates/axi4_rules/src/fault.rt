@@ -19,7 +19,7 @@ pub enum PortFault {
     #[error("X4 BadLine {0}")]
     BadLine(usize),
     /// Memory ran out.
-    #[error("out of memory")]
+    #[error("OutOfMemory")]
     Memory,
 }
 

@@ -18,7 +18,7 @@
 #![tactic(auto)]
 
 use anyhow::{Result, bail};
-use cycle_window::{Clocks, Columns, WatchedSignal, Window};
+use cycle_window::{Clocks, Columns, WatchedSignal, Window, WindowSize};
 use signals::Counted;
 use std::alloc::Global;
 use std::fs::File;
@@ -62,10 +62,7 @@ fn rows_of(alloc: Global, dump: &Dump, clock: &str) -> Result<u64> {
         Ok(columns) => columns,
         Err(fault) => bail!("{fault}"),
     };
-    let mut window = match Window::new(alloc, 1024, columns) {
-        Ok(window) => window,
-        Err(fault) => bail!("{fault}"),
-    };
+    let mut window = Window::new(alloc, WindowSize::usual(), columns)?;
     for _ in 0..clocks.len() {
         let (_, end) = window.bounds();
         if end >= clocks.len() {

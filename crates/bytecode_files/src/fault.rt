@@ -24,7 +24,7 @@ pub enum CodeFault {
     /// The first byte behind the program.
     #[error("B6 TrailingBytes {0}")]
     TrailingBytes(usize),
-    #[error("out of memory")]
+    #[error("OutOfMemory")]
     Memory,
 }
 

@@ -21,6 +21,7 @@ use Rattle.cli_faults.specs.declared.fault.Fault.TheVariants.{
   Parse,
   Typing,
   Compile,
+  BadSize,
   BadWorkers,
   BadJob,
   Window,
@@ -82,6 +83,7 @@ module _ (c : Contents) (text name : List ℕ) where
   without_items (Parse e) h = formless e h
   without_items (Typing e) h = absurd h
   without_items (Compile e) h = absurd h
+  without_items BadSize h = absurd h
   without_items BadWorkers h = absurd h
   without_items BadJob h = absurd h
   without_items (Window e) h = absurd h
@@ -121,6 +123,7 @@ module _ (c : Contents) (text name : List ℕ) where
   without_program suite (Parse e) says h = absurd h
   without_program suite (Typing e) says h = absurd h
   without_program suite (Compile e) says h = record { suite = suite; says = says; why = h }
+  without_program suite BadSize says h = absurd h
   without_program suite BadWorkers says h = absurd h
   without_program suite BadJob says h = absurd h
   without_program suite (Window e) says h = absurd h
@@ -146,6 +149,7 @@ module _ (b : Build) (c : Contents) (gave : GaveDump b.source_before.remaining b
   refused_build (Parse e) h = refused (Parse e) h
   refused_build (Typing e) h = refused (Typing e) h
   refused_build (Compile e) h = refused (Compile e) h
+  refused_build BadSize h = absurd h
   refused_build BadWorkers h = absurd h
   refused_build BadJob h = absurd h
   refused_build (Window e) h = absurd h

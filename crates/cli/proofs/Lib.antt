@@ -4,3 +4,4 @@ pub mod TextLaws
 pub mod ProgramLaws
 pub mod BuildLaws
 pub mod CheckedLaws
+pub mod WrittenLaws

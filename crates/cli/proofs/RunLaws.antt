@@ -15,6 +15,7 @@ use Rattle.cli_faults.specs.declared.fault.Fault.TheVariants.{
   Parse,
   Typing,
   Compile,
+  BadSize,
   BadWorkers,
   BadJob,
   Window,
@@ -59,6 +60,7 @@ module _ (r : Run) (c : Contents) (gave : GaveDump r.source_before.remaining r.s
   refused_run (Parse e) h = refused_form e h
   refused_run (Typing e) h = refused (Typing e) h
   refused_run (Compile e) h = absurd h
+  refused_run BadSize h = absurd h
   refused_run BadWorkers h = absurd h
   refused_run BadJob h = absurd h
   refused_run (Window e) h = refused (Window e) h

@@ -63,6 +63,7 @@ use Rattle.cli_faults.specs.declared.fault.Fault.TheVariants.{
   Parse,
   Typing,
   Compile,
+  BadSize,
   BadWorkers,
   BadJob,
   Window,
@@ -209,6 +210,7 @@ without_items c text (Lex e) h = h
 without_items c text (Parse e) h = form_kept c text e h
 without_items c text (Typing e) h = elim h [ ]
 without_items c text (Compile e) h = elim h [ ]
+without_items c text BadSize h = elim h [ ]
 without_items c text BadWorkers h = elim h [ ]
 without_items c text BadJob h = elim h [ ]
 without_items c text (Window e) h = elim h [ ]
@@ -257,6 +259,7 @@ unclocked c text suite windows.Memory says h = tt
 pub none_by_programs : (c : Contents) (text : List ℕ) (e : Fault) → WhyNoReport c text e
     → WhyNoneByPrograms c text e
 none_by_programs c text (Compile e) h = absurd h
+none_by_programs c text BadSize h = absurd h
 none_by_programs c text BadWorkers h = absurd h
 none_by_programs c text BadJob h = absurd h
 none_by_programs c text e h = h

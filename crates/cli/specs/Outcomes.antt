@@ -28,7 +28,8 @@ use Rattle.verdicts.specs.Lines.{ReportData}
 use Rattle.verdicts.specs.Texts.{report_text}
 use Rattle.cli_faults.specs.declared.fault.Fault.{Fault}
 use Rattle.cli_faults.specs.declared.fault.Fault.TheVariants.{Vcd, Lex, Parse, Typing, Compile}
-use Rattle.cli_faults.specs.declared.fault.Fault.TheVariants.{BadWorkers, BadJob, Window, Report}
+use Rattle.cli_faults.specs.declared.fault.Fault.TheVariants.{BadSize, BadWorkers, BadJob, Window}
+use Rattle.cli_faults.specs.declared.fault.Fault.TheVariants.{Report}
 use Rattle.cli_faults.specs.declared.fault.Fault.TheVariants.{Memory}
 use Rattle.cli_faults.specs.Runs.{Run, totals_of, IsUnwritten, IsUnread, IsOutOfMemory}
 use Rattle.cli_faults.specs.Runs.{IsOutOfRange, IsUntouched}
@@ -173,13 +174,13 @@ WhyCheckRefused r fault = WhyRunRefused r fault
 
 -- why nothing was checked, or not all of the report written
 abbrev pub WhyNotChecked : ℕ → Run → Fault → Type 0
-WhyNotChecked window r (Window windows.BadSize) = IsOutOfRange window r
+WhyNotChecked window r BadSize = IsOutOfRange window r
 WhyNotChecked window r fault = WhyCheckRefused r fault
 
 -- why nothing was checked by so many workers, or not all of the report written: first the window's
 -- size, then the number of workers
 abbrev pub WhyNotCheckedBy : ℕ → ℕ → Run → Fault → Type 0
-WhyNotCheckedBy workers window r (Window windows.BadSize) = IsOutOfRange window r
+WhyNotCheckedBy workers window r BadSize = IsOutOfRange window r
 WhyNotCheckedBy workers window r BadWorkers =
     (1 ≤ window) × (window ≤ 65536) × IsBadTeam workers × IsUntouched r
 WhyNotCheckedBy workers window r fault = WhyCheckRefused r fault

@@ -1,9 +1,8 @@
 //! The calls behind the commands `check` and `judge`.
 
 ghost use Rattle.std.specs.Prelude.{◌≡◌, ◌↔◌, ◌≤◌, Err, IfOk, IfErr};
-ghost use Rattle.cycle_window.specs.declared.fault.WindowFault.TheVariants.{BadSize};
 ghost use Rattle.cycle_window.specs.Bound.{IsBadSize};
-ghost use Rattle.cli_faults.specs.declared.fault.Fault.TheVariants.{Window, BadWorkers};
+ghost use Rattle.cli_faults.specs.declared.fault.Fault.TheVariants.{BadSize, BadWorkers};
 ghost use Rattle.workers_core.specs.Values.{IsBadTeam};
 ghost use Rattle.cli.specs.Outcomes.{IsAnswered, WhyRunRefused, WhyNotChecked, WhyNotCheckedBy};
 ghost use Rattle.cli_faults.specs.Runs.{run_of};
@@ -12,11 +11,12 @@ use crate::checked::{check_by_team, check_through};
 use crate::judged::run_through;
 use cli_faults::Fault;
 use cli_lines::Gate;
-use cycle_window::WindowFault;
+use cycle_window::WindowSize;
 use signals::{Sink, Source};
 use std::alloc::Global;
 use std::sync::Wait;
 use std::thread::Threads;
+use workers_core::TeamSize;
 
 /// Judges the assertions of a text over the dump that a source gives, by their programs, through
 /// windows of so many clocks, and writes the report.
@@ -44,12 +44,9 @@ pub fn check_one<'a, S: Source, W: Sink>(
         (S.state source.old) (S.state source.new) (W.state out.old) (W.state out.new))) }
     ensures refused { IfErr result (WhyNotChecked window (run_of text.entry.now
         (S.state source.old) (S.state source.new) (W.state out.old) (W.state out.new))) }
-    ensures bad_size { IsBadSize window ↔ (result ≡ Err (Window BadSize)) }
+    ensures bad_size { IsBadSize window ↔ (result ≡ Err BadSize) }
 {
-    if window < 1 || window > 65_536 {
-        return Err(Fault::Window(WindowFault::BadSize));
-    }
-    check_through(alloc, source, text, window as usize, out)
+    check_through(alloc, source, text, WindowSize::new(window)?, out)
 }
 
 /// Does what [`check_one`] does, by 1 to 64 workers, each a thread: `workers` and `gate` do
@@ -73,17 +70,14 @@ pub fn check_all<'a, S: Source, W: Sink, G: Gate + Sync, R: Threads + Wait + Syn
         (S.state source.old) (S.state source.new) (W.state out.old) (W.state out.new))) }
     ensures refused { IfErr result (WhyNotCheckedBy workers window (run_of text.entry.now
         (S.state source.old) (S.state source.new) (W.state out.old) (W.state out.new))) }
-    ensures bad_size { IsBadSize window ↔ (result ≡ Err (Window BadSize)) }
+    ensures bad_size { IsBadSize window ↔ (result ≡ Err BadSize) }
     ensures bad_team { (1 ≤ window) × (window ≤ 65536) × IsBadTeam workers
         → result ≡ Err BadWorkers }
 {
-    if window == 0 || window > 65_536 {
-        return Err(Fault::Window(WindowFault::BadSize));
-    }
-    if workers == 0 || workers > 64 {
+    let size = WindowSize::new(window)?;
+    let Ok(team) = TeamSize::new(workers) else {
         return Err(Fault::BadWorkers);
-    }
-    let (team, size) = (workers as usize, window as usize);
+    };
     check_by_team(rt, alloc, source, text, team, size, gate, out)
 }
 
@@ -103,5 +97,5 @@ pub fn judge_one<'a, S: Source, W: Sink>(
     ensures refused { IfErr result (WhyRunRefused (run_of text.entry.now
         (S.state source.old) (S.state source.new) (W.state out.old) (W.state out.new))) }
 {
-    run_through(alloc, source, text, 1024, out)
+    run_through(alloc, source, text, WindowSize::usual(), out)
 }

@@ -1,6 +1,6 @@
 //! From bytes and text to the bytes of a report, by programs.
 
-ghost use Rattle.std.specs.Prelude.{◌≡◌, ◌≤◌, IfOk, IfErr, string_bytes};
+ghost use Rattle.std.specs.Prelude.{IfOk, IfErr, string_bytes};
 ghost use Rattle.std.specs.List.{AllByRecursion};
 ghost use Rattle.vcd_reader.specs.Dump.{Contents};
 ghost use Rattle.vcd_reader.specs.Held.{HoldsContents, variables_of};
@@ -16,16 +16,17 @@ ghost use Rattle.cli_faults.specs.Runs.{run_of};
 use crate::programs::{lines_fault, report_by_programs};
 use crate::text::{file_of, suite_of};
 use assertions::Suite;
-use cli_faults::{Fault, totals};
+use cli_faults::{Fault, written};
 use cli_lines::{Gate, suite_report};
-use cycle_window::Clocks;
+use cycle_window::{Clocks, WindowSize};
 use laws_suites::suite_law;
 use signals::{Sink, Source};
 use std::alloc::Global;
 use std::sync::Wait;
 use std::thread::Threads;
 use vcd_reader::{Dump, read_dump};
-use verdicts::{Report, ReportFault, write_report};
+use verdicts::Report;
+use workers_core::TeamSize;
 
 /// A suite, and the ticks of its clock.
 #[derive(Drop)]
@@ -61,10 +62,8 @@ fn report_checked<'a>(
     alloc: Global,
     dump: Dump,
     text: &'a str,
-    size: usize,
+    size: WindowSize,
 ) -> Result<Report, Fault<'a>>
-    requires some { 1 ≤ size }
-    requires most { size ≤ 65536 }
     requires held { (c : Contents) × HoldsContents dump c }
     ensures ok { (c : Contents) → HoldsContents dump c
         → IfOk result (λ r. HasReport c text.entry.now (data_of r)) }
@@ -78,18 +77,16 @@ fn report_checked<'a>(
     }
 }
 
-/// The same by 1 to 64 workers.
+/// The same by a team.
 fn report_by_team<'a, G: Gate + Sync, R: Threads + Wait + Sync>(
     rt: &R,
     alloc: Global,
     dump: Dump,
     text: &'a str,
-    workers: usize,
-    size: usize,
+    team: TeamSize,
+    size: WindowSize,
     gate: &G,
 ) -> Result<Report, Fault<'a>>
-    requires workers { (1 ≤ workers) × (workers ≤ 64) }
-    requires size { (1 ≤ size) × (size ≤ 65536) }
     requires held { (c : Contents) × HoldsContents dump c }
     ensures ok { (c : Contents) → HoldsContents dump c
         → IfOk result (λ r. HasReport c text.entry.now (data_of r)) }
@@ -97,23 +94,21 @@ fn report_by_team<'a, G: Gate + Sync, R: Threads + Wait + Sync>(
         → IfErr result (WhyNoneByPrograms c text.entry.now) }
 {
     let TimedSuite { suite, clocks } = timed_suite(alloc, &dump, text)?;
-    match suite_report(rt, alloc, dump, clocks, &suite, workers, size, gate) {
+    match suite_report(rt, alloc, dump, clocks, &suite, team, size, gate) {
         Ok(report) => Ok(report),
         Err(fault) => Err(lines_fault(fault)),
     }
 }
 
 /// Reads the dump that a source gives, runs the programs of a text's assertions over it through
-/// windows of so many clocks, and writes the report.
+/// windows of a size, and writes the report.
 pub(crate) fn check_through<'a, S: Source, W: Sink>(
     alloc: Global,
     source: &mut S,
     text: &'a str,
-    size: usize,
+    size: WindowSize,
     out: &mut W,
 ) -> Result<[u64; 5], Fault<'a>>
-    requires some { 1 ≤ size }
-    requires most { size ≤ 65536 }
     ensures answered { IfOk result (IsAnswered (run_of text.entry.now
         (S.state source.old) (S.state source.new) (W.state out.old) (W.state out.new))) }
     ensures refused { IfErr result (WhyCheckRefused (run_of text.entry.now
@@ -121,38 +116,26 @@ pub(crate) fn check_through<'a, S: Source, W: Sink>(
 {
     let dump = read_dump(alloc, source)?;
     let report = report_checked(alloc, dump, text, size)?;
-    // An arm knows which fault it is; by `?` the search doesn't find why that one stands.
-    match write_report(alloc, &report, out) {
-        Ok(()) => Ok(totals(&report)),
-        Err(ReportFault::Memory) => Err(Fault::Memory),
-        Err(ReportFault::Write) => Err(Fault::Report(ReportFault::Write)),
-    }
+    written(alloc, &report, out)
 }
 
-/// The same by 1 to 64 workers.
+/// The same by a team.
 pub(crate) fn check_by_team<'a, S: Source, W: Sink, G: Gate + Sync, R: Threads + Wait + Sync>(
     rt: &R,
     alloc: Global,
     source: &mut S,
     text: &'a str,
-    workers: usize,
-    size: usize,
+    team: TeamSize,
+    size: WindowSize,
     gate: &G,
     out: &mut W,
 ) -> Result<[u64; 5], Fault<'a>>
-    requires workers { (1 ≤ workers) × (workers ≤ 64) }
-    requires size { (1 ≤ size) × (size ≤ 65536) }
     ensures answered { IfOk result (IsAnswered (run_of text.entry.now
         (S.state source.old) (S.state source.new) (W.state out.old) (W.state out.new))) }
     ensures refused { IfErr result (WhyCheckRefused (run_of text.entry.now
         (S.state source.old) (S.state source.new) (W.state out.old) (W.state out.new))) }
 {
     let dump = read_dump(alloc, source)?;
-    let report_of_all = report_by_team(rt, alloc, dump, text, workers, size, gate)?;
-    // An arm knows which fault it is; by `?` the search doesn't find why that one stands.
-    match write_report(alloc, &report_of_all, out) {
-        Ok(()) => Ok(totals(&report_of_all)),
-        Err(ReportFault::Memory) => Err(Fault::Memory),
-        Err(ReportFault::Write) => Err(Fault::Report(ReportFault::Write)),
-    }
+    let report_of_all = report_by_team(rt, alloc, dump, text, team, size, gate)?;
+    written(alloc, &report_of_all, out)
 }

@@ -1,6 +1,6 @@
 //! From bytes and text to the bytes of a report.
 
-ghost use Rattle.std.specs.Prelude.{◌≡◌, ◌≤◌, IfOk, IfErr};
+ghost use Rattle.std.specs.Prelude.{IfOk, IfErr};
 ghost use Rattle.vcd_reader.specs.Dump.{Contents};
 ghost use Rattle.vcd_reader.specs.Held.{HoldsContents};
 ghost use Rattle.verdicts.specs.Shown.{data_of};
@@ -9,22 +9,21 @@ ghost use Rattle.cli.specs.Outcomes.{WhyNoReport, IsAnswered, WhyRunRefused};
 ghost use Rattle.cli_faults.specs.Runs.{run_of};
 
 use crate::text::{file_of, suite_of};
-use cli_faults::{Fault, totals};
+use cli_faults::{Fault, written};
+use cycle_window::WindowSize;
 use judging_reports::report_by_judge;
 use signals::{Sink, Source};
 use std::alloc::Global;
 use vcd_reader::{Dump, read_dump};
-use verdicts::{Report, ReportFault, write_report};
+use verdicts::Report;
 
 /// The report on a text over a dump.
 fn report_judged<'a>(
     alloc: Global,
     dump: &Dump,
     text: &'a str,
-    size: usize,
+    size: WindowSize,
 ) -> Result<Report, Fault<'a>>
-    requires some { 1 ≤ size }
-    requires most { size ≤ 65536 }
     requires held { (c : Contents) × HoldsContents dump.now c }
     ensures ok { (c : Contents) → HoldsContents dump.now c
         → IfOk result (λ r. HasReport c text.entry.now (data_of r)) }
@@ -36,17 +35,15 @@ fn report_judged<'a>(
     Ok(report_by_judge(alloc, dump, &suite, size)?)
 }
 
-/// Reads the dump that a source gives, judges a text over it through windows of so many clocks, and
-/// writes the report.
+/// Reads the dump that a source gives, judges a text over it through windows of a size, and writes
+/// the report.
 pub(crate) fn run_through<'a, S: Source, W: Sink>(
     alloc: Global,
     source: &mut S,
     text: &'a str,
-    size: usize,
+    size: WindowSize,
     out: &mut W,
 ) -> Result<[u64; 5], Fault<'a>>
-    requires some { 1 ≤ size }
-    requires most { size ≤ 65536 }
     ensures answered { IfOk result (IsAnswered (run_of text.entry.now
         (S.state source.old) (S.state source.new) (W.state out.old) (W.state out.new))) }
     ensures refused { IfErr result (WhyRunRefused (run_of text.entry.now
@@ -54,10 +51,5 @@ pub(crate) fn run_through<'a, S: Source, W: Sink>(
 {
     let dump = read_dump(alloc, source)?;
     let report = report_judged(alloc, &dump, text, size)?;
-    // An arm knows which fault it is; by `?` the search doesn't find why that one stands.
-    match write_report(alloc, &report, out) {
-        Ok(()) => Ok(totals(&report)),
-        Err(ReportFault::Memory) => Err(Fault::Memory),
-        Err(ReportFault::Write) => Err(Fault::Report(ReportFault::Write)),
-    }
+    written(alloc, &report, out)
 }

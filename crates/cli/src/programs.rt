@@ -1,6 +1,6 @@
 //! The report on a suite over a dump, by its assertions' programs.
 
-ghost use Rattle.std.specs.Prelude.{◌≡◌, ◌≤◌, ℕ, List, IfOk, IfErr};
+ghost use Rattle.std.specs.Prelude.{◌≡◌, ℕ, List, IfOk, IfErr};
 ghost use Rattle.std.specs.List.{AllByRecursion};
 ghost use Rattle.vcd_reader.specs.Dump.{Contents};
 ghost use Rattle.vcd_reader.specs.Held.{HoldsContents, variables_of};
@@ -15,7 +15,7 @@ ghost use Rattle.cli.specs.Programs.{lines_fault};
 use assertions::Suite;
 use cli_faults::Fault;
 use cli_lines::{LinesFault, lines_of};
-use cycle_window::Clocks;
+use cycle_window::{Clocks, WindowSize};
 use std::alloc::Global;
 use vcd_reader::Dump;
 use verdicts::Report;
@@ -31,16 +31,14 @@ pub(crate) fn lines_fault(fault: LinesFault) -> Fault<'static>
     }
 }
 
-/// The report on a suite at the ticks of its clock, through windows of so many clocks.
+/// The report on a suite at the ticks of its clock, through windows of a size.
 pub(crate) fn report_by_programs(
     alloc: Global,
     dump: Dump,
     clocks: Clocks,
     suite: &Suite,
-    size: usize,
+    size: WindowSize,
 ) -> Result<Report, LinesFault>
-    requires some { 1 ≤ size }
-    requires most { size ≤ 65536 }
     requires clocks { AreClocksOf dump clocks }
     requires watched { AllByRecursion (IsWatched (variables_of dump)) suite.now.names.items }
     requires fit { AllByRecursion (IsFit suite.now) suite.now.assertions.items }

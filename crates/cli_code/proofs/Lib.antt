@@ -1,3 +1,4 @@
 pub mod VerifyLaws
 pub mod RunLaws
 pub mod CodeLaws
+pub mod WrittenLaws

@@ -22,7 +22,7 @@ use Rattle.cli_faults.specs.declared.fault.Fault.TheVariants.{
   Window,
   Port,
 }
-use Rattle.cli_faults.specs.declared.fault.Fault.TheVariants.{BadWorkers, BadJob}
+use Rattle.cli_faults.specs.declared.fault.Fault.TheVariants.{BadSize, BadWorkers, BadJob}
 use Rattle.cli_faults.specs.declared.fault.Fault.TheVariants.{Report, Code}
 use Rattle.cli_faults.specs.declared.fault.Fault.TheVariants.{Refused, NoAssertion, NotText, Words, File}
 use Rattle.cli_faults.specs.declared.fault.Fault.TheVariants.{Memory}
@@ -31,58 +31,56 @@ use Rattle.cli_faults.specs.Codes.{SpellsAccepted, WhyNotAccepted}
 use Rattle.cli_code.specs.Outcomes.{WhyNoRunReport, IsRefusedRun, WhyRunFails}
 
 -- bytes that spell no accepted program have no report
-pub no_program : (c : Contents) (code : List ℕ) (size : ℕ) (e : Fault) → WhyNotAccepted code e
-    → WhyNoRunReport c code size e
-no_program c code size (Code e) h = h
-no_program c code size (Refused e) h = h
-no_program c code size Memory h = tt
-no_program c code size (Vcd e) h = absurd h
-no_program c code size (Lex e) h = absurd h
-no_program c code size (Parse e) h = absurd h
-no_program c code size (Typing e) h = absurd h
-no_program c code size (Compile e) h = absurd h
-no_program c code size BadWorkers h = absurd h
-no_program c code size BadJob h = absurd h
-no_program c code size (Window e) h = absurd h
-no_program c code size (Port e) h = absurd h
-no_program c code size (Report e) h = absurd h
-no_program c code size (NoAssertion n) h = absurd h
-no_program c code size (NotText n) h = absurd h
-no_program c code size (Words e) h = absurd h
-no_program c code size (File n) h = absurd h
+pub no_program : (c : Contents) (code : List ℕ) (e : Fault) → WhyNotAccepted code e
+    → WhyNoRunReport c code e
+no_program c code (Code e) h = h
+no_program c code (Refused e) h = h
+no_program c code Memory h = tt
+no_program c code (Vcd e) h = absurd h
+no_program c code (Lex e) h = absurd h
+no_program c code (Parse e) h = absurd h
+no_program c code (Typing e) h = absurd h
+no_program c code (Compile e) h = absurd h
+no_program c code BadSize h = absurd h
+no_program c code BadWorkers h = absurd h
+no_program c code BadJob h = absurd h
+no_program c code (Window e) h = absurd h
+no_program c code (Port e) h = absurd h
+no_program c code (Report e) h = absurd h
+no_program c code (NoAssertion n) h = absurd h
+no_program c code (NotText n) h = absurd h
+no_program c code (Words e) h = absurd h
+no_program c code (File n) h = absurd h
 
 -- nor has a program whose clock or signals are not there
-pub unbound : (c : Contents) (code : List ℕ) (size : ℕ) (p : ProgramData) → SpellsAccepted code p
-    → (e : WindowFault) → WhyNoRun c.variables p size e
-    → WhyNoRunReport c code size (window_fault e)
-unbound c code size p accepted windows.NoClock h =
+pub unbound : (c : Contents) (code : List ℕ) (p : ProgramData) → SpellsAccepted code p
+    → (e : WindowFault) → WhyNoRun c.variables p e
+    → WhyNoRunReport c code (window_fault e)
+unbound c code p accepted windows.NoClock h =
     record { program = p; accepted = accepted; why = h }
-unbound c code size p accepted windows.ClockWidth h =
+unbound c code p accepted windows.ClockWidth h =
     record { program = p; accepted = accepted; why = h }
-unbound c code size p accepted (windows.NoSignal path) h =
+unbound c code p accepted (windows.NoSignal path) h =
     record { program = p; accepted = accepted; why = h }
-unbound c code size p accepted (windows.SignalWidth path) h =
+unbound c code p accepted (windows.SignalWidth path) h =
     record { program = p; accepted = accepted; why = h }
-unbound c code size p accepted windows.BadSize h =
-    record { program = p; accepted = accepted; why = h }
-unbound c code size p accepted windows.Memory h = tt
+unbound c code p accepted windows.Memory h = tt
 
-module _ (size : ℕ) (r : Run) (c : Contents) (gave : GaveDump r.source_before.remaining r.source_after.remaining c)
+module _ (r : Run) (c : Contents) (gave : GaveDump r.source_before.remaining r.source_after.remaining c)
     (reads : r.source_after.failures ≡ r.source_before.failures) (unwritten : IsUnwritten r) where
-  refused : (e : Fault) → WhyNoRunReport c r.text size e → IsRefusedRun size r e
+  refused : (e : Fault) → WhyNoRunReport c r.text e → IsRefusedRun r e
   refused e h = record { contents = c; gave = gave; why = h; reads = reads; unwritten = unwritten }
 
-  refused_window : (e : WindowFault) → WhyNoRunReport c r.text size (Window e)
-      → WhyRunFails size r (Window e)
+  refused_window : (e : WindowFault) → WhyNoRunReport c r.text (Window e)
+      → WhyRunFails r (Window e)
   refused_window windows.NoClock h = refused (Window windows.NoClock) h
   refused_window windows.ClockWidth h = refused (Window windows.ClockWidth) h
   refused_window (windows.NoSignal path) h = refused (Window (windows.NoSignal path)) h
   refused_window (windows.SignalWidth path) h = refused (Window (windows.SignalWidth path)) h
-  refused_window windows.BadSize h = refused (Window windows.BadSize) h
   refused_window windows.Memory h = absurd h
 
-  refused_code : (e : CodeFault) → WhyNoRunReport c r.text size (Code e)
-      → WhyRunFails size r (Code e)
+  refused_code : (e : CodeFault) → WhyNoRunReport c r.text (Code e)
+      → WhyRunFails r (Code e)
   refused_code codes.Magic h = refused (Code codes.Magic) h
   refused_code codes.Version h = refused (Code codes.Version) h
   refused_code (codes.Truncated at) h = refused (Code (codes.Truncated at)) h
@@ -91,8 +89,8 @@ module _ (size : ℕ) (r : Run) (c : Contents) (gave : GaveDump r.source_before.
   refused_code (codes.TrailingBytes at) h = refused (Code (codes.TrailingBytes at)) h
   refused_code codes.Memory h = absurd h
 
-  refused_program : (e : Refusal) → WhyNoRunReport c r.text size (Refused e)
-      → WhyRunFails size r (Refused e)
+  refused_program : (e : Refusal) → WhyNoRunReport c r.text (Refused e)
+      → WhyRunFails r (Refused e)
   refused_program (refusals.Operand pc) h = refused (Refused (refusals.Operand pc)) h
   refused_program (refusals.Underflow pc) h = refused (Refused (refusals.Underflow pc)) h
   refused_program (refusals.Overflow pc) h = refused (Refused (refusals.Overflow pc)) h
@@ -117,7 +115,7 @@ module _ (size : ℕ) (r : Run) (c : Contents) (gave : GaveDump r.source_before.
   refused_program refusals.Memory h = absurd h
 
   -- a fault of the program refuses the run
-  pub refused_run : (e : Fault) → WhyNoRunReport c r.text size e → WhyRunFails size r e
+  pub refused_run : (e : Fault) → WhyNoRunReport c r.text e → WhyRunFails r e
   refused_run (Window e) h = refused_window e h
   refused_run (Code e) h = refused_code e h
   refused_run (Refused e) h = refused_program e h
@@ -127,6 +125,7 @@ module _ (size : ℕ) (r : Run) (c : Contents) (gave : GaveDump r.source_before.
   refused_run (Parse e) h = absurd h
   refused_run (Typing e) h = absurd h
   refused_run (Compile e) h = absurd h
+  refused_run BadSize h = absurd h
   refused_run BadWorkers h = absurd h
   refused_run BadJob h = absurd h
   refused_run (Port e) h = absurd h
@@ -137,14 +136,14 @@ module _ (size : ℕ) (r : Run) (c : Contents) (gave : GaveDump r.source_before.
   refused_run (File n) h = absurd h
 
 -- a dump that wasn't read refuses the run
-pub unread : (size : ℕ) (r : Run) → IsUnwritten r → (e : VcdFault)
-    → Stands r.source_before r.source_after e → WhyRunFails size r (vcd_fault e)
-unread size r unwritten (dumps.BadToken at) h = record { stands = h; unwritten = unwritten }
-unread size r unwritten (dumps.UnknownCode at) h = record { stands = h; unwritten = unwritten }
-unread size r unwritten (dumps.TimeBack at) h = record { stands = h; unwritten = unwritten }
-unread size r unwritten (dumps.UnclosedSection at) h = record { stands = h; unwritten = unwritten }
-unread size r unwritten (dumps.BadSize at) h = record { stands = h; unwritten = unwritten }
-unread size r unwritten dumps.Truncated h = record { stands = h; unwritten = unwritten }
-unread size r unwritten dumps.TooLarge h = record { stands = h; unwritten = unwritten }
-unread size r unwritten dumps.Read h = record { stands = h; unwritten = unwritten }
-unread size r unwritten dumps.Memory h = record { reads = h.0; unwritten = unwritten }
+pub unread : (r : Run) → IsUnwritten r → (e : VcdFault)
+    → Stands r.source_before r.source_after e → WhyRunFails r (vcd_fault e)
+unread r unwritten (dumps.BadToken at) h = record { stands = h; unwritten = unwritten }
+unread r unwritten (dumps.UnknownCode at) h = record { stands = h; unwritten = unwritten }
+unread r unwritten (dumps.TimeBack at) h = record { stands = h; unwritten = unwritten }
+unread r unwritten (dumps.UnclosedSection at) h = record { stands = h; unwritten = unwritten }
+unread r unwritten (dumps.BadSize at) h = record { stands = h; unwritten = unwritten }
+unread r unwritten dumps.Truncated h = record { stands = h; unwritten = unwritten }
+unread r unwritten dumps.TooLarge h = record { stands = h; unwritten = unwritten }
+unread r unwritten dumps.Read h = record { stands = h; unwritten = unwritten }
+unread r unwritten dumps.Memory h = record { reads = h.0; unwritten = unwritten }

@@ -16,7 +16,8 @@ use Rattle.verdicts.specs.Lines.{ReportData}
 use Rattle.verdicts.specs.Texts.{report_text}
 use Rattle.machine_runs.specs.Reported.{Reports, WhyNoRun}
 use Rattle.cli_faults.specs.declared.fault.Fault.{Fault}
-use Rattle.cli_faults.specs.declared.fault.Fault.TheVariants.{Vcd, BadWorkers, Window, Report, Code}
+use Rattle.cli_faults.specs.declared.fault.Fault.TheVariants.{Vcd, BadSize, BadWorkers, Window}
+use Rattle.cli_faults.specs.declared.fault.Fault.TheVariants.{Report, Code}
 use Rattle.cli_faults.specs.declared.fault.Fault.TheVariants.{Refused, Memory}
 use Rattle.cli_faults.specs.Runs.{Run, totals_of, IsUnwritten, IsUnread, IsOutOfMemory}
 use Rattle.cli_faults.specs.Runs.{IsOutOfRange}
@@ -52,25 +53,25 @@ pub record IsRunAnswered (r : Run) (totals : List ℕ) : Type 0 where
   pub flushed : r.sink_after.keeps_back ≡ false
 
 -- an accepted program whose clock or signals the dump doesn't have as it names them
-pub record IsUnbound (c : Contents) (code : List ℕ) (size : ℕ) (fault : WindowFault) : Type 0 where
+pub record IsUnbound (c : Contents) (code : List ℕ) (fault : WindowFault) : Type 0 where
   pub program : ProgramData
   pub accepted : SpellsAccepted code program
-  pub why : WhyNoRun c.variables program size fault
+  pub why : WhyNoRun c.variables program fault
 
 -- why bytes have no report over these contents
-abbrev pub WhyNoRunReport : Contents → List ℕ → ℕ → Fault → Type 0
-WhyNoRunReport c code size (Code e) = WhyNotAccepted code (Code e)
-WhyNoRunReport c code size (Refused e) = WhyNotAccepted code (Refused e)
-WhyNoRunReport c code size (Window windows.Memory) = ⊥
-WhyNoRunReport c code size (Window e) = IsUnbound c code size e
-WhyNoRunReport c code size Memory = Unit {0}
-WhyNoRunReport c code size _ = ⊥
+abbrev pub WhyNoRunReport : Contents → List ℕ → Fault → Type 0
+WhyNoRunReport c code (Code e) = WhyNotAccepted code (Code e)
+WhyNoRunReport c code (Refused e) = WhyNotAccepted code (Refused e)
+WhyNoRunReport c code (Window windows.Memory) = ⊥
+WhyNoRunReport c code (Window e) = IsUnbound c code e
+WhyNoRunReport c code Memory = Unit {0}
+WhyNoRunReport c code _ = ⊥
 
 -- the source gave a dump over which the bytes have no report, and nothing was written
-pub record IsRefusedRun (size : ℕ) (r : Run) (fault : Fault) : Type 0 where
+pub record IsRefusedRun (r : Run) (fault : Fault) : Type 0 where
   pub contents : Contents
   pub gave : GaveDump r.source_before.remaining r.source_after.remaining contents
-  pub why : WhyNoRunReport contents r.text size fault
+  pub why : WhyNoRunReport contents r.text fault
   pub reads : r.source_after.failures ≡ r.source_before.failures
   pub unwritten : IsUnwritten r
 
@@ -85,23 +86,23 @@ pub record IsCutRun (r : Run) : Type 0 where
   pub front : AppendsFront r.sink_before.contents r.sink_after.contents (report_text report)
 
 -- why there is no report, or not all of it
-abbrev pub WhyRunFails : ℕ → Run → Fault → Type 0
-WhyRunFails size r (Vcd dumps.Memory) = ⊥
-WhyRunFails size r (Vcd e) = IsUnread r e
-WhyRunFails size r (Code codes.Memory) = ⊥
-WhyRunFails size r (Code e) = IsRefusedRun size r (Code e)
-WhyRunFails size r (Refused refusals.Memory) = ⊥
-WhyRunFails size r (Refused e) = IsRefusedRun size r (Refused e)
-WhyRunFails size r (Window windows.Memory) = ⊥
-WhyRunFails size r (Window e) = IsRefusedRun size r (Window e)
-WhyRunFails size r (Report reports.Write) = IsCutRun r
-WhyRunFails size r Memory = IsOutOfMemory r
-WhyRunFails size r _ = ⊥
+abbrev pub WhyRunFails : Run → Fault → Type 0
+WhyRunFails r (Vcd dumps.Memory) = ⊥
+WhyRunFails r (Vcd e) = IsUnread r e
+WhyRunFails r (Code codes.Memory) = ⊥
+WhyRunFails r (Code e) = IsRefusedRun r (Code e)
+WhyRunFails r (Refused refusals.Memory) = ⊥
+WhyRunFails r (Refused e) = IsRefusedRun r (Refused e)
+WhyRunFails r (Window windows.Memory) = ⊥
+WhyRunFails r (Window e) = IsRefusedRun r (Window e)
+WhyRunFails r (Report reports.Write) = IsCutRun r
+WhyRunFails r Memory = IsOutOfMemory r
+WhyRunFails r _ = ⊥
 
 -- why nothing was run, or not all of the report written: first the window's size, then the number
 -- of workers
 abbrev pub WhyNotRun : ℕ → ℕ → Run → Fault → Type 0
-WhyNotRun workers window r (Window windows.BadSize) = IsOutOfRange window r
+WhyNotRun workers window r BadSize = IsOutOfRange window r
 WhyNotRun workers window r BadWorkers =
     (1 ≤ window) × (window ≤ 65536) × IsBadTeam workers × IsUntouched r
-WhyNotRun workers window r fault = WhyRunFails window r fault
+WhyNotRun workers window r fault = WhyRunFails r fault

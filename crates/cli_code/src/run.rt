@@ -3,25 +3,25 @@
 ghost use Rattle.std.specs.Prelude.{◌≡◌, ◌↔◌, ◌≤◌, Err, IfOk, IfErr};
 ghost use Rattle.vcd_reader.specs.Dump.{Contents};
 ghost use Rattle.vcd_reader.specs.Held.{HoldsContents};
-ghost use Rattle.cycle_window.specs.declared.fault.WindowFault.TheVariants.{BadSize};
 ghost use Rattle.cycle_window.specs.Bound.{IsBadSize};
 ghost use Rattle.verdicts.specs.Shown.{data_of};
-ghost use Rattle.cli_faults.specs.declared.fault.Fault.TheVariants.{Window, BadWorkers};
+ghost use Rattle.cli_faults.specs.declared.fault.Fault.TheVariants.{BadSize, BadWorkers};
 ghost use Rattle.workers_core.specs.Values.{IsBadTeam};
 ghost use Rattle.cli_faults.specs.Runs.{run_of};
 ghost use Rattle.cli_code.specs.Outcomes.{HasRunReport, WhyNoRunReport, IsRunAnswered};
 ghost use Rattle.cli_code.specs.Outcomes.{WhyRunFails, WhyNotRun};
 
 use crate::verify::verified_of;
-use cli_faults::{Fault, totals};
-use cycle_window::WindowFault;
+use cli_faults::{Fault, written};
+use cycle_window::WindowSize;
 use signals::{Sink, Source};
 use std::alloc::Global;
 use std::sync::Wait;
 use std::thread::Threads;
 use vcd_reader::{Dump, read_dump};
-use verdicts::{Report, ReportFault, write_report};
+use verdicts::Report;
 use workers::{Gate, report_run};
+use workers_core::TeamSize;
 
 /// The report of the program that bytes spell, over a dump.
 fn report_of<G: Gate + Sync, R: Threads + Wait + Sync>(
@@ -29,19 +29,17 @@ fn report_of<G: Gate + Sync, R: Threads + Wait + Sync>(
     alloc: Global,
     dump: Dump,
     code: &[u8],
-    workers: usize,
-    size: usize,
+    team: TeamSize,
+    size: WindowSize,
     gate: &G,
 ) -> Result<Report, Fault<'static>>
-    requires workers { (1 ≤ workers) × (workers ≤ 64) }
-    requires size { (1 ≤ size) × (size ≤ 65536) }
     ensures ok { (c : Contents) → HoldsContents dump c
         → IfOk result (λ r. HasRunReport c code.now (data_of r)) }
     ensures err { (c : Contents) → HoldsContents dump c
-        → IfErr result (WhyNoRunReport c code.now size) }
+        → IfErr result (WhyNoRunReport c code.now) }
 {
     let verified = verified_of(alloc, code)?;
-    Ok(report_run(rt, alloc, dump, verified, workers, size, gate)?)
+    Ok(report_run(rt, alloc, dump, verified, team, size, gate)?)
 }
 
 /// The same over the dump that a source gives, written.
@@ -50,26 +48,19 @@ fn run_through<S: Source, W: Sink, G: Gate + Sync, R: Threads + Wait + Sync>(
     alloc: Global,
     source: &mut S,
     code: &[u8],
-    workers: usize,
-    size: usize,
+    team: TeamSize,
+    size: WindowSize,
     gate: &G,
     out: &mut W,
 ) -> Result<[u64; 5], Fault<'static>>
-    requires workers { (1 ≤ workers) × (workers ≤ 64) }
-    requires size { (1 ≤ size) × (size ≤ 65536) }
     ensures answered { IfOk result (IsRunAnswered (run_of code.now
         (S.state source.old) (S.state source.new) (W.state out.old) (W.state out.new))) }
-    ensures refused { IfErr result (WhyRunFails size (run_of code.now
+    ensures refused { IfErr result (WhyRunFails (run_of code.now
         (S.state source.old) (S.state source.new) (W.state out.old) (W.state out.new))) }
 {
     let dump = read_dump(alloc, source)?;
-    let report = report_of(rt, alloc, dump, code, workers, size, gate)?;
-    // An arm knows which fault it is; by `?` the search doesn't find why that one stands.
-    match write_report(alloc, &report, out) {
-        Ok(()) => Ok(totals(&report)),
-        Err(ReportFault::Memory) => Err(Fault::Memory),
-        Err(ReportFault::Write) => Err(Fault::Report(ReportFault::Write)),
-    }
+    let report = report_of(rt, alloc, dump, code, team, size, gate)?;
+    written(alloc, &report, out)
 }
 
 /// Runs the program that bytes spell over the dump that a source gives, on the clock that it names,
@@ -100,16 +91,13 @@ pub fn run_code<S: Source, W: Sink, G: Gate + Sync, R: Threads + Wait + Sync>(
         (S.state source.old) (S.state source.new) (W.state out.old) (W.state out.new))) }
     ensures refused { IfErr result (WhyNotRun workers window (run_of code.now
         (S.state source.old) (S.state source.new) (W.state out.old) (W.state out.new))) }
-    ensures bad_size { IsBadSize window ↔ (result ≡ Err (Window BadSize)) }
+    ensures bad_size { IsBadSize window ↔ (result ≡ Err BadSize) }
     ensures bad_team { (1 ≤ window) × (window ≤ 65536) × IsBadTeam workers
         → result ≡ Err BadWorkers }
 {
-    if window < 1 || window > 65_536 {
-        return Err(Fault::Window(WindowFault::BadSize));
-    }
-    if workers < 1 || workers > 64 {
+    let size = WindowSize::new(window)?;
+    let Ok(team) = TeamSize::new(workers) else {
         return Err(Fault::BadWorkers);
-    }
-    let (team, size) = (workers as usize, window as usize);
+    };
     run_through(rt, alloc, source, code, team, size, gate, out)
 }

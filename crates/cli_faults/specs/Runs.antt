@@ -1,15 +1,28 @@
 -- What a run over a source and a sink was given and what it left, and the totals that it answers.
 use Rattle.std.specs.Prelude.{◌≡◌, ℕ, List, [], ◌∷◌}
-use Rattle.signals.specs.Source.{SourceState}
-use Rattle.signals.specs.Sink.{SinkState}
+use Rattle.signals.specs.Source.{SourceState, after_failure}
+use Rattle.signals.specs.Sink.{SinkState, AppendsFront}
 use Rattle.vcd_reader.specs.declared.fault.VcdFault.{VcdFault}
 use Rattle.vcd_reader.specs.Dump.{Stands}
 use Rattle.cycle_window.specs.Bound.{IsBadSize}
 use Rattle.verdicts.specs.declared.line.Counts.{Counts}
+use Rattle.verdicts.specs.declared.write.ReportFault.TheVariants as reports
+use Rattle.cli_faults.specs.declared.fault.Fault.{Fault}
+use Rattle.cli_faults.specs.declared.fault.Fault.TheVariants.{Report, Memory}
 
 -- the counts of a report's last line, in its order
 abbrev pub totals_of : Counts → List ℕ
 totals_of c = c.holds ∷ c.vacuous ∷ c.fails ∷ c.disabled ∷ c.still_open ∷ []
+
+-- Why a report is not written, or not all of it: the device failed, and holds a beginning of the
+-- text after what it held before; or memory ran out, and nothing was written.
+abbrev pub WhyNotWritten : SinkState → SinkState → List ℕ → Fault → Type 0
+WhyNotWritten before after text (Report reports.Write) =
+    (after.failures ≡ after_failure before.failures)
+    × AppendsFront before.contents after.contents text
+WhyNotWritten before after text Memory =
+    (after.failures ≡ before.failures) × (after.contents ≡ before.contents)
+WhyNotWritten before after text _ = ⊥
 
 -- What a run was given and what it left: the text or the bytes of a program, and the source and the
 -- sink before and after.

@@ -6,7 +6,7 @@ use axi4_rules::PortFault;
 use bytecode_files::CodeFault;
 use cli_words::WordsFault;
 use compiler::CompileFault;
-use cycle_window::WindowFault;
+use cycle_window::{BadSize, WindowFault};
 use lexer::LexFault;
 use parser::ParseFault;
 use std::alloc::AllocError;
@@ -25,6 +25,8 @@ pub enum Fault<'a> {
     Typing(TypeFault),
     /// An assertion has no program.
     Compile(CompileFault),
+    /// C3: a window is to hold no clock, or more than 65,536.
+    BadSize,
     /// U1: there are to be no workers, or more than 64.
     BadWorkers,
     /// U3: the text has more assertions than a job may have programs, 4,096.
@@ -108,6 +110,16 @@ impl From<TypeFault> for Fault<'_> {
             TypeFault::Memory => Fault::Memory,
             other => Fault::Typing(other),
         }
+    }
+}
+
+impl From<BadSize> for Fault<'_> {
+    ghost use Rattle.cli_faults.specs.declared.fault.Fault.TheVariants as faults;
+
+    ghost from_gives = { λ _ e. e ≡ faults.BadSize };
+
+    fn from(_fault: BadSize) -> Self {
+        Fault::BadSize
     }
 }
 

@@ -1,9 +1,10 @@
-//! What the commands come to: a fault, its line and its status, and the totals of a report.
+//! What the commands come to: a fault, its line and its status; a report that is written, and its
+//! totals.
 //!
 //! ```text
 //! let line = fault_line(alloc, &fault)?;  // `svamon: V3 TimeBack 7`
 //! let number = status(&outcome);          // what a shell sees
-//! let five = totals(&report);             // holds, vacuous, fails, disabled, open
+//! let five = written(alloc, &report, &mut out)?;  // holds, vacuous, fails, disabled, open
 //! ```
 //!
 //! Each layer below has faults of its own. `Fault` is one of them, or one that only a command has,
@@ -16,13 +17,13 @@
 //! Not promised: the lines of faults, which tests show.
 #![tactic(auto)]
 
-mod code_lines;
 mod fault;
 mod lines;
 mod report_totals;
 mod statuses;
+mod written;
 
 pub use fault::Fault;
 pub use lines::fault_line;
-pub use report_totals::totals;
 pub use statuses::status;
+pub use written::written;

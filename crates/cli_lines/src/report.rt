@@ -1,6 +1,6 @@
 //! The report on a suite by several workers.
 
-ghost use Rattle.std.specs.Prelude.{◌≡◌, ◌≤◌, ℕ, List, IfOk, IfErr};
+ghost use Rattle.std.specs.Prelude.{ℕ, List, IfOk, IfErr};
 ghost use Rattle.std.specs.List.{AllByRecursion};
 ghost use Rattle.vcd_reader.specs.Dump.{Contents};
 ghost use Rattle.vcd_reader.specs.Held.{HoldsContents, variables_of};
@@ -12,30 +12,28 @@ ghost use Rattle.cli_lines.specs.Faults.{WhyNoLines};
 
 use crate::fault::LinesFault;
 use crate::job::suite_job;
-use crate::lines::want_of_memory;
 use assertions::Suite;
-use cycle_window::Clocks;
+use cycle_window::{Clocks, WindowSize};
 use std::alloc::Global;
 use std::sync::Wait;
 use std::thread::Threads;
 use vcd_reader::Dump;
 use verdicts::Report;
-use workers::{Gate, run};
+use workers::{Gate, job_report};
+use workers_core::TeamSize;
 
-/// The report on all assertions of a suite, by 1 to 64 workers through windows of so many clocks, 1
-/// to 65,536. Neither the number of workers nor the size nor the gate changes it.
+/// The report on all assertions of a suite, by a team through windows of a size. Neither the team
+/// nor the size nor the gate changes it.
 pub fn suite_report<G: Gate + Sync, R: Threads + Wait + Sync>(
     rt: &R,
     alloc: Global,
     dump: Dump,
     clocks: Clocks,
     suite: &Suite,
-    workers: usize,
-    size: usize,
+    team: TeamSize,
+    size: WindowSize,
     gate: &G,
 ) -> Result<Report, LinesFault>
-    requires workers { (1 ≤ workers) × (workers ≤ 64) }
-    requires size { (1 ≤ size) × (size ≤ 65536) }
     requires clocks { AreClocksOf dump clocks }
     requires watched { AllByRecursion (IsWatched (variables_of dump)) suite.now.names.items }
     requires fit { AllByRecursion (IsFit suite.now) suite.now.assertions.items }
@@ -46,9 +44,5 @@ pub fn suite_report<G: Gate + Sync, R: Threads + Wait + Sync>(
     ensures refused { IfErr result (WhyNoLines suite.now) }
 {
     let job = suite_job(alloc, dump, clocks, suite)?;
-    // An arm knows that it is want of memory, as `want_of_memory` asks; a `From` can't ask it.
-    match run(rt, alloc, &job, workers, size, gate) {
-        Ok(report) => Ok(report),
-        Err(fault) => Err(want_of_memory(fault)),
-    }
+    Ok(job_report(rt, alloc, &job, team, size, gate)?)
 }

@@ -10,7 +10,7 @@ pub enum WordsFault {
     /// The words are refused, or ask for help: the text to show.
     #[error("{0}")]
     Words(clap::Error),
-    #[error("out of memory")]
+    #[error("OutOfMemory")]
     OutOfMemory,
 }
 

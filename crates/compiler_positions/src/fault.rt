@@ -10,7 +10,7 @@ pub enum SectionFault {
     #[error("the code of the sequence would be too long")]
     TooLong,
     /// Memory ran out.
-    #[error("out of memory")]
+    #[error("OutOfMemory")]
     Memory,
 }
 

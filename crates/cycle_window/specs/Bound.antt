@@ -75,12 +75,6 @@ IsSignalFault vs signals e = ⊥
 abbrev pub IsBadSize : ℕ → Type 0
 IsBadSize size = (size ≡ 0) ⊎ (65536 < size)
 
--- why there is no window
-abbrev pub WhyNoWindow : ℕ → WindowFault → Type 0
-WhyNoWindow size faults.BadSize = IsBadSize size
-WhyNoWindow size faults.Memory = Unit {0}
-WhyNoWindow size e = ⊥
-
 -- what is wrong with one signal
 abbrev pub IsMisfit : Option Misfit → List ℕ → WindowFault → Type 0
 IsMisfit m path (faults.NoSignal p) = (m ≡ Some Missing) × (string_bytes p ≡ path)

@@ -10,7 +10,8 @@
 //! ```text
 //! let clocks = Clocks::of(alloc, &dump, "top.clk")?;          // C1, C2
 //! let columns = Columns::bind(alloc, &dump, &clocks, &signals)?;  // C4, C5
-//! let mut window = Window::new(alloc, 1024, columns)?;        // C3; empty, before the first tick
+//! let size = WindowSize::new(1024)?;                          // C3
+//! let mut window = Window::new(alloc, size, columns)?;        // empty, before the first tick
 //! window.slide(&dump, &clocks);                               // the next 1,024, or what is left
 //! let (first, end) = window.bounds();
 //! window.put_row(&mut row, first);                            // all signals, in the room of row
@@ -37,6 +38,7 @@ mod picks;
 mod rows;
 mod sampling;
 mod shared;
+mod size;
 mod window;
 mod window_rows;
 
@@ -44,4 +46,5 @@ pub use clocks::Clocks;
 pub use columns::{Columns, WatchedSignal};
 pub use fault::WindowFault;
 pub use laws::ticks_law;
+pub use size::{BadSize, WindowSize};
 pub use window::Window;

@@ -1,26 +1,22 @@
 //! A run of clocks with their rows.
 
-ghost use Rattle.std.specs.Prelude.{◌≡◌, ◌+◌, ◌-◌, ◌*◌, ◌<◌, ◌≤◌, IfOk, IfErr, length, min};
+ghost use Rattle.std.specs.Prelude.{◌≡◌, ◌+◌, ◌-◌, ◌*◌, ◌<◌, ◌≤◌, IfOk, length, min};
 ghost use Rattle.std.specs.Prelude.{slice_index, slice_range, vec_capacity};
 ghost use Rattle.vcd_reader.specs.Dump.{Contents};
 ghost use Rattle.vcd_reader.specs.declared.dump.Dump.{Dump};
 ghost use Rattle.vcd_reader.specs.Held.{HoldsContents};
 ghost use Rattle.cycle_window.specs.Ticks.{ticks_of, row_of};
-ghost use Rattle.cycle_window.specs.Bound.{IsBadSize, WhyNoWindow};
 ghost use Rattle.cycle_window.specs.Variables.{places};
 ghost use Rattle.cycle_window.specs.Rows.{AreRowsOf};
 
 use crate::clocks::Clocks;
 use crate::columns::Columns;
 use crate::cursor::Cursor;
-use crate::fault::WindowFault;
 use crate::picks::push_picked;
+use crate::size::WindowSize;
 use crate::window_rows::fill_rows;
-use std::alloc::Global;
+use std::alloc::{AllocError, Global};
 use vcd_reader::Dump;
-
-/// The most clocks of a window.
-const MOST: usize = 65_536;
 
 /// A run of clocks with their rows. It holds no rows but these, and the dump is read up to the last
 /// of them.
@@ -49,8 +45,12 @@ impl<'d> Window<'d> {
     ghost use Rattle.cycle_window.specs.Held.{AreClocksOf, AreColumnsOf, IsOver, IsWindowOf};
     ghost use Rattle.cycle_window.specs.declared.clocks.Clocks.{Clocks};
 
-    /// An empty window before the first clock, which will hold up to `size` clocks, 1 to 65,536.
-    pub fn new(alloc: Global, size: usize, columns: Columns<'d>) -> Result<Window<'d>, WindowFault>
+    /// An empty window before the first clock, which will hold up to so many clocks.
+    pub fn new(
+        alloc: Global,
+        size: WindowSize,
+        columns: Columns<'d>,
+    ) -> Result<Window<'d>, AllocError>
         ensures columns { IfOk result (λ w. columns_in w ≡ columns.entry) }
         ensures size { IfOk result (λ w. size_in w ≡ size) }
         ensures first { IfOk result (λ w. first_in w ≡ 0) }
@@ -61,15 +61,12 @@ impl<'d> Window<'d> {
             → code_in k ≡ clock_in columns.entry → AreClocksOf d k
             → ((c : Contents) → HoldsContents d c → AreColumnsOf columns.entry c)
             → IfOk result (λ w. IsWindowOf w d k) }
-        ensures fault { IfErr result (WhyNoWindow size) }
         ensures good { IfOk result (λ _. (1 ≤ size) × (size ≤ 65536)) }
     {
-        if size == 0 || size > MOST {
-            return Err(WindowFault::BadSize);
-        }
+        let size = size.clocks();
         let variables = columns.shared.variables.as_slice();
         let Some(room) = size.min(columns.count).checked_mul(variables.len()) else {
-            return Err(WindowFault::Memory);
+            return Err(AllocError);
         };
         let cursor = Cursor::new(alloc, columns.dump, variables)?;
         let values = Vec::with_capacity(alloc, room)?;

@@ -16,17 +16,11 @@ use Rattle.std.proofs.Common.{
   ap,
   ◌∙◌,
   add-one,
-  arith,
-  inl,
-  inr,
   refl,
 }
 use Rattle.std.specs.Prelude.{slice_index}
 use Rattle.std.proofs.Math.Seq.{take-suc}
 use Rattle.std.proofs.lemmas.List.{map-append, take_all}
-use Rattle.cycle_window.specs.declared.fault.WindowFault.{WindowFault}
-use Rattle.cycle_window.specs.declared.fault.WindowFault.TheVariants as faults
-use Rattle.cycle_window.specs.Bound.{WhyNoWindow}
 
 -- the row of one tick more
 pub row_more : (f : ℕ → List ℕ) (ticks : List ℕ) (n : ℕ) (old new : List (List ℕ)) (row : List ℕ)
@@ -45,14 +39,3 @@ no_row f ticks n e = ap (λ k. map f (take k ticks)) (sym e)
 pub all_rows : (f : ℕ → List ℕ) (ticks : List ℕ) (n : ℕ) → length ticks ≤ n
     → map f (take n ticks) ≡ map f ticks
 all_rows f ticks n over = ap (map f) (take_all n ticks over)
-
--- a window of a good size is refused for want of memory alone
-pub only_memory : (size : ℕ) (e : WindowFault) → 1 ≤ size → size ≤ 65536 → WhyNoWindow size e
-    → e ≡ faults.Memory
-only_memory size faults.BadSize some most (inl none) = absurd (omega arith)
-only_memory size faults.BadSize some most (inr more) = absurd (omega arith)
-only_memory size faults.Memory some most why = refl
-only_memory size faults.NoClock some most why = absurd why
-only_memory size faults.ClockWidth some most why = absurd why
-only_memory size (faults.NoSignal path) some most why = absurd why
-only_memory size (faults.SignalWidth path) some most why = absurd why

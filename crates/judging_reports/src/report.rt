@@ -1,10 +1,11 @@
 //! The report on a suite over a dump.
 
-ghost use Rattle.std.specs.Prelude.{◌≡◌, ℕ, ◌≤◌, List, Some, map, string_bytes, IfOk, IfErr};
+ghost use Rattle.std.specs.Prelude.{◌≡◌, ℕ, List, Some, map, string_bytes, IfOk, IfErr};
 ghost use Rattle.vcd_reader.specs.Variables.{variable_named};
 ghost use Rattle.vcd_reader.specs.Dump.{Contents};
 ghost use Rattle.vcd_reader.specs.Held.{HoldsContents, variables_of};
 ghost use Rattle.cycle_window.specs.Bound.{IsClockFault};
+ghost use Rattle.cycle_window.specs.declared.fault.WindowFault.TheVariants.{Memory};
 ghost use Rattle.cycle_window.specs.Held.{AreClocksOf, code_in};
 ghost use Rattle.cycle_window.specs.Signals.{wanted_of};
 ghost use Rattle.cycle_window.specs.Ticks.{ticks_of, row_of};
@@ -13,9 +14,9 @@ ghost use Rattle.judging_reports.specs.Named.{AreNamed, wanted_in_suite};
 ghost use Rattle.judging_reports.specs.Reported.{OverRows, Reports};
 
 use crate::lines::lines_of;
-use crate::sampled::{rows_through, want_of_memory};
+use crate::sampled::rows_through;
 use assertions::Suite;
-use cycle_window::{Clocks, Columns, WatchedSignal, WindowFault};
+use cycle_window::{Clocks, Columns, WatchedSignal, WindowFault, WindowSize};
 use expressions::{Table, count};
 use std::alloc::{AllocError, Global};
 use vcd_reader::Dump;
@@ -47,16 +48,24 @@ fn signals_of<'s>(
     Ok(signals)
 }
 
+/// The fault of signals that all name variables of their widths.
+fn want_of_memory(fault: WindowFault) -> AllocError
+    requires { fault ≡ Memory }
+{
+    match fault {
+        WindowFault::Memory => AllocError,
+        _ => unreachable!(),
+    }
+}
+
 /// The rows of a suite's signals at the ticks of its clock.
 fn rows_of(
     alloc: Global,
     dump: &Dump,
     clocks: &Clocks,
     suite: &Suite,
-    size: usize,
+    size: WindowSize,
 ) -> Result<Table<u128>, AllocError>
-    requires some { 1 ≤ size }
-    requires most { size ≤ 65536 }
     requires clocks { AreClocksOf dump.now clocks.now }
     requires named { AreNamed (variables_of dump.now) suite.now.names.items }
     ensures { (c : Contents) (signals : List ℕ) → HoldsContents dump.now c
@@ -72,15 +81,13 @@ fn rows_of(
     }
 }
 
-/// The report on a suite over a dump, or why its clock is none.
+/// The report on a suite over a dump, read through windows of a size, or why its clock is none.
 pub fn report_by_judge(
     alloc: Global,
     dump: &Dump,
     suite: &Suite,
-    size: usize,
+    size: WindowSize,
 ) -> Result<Report, WindowFault>
-    requires some { 1 ≤ size }
-    requires most { size ≤ 65536 }
     requires named { AreNamed (variables_of dump.now) suite.now.names.items }
     ensures ok { (c : Contents) → HoldsContents dump.now c
         → IfOk result (λ r. Reports c suite.now (data_of r)) }

@@ -1,28 +1,17 @@
 //! The rows that a suite is judged over.
 
-ghost use Rattle.std.specs.Prelude.{◌≡◌, ℕ, ◌+◌, ◌<◌, ◌≤◌, IfOk, OnOk, map, take, length};
+ghost use Rattle.std.specs.Prelude.{◌≡◌, ◌+◌, ◌<◌, ◌≤◌, IfOk, OnOk, map, take, length};
 ghost use Rattle.vcd_reader.specs.Dump.{Contents};
 ghost use Rattle.vcd_reader.specs.Held.{HoldsContents};
-ghost use Rattle.cycle_window.specs.declared.fault.WindowFault.TheVariants.{Memory};
 ghost use Rattle.cycle_window.specs.Ticks.{ticks_of, row_of};
 ghost use Rattle.cycle_window.specs.Held.{ticks_in, code_in, dump_in, places_in, clock_in};
 ghost use Rattle.cycle_window.specs.Held.{columns_in, first_in, end_in};
 ghost use Rattle.cycle_window.specs.Held.{AreClocksOf, AreColumnsOf, IsOver};
 
-use cycle_window::{Clocks, Columns, Window, WindowFault};
+use cycle_window::{Clocks, Columns, Window, WindowSize};
 use expressions::Table;
 use std::alloc::{AllocError, Global};
 use vcd_reader::Dump;
-
-/// The fault of signals that all name variables of their widths, and of a window of a good size.
-pub(crate) fn want_of_memory(fault: WindowFault) -> AllocError
-    requires { fault ≡ Memory }
-{
-    match fault {
-        WindowFault::Memory => AllocError,
-        _ => unreachable!(),
-    }
-}
 
 /// Adds the rows of a window behind those of the clocks before it.
 fn push_rows(alloc: Global, rows: &mut Table<u128>, window: &Window<'_>) -> Result<(), AllocError>
@@ -44,17 +33,14 @@ fn push_rows(alloc: Global, rows: &mut Table<u128>, window: &Window<'_>) -> Resu
     Ok(())
 }
 
-/// The rows of the columns at all ticks of their clock, read through windows of so many clocks, 1
-/// to 65,536.
+/// The rows of the columns at all ticks of their clock, read through windows of a size.
 pub(crate) fn rows_through(
     alloc: Global,
     dump: &Dump,
     clocks: &Clocks,
     columns: Columns<'_>,
-    size: usize,
+    size: WindowSize,
 ) -> Result<Table<u128>, AllocError>
-    requires some { 1 ≤ size }
-    requires most { size ≤ 65536 }
     requires clocks { AreClocksOf dump.now clocks.now }
     requires dump { dump_in columns ≡ dump.now }
     requires clock { clock_in columns ≡ code_in clocks.now }
@@ -62,11 +48,7 @@ pub(crate) fn rows_through(
     ensures { IfOk result (λ rows. (c : Contents) → HoldsContents dump.now c
         → rows ≡ map (row_of c (places_in columns.entry)) (ticks_of c (code_in clocks.now))) }
 {
-    // An arm knows that it is want of memory, as `want_of_memory` asks; a `From` can't ask it.
-    let mut window = match Window::new(alloc, size, columns) {
-        Ok(window) => window,
-        Err(fault) => return Err(want_of_memory(fault)),
-    };
+    let mut window = Window::new(alloc, size, columns)?;
     let mut rows = Table::new(alloc);
     while (rows.len() as u64) < clocks.len() {
         window.slide(dump, clocks);

@@ -16,8 +16,8 @@ use Rattle.types_sequences.specs.Drafts as drafts
 use Rattle.types_sequences.specs.Drafts.{Draft, IsIn, IsCyclic}
 use Rattle.types_names.specs.declared.own.Sought.{Sought}
 use Rattle.types_names.specs.Scopes.{Scope, path_text, first_byte, bits_of, meaning, sequence_named}
-use Rattle.types_names.specs.Widths.{own_width, chain_width, parts_width, path_width_by, unary_width, unary_of}
-use Rattle.types_names.specs.Widths.{binary_width, binary_of}
+use Rattle.types_names.specs.Width.{own_width, chain_width, parts_width, path_width_by, unary_width, unary_of}
+use Rattle.types_names.specs.Width.{binary_width, binary_of}
 use Rattle.types_names.specs.Faults.{path_faults, wide_faults, faults, link_faults, part_faults, boolean_faults}
 use Rattle.types_names.specs.Faults.{sequence_faults, step_faults, other_faults, property_faults, optional_faults}
 use Rattle.types_names.specs.Faults.{clause_faults, counter_faults, assertion_faults, item_faults, file_faults}

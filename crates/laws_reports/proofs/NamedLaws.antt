@@ -21,7 +21,7 @@ use Rattle.types_names.specs.declared.operator.Call.{Call}
 use Rattle.types_names.specs.declared.operator.Call.TheVariants as calls
 use Rattle.types_names.specs.Scopes.{Scope, path_text, meaning}
 use Rattle.types_names.specs.Columns.{path_signals, signals, link_signals, part_signals, column_of}
-use Rattle.types_names.specs.Widths.{binary_of, unary_of, call_of}
+use Rattle.types_names.specs.Width.{binary_of, unary_of, call_of}
 use Rattle.types_expressions.specs.Meanings.{binary_term, unary_term, call_term, IsNameOf, IsRead}
 use Rattle.types_expressions.specs.Meanings.{Means, Chains, Joins, JoinsMore}
 use Rattle.laws_reports.specs.ReadInText.{path_counters, counters, link_counters, part_counters}

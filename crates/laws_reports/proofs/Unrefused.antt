@@ -24,6 +24,7 @@ use Rattle.cli_faults.specs.declared.fault.Fault.TheVariants.{
   Parse,
   Typing,
   Compile,
+  BadSize,
   BadWorkers,
   BadJob,
   Window,
@@ -103,6 +104,7 @@ unrefused c text report (Parse e) h k =
     absurd (not_itemless c text h.suite e h.says (itemless c text e k))
 unrefused c text report (Typing e) h k = absurd (not_mistyped c text h.suite e h.says k)
 unrefused c text report (Compile e) h k = absurd k
+unrefused c text report BadSize h k = absurd k
 unrefused c text report BadWorkers h k = absurd k
 unrefused c text report BadJob h k = absurd k
 unrefused c text report (Window e) h k = absurd (not_clockless c text report e h k)

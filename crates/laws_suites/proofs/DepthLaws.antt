@@ -32,7 +32,7 @@ use Rattle.types_names.specs.declared.operator.Unary.{Unary}
 use Rattle.types_names.specs.declared.operator.Unary.TheVariants as unaries
 use Rattle.types_names.specs.Scopes.{Scope, meaning, path_text}
 use Rattle.types_names.specs.Columns.{column_of}
-use Rattle.types_names.specs.Widths.{binary_of, unary_of, call_of, ticks_of}
+use Rattle.types_names.specs.Width.{binary_of, unary_of, call_of, ticks_of}
 use Rattle.types_expressions.specs.Meanings.{binary_term, unary_term, call_term, IsRead, Means, Chains, Joins}
 use Rattle.types_expressions.specs.Meanings.{JoinsMore}
 use Rattle.compiler_expressions.specs.Laws.{Each}

@@ -5,7 +5,7 @@ use Rattle.parser_grammar.specs.declared.operator.Infix.TheVariants as infixes
 use Rattle.parser_grammar.specs.Operators.{infix_level}
 use Rattle.types_names.specs.declared.operator.Binary.{Binary}
 use Rattle.types_names.specs.declared.operator.Binary.TheVariants.{Arithmetic, Shift, Comparison, Connective}
-use Rattle.types_names.specs.Widths.{binary_of}
+use Rattle.types_names.specs.Width.{binary_of}
 use Rattle.compiler_expressions.specs.Depths.{arithmetic_level, comparison_level, connective_level}
 
 abbrev pub binary_level : Binary → ℕ

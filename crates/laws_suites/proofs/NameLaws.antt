@@ -30,7 +30,7 @@ use Rattle.types_names.specs.declared.operator.Call.TheVariants as calls
 use Rattle.types_names.specs.Scopes.{Scope, path_text, meaning, meaning_by, look_up}
 use Rattle.types_names.specs.Scopes.{owns_from, width_in}
 use Rattle.types_names.specs.Columns.{column_of}
-use Rattle.types_names.specs.Widths.{binary_of, unary_of, call_of, ticks_of}
+use Rattle.types_names.specs.Width.{binary_of, unary_of, call_of, ticks_of}
 use Rattle.types_expressions.specs.Meanings.{binary_term, unary_term, call_term, IsName, IsNameOf}
 use Rattle.types_expressions.specs.Meanings.{IsRead, Means, Chains, Joins, JoinsMore}
 use Rattle.types_suites.specs.Texts.{counters_of}

@@ -16,7 +16,7 @@ pub enum LexFault {
     #[error("L3 UnclosedComment {0}")]
     UnclosedComment(usize),
     /// Memory ran out.
-    #[error("out of memory")]
+    #[error("OutOfMemory")]
     Memory,
 }
 

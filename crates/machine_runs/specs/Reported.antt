@@ -6,7 +6,6 @@ use Rattle.vcd_reader.specs.Dump.{Contents}
 use Rattle.cycle_window.specs.declared.fault.WindowFault.{WindowFault}
 use Rattle.cycle_window.specs.declared.fault.WindowFault.TheVariants as faults
 use Rattle.cycle_window.specs.Bound.{Wanted, Missing, OtherWidth, At, misfit, first_refused}
-use Rattle.cycle_window.specs.Bound.{IsBadSize}
 use Rattle.cycle_window.specs.Ticks.{ticks_of, row_of}
 use Rattle.verdicts.specs.Lines.{LineData, ReportData, report_of}
 use Rattle.machine_runs.specs.Lines.{IsLineOver}
@@ -48,17 +47,16 @@ HasClock vs p = misfit vs (variable_named vs p.header.clock) 1 ≡ None
 abbrev pub HasSignals : List Declared → ProgramData → Type 0
 HasSignals vs p = first_refused vs (map wanted_slot p.signals) ≡ None
 
--- Why there is no report: first the clock, then the signals in their order, then the size of the
--- windows. Memory may lack anywhere.
-abbrev pub WhyNoRun : List Declared → ProgramData → ℕ → WindowFault → Type 0
-WhyNoRun vs p size faults.NoClock = misfit vs (variable_named vs p.header.clock) 1 ≡ Some Missing
-WhyNoRun vs p size faults.ClockWidth =
+-- Why there is no report: first the clock, then the signals in their order. Memory may lack
+-- anywhere.
+abbrev pub WhyNoRun : List Declared → ProgramData → WindowFault → Type 0
+WhyNoRun vs p faults.NoClock = misfit vs (variable_named vs p.header.clock) 1 ≡ Some Missing
+WhyNoRun vs p faults.ClockWidth =
     misfit vs (variable_named vs p.header.clock) 1 ≡ Some OtherWidth
-WhyNoRun vs p size (faults.NoSignal path) =
+WhyNoRun vs p (faults.NoSignal path) =
     HasClock vs p
     × (first_refused vs (map wanted_slot p.signals) ≡ Some (At (string_bytes path) Missing))
-WhyNoRun vs p size (faults.SignalWidth path) =
+WhyNoRun vs p (faults.SignalWidth path) =
     HasClock vs p
     × (first_refused vs (map wanted_slot p.signals) ≡ Some (At (string_bytes path) OtherWidth))
-WhyNoRun vs p size faults.BadSize = HasClock vs p × HasSignals vs p × IsBadSize size
-WhyNoRun vs p size faults.Memory = Unit {0}
+WhyNoRun vs p faults.Memory = Unit {0}

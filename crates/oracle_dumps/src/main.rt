@@ -22,7 +22,7 @@
 ghost use Rattle.cycle_window.specs.Held.{AreClocksOf};
 
 use anyhow::{Result, bail};
-use cycle_window::{Clocks, Columns, WatchedSignal, Window};
+use cycle_window::{Clocks, Columns, WatchedSignal, Window, WindowSize};
 use signals::Counted;
 use std::alloc::Global;
 use std::fs;
@@ -100,10 +100,11 @@ fn print_rows<R: Print + AllocGlobal>(
         Ok(columns) => columns,
         Err(fault) => bail!("{fault}"),
     };
-    let mut window = match Window::new(rt.alloc(), 65_536, columns) {
-        Ok(window) => window,
+    let size = match WindowSize::new(65_536) {
+        Ok(size) => size,
         Err(fault) => bail!("{fault}"),
     };
+    let mut window = Window::new(rt.alloc(), size, columns)?;
     let ticks = clocks.len();
     let (_, end) = window.bounds();
     if end >= ticks {

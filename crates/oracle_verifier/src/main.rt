@@ -71,8 +71,7 @@ fn accepted_line(alloc: Global, verified: &Verified) -> Result<String> {
     let least = verified.least_limits();
     let (history, stack, budget) = (least.history, least.stack, least.budget);
     let (attempts, obligations) = (least.attempts, least.obligations);
-    let lives = verified.lives();
-    let (antecedent, consequent) = (lives.antecedent, lives.consequent);
+    let (antecedent, consequent) = verified.lives();
     let pools = format!(in alloc; "attempts {attempts} obligations {obligations}")?;
     let limits = format!(in alloc; "history {history} stack {stack} {pools} budget {budget}")?;
     Ok(format!(in alloc; "accepted {limits} lives {antecedent} {consequent}")?)

@@ -16,7 +16,7 @@ use thiserror::Error;
 #[derive(Clone, Copy, Debug, Error)]
 pub enum ParseFault<'a> {
     /// P1: something else would go on.
-    #[error("P1 Expected {1}: {0}")]
+    #[error("P1 Expected {1}")]
     Expected(&'static str, usize),
     /// P2: the word or symbol of a construct that the profile leaves out, and a second implication.
     #[error("P2 OutsideProfile {0} {1}")]
@@ -28,7 +28,7 @@ pub enum ParseFault<'a> {
     #[error("P4 BadBound {0}")]
     BadBound(usize),
     /// Memory ran out.
-    #[error("out of memory")]
+    #[error("OutOfMemory")]
     Memory,
 }
 

@@ -1,7 +1,7 @@
 //! Dumps, their paths, and rows by windows, with answers worked out by hand. Values and faults of
 //! dumps are the table of `oracle_reports`.
 
-use cycle_window::{Clocks, Columns, WatchedSignal, Window, WindowFault};
+use cycle_window::{Clocks, Columns, WatchedSignal, Window, WindowFault, WindowSize};
 use signals::{Counted, CutReader, Source};
 use std::alloc::{AllocError, Global};
 use std::test::Fail;
@@ -61,7 +61,7 @@ fn values_in(
     dump: &Dump,
     clock: &str,
     signals: &[WatchedSignal<'_>],
-    size: usize,
+    size: WindowSize,
 ) -> Result<Vec<u128>, WindowFault> {
     let clocks = Clocks::of(alloc, dump, clock)?;
     let columns = Columns::bind(alloc, dump, &clocks, signals)?;
@@ -89,9 +89,10 @@ fn values_by(
     bytes: &[u8],
     clock: &str,
     signals: &[WatchedSignal<'_>],
-    size: usize,
+    size: u64,
 ) -> Result<Vec<u128>, Fail> {
     let dump = dump_of(alloc, bytes)?;
+    let size = WindowSize::new(size)?;
     let values = values_in(alloc, &dump, clock, signals, size)?;
     Ok(values)
 }
@@ -112,8 +113,12 @@ fn refusal_in(
     dump: &Dump,
     clock: &str,
     signals: &[WatchedSignal<'_>],
-    size: usize,
+    size: u64,
 ) -> Result<String, AllocError> {
+    let size = match WindowSize::new(size) {
+        Ok(size) => size,
+        Err(fault) => return fault.to_string(alloc),
+    };
     match values_in(alloc, dump, clock, signals, size) {
         Ok(_values) => String::from_str(alloc, "accepted"),
         Err(fault) => fault.to_string(alloc),
@@ -125,7 +130,7 @@ fn refusal(
     alloc: Global,
     clock: &str,
     signals: &[WatchedSignal<'_>],
-    size: usize,
+    size: u64,
 ) -> Result<String, Fail> {
     let dump = dump_of(alloc, FRONT.as_bytes())?;
     let refusal = refusal_in(alloc, &dump, clock, signals, size)?;

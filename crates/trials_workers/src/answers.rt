@@ -1,9 +1,10 @@
 //! What a run tells: the text of its report, or its fault.
 
-ghost use Rattle.std.specs.Prelude.{◌<◌, ◌≤◌};
+ghost use Rattle.std.specs.Prelude.{◌<◌};
 
 use crate::job::text_of;
 use bytecode_files::decode;
+use cycle_window::WindowSize;
 use signals::Counted;
 use std::alloc::{AllocError, Global};
 use std::sync::Wait;
@@ -11,6 +12,7 @@ use std::thread::Threads;
 use vcd_reader::{Dump, read_dump};
 use verifier::{Verified, verify};
 use workers::{NoGate, report_run};
+use workers_core::TeamSize;
 
 /// The value of a hexadecimal digit, 0 for other bytes.
 fn digit(byte: u8) -> u8
@@ -49,14 +51,11 @@ fn told_over<R: Threads + Wait + Sync + AllocGlobal>(
     rt: &R,
     dump: Dump,
     verified: Verified,
-    workers: usize,
-    size: usize,
-) -> Result<String, AllocError>
-    requires workers { (1 ≤ workers) × (workers ≤ 64) }
-    requires size { (1 ≤ size) × (size ≤ 65536) }
-{
+    team: TeamSize,
+    size: WindowSize,
+) -> Result<String, AllocError> {
     let alloc = rt.alloc();
-    match report_run(rt, alloc, dump, verified, workers, size, &NoGate) {
+    match report_run(rt, alloc, dump, verified, team, size, &NoGate) {
         Ok(report) => text_of(alloc, &report, 1000),
         Err(fault) => format!(in alloc; "{fault}"),
     }
@@ -68,19 +67,19 @@ pub(crate) fn told<R: Threads + Wait + Sync + AllocGlobal>(
     rt: &R,
     dump: &str,
     code: &str,
-    workers: usize,
-    size: usize,
-) -> Result<String, AllocError>
-    requires workers { (1 ≤ workers) × (workers ≤ 64) }
-    requires size { (1 ≤ size) × (size ≤ 65536) }
-{
+    workers: u64,
+    size: u64,
+) -> Result<String, AllocError> {
     let alloc = rt.alloc();
+    let (Ok(team), Ok(size)) = (TeamSize::new(workers), WindowSize::new(size)) else {
+        return String::from_str(alloc, "no team or no window");
+    };
     let Some(verified) = verified_of(alloc, code)? else {
         return String::from_str(alloc, "no program");
     };
     let mut source = Counted::new(dump.as_bytes());
     match read_dump(alloc, &mut source) {
-        Ok(dump) => told_over(rt, dump, verified, workers, size),
+        Ok(dump) => told_over(rt, dump, verified, team, size),
         Err(_) => String::from_str(alloc, "no dump"),
     }
 }

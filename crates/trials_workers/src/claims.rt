@@ -5,6 +5,7 @@ ghost use Rattle.workers_tally.specs.Blanks.{HaveParts, AreOf};
 
 use crate::job::job_of;
 use crate::tests::{OVERLAPPED, THREE, TWO_POSITIONS};
+use cycle_window::WindowSize;
 use std::alloc::{AllocError, Global};
 use std::marker::Brand;
 use std::sync::Wait;
@@ -83,7 +84,7 @@ fn round_alone<L: Tallying>(
     requires parts { HaveParts 1 blanks }
     requires names { AreOf L.holds L.vacuous L.fails L.disabled blanks }
 {
-    let Ok(window) = window_of(alloc, job, 1024) else {
+    let Ok(window) = window_of(alloc, job, WindowSize::usual()) else {
         return Err(AllocError);
     };
     let board = Board::new(alloc)?;

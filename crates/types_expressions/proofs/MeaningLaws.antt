@@ -17,8 +17,8 @@ use Rattle.types_names.specs.declared.operator.Unary.TheVariants as unaries
 use Rattle.types_names.specs.declared.operator.Call.{Call}
 use Rattle.types_names.specs.declared.operator.Call.TheVariants as calls
 use Rattle.types_names.specs.Scopes.{Scope, path_text, meaning, bits_of}
-use Rattle.types_names.specs.Widths.{binary_of, unary_of, call_of, binary_width, unary_width, path_width_by}
-use Rattle.types_names.specs.Widths.{high_of, low_of, own_width, chain_width, parts_width}
+use Rattle.types_names.specs.Width.{binary_of, unary_of, call_of, binary_width, unary_width, path_width_by}
+use Rattle.types_names.specs.Width.{high_of, low_of, own_width, chain_width, parts_width}
 use Rattle.types_names.specs.Columns.{column_of}
 use Rattle.types_expressions.specs.Meanings.{binary_term, unary_term, call_term, IsNameOf, IsRead, Means, Chains, Joins}
 use Rattle.types_expressions.specs.Meanings.{JoinsMore}

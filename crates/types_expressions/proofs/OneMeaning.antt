@@ -24,7 +24,7 @@ use Rattle.types_names.specs.declared.operator.Unary.TheVariants as unaries
 use Rattle.types_names.specs.declared.operator.Call.{Call}
 use Rattle.types_names.specs.declared.operator.Call.TheVariants as calls
 use Rattle.types_names.specs.Scopes.{Scope, path_text, meaning}
-use Rattle.types_names.specs.Widths.{binary_of, unary_of, call_of, ticks_of}
+use Rattle.types_names.specs.Width.{binary_of, unary_of, call_of, ticks_of}
 use Rattle.types_names.specs.Columns.{column_of}
 use Rattle.types_expressions.specs.Meanings.{binary_term, unary_term, call_term, IsName, IsNameOf, IsRead, Means}
 use Rattle.types_expressions.specs.Meanings.{Chains, Joins, JoinsMore}

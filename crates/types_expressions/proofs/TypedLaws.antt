@@ -27,8 +27,8 @@ use Rattle.types_names.specs.declared.own.Meaning.TheVariants.{Signal, Own as De
 use Rattle.types_names.specs.declared.own.Sought.{Sought}
 use Rattle.types_names.specs.declared.own.Sought.TheVariants.{Unknown, Wide, OutOfRange}
 use Rattle.types_names.specs.Scopes.{Scope, path_text, first_byte, meaning, bits_of}
-use Rattle.types_names.specs.Widths.{binary_of, unary_of, call_of, literal_width, literal_value, ticks_of}
-use Rattle.types_names.specs.Widths.{high_of, low_of, own_width, parts_width}
+use Rattle.types_names.specs.Width.{binary_of, unary_of, call_of, literal_width, literal_value, ticks_of}
+use Rattle.types_names.specs.Width.{high_of, low_of, own_width, parts_width}
 use Rattle.types_names.specs.Faults.{unless, has_bits, path_faults, wide_faults, faults, link_faults, part_faults}
 use Rattle.types_names.specs.Faults.{IsSound}
 use Rattle.types_names.specs.Columns.{signals, link_signals, part_signals, path_signals, all_listed, column_of}

@@ -3,7 +3,7 @@ use Rattle.std.specs.Prelude.{◌≡◌, ℕ, List}
 use Rattle.parser_grammar.specs.Trees.{Tree}
 use Rattle.expressions.specs.Terms.{Term, Samples, width_of, value_of}
 use Rattle.types_names.specs.Scopes.{Scope}
-use Rattle.types_names.specs.Widths.{own_width}
+use Rattle.types_names.specs.Width.{own_width}
 use Rattle.types_expressions.specs.Meanings.{Means}
 
 -- What an expression means has the expression's own width.

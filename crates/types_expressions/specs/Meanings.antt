@@ -23,9 +23,9 @@ use Rattle.types_names.specs.declared.operator.Unary.TheVariants as unaries
 use Rattle.types_names.specs.declared.operator.Call.{Call}
 use Rattle.types_names.specs.declared.operator.Call.TheVariants as calls
 use Rattle.types_names.specs.Scopes.{Scope, path_text, meaning}
-use Rattle.types_names.specs.Widths.{binary_of, unary_of, call_of, literal_width}
-use Rattle.types_names.specs.Widths.{literal_value}
-use Rattle.types_names.specs.Widths.{high_of, low_of, ticks_of}
+use Rattle.types_names.specs.Width.{binary_of, unary_of, call_of, literal_width}
+use Rattle.types_names.specs.Width.{literal_value}
+use Rattle.types_names.specs.Width.{high_of, low_of, ticks_of}
 use Rattle.types_names.specs.Columns.{column_of}
 
 -- an operator with its operands

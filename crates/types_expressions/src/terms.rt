@@ -9,7 +9,7 @@ ghost use Rattle.expressions.specs.Expressions.{term_of};
 ghost use Rattle.types_names.specs.declared.own.Sought.{Sought};
 ghost use Rattle.types_names.specs.Scopes.{path_text, first_byte, meaning, bits_of};
 ghost use Rattle.types_names.specs.Scopes.{is_narrow};
-ghost use Rattle.types_names.specs.Widths.{ticks_of, parts_width, high_of, low_of};
+ghost use Rattle.types_names.specs.Width.{ticks_of, parts_width, high_of, low_of};
 ghost use Rattle.types_names.specs.Faults.{IsSound, has_bits, path_faults, link_faults};
 ghost use Rattle.types_names.specs.Faults.{part_faults};
 ghost use Rattle.types_names.specs.Columns.{HasColumns, column_of, is_listed, all_listed};

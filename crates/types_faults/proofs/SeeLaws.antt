@@ -10,7 +10,7 @@ use Rattle.types_names.specs.declared.own.Sought.TheVariants.{Unknown, Wide, Out
 use Rattle.types_names.specs.declared.operator.Binary.{Binary}
 use Rattle.types_names.specs.declared.operator.Binary.TheVariants.{Arithmetic, Shift, Comparison, Connective}
 use Rattle.types_names.specs.Scopes.{Scope}
-use Rattle.types_names.specs.Widths.{binary_of, binary_width, own_width, chain_width, parts_width}
+use Rattle.types_names.specs.Width.{binary_of, binary_width, own_width, chain_width, parts_width}
 use Rattle.types_names.specs.Faults.{unless, wide_faults, faults, link_faults, part_faults, earlier, least}
 use Rattle.types_names.proofs.FaultLaws.{earlier-assoc, least-append}
 use Rattle.types_faults.proofs.WidthLaws.{held-held, binary-held, sum-held, chain-held, parts-held}

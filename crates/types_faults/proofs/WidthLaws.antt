@@ -6,7 +6,7 @@ use Rattle.types_names.specs.declared.operator.Binary.TheVariants.{Arithmetic, S
 use Rattle.types_names.specs.declared.operator.Unary.{Unary}
 use Rattle.types_names.specs.declared.operator.Unary.TheVariants as unaries
 use Rattle.types_names.specs.Scopes.{Scope}
-use Rattle.types_names.specs.Widths.{binary_of, binary_width, unary_width, own_width, chain_width, parts_width}
+use Rattle.types_names.specs.Width.{binary_of, binary_width, unary_width, own_width, chain_width, parts_width}
 
 max-held : (a b c d : ℕ) → min a 129 ≡ min c 129 → min b 129 ≡ min d 129 → min (max a b) 129 ≡ min (max c d) 129
 max-held a b c d h k = omega arith

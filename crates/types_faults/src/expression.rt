@@ -4,9 +4,9 @@ ghost use Rattle.std.specs.Prelude.{◌≡◌, ◌≤◌, ◌∷◌, map, min, I
 ghost use Rattle.parser_grammar.specs.ReadExpressions.{links_of, parts_of};
 ghost use Rattle.parser_trees.specs.Views.{path_of, tree_of, link_of};
 ghost use Rattle.types_names.specs.Scopes.{bits_of, meaning};
-ghost use Rattle.types_names.specs.Widths.{binary_width, unary_width, path_width_by};
-ghost use Rattle.types_names.specs.Widths.{path_width, own_width, chain_width, parts_width};
-ghost use Rattle.types_names.specs.Widths.{high_of, low_of, unary_of};
+ghost use Rattle.types_names.specs.Width.{binary_width, unary_width, path_width_by};
+ghost use Rattle.types_names.specs.Width.{path_width, own_width, chain_width, parts_width};
+ghost use Rattle.types_names.specs.Width.{high_of, low_of, unary_of};
 ghost use Rattle.types_names.specs.Faults.{has_bits, path_faults, wide_faults, faults};
 ghost use Rattle.types_names.specs.Faults.{link_faults, part_faults, earlier, least};
 ghost use Rattle.types_names.specs.Views.{scope_of};
@@ -122,7 +122,7 @@ fn wide_fault(sought: Sought, at: usize, width: usize) -> Option<usize>
 }
 
 /// What is seen of an expression.
-#[tactic(auto, unfolding(types_names::specs::Widths::own_width, types_names::specs::Faults::faults))]
+#[tactic(auto, unfolding(types_names::specs::Width::own_width, types_names::specs::Faults::faults))]
 #[cycle(expressions)]
 pub(crate) fn see(
     alloc: Global,
@@ -182,7 +182,7 @@ pub(crate) fn see(
 }
 
 /// What is seen of operators with their operands behind a first one.
-#[tactic(auto, unfolding(types_names::specs::Widths::own_width, types_names::specs::Faults::faults))]
+#[tactic(auto, unfolding(types_names::specs::Width::own_width, types_names::specs::Faults::faults))]
 #[cycle(expressions)]
 fn see_links(
     alloc: Global,
@@ -211,7 +211,7 @@ fn see_links(
 }
 
 /// What is seen of more parts of a concatenation.
-#[tactic(auto, unfolding(types_names::specs::Widths::own_width, types_names::specs::Faults::faults))]
+#[tactic(auto, unfolding(types_names::specs::Width::own_width, types_names::specs::Faults::faults))]
 #[cycle(expressions)]
 fn see_parts(
     alloc: Global,

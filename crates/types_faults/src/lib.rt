@@ -20,7 +20,7 @@
 //!
 //! The definitions stand in `types_names`: the signals that are read in `specs/Columns.antt`, what
 //! a text asks for in `specs/Asked.antt`, where faults stand in `specs/Faults.antt`, own widths
-//! (IEEE 1800-2017, 11.6.1) in `specs/Widths.antt`, what paths stand for in `specs/Scopes.antt`.
+//! (IEEE 1800-2017, 11.6.1) in `specs/Width.antt`, what paths stand for in `specs/Scopes.antt`.
 //!
 //! Not promised: which of several faults at one byte is meant, which the kind tells; that memory
 //! suffices. A width is asked for once, so what is told later may differ from what the scope has

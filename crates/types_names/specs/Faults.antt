@@ -15,7 +15,7 @@ use Rattle.parser_grammar.specs.Trees.{assertion}
 use Rattle.types_names.specs.declared.own.Sought.{Sought}
 use Rattle.types_names.specs.declared.own.Sought.TheVariants.{Unknown, Wide, OutOfRange}
 use Rattle.types_names.specs.Scopes.{Scope, first_byte, meaning, bits_of, sequence_named}
-use Rattle.types_names.specs.Widths.{high_of, low_of, parts_width, own_width}
+use Rattle.types_names.specs.Width.{high_of, low_of, parts_width, own_width}
 
 -- the byte, where the test fails
 abbrev pub unless : Bool → ℕ → List ℕ

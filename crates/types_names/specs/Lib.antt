@@ -1,5 +1,5 @@
 pub mod Scopes
-pub mod Widths
+pub mod Width
 pub mod Faults
 pub mod Columns
 pub mod Asked

@@ -17,7 +17,7 @@
 //! `number_bits` and `low_of` read its numbers and selects.
 //!
 //! The definitions: `specs/Scopes.antt` (what paths stand for), `specs/Asked.antt` (what a text
-//! asks of a dump, and its scope over one), `specs/Widths.antt` (operators of the text, and own
+//! asks of a dump, and its scope over one), `specs/Width.antt` (operators of the text, and own
 //! widths), `specs/Faults.antt` (where faults stand, found by `types_faults`), `specs/Columns.antt`
 //! (the signals that are read, listed by `types_faults`), `specs/Entries.antt` (lists in which
 //! each name stands once), `specs/Views.antt` (what `Names`, `Scope` and `SignalPaths` stand for).

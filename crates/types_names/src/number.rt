@@ -1,7 +1,7 @@
 //! Numbers of the text.
 
 ghost use Rattle.std.specs.Prelude.{◌≡◌};
-ghost use Rattle.types_names.specs.Widths.{literal_width, literal_value};
+ghost use Rattle.types_names.specs.Width.{literal_width, literal_value};
 
 use crate::width::Width;
 use lexer::Number;

@@ -1,7 +1,7 @@
 //! Operators and functions of the text, by the rule for their operands' widths.
 
 ghost use Rattle.std.specs.Prelude.{◌≡◌};
-ghost use Rattle.types_names.specs.Widths.{binary_of, unary_of, call_of};
+ghost use Rattle.types_names.specs.Width.{binary_of, unary_of, call_of};
 
 use expressions::{Arithmetic, Change, Comparison, Connective, Reduction, Shift};
 use parser_grammar::{Function, Infix, Prefix};

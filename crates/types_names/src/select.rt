@@ -1,7 +1,7 @@
 //! Selects of bits.
 
 ghost use Rattle.std.specs.Prelude.{◌≡◌};
-ghost use Rattle.types_names.specs.Widths.{low_of};
+ghost use Rattle.types_names.specs.Width.{low_of};
 
 use parser_grammar::Select;
 

@@ -78,6 +78,6 @@ pub enum VcdFault {
     #[error("V8 Read")]
     Read,
     /// There was no memory.
-    #[error("out of memory")]
+    #[error("OutOfMemory")]
     Memory,
 }

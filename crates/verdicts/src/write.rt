@@ -16,10 +16,10 @@ use thiserror::Error;
 #[derive(Clone, Copy, PartialEq, Eq, Debug, Error)]
 pub enum ReportFault {
     /// G1: the device failed, or took no byte.
-    #[error("the report could not be written")]
+    #[error("G1 Write")]
     Write,
     /// There was no memory for the text; nothing was written.
-    #[error("out of memory")]
+    #[error("OutOfMemory")]
     Memory,
 }
 

@@ -30,6 +30,5 @@ mod verified;
 pub use accept::{least_limits, verify};
 pub use laws::verifying_law;
 pub use least::LeastLimits;
-pub use lives::Lives;
 pub use verified::Verified;
 pub use verifier_inference::{Field, Pool, Refusal};

@@ -10,13 +10,6 @@ use crate::paths::{larger, path_from};
 use bytecode::{BlockInstr, Section};
 use std::alloc::{AllocError, Global};
 
-/// The largest lives of the two start sets of a program.
-#[derive(Clone, Copy, PartialEq, Eq, Debug)]
-pub struct Lives {
-    pub antecedent: usize,
-    pub consequent: usize,
-}
-
 /// The life of the position that an instruction enters, if it does.
 fn entered_life(lives: &[usize], next: usize, instr: BlockInstr) -> usize
     requires { next ≤ 127 }

@@ -1,7 +1,6 @@
 //! Programs that were accepted.
 
 use crate::least::LeastLimits;
-use crate::lives::Lives;
 use bytecode::{Limits, Program};
 use std::alloc::{AllocError, Global};
 use std::marker::Model;
@@ -53,15 +52,17 @@ impl Verified {
         self.least
     }
 
-    /// The largest lives of its two start sets, in ticks.
-    pub fn lives(&self) -> Lives
-        ensures antecedent { result.antecedent ≡ start_life self.now.antecedent }
-        ensures consequent { result.consequent ≡ start_life self.now.consequent }
+    /// The largest lives of the start sets of its antecedent and of its consequent, in ticks.
+    pub fn lives(&self) -> (u16, u16)
+        ensures antecedent { result.0 ≡ start_life self.now.antecedent }
+        ensures consequent { result.1 ≡ start_life self.now.consequent }
     {
-        Lives {
-            antecedent: self.least.attempts + 1 - self.least.obligations,
-            consequent: self.least.obligations,
-        }
+        let LeastLimits {
+            attempts,
+            obligations,
+            ..
+        } = self.least;
+        ((attempts + 1 - obligations) as u16, obligations as u16)
     }
 
     /// The same, elsewhere in memory.

@@ -54,7 +54,7 @@ pub enum Refusal {
     /// It isn't for this section: `AcceptFirst` outside the antecedent.
     #[error("F16 AcceptKind {0}")]
     AcceptKind(usize),
-    #[error("out of memory")]
+    #[error("OutOfMemory")]
     Memory,
 }
 

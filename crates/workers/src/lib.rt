@@ -10,7 +10,8 @@
 //! let job = Job::new(alloc, programs, dump, "top.clk")?;
 //! let report = run(&rt, alloc, &job, 4, 1024, &gate)?;
 //! // or, of one program:
-//! let report = report_run(&rt, alloc, dump, verified, 4, 1024, &gate)?;
+//! let (team, size) = (TeamSize::new(4)?, WindowSize::new(1024)?);
+//! let report = report_run(&rt, alloc, dump, verified, team, size, &gate)?;
 //! ```
 //!
 //! The faults of `run` are C3 of the window's size, then U1 of the number of workers, then U2 where
@@ -36,5 +37,5 @@ mod totals;
 
 pub use opening::first_monitors;
 pub use report::report_run;
-pub use runs::run;
+pub use runs::{job_report, run};
 pub use workers_rounds::work::{Gate, NoGate};

@@ -1,29 +1,27 @@
 //! The report of one program.
 
-ghost use Rattle.std.specs.Prelude.{◌≡◌, ◌∷◌, ◌≤◌, [], List, IfOk, IfErr, map};
+ghost use Rattle.std.specs.Prelude.{◌≡◌, ◌∷◌, [], List, IfOk, IfErr, map};
 ghost use Rattle.bytecode.specs.Values.{ProgramData};
 ghost use Rattle.vcd_reader.specs.Variables.{Declared};
 ghost use Rattle.vcd_reader.specs.Dump.{Contents};
 ghost use Rattle.vcd_reader.specs.Held.{HoldsContents, variables_of};
-ghost use Rattle.cycle_window.specs.declared.fault.WindowFault.TheVariants as faults;
 ghost use Rattle.cycle_window.specs.Bound.{IsClock, IsClockFault, IsSignalFault};
 ghost use Rattle.cycle_window.specs.Held.{code_in, AreClocksOf};
 ghost use Rattle.verdicts.specs.Shown.{data_of};
 ghost use Rattle.machine_runs.specs.Lines.{attempts_of};
 ghost use Rattle.machine_runs.specs.Reported.{HasSignals, Reports, WhyNoRun, wanted_slot};
-ghost use Rattle.workers_core.specs.declared.run_fault.RunFault.TheVariants as runs;
 ghost use Rattle.workers_core.specs.Wanted.{WhyUnfit};
 ghost use Rattle.workers.specs.Faults.{IsOfSignals};
 
-use crate::runs::run;
-use cycle_window::{Clocks, WindowFault};
+use crate::runs::job_report;
+use cycle_window::{Clocks, WindowFault, WindowSize};
 use std::alloc::Global;
 use std::sync::Wait;
 use std::thread::Threads;
 use vcd_reader::Dump;
 use verdicts::Report;
 use verifier::Verified;
-use workers_core::{Job, JobFault, RunFault};
+use workers_core::{Job, JobFault, TeamSize};
 use workers_rounds::work::Gate;
 
 /// The clock that a program names.
@@ -70,20 +68,8 @@ fn job_of(alloc: Global, dump: Dump, verified: Verified, clocks: Clocks) -> Resu
     }
 }
 
-/// The fault of a run of an allowed number of workers, through windows of an allowed size.
-fn want_of_memory(fault: RunFault) -> WindowFault
-    requires { fault ≡ runs.Memory }
-    ensures { result ≡ faults.Memory }
-{
-    match fault {
-        RunFault::Memory => WindowFault::Memory,
-        _ => unreachable!(),
-    }
-}
-
-/// The report of a verified program over a dump, on the clock that it names, by 1 to 64 workers
-/// through windows of so many clocks, 1 to 65,536. Neither the number of workers nor the size nor
-/// the gate changes it.
+/// The report of a verified program over a dump, on the clock that it names, by a team through
+/// windows of a size. Neither the team nor the size nor the gate changes it.
 ///
 /// # Errors
 ///
@@ -93,26 +79,20 @@ pub fn report_run<G: Gate + Sync, R: Threads + Wait + Sync>(
     alloc: Global,
     dump: Dump,
     verified: Verified,
-    workers: usize,
-    size: usize,
+    team: TeamSize,
+    size: WindowSize,
     gate: &G,
 ) -> Result<Report, WindowFault>
-    requires workers { (1 ≤ workers) × (workers ≤ 64) }
-    requires size { (1 ≤ size) × (size ≤ 65536) }
     ensures report { (c : Contents) → HoldsContents dump c
         → IfOk result (λ r. Reports c verified (data_of r)) }
     // One attempt begins at each clock, and each is counted once.
     ensures count { IfOk result (λ r. attempts_of r.total ≡ r.clocks) }
     // The first cause that stands.
     ensures refused { (c : Contents) → HoldsContents dump c
-        → IfErr result (WhyNoRun c.variables verified size) }
+        → IfErr result (WhyNoRun c.variables verified) }
 {
     let clocks = clocks_of(alloc, &dump, &verified)?;
     let job = job_of(alloc, dump, verified, clocks)?;
     let _count = job.clocks().len();
-    // An arm knows that it is want of memory, as `want_of_memory` asks; a `From` can't ask it.
-    match run(rt, alloc, &job, workers, size, gate) {
-        Ok(report) => Ok(report),
-        Err(fault) => Err(want_of_memory(fault)),
-    }
+    Ok(job_report(rt, alloc, &job, team, size, gate)?)
 }

@@ -13,20 +13,15 @@ use crate::lines::lines_of;
 use crate::opening::{blank_lines, first_monitors, members_of};
 use crate::rounds_run::run_rounds;
 use crate::totals::{report_with, shares_of};
+use cycle_window::WindowSize;
 use std::alloc::{AllocError, Global};
 use std::marker::Brand;
 use std::sync::Wait;
 use std::thread::Threads;
 use verdicts::Report;
-use workers_core::{Job, RunFault, window_of};
+use workers_core::{Job, RunFault, TeamSize, window_of};
 use workers_rounds::work::Gate;
 use workers_tally::{Blanks, Tally, Tallying};
-
-/// The most clocks of a window.
-const MOST_CLOCKS: usize = 65_536;
-
-/// The most workers.
-const MOST_WORKERS: usize = 64;
 
 /// The run, with a tally of those names.
 fn run_in<L: Tallying + Send + Sync, G: Gate + Sync, R: Threads + Wait + Sync>(
@@ -34,11 +29,10 @@ fn run_in<L: Tallying + Send + Sync, G: Gate + Sync, R: Threads + Wait + Sync>(
     alloc: Global,
     job: &Job,
     workers: usize,
-    size: usize,
+    size: WindowSize,
     gate: &G,
     blanks: Blanks,
 ) -> Result<Report, AllocError>
-    requires size { (1 ≤ size) × (size ≤ 65536) }
     requires workers { (0 < workers) × (workers ≤ 64) × (workers ≡ L.shares) }
     requires parts { HaveParts workers blanks }
     requires names { AreOf L.holds L.vacuous L.fails L.disabled blanks }
@@ -71,6 +65,30 @@ fn run_in<L: Tallying + Send + Sync, G: Gate + Sync, R: Threads + Wait + Sync>(
     Ok(report_with(job.clocks().len(), lines, totals))
 }
 
+/// The report of a job over its dump, by a team through windows of a size: a line for each program,
+/// in source order, and the totals. Neither the team nor the size nor the gate changes it.
+///
+/// Each round's workers have ended when the next begins, and all when the call returns. It may wait
+/// for them.
+pub fn job_report<G: Gate + Sync, R: Threads + Wait + Sync>(
+    rt: &R,
+    alloc: Global,
+    job: &Job,
+    team: TeamSize,
+    size: WindowSize,
+    gate: &G,
+) -> Result<Report, AllocError>
+    ensures report { (c : Contents) → Says (job_value job.now) c
+        → IfOk result (λ r. IsJobReport (job_value job.now) c (data_of r)) }
+    // One attempt begins at each clock, and each is counted once.
+    ensures count { IfOk result (λ r.
+        All (λ l. attempts_of l.counts ≡ length (job_value job.now).ticks) r.lines.items) }
+{
+    let workers = team.workers();
+    let blanks = Blanks::new(workers);
+    run_in::<Brand, G, R>(rt, alloc, job, workers, size, gate, blanks)
+}
+
 /// The report of a job over its dump, by 1 to 64 workers through windows of so many clocks, 1 to
 /// 65,536: a line for each program, in source order, and the totals. Neither the number of workers
 /// nor the size nor the gate changes it.
@@ -97,15 +115,7 @@ pub fn run<G: Gate + Sync, R: Threads + Wait + Sync>(
     // The first cause that stands.
     ensures fault { IfErr result (WhyNoCore workers size) }
 {
-    if size == 0 || size > MOST_CLOCKS {
-        return Err(RunFault::BadSize);
-    }
-    if workers == 0 || workers > MOST_WORKERS {
-        return Err(RunFault::BadWorkers);
-    }
-    let blanks = Blanks::new(workers);
-    match run_in::<Brand, G, R>(rt, alloc, job, workers, size, gate, blanks) {
-        Ok(report) => Ok(report),
-        Err(_) => Err(RunFault::Memory),
-    }
+    let size = WindowSize::new(size as u64)?;
+    let team = TeamSize::new(workers as u64)?;
+    Ok(job_report(rt, alloc, job, team, size, gate)?)
 }

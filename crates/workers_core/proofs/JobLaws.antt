@@ -64,7 +64,6 @@ clock-why vs path ps windows.NoClock h = h
 clock-why vs path ps windows.ClockWidth h = h
 clock-why vs path ps (windows.NoSignal p) h = absurd h
 clock-why vs path ps (windows.SignalWidth p) h = absurd h
-clock-why vs path ps windows.BadSize h = absurd h
 clock-why vs path ps windows.Memory h = tt
 
 -- why programs can't run, behind their number

@@ -4,11 +4,9 @@ use Rattle.cycle_window.specs.declared.fault.WindowFault.TheVariants as windows
 use Rattle.workers_core.specs.declared.job_fault.JobFault.{JobFault}
 use Rattle.workers_core.specs.declared.job_fault.JobFault.TheVariants as faults
 
--- a job has no window, so no size of one is refused
 abbrev pub window_fault : WindowFault → JobFault
 window_fault windows.NoClock = faults.NoClock
 window_fault windows.ClockWidth = faults.ClockWidth
 window_fault (windows.NoSignal path) = faults.NoSignal path
 window_fault (windows.SignalWidth path) = faults.SignalWidth path
-window_fault windows.BadSize = faults.Memory
 window_fault windows.Memory = faults.Memory

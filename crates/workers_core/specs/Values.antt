@@ -68,7 +68,7 @@ setting_of v c = record {
   rows = rows_over v.job c;
 }
 
--- a core has 1 to 64 workers
+-- a team has 1 to 64 workers
 abbrev pub IsBadTeam : ℕ → Type 0
 IsBadTeam n = (n ≡ 0) ⊎ (64 < n)
 

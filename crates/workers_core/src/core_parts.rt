@@ -15,8 +15,9 @@ use crate::monitor::Monitor;
 use crate::opening::{idle_workers, monitors_of, numbers_below, window_of};
 use crate::order::{empty_done, numbers_of};
 use crate::step::Reply;
+use crate::team_size::TeamSize;
 use crate::worker::{Worker, put_down};
-use cycle_window::{Clocks, Window};
+use cycle_window::{Clocks, Window, WindowSize};
 use machine_runs::Batch;
 use std::alloc::{AllocError, Global};
 use std::collections::VecDeque;
@@ -38,21 +39,21 @@ impl<'j> CoreParts<'j> {
     ghost use Rattle.workers_core.specs.Parts.{core_state, IsSound, IsKept, SeeAs};
     ghost use Rattle.workers_core.specs.Cores.{IsOpened};
 
-    /// All monitors wait before the first clock, at an empty window of so many clocks, 1 to 65,536.
+    /// All monitors wait before the first clock, at an empty window of a size.
     pub(crate) fn new(
         alloc: Global,
         job: &'j Job,
-        workers: usize,
-        size: usize,
+        team: TeamSize,
+        size: WindowSize,
     ) -> Result<CoreParts<'j>, AllocError>
-        ensures opened { IfOk result (IsOpened job.now workers size) }
+        ensures opened { IfOk result (IsOpened job.now team size) }
     {
         let Ok(window) = window_of(alloc, job, size) else {
             return Err(AllocError);
         };
         let monitors = monitors_of(alloc, job.programs.as_slice())?;
         let waiting = numbers_below(alloc, monitors.len())?;
-        let workers = idle_workers(alloc, workers)?;
+        let workers = idle_workers(alloc, team.workers())?;
         Ok(CoreParts {
             window,
             monitors,

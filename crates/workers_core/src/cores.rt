@@ -9,17 +9,13 @@ use crate::core_parts::CoreParts;
 use crate::job::Job;
 use crate::run_fault::RunFault;
 use crate::step::{Reply, Step};
+use crate::team_size::TeamSize;
 use arrayvec::ArrayVec;
+use cycle_window::WindowSize;
 use machine_runs::Batch;
 use signals::Decided;
-use std::alloc::Global;
+use std::alloc::{AllocError, Global};
 use std::marker::Model;
-
-/// The most clocks of a window.
-const MOST_CLOCKS: usize = 65_536;
-
-/// The most workers.
-const MOST_WORKERS: usize = 64;
 
 /// A window over the trace, a job's monitors, who has which, and the board of published batches.
 #[derive(Drop)]
@@ -60,13 +56,21 @@ impl<'j> Core<'j> {
         // The first cause that stands.
         ensures fault { IfErr result (WhyNoCore workers size) }
     {
-        if size == 0 || size > MOST_CLOCKS {
-            return Err(RunFault::BadSize);
-        }
-        if workers == 0 || workers > MOST_WORKERS {
-            return Err(RunFault::BadWorkers);
-        }
-        let parts = CoreParts::new(alloc, job, workers, size)?;
+        let size = WindowSize::new(size as u64)?;
+        let team = TeamSize::new(workers as u64)?;
+        Ok(Core::of_sizes(alloc, job, team, size)?)
+    }
+
+    /// A core of a team, through windows of a size.
+    pub fn of_sizes(
+        alloc: Global,
+        job: &'j Job,
+        team: TeamSize,
+        size: WindowSize,
+    ) -> Result<Core<'j>, AllocError>
+        ensures { IfOk result (λ core. core ≡ opening_core (job_value job.now) team size) }
+    {
+        let parts = CoreParts::new(alloc, job, team, size)?;
         Ok(Core { job, parts })
     }
 

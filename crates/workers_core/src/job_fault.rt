@@ -26,7 +26,7 @@ pub enum JobFault {
     #[error("C5 SignalWidth {0}")]
     SignalWidth(String),
     /// There was no memory.
-    #[error("out of memory")]
+    #[error("OutOfMemory")]
     Memory,
 }
 
@@ -41,8 +41,6 @@ impl From<WindowFault> for JobFault {
             WindowFault::ClockWidth => JobFault::ClockWidth,
             WindowFault::NoSignal(path) => JobFault::NoSignal(path),
             WindowFault::SignalWidth(path) => JobFault::SignalWidth(path),
-            // Of no clock or signal: a job has no window.
-            WindowFault::BadSize => JobFault::Memory,
             WindowFault::Memory => JobFault::Memory,
         }
     }

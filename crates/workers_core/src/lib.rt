@@ -41,6 +41,7 @@ mod order;
 mod program_signals;
 mod run_fault;
 mod step;
+mod team_size;
 mod worker;
 
 pub use cores::Core;
@@ -50,3 +51,4 @@ pub use monitor::Monitor;
 pub use opening::{monitors_of, window_of};
 pub use run_fault::RunFault;
 pub use step::{Reply, Step};
+pub use team_size::{BadTeam, TeamSize};

@@ -1,6 +1,7 @@
 //! What a core begins with.
 
-ghost use Rattle.std.specs.Prelude.{◌≡◌, ℕ, None, Some, IfOk, [], map, replicate, slice_get};
+ghost use Rattle.std.specs.Prelude.{◌≡◌, ◌≤◌, ℕ, None, Some, IfOk, [], map, replicate};
+ghost use Rattle.std.specs.Prelude.{slice_get};
 ghost use Rattle.std.specs.List.{range_with_len};
 ghost use Rattle.workers_core.specs.States.{WorkerState};
 ghost use Rattle.workers_core.specs.declared.monitor.Monitor.{Monitor};
@@ -13,17 +14,22 @@ use crate::job::Job;
 use crate::monitor::Monitor;
 use crate::program_signals::signals_of;
 use crate::worker::Worker;
-use cycle_window::{Columns, Window, WindowFault};
+use cycle_window::{Columns, Window, WindowFault, WindowSize};
 use std::alloc::{AllocError, Global};
 use verifier::Verified;
 
-/// An empty window before the first clock, over the rows of all programs' signals.
-pub fn window_of<'j>(alloc: Global, job: &'j Job, size: usize) -> Result<Window<'j>, WindowFault>
-    ensures { IfOk result (IsFirstWindow job.now size) }
+/// An empty window of a size before the first clock, over the rows of all programs' signals.
+pub fn window_of<'j>(
+    alloc: Global,
+    job: &'j Job,
+    size: WindowSize,
+) -> Result<Window<'j>, WindowFault>
+    ensures first { IfOk result (IsFirstWindow job.now size) }
+    ensures good { IfOk result (λ _. (1 ≤ size) × (size ≤ 65536)) }
 {
     let signals = signals_of(alloc, job.programs.as_slice())?;
     let columns = Columns::bind(alloc, &job.dump, &job.clocks, signals.as_slice())?;
-    Window::new(alloc, size, columns)
+    Ok(Window::new(alloc, size, columns)?)
 }
 
 /// A monitor of each program, in order, each with its part of a row of all signals.

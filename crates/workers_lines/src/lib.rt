@@ -8,7 +8,7 @@
 //!
 //! ```text
 //! let job = Job::new(alloc, programs, dump, "top.clk")?;
-//! let lines = job_lines(alloc, &job, 1024)?;    // a line for each program, in source order
+//! let lines = job_lines(alloc, &job, size)?;    // a line for each program, in source order
 //! ```
 //!
 //! The faults are C3 of the size and want of memory; there is one worker, so U1 never comes. A job

@@ -1,10 +1,10 @@
 //! The lines of a job's programs.
 
-ghost use Rattle.std.specs.Prelude.{◌≡◌, ◌≤◌, All, IfOk, IfErr, Some, length, map, slice_get};
+ghost use Rattle.std.specs.Prelude.{◌≡◌, ◌≤◌, All, IfOk, Some, length, map, slice_get};
 ghost use Rattle.vcd_reader.specs.Dump.{Contents};
 ghost use Rattle.verdicts.specs.Lines.{line};
 ghost use Rattle.machine_runs.specs.Lines.{IsLineOver, attempts_of};
-ghost use Rattle.workers_core.specs.Values.{Says, WhyNoCore, job_value, rows_over};
+ghost use Rattle.workers_core.specs.Values.{Says, job_value, rows_over};
 ghost use Rattle.workers_lines.specs.Lines.{AreLinesOf};
 ghost use Rattle.workers_core.specs.States.{published_by};
 ghost use Rattle.workers_lines.specs.Rounds.{HasTrace, Rests};
@@ -13,11 +13,12 @@ ghost use Rattle.workers_lines.specs.Taken.{TookIn};
 use crate::core_rounds::drive;
 use crate::growing_line::GrowingLine;
 use crate::published_lines::lines_published;
+use cycle_window::WindowSize;
 use std::alloc::{AllocError, Global};
 use std::mem;
 use verdicts::Line;
 use verifier::Verified;
-use workers_core::{Core, Job, RunFault};
+use workers_core::{Core, Job, TeamSize};
 
 /// The line of the program of a number, behind the last clock, of what its monitor published and
 /// of the attempts that are live.
@@ -68,21 +69,17 @@ fn lines_of(alloc: Global, core: &Core<'_>, programs: &[Verified]) -> Result<Vec
     Ok(lines)
 }
 
-/// The lines of a job's programs over its dump, in source order, by one worker through windows of
-/// so many clocks, 1 to 65,536. The size changes no line.
-pub fn job_lines(alloc: Global, job: &Job, size: usize) -> Result<Vec<Line>, RunFault>
+/// The lines of a job's programs over its dump, in source order, by one worker through windows of a
+/// size, which changes no line.
+pub fn job_lines(alloc: Global, job: &Job, size: WindowSize) -> Result<Vec<Line>, AllocError>
     ensures lines { (c : Contents) → Says (job_value job.now) c
         → IfOk result (λ ls. AreLinesOf (job_value job.now) c (map line ls.items)) }
-    // Windows of no clock, or of more than 65,536, have no lines.
-    ensures some { IfOk result (λ _. 1 ≤ size) }
-    ensures most { IfOk result (λ _. size ≤ 65536) }
     // One attempt begins at each clock, and each is counted once.
     ensures count { IfOk result (λ ls.
         All (λ l. attempts_of l.counts ≡ length (job_value job.now).ticks) ls.items) }
-    // The first cause that stands.
-    ensures fault { IfErr result (WhyNoCore 1 size) }
 {
-    let mut core = Core::new(alloc, job, 1, size)?;
+    let _some = size.clocks();
+    let mut core = Core::of_sizes(alloc, job, TeamSize::one(), size)?;
     drive(alloc, &mut core, job.programs().len())?;
-    Ok(lines_of(alloc, &core, job.programs())?)
+    lines_of(alloc, &core, job.programs())
 }

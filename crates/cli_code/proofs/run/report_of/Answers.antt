@@ -8,8 +8,8 @@ pub returns-in_err-report_run-clause-err : goal.returns-in_err-report_run-clause
 returns-in_err-report_run-clause-err g c = λ k holds.
     let fault = c.in_err-report_run.field-0.0 in
     err_is c.from_residual-in_err-report_run.result (window_fault fault)
-    (WhyNoRunReport k c.args.code.now c.args.size) c.from_residual-in_err-report_run.ensures.1
-    (unbound k c.args.code.now c.args.size c.in_ok-verified.verified c.in_ok-verified.ensures.ok fault
+    (WhyNoRunReport k c.args.code.now) c.from_residual-in_err-report_run.ensures.1
+    (unbound k c.args.code.now c.in_ok-verified.verified c.in_ok-verified.ensures.ok fault
     (c.in_err-report_run.ensures.refused k holds))
 
 pub returns-clause-ok : goal.returns-clause-ok

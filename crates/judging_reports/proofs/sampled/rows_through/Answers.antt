@@ -1,22 +1,17 @@
 use Rattle.std.proofs.Common.{◌∙◌, ◌≤◌, ℕ, List, length, map, sym, ap, subst, arith}
 use Rattle.cycle_window.specs.Ticks.{ticks_of, row_of}
 use Rattle.cycle_window.specs.Held.{ticks_in, places_in, columns_in, clock_in, end_in}
-use Rattle.judging_reports.proofs.SampledLaws.{no_row, all_rows, only_memory}
+use Rattle.judging_reports.proofs.SampledLaws.{no_row, all_rows}
 use Rattle.judging_reports.proofs.sampled.rows_through.Goals as goal
-
-pub want_of_memory-requires : goal.want_of_memory-requires
-want_of_memory-requires c =
-    only_memory c.args.size c.in-Err.fault c.requires.some c.requires.most
-    c.in-Err.ensures.fault
 
 pub loop-alloc-init : goal.loop-alloc-init
 loop-alloc-init c = record {
-  of = c.in-Ok.ensures.of c.args.dump.now c.args.clocks.now c.requires.dump
+  of = c.in_ok-window.ensures.of c.args.dump.now c.args.clocks.now c.requires.dump
       (sym c.requires.clock) c.requires.clocks c.requires.columns;
-  columns = c.in-Ok.ensures.columns;
-  size = c.in-Ok.ensures.size;
-  long = ap length c.new-rows.ensures ∙ sym c.in-Ok.ensures.end;
-  rows = λ contents holds. c.new-rows.ensures ∙ no_row _ _ _ c.in-Ok.ensures.end;
+  columns = c.in_ok-window.ensures.columns;
+  size = c.in_ok-window.ensures.size;
+  long = ap length c.new-rows.ensures ∙ sym c.in_ok-window.ensures.end;
+  rows = λ contents holds. c.new-rows.ensures ∙ no_row _ _ _ c.in_ok-window.ensures.end;
 }
 
 pub returns : goal.returns

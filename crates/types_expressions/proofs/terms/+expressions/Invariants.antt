@@ -4,7 +4,7 @@ use Rattle.parser_trees.specs.Views.{tree_of, link_of}
 use Rattle.expressions.specs.Terms.{Term, width_of}
 use Rattle.expressions.specs.Expressions.{term_of}
 use Rattle.types_names.specs.declared.own.Sought.{Sought}
-use Rattle.types_names.specs.Widths.{parts_width}
+use Rattle.types_names.specs.Width.{parts_width}
 use Rattle.types_names.specs.Faults.{link_faults, part_faults}
 use Rattle.types_names.specs.Columns.{all_listed, link_signals, part_signals}
 use Rattle.types_expressions.specs.Meanings.{Chains, JoinsMore}

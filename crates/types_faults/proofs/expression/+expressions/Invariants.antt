@@ -1,7 +1,7 @@
 use Rattle.std.proofs.Common.{◌≡◌, ◌≤◌, map, drop, min}
 use Rattle.parser_grammar.specs.ReadExpressions.{links_of, parts_of}
 use Rattle.parser_trees.specs.Views.{tree_of, link_of}
-use Rattle.types_names.specs.Widths.{chain_width, parts_width}
+use Rattle.types_names.specs.Width.{chain_width, parts_width}
 use Rattle.types_names.specs.Faults.{link_faults, part_faults, earlier, least}
 use Rattle.types_names.specs.Views.{scope_of}
 use Rattle.types_faults.proofs.expression.+expressions.Given as goal

@@ -18,12 +18,13 @@ use Rattle.workers.proofs.runs.run_in.Goals as goal
 pub run_rounds-requires-clause-between : goal.run_rounds-requires-clause-between
 run_rounds-requires-clause-between g c =
     let j = c.args.job.now in
-    let first = c.in-Ok.ensures in
+    let first = c.in-Ok.ensures.first in
+    let good = c.in-Ok.ensures.good in
     let ms = c.in_ok-monitors.monitors in
     let ls = c.in_ok-told.told in
     let between : IsBetween j c.in-Ok.window ms.items ls.items = record {
       window = record { of = first.of; places = first.places; fits = first.fits };
-      size = (omega (arith, first.size, c.requires.size.0), omega (arith, first.size, c.requires.size.1));
+      size = (omega (arith, first.size, good.0), omega (arith, first.size, good.1));
       inside = omega (arith, first.end);
       order = c.in_ok-monitors.ensures.order;
       many = omega (arith, c.in_ok-monitors.ensures.count, ms.ok.0);

@@ -1,5 +1,4 @@
 use Rattle.std.proofs.Common.{◌∙◌, ap, sym, subst}
-use Rattle.vcd_reader.proofs.ResumedLaws.{resumed-err}
 use Rattle.workers_core.specs.Values.{CoreValue, job_value}
 use Rattle.workers_lines.specs.Rounds.{HasTrace, Rests}
 use Rattle.workers_lines.proofs.CoreLaws.{opening-rests}
@@ -8,29 +7,15 @@ use Rattle.workers_lines.proofs.lines.job_lines.Goals as goal
 
 pub drive-requires-clause-trace : goal.drive-requires-clause-trace
 drive-requires-clause-trace c =
-    subst (λ (v : CoreValue). HasTrace v.job) (sym c.in_ok-core.ensures.opened)
+    subst (λ (v : CoreValue). HasTrace v.job) (sym c.in_ok-core.ensures)
     (job-traced c.args.job.now)
 
 pub drive-requires-clause-rests : goal.drive-requires-clause-rests
 drive-requires-clause-rests c =
-    subst Rests (sym c.in_ok-core.ensures.opened) (opening-rests (job_value c.args.job.now) c.args.size)
+    subst Rests (sym c.in_ok-core.ensures) (opening-rests (job_value c.args.job.now) c.args.size)
 
 pub lines_of-requires-clause-trace : goal.lines_of-requires-clause-trace
 lines_of-requires-clause-trace c =
     subst HasTrace
-    (sym (c.drive.ensures.job ∙ ap (λ (v : CoreValue). v.job) c.in_ok-core.ensures.opened))
+    (sym (c.drive.ensures.job ∙ ap (λ (v : CoreValue). v.job) c.in_ok-core.ensures))
     (job-traced c.args.job.now)
-
-pub returns-in_err-drive-clause-fault : goal.returns-in_err-drive-clause-fault
-returns-in_err-drive-clause-fault c =
-    let size = c.in_ok-core.ensures.size in
-    let workers = c.in_ok-core.ensures.workers in
-    rw (resumed-err _ _ c.from_residual-in_err-drive.ensures.1)
-    (size.0, size.1, workers.0, workers.1)
-
-pub returns-in_err-lines_of-clause-fault : goal.returns-in_err-lines_of-clause-fault
-returns-in_err-lines_of-clause-fault c =
-    let size = c.in_ok-core.ensures.size in
-    let workers = c.in_ok-core.ensures.workers in
-    rw (resumed-err _ _ c.from_residual-in_err-lines_of.ensures.1)
-    (size.0, size.1, workers.0, workers.1)

@@ -13,7 +13,7 @@ invariant_of-result c =
     ap length c.as_slice-variables.ensures.value in
     let sizes = product.1
     ∙ ap (λ (n : ℕ). n * length c.as_slice-variables.result.now) c.min.ensures
-    ∙ ap (λ (n : ℕ). min c.args.size columns.count * n) long in
+    ∙ ap (λ (n : ℕ). min c.clocks-size.result columns.count * n) long in
     record {
       ordered = omega arith;
       inside = omega arith;
@@ -44,7 +44,7 @@ returns-clause-columns c = refl
 
 pub returns-clause-size : goal.returns-clause-size
 unfolding size_in
-returns-clause-size c = refl
+returns-clause-size c = c.clocks-size.ensures.same
 
 pub returns-clause-first : goal.returns-clause-first
 unfolding first_in

@@ -9,7 +9,7 @@ returns c = record {
   opened =
       let programs = c.as_slice.ensures.value in
       let ms = c.in_ok-monitors.monitors in
-      laws.opened c.args.job.now c.args.workers c.args.size _ c.in-Ok.ensures
+      laws.opened c.args.job.now c.args.team c.args.size _ c.in-Ok.ensures.first
       (c.in_ok-monitors.ensures.opened ∙ ap (map opened_monitor) programs)
       (c.in_ok-monitors.ensures.parts ∙ ap (parts_from 0) programs)
       c.in_ok-monitors.ensures.new

@@ -1,4 +1,4 @@
-use Rattle.workers.proofs.runs.run.Given as goal
+use Rattle.workers.proofs.runs.job_report.Given as goal
 
 abbrev pub ghosts-run_in : goal.ghosts-run_in
 ghosts-run_in g a = record {
