@@ -16,18 +16,25 @@ pub struct Attempt {
 /// For the booleans of an assertion, the clocks at which an attempt may ask them.
 #[derive(Drop)]
 pub(crate) struct Asked {
-    places: Vec<Place>,
+    attempt: Attempt,
+    antecedent: Vec<Place>,
+    consequent: Vec<Place>,
 }
 
 impl Asked {
     /// Those of the attempt: the antecedent begins at its start, the consequent at the end that
     /// broke, and the disabling boolean is asked at each clock.
-    pub fn of(alloc: Global, assertion: &Assertion, attempt: Attempt) -> Result<Asked, AllocError> {
-        let mut places = Vec::new(alloc);
-        push_places(&assertion.antecedent, at(attempt.start), &mut places)?;
-        push_places(&assertion.consequent, at(attempt.broken), &mut places)?;
+    pub fn of(
+        alloc: Global,
+        assertion: &Assertion,
+        attempt: Attempt,
+    ) -> Result<Asked, AllocError> {
+        let mut antecedent = Vec::new(alloc);
+        push_places(&assertion.antecedent, at(attempt.start), &mut antecedent)?;
+        let mut consequent = Vec::new(alloc);
+        push_places(&assertion.consequent, at(attempt.broken), &mut consequent)?;
         if let Some(boolean) = assertion.disabling {
-            places.push(Place {
+            antecedent.push(Place {
                 boolean,
                 within: Interval {
                     least: attempt.start,
@@ -35,18 +42,38 @@ impl Asked {
                 },
             })?;
         }
-        Ok(Asked { places })
+        Ok(Asked {
+            attempt,
+            antecedent,
+            consequent,
+        })
     }
 
     /// Whether the boolean at a place of the assertion's list may be asked at a clock.
     pub fn is_asked(&self, listed: usize, clock: usize) -> bool {
-        for place in &self.places {
-            if is_listed(place.boolean, listed) && is_within(place.within, clock) {
-                return true;
+        is_among(self.antecedent.as_slice(), listed, clock)
+            || is_among(self.consequent.as_slice(), listed, clock)
+    }
+
+    /// The clock at which the side begins that has the boolean.
+    pub fn begins(&self, listed: usize) -> usize {
+        for place in &self.antecedent {
+            if is_listed(place.boolean, listed) {
+                return self.attempt.start;
             }
         }
-        false
+        self.attempt.broken
     }
+}
+
+/// Whether one of the places is of the boolean, and may be asked at a clock.
+fn is_among(places: &[Place], listed: usize, clock: usize) -> bool {
+    for place in places {
+        if is_listed(place.boolean, listed) && is_within(place.within, clock) {
+            return true;
+        }
+    }
+    false
 }
 
 /// This clock alone.

@@ -20,6 +20,9 @@ pub struct SheetRow {
     pub label: String,
     /// 1 to 128.
     pub width: u8,
+    /// The clock at which the side of the assertion begins that has the boolean; of a signal or a
+    /// counter 0.
+    pub from: usize,
     /// The value at each clock, or none where a boolean is not asked.
     pub cells: Vec<Option<u128>>,
 }
@@ -161,6 +164,15 @@ fn width_of_row(read: &Read<'_>, source: RowSource) -> u8 {
     }
 }
 
+/// The clock at which the side begins that has a boolean, 0 for all else.
+fn first_clock_of(asked: &Asked, source: RowSource) -> usize {
+    match source {
+        RowSource::Signal(_) => 0,
+        RowSource::Counter(_) => 0,
+        RowSource::Listed(listed) => asked.begins(listed),
+    }
+}
+
 /// The row of a source.
 fn row_of(
     alloc: Global,
@@ -179,6 +191,7 @@ fn row_of(
         source,
         label,
         width: width_of_row(read, source),
+        from: first_clock_of(asked, source),
         cells,
     })
 }

@@ -50,7 +50,7 @@ fn is_after_gap(clocks: &[usize], place: usize) -> bool {
     here > before && here - before > 1
 }
 
-/// A cell as text: nothing before the row's first value, a dash where there is none later on.
+/// A cell as text; where it has no value it is a dash, or nothing.
 fn cell_text(
     alloc: Global,
     cell: Option<u128>,
@@ -65,13 +65,15 @@ fn cell_text(
     Ok(text)
 }
 
-/// The line of a row.
+/// The line of a row: a dash stands where a boolean is not asked, from the clock at which its side
+/// begins up to its last value.
 fn row_line(alloc: Global, row: &SheetRow, clocks: &[usize]) -> Result<Line, AllocError> {
-    let (first, end) = shown_part(row.cells.as_slice());
+    let end = shown_end(row.cells.as_slice());
     let mut cells = Vec::new(alloc);
     for (place, cell) in row.cells.iter().enumerate() {
         push_gap(alloc, &mut cells, clocks, place)?;
-        let blank = place < first || place >= end;
+        let clock = clocks.get(place).copied().unwrap_or(0);
+        let blank = clock < row.from || place >= end;
         cells.push(cell_text(alloc, *cell, row.width, blank)?)?;
     }
     Ok(Line {
@@ -80,17 +82,15 @@ fn row_line(alloc: Global, row: &SheetRow, clocks: &[usize]) -> Result<Line, All
     })
 }
 
-/// The places from the first cell with a value up to the one after the last.
-fn shown_part(cells: &[Option<u128>]) -> (usize, usize) {
-    let mut first = cells.len();
+/// The place after the last cell with a value, 0 where there is none.
+fn shown_end(cells: &[Option<u128>]) -> usize {
     let mut end = 0;
     for (place, cell) in cells.iter().enumerate() {
         if cell.is_some() {
-            first = first.min(place);
             end = place + 1;
         }
     }
-    (first, end)
+    end
 }
 
 /// The clocks as numbers.
