@@ -30,13 +30,17 @@ use workers_core::TeamSize;
 
 /// A suite, and the ticks of its clock.
 #[derive(Drop)]
-struct TimedSuite {
-    suite: Suite,
-    clocks: Clocks,
+pub(crate) struct TimedSuite {
+    pub suite: Suite,
+    pub clocks: Clocks,
 }
 
 /// The suite that a text says over a dump, and the ticks of its clock there.
-fn timed_suite<'a>(alloc: Global, dump: &Dump, text: &'a str) -> Result<TimedSuite, Fault<'a>>
+pub(crate) fn timed_suite<'a>(
+    alloc: Global,
+    dump: &Dump,
+    text: &'a str,
+) -> Result<TimedSuite, Fault<'a>>
     requires held { (c : Contents) × HoldsContents dump.now c }
     ensures says { (c : Contents) → HoldsContents dump.now c
         → IfOk result (λ t. SaysSuite c text.entry.now t.suite) }

@@ -5,6 +5,7 @@
 //! let totals = check_all(&rt, alloc, &mut dump, text, 4, 1024, &gate, &mut out)?; // by 4 workers
 //! let totals = judge_one(alloc, &mut dump, text, &mut out)?;        // the same, by the slow judge
 //! let bytes = build_one(alloc, &mut dump, text, "grant")?;          // an assertion's program
+//! let count = explain_one(alloc, &mut dump, text, "rules.sva", &wanted, &mut out)?;  // failures
 //! ```
 //!
 //! Each call answers with the first fault of the first layer that has one, as one `Fault`. A call
@@ -23,12 +24,18 @@ mod build;
 mod check;
 mod checked;
 mod dump_widths;
+mod explain;
+mod explained;
+mod heads;
 mod judged;
 mod programs;
 mod text;
+mod wanted;
 
 pub use build::build_one;
 pub use check::{check_all, check_one, judge_one};
 pub use cli_faults::{Fault, fault_line, status};
 pub use cli_lines::{Gate, NoGate};
 pub use cli_words::{Request, WordsFault, read_words};
+pub use explain::explain_one;
+pub use wanted::Wanted;

@@ -1,7 +1,7 @@
 -- svamon's command line, in the words of `clap`, which reads it: a command has a name, its rules
 -- (options) and subcommands; `subcommand_of` says which subcommand words name, and with which
 -- rows (an option's id, and the values behind it or else its defaults).
-use Rattle.std.specs.Prelude.{◌≡◌, ℕ, ◌≤◌, List, [], ◌∷◌, Option, Some, Ok, true, codes}
+use Rattle.std.specs.Prelude.{◌≡◌, ℕ, ◌≤◌, List, [], ◌∷◌, Option, Some, None, Ok, true, codes}
 use Rattle.std.specs.Prelude.{String, string_bytes}
 use Rattle.std.specs.Global.{Global}
 use Rattle.std.specs.Option.{option_map}
@@ -13,6 +13,7 @@ use Rattle.clap.specs.declared.builder.value_parser.ValueParser.TheVariants.{Uns
 use Rattle.cli_words.specs.declared.request.Request.{Request}
 use Rattle.cli_words.specs.declared.request.Request.TheVariants.{Check, Build, Verify}
 use Rattle.cli_words.specs.declared.request.Request.TheVariants.{Run, Judge, Rules, Upgrade}
+use Rattle.cli_words.specs.declared.request.Request.TheVariants.{Explain}
 
 -- an option `--name`, of one value
 abbrev pub option_rule : Text → Rule
@@ -45,6 +46,20 @@ workers_rule = number_rule (codes "workers") (codes "4") 64
 abbrev pub window_rule : Rule
 window_rule = number_rule (codes "window") (codes "1024") 65536
 
+-- an assertion's name, which may be left out
+abbrev pub only_rule : Rule
+only_rule = option_rule (codes "only")
+
+-- a clock, which may be left out
+abbrev pub start_rule : Rule
+start_rule = record (option_rule (codes "start")) {
+  parser = Some (Unsigned 0 281474976710655);
+}
+
+-- how many attempts are explained at most, 1 to 65,536, 1 where it isn't given
+abbrev pub most_rule : Rule
+most_rule = number_rule (codes "most") (codes "1") 65536
+
 -- a command with an option for the dump, and one for another file
 abbrev pub dump_app : Text → Text → App
 dump_app name other =
@@ -72,6 +87,10 @@ run_app =
 abbrev pub judge_app : App
 judge_app = text_app (codes "judge")
 
+abbrev pub explain_app : App
+explain_app =
+    with_rule (with_rule (with_rule (text_app (codes "explain")) only_rule) start_rule) most_rule
+
 abbrev pub rules_app : App
 rules_app = with_rule (new_app (codes "rules")) (file_rule (codes "axi"))
 
@@ -97,7 +116,7 @@ svamon_app =
     let first_two = with_subcommand (with_subcommand svamon_top check_app.top) build_app.top in
     let first_four = with_subcommand (with_subcommand first_two verify_app.top) run_app.top in
     let first_six = with_subcommand (with_subcommand first_four judge_app.top) rules_app.top in
-    with_subcommand first_six upgrade_app.top
+    with_subcommand (with_subcommand first_six upgrade_app.top) explain_app.top
 
 -- what the rows give for an option, which is there or not
 abbrev pub Gives : Text → List Row → Option (String Global) → Type 0
@@ -110,6 +129,13 @@ pub record IsNumber (name : Text) (limit : ℕ) (rows : List Row) (number : ℕ)
   pub digits : ParsesUnsigned {E = Unit {0}} 64 10 text (Ok number)
   pub least : 1 ≤ number
   pub most : number ≤ limit
+
+-- the number that the rows give for an option, in decimal digits, where they give one
+abbrev pub GivesNumber : Text → List Row → Option ℕ → Type 0
+GivesNumber name rows None = first_of name rows ≡ None
+GivesNumber name rows (Some number) =
+    (text : Text) × (one_of name rows ≡ Some text)
+    × ParsesUnsigned {E = Unit {0}} 64 10 text (Ok number)
 
 -- how many workers there are to be, and how many clocks a window is to have
 abbrev pub HasTeam : List Row → ℕ → ℕ → Type 0
@@ -127,6 +153,12 @@ abbrev pub HasOutput : List Row → String Global → String Global → Type 0
 HasOutput rows name out =
     Gives (codes "name") rows (Some name) × Gives (codes "out") rows (Some out)
 
+-- which attempts are explained: of which assertion, from which clock on, and how many at most
+abbrev pub HasWanted : List Row → Option (String Global) → Option ℕ → ℕ → Type 0
+HasWanted rows only start most =
+    Gives (codes "only") rows only × GivesNumber (codes "start") rows start
+    × IsNumber (codes "most") 65536 rows most
+
 -- a dump, and a program to run over it
 abbrev pub HasProgram : List Row → String Global → String Global → Type 0
 HasProgram rows vcd code =
@@ -139,6 +171,7 @@ command_of (Build vcd sva axi name out) = codes "build"
 command_of (Verify code) = codes "verify"
 command_of (Run vcd code workers window) = codes "run"
 command_of (Judge vcd sva axi) = codes "judge"
+command_of (Explain vcd sva axi only start most) = codes "explain"
 command_of (Rules axi) = codes "rules"
 command_of (Upgrade code out) = codes "upgrade"
 
@@ -151,6 +184,8 @@ IsGiven rows (Verify code) = Gives (codes "code") rows (Some code)
 IsGiven rows (Run vcd code workers window) =
     HasProgram rows vcd code × HasTeam rows workers window
 IsGiven rows (Judge vcd sva axi) = HasText rows vcd sva axi
+IsGiven rows (Explain vcd sva axi only start most) =
+    HasText rows vcd sva axi × HasWanted rows only start most
 IsGiven rows (Rules axi) = Gives (codes "axi") rows (Some axi)
 IsGiven rows (Upgrade code out) =
     Gives (codes "code") rows (Some code) × Gives (codes "out") rows (Some out)

@@ -7,6 +7,7 @@ ghost use Rattle.cli_words.specs.Words.{file_rule, word_rule, axi_rule, workers_
 ghost use Rattle.cli_words.specs.Words.{window_rule};
 ghost use Rattle.cli_words.specs.Words.{text_app, check_app, build_app, verify_app, run_app};
 ghost use Rattle.cli_words.specs.Words.{judge_app, rules_app, upgrade_app, first_app};
+ghost use Rattle.cli_words.specs.Words.{explain_app, only_rule, start_rule, most_rule};
 ghost use Rattle.cli_words.specs.Words.{svamon_app};
 
 use clap::{Arg, Command, value_parser};
@@ -91,6 +92,49 @@ fn window_option<'a>(alloc: Global) -> Arg<'a>
     within_sizes(option)
 }
 
+/// The option for the name of the one assertion that is asked for, which may be left out.
+fn only_option<'a>(alloc: Global) -> Arg<'a>
+    ensures rule { rule_of result ≡ only_rule }
+    ensures local { result.global ≡ false }
+{
+    Arg::new(alloc, "only").long("only").value_name("NAME").help(
+        "The assertion whose failures are explained; without it, all are",
+    )
+}
+
+/// The option for the clock at which an attempt began, which may be left out.
+fn start_option<'a>(alloc: Global) -> Arg<'a>
+    ensures rule { rule_of result ≡ start_rule }
+    ensures local { result.global ≡ false }
+{
+    let option = Arg::new(alloc, "start")
+        .long("start")
+        .value_name("CLOCK")
+        .help("The clock at which the attempt began that is explained");
+    within_clocks(option)
+}
+
+/// The option with a number of clocks as its value, any from 0 to 2^48 - 1.
+fn within_clocks<'a>(option: Arg<'a>) -> Arg<'a>
+    ensures { result ≡ record option.entry {
+      value_parser = Some (Unsigned 0 281474976710655);
+    } }
+{
+    option.value_parser(value_parser!(u64).range(0..281474976710656))
+}
+
+fn most_option<'a>(alloc: Global) -> Arg<'a>
+    ensures rule { rule_of result ≡ most_rule }
+    ensures local { result.global ≡ false }
+{
+    let option = Arg::new(alloc, "most")
+        .long("most")
+        .value_name("COUNT")
+        .default_value("1")
+        .help("How many failures of each assertion are explained at most, from 1 to 65,536");
+    within_sizes(option)
+}
+
 /// A command that reads a dump and another file.
 fn dump_command<'a>(
     alloc: Global,
@@ -163,6 +207,16 @@ fn judge_command<'a>(alloc: Global) -> Result<Command<'a>, AllocError>
     text_command(alloc, "judge", "Prints the same report by the slow judge")
 }
 
+fn explain_command<'a>(alloc: Global) -> Result<Command<'a>, AllocError>
+    ensures { IfOk result (λ c. app_of c ≡ explain_app) }
+{
+    let about = "Explains failed attempts of assertions over a dump";
+    text_command(alloc, "explain", about)?
+        .arg(only_option(alloc))?
+        .arg(start_option(alloc))?
+        .arg(most_option(alloc))
+}
+
 fn rules_command<'a>(alloc: Global) -> Result<Command<'a>, AllocError>
     ensures { IfOk result (λ c. app_of c ≡ rules_app) }
 {
@@ -211,5 +265,6 @@ pub(crate) fn svamon_command<'a>(alloc: Global) -> Result<Command<'a>, AllocErro
     let svamon = with_subcommand(svamon, run_command(alloc))?;
     let svamon = with_subcommand(svamon, judge_command(alloc))?;
     let svamon = with_subcommand(svamon, rules_command(alloc))?;
-    with_subcommand(svamon, upgrade_command(alloc))
+    let svamon = with_subcommand(svamon, upgrade_command(alloc))?;
+    with_subcommand(svamon, explain_command(alloc))
 }

@@ -7,6 +7,7 @@
 //!     Ok(Request::Verify { code }) => ..,
 //!     Ok(Request::Run { vcd, code, workers, window }) => ..,
 //!     Ok(Request::Judge { vcd, sva, axi }) => ..,
+//!     Ok(Request::Explain { vcd, sva, axi, only, start, most }) => ..,
 //!     Ok(Request::Rules { axi }) => ..,
 //!     Ok(Request::Upgrade { code, out }) => ..,
 //!     Err(WordsFault::Words(error)) => ..,             // `{error}` is the text to show
@@ -19,8 +20,9 @@
 //! and for each of its options the value behind it or else its default; the file of `verify` and
 //! that of `upgrade` is a word alone, and `--axi` may be left out where a text is read, which gives
 //! None. The contract of `read_words` says that a request is that command with those values, that
-//! there are 1 to 64 workers, and that a window has from 1 to 65,536 clocks. Not promised: which
-//! words are refused, and with what text; tests show that.
+//! there are 1 to 64 workers, that a window has from 1 to 65,536 clocks, and that so many attempts
+//! are explained at most. Not promised: which words are refused, and with what text; tests show
+//! that.
 #![tactic(auto)]
 
 mod command;

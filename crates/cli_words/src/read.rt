@@ -2,7 +2,8 @@
 
 ghost use Rattle.std.specs.Prelude.{IfOk, Some, codes, map};
 ghost use Rattle.clap.specs.Words.{found_of, rows_of};
-ghost use Rattle.cli_words.specs.Words.{Gives, IsNumber, IsRequest, IsNamed, IsAsked};
+ghost use Rattle.cli_words.specs.Words.{Gives, IsNumber, GivesNumber, IsRequest, IsNamed};
+ghost use Rattle.cli_words.specs.Words.{IsAsked};
 
 use crate::command::svamon_command;
 use crate::fault::WordsFault;
@@ -102,6 +103,34 @@ fn judge_request(alloc: Global, options: &ArgMatches) -> Result<Request, WordsFa
     })
 }
 
+/// The number of an option that may be left out: `clap` refuses any that is no number.
+fn given_number(options: &ArgMatches, name: &str) -> Result<Option<u64>, WordsFault>
+    ensures { IfOk result (GivesNumber name.now (rows_of (found_of options.now))) }
+{
+    match options.get_str(name) {
+        None => Ok(None),
+        Some(_) => match options.get_one::<u64>(name) {
+            Some(number) => Ok(Some(number)),
+            None => Err(WordsFault::OutOfMemory),
+        },
+    }
+}
+
+fn explain_request(alloc: Global, options: &ArgMatches) -> Result<Request, WordsFault>
+    ensures { IfOk result (IsRequest (codes "explain") (rows_of (found_of options.now))) }
+{
+    let start = given_number(options, "start")?;
+    let most = number_of(options, "most", 65536)?;
+    Ok(Request::Explain {
+        vcd: text_of(alloc, options, "vcd")?,
+        sva: text_of(alloc, options, "sva")?,
+        axi: option_of(alloc, options, "axi")?,
+        only: option_of(alloc, options, "only")?,
+        start,
+        most,
+    })
+}
+
 fn rules_request(alloc: Global, options: &ArgMatches) -> Result<Request, WordsFault>
     ensures { IfOk result (IsRequest (codes "rules") (rows_of (found_of options.now))) }
 {
@@ -132,6 +161,7 @@ fn request_of(alloc: Global, matches: &ArgMatches) -> Result<Request, WordsFault
         Some(("judge", options)) => judge_request(alloc, options),
         Some(("rules", options)) => rules_request(alloc, options),
         Some(("upgrade", options)) => upgrade_request(alloc, options),
+        Some(("explain", options)) => explain_request(alloc, options),
         _ => Err(WordsFault::OutOfMemory),
     }
 }

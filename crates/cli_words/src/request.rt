@@ -46,6 +46,19 @@ pub enum Request {
         /// A port file: the rules of its ports stand behind the text.
         axi: Option<String>,
     },
+    /// Explains failed attempts of the assertions of a text over a dump.
+    Explain {
+        vcd: String,
+        sva: String,
+        /// A port file: the rules of its ports stand behind the text.
+        axi: Option<String>,
+        /// The name of the one assertion that is asked for.
+        only: Option<String>,
+        /// The clock at which the one attempt that is asked for began.
+        start: Option<u64>,
+        /// How many attempts of each assertion are explained at most, from 1 to 65,536.
+        most: u64,
+    },
     /// Prints the rules of the ports of a port file.
     Rules {
         axi: String,

@@ -7,3 +7,4 @@ pub mod Cursors
 pub mod Held
 pub mod Bound
 pub mod Signals
+pub mod Times

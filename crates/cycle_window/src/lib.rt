@@ -14,6 +14,7 @@
 //! let mut window = Window::new(alloc, size, columns)?;        // empty, before the first tick
 //! window.slide(&dump, &clocks);                               // the next 1,024, or what is left
 //! let (first, end) = window.bounds();
+//! let time = time_of_tick(&dump, &clocks, first as usize);  // in the dump's unit
 //! window.put_row(&mut row, first);                            // all signals, in the room of row
 //! window.put_part(&mut part, first, 2, 5);                    // signals 2, 3 and 4, in its room
 //! ```
@@ -39,6 +40,7 @@ mod rows;
 mod sampling;
 mod shared;
 mod size;
+mod times;
 mod window;
 mod window_rows;
 
@@ -47,4 +49,5 @@ pub use columns::{Columns, WatchedSignal};
 pub use fault::WindowFault;
 pub use laws::ticks_law;
 pub use size::{BadSize, WindowSize};
+pub use times::time_of_tick;
 pub use window::Window;

@@ -16,6 +16,8 @@
 
 mod lines;
 mod report;
+mod rows;
 mod sampled;
 
 pub use report::report_by_judge;
+pub use rows::suite_rows;

@@ -32,7 +32,7 @@ fn report_over(alloc: Global, suite: &Suite, signals: Table<u128>) -> Result<Rep
 }
 
 /// The signals of a suite, as they are bound.
-fn signals_of<'s>(
+pub(crate) fn signals_of<'s>(
     alloc: Global,
     names: &'s [assertions::Signal],
 ) -> Result<Vec<WatchedSignal<'s>>, AllocError>

@@ -7,6 +7,7 @@
 //! svamon run --vcd top.vcd --code r.svm [--workers 4] [--window 1024]
 //! svamon verify r.svm
 //! svamon upgrade r.svm --out r2.svm
+//! svamon explain --vcd top.vcd --sva rules.sva [--axi ports.txt] [--only r] [--start 9] [--most 1]
 //! svamon rules --axi ports.txt
 //! ```
 //!

@@ -1,6 +1,6 @@
 //! The commands, from the words of the command line to the answer.
 
-use cli::{Fault, NoGate, Request, build_one, check_all, judge_one};
+use cli::{Fault, NoGate, Request, Wanted, build_one, check_all, explain_one, judge_one};
 use cli_code::{run_code, upgrade_code, verify_code};
 use cli_shell::{
     open, print_rules, read_assertions, read_bytes, refuse_words, request_of, shown_status,
@@ -63,6 +63,41 @@ fn serve_text<R: Files + Print + Eprint + AllocGlobal + Threads + Wait + Sync>(
         Err(fault) => return shown_status(rt, Err(fault)),
     };
     shown_status(rt, judge_text(rt, dump, text.as_str(), team))
+}
+
+/// Explains failed attempts of a text's assertions over a dump; the text goes to standard output.
+/// The answer is as that of a report, of which the third number counts what was explained.
+fn explain_text<'a, R: Files + Print + AllocGlobal>(
+    rt: &R,
+    dump: R::File,
+    text: &'a str,
+    path: &str,
+    wanted: &Wanted<'_>,
+) -> Result<[u64; 5], Fault<'a>> {
+    let mut dump = Counted::new(dump);
+    let mut out = Counted::new(io::writer(rt));
+    let explained = explain_one(rt.alloc(), &mut dump, text, path, wanted, &mut out)?;
+    Ok([0, 0, explained, 0, 0])
+}
+
+/// Opens the dump, then reads the text, and explains its failures: status 1 where one was
+/// explained, 0 where none was.
+fn serve_explain<R: Files + Print + Eprint + AllocGlobal>(
+    rt: &R,
+    vcd: &str,
+    sva: &str,
+    axi: Option<&str>,
+    wanted: &Wanted<'_>,
+) -> u8 {
+    let dump = match open(rt, vcd) {
+        Ok(dump) => dump,
+        Err(fault) => return shown_status(rt, Err(fault)),
+    };
+    let text = match read_assertions(rt, sva, axi) {
+        Ok(text) => text,
+        Err(fault) => return shown_status(rt, Err(fault)),
+    };
+    shown_status(rt, explain_text(rt, dump, text.as_str(), sva, wanted))
 }
 
 /// Compiles an assertion of a text over a dump, and makes a file of its program.
@@ -179,7 +214,7 @@ fn run_file<R: Files + Print + AllocGlobal + Threads + Wait + Sync>(
     run_bytes(rt, dump, bytes.as_slice(), team)
 }
 
-/// The path of an option that may be left out.
+/// The text of an option that may be left out.
 fn path_of(option: &Option<String>) -> Option<&str> {
     match option {
         None => None,
@@ -238,6 +273,21 @@ fn serve<R: Files + Print + Eprint + AllocGlobal + Threads + Wait + Sync>(
         }
         Request::Judge { vcd, sva, axi } => {
             serve_text(rt, vcd.as_str(), sva.as_str(), path_of(axi), None)
+        }
+        Request::Explain {
+            vcd,
+            sva,
+            axi,
+            only,
+            start,
+            most,
+        } => {
+            let wanted = Wanted {
+                only: path_of(only),
+                start: *start,
+                most: *most,
+            };
+            serve_explain(rt, vcd.as_str(), sva.as_str(), path_of(axi), &wanted)
         }
         Request::Rules { axi } => serve_rules(rt, axi.as_str()),
         Request::Upgrade { code, out } => serve_upgrade(rt, code.as_str(), out.as_str()),

@@ -43,6 +43,20 @@ fn line_of(alloc: Global, request: &Request) -> Result<String, AllocError> {
             window,
         } => format!(in alloc; "run {vcd} {code} {workers} {window}"),
         Request::Upgrade { code, out } => format!(in alloc; "upgrade {code} {out}"),
+        Request::Explain {
+            vcd,
+            sva,
+            axi,
+            only,
+            start,
+            most,
+        } => format!(in alloc;
+            "explain {vcd} {sva} {} {} {} {} {most}",
+            file_or_none(axi),
+            file_or_none(only),
+            start.is_some(),
+            start.unwrap_or(0)
+        ),
     }
 }
 
@@ -92,6 +106,16 @@ fn words_are_read(rt: HostRuntime) -> Result<(), Fail> {
             "run a.vcd a.svm 4 1024",
         ),
         ("svamon upgrade a.svm --out b.svm", "upgrade a.svm b.svm"),
+        (
+            "svamon explain --vcd a --sva b",
+            "explain a b none none false 0 1",
+        ),
+        (
+            "svamon explain --vcd a --sva b --axi p --only r --start 0 --most 7",
+            "explain a b p r true 0 7",
+        ),
+        ("svamon explain --vcd a --sva b --start x", "refused 2 true"),
+        ("svamon explain --vcd a --sva b --most 0", "refused 2 true"),
         ("svamon check --vcd a --sva b --window 0", "refused 2 true"),
         ("svamon check --vcd a --sva b --workers 0", "refused 2 true"),
         ("svamon run --vcd a --code b --workers 65", "refused 2 true"),

@@ -66,3 +66,12 @@ returns-in-Some-upgrade-default c =
     (sym c.subcommand.ensures.name ∙ ap (option_map (λ p. p.0.now)) arm.is ∙ ap (λ (t : List ℕ). Some t) arm.is-upgrade)
     (sym c.subcommand.ensures.rows ∙ ap (option_map (λ p. rows_of (found_of p.1.now))) arm.is))
     c.upgrade_request.ensures
+
+pub returns-in-Some-explain-default : goal.returns-in-Some-explain-default
+returns-in-Some-explain-default c =
+    let arm = c.in-Some-explain-default in
+    IfOk-weaker c.explain_request.result _ _
+    (entered c.args.matches.now (codes "explain") (rows_of (found_of arm.options.now))
+    (sym c.subcommand.ensures.name ∙ ap (option_map (λ p. p.0.now)) arm.is ∙ ap (λ (t : List ℕ). Some t) arm.is-explain)
+    (sym c.subcommand.ensures.rows ∙ ap (option_map (λ p. rows_of (found_of p.1.now))) arm.is))
+    c.explain_request.ensures

@@ -1,0 +1,13 @@
+use Rattle.std.proofs.lemmas.Result.{IfOk-weaker}
+use Rattle.cli_words.proofs.CommandLaws.{one_option}
+use Rattle.cli_words.proofs.command.explain_command.Goals as goal
+
+pub returns : goal.returns
+returns c =
+    let only =
+    one_option _ _ _ _ _ c.in_ok-arg.ensures c.in_ok-text_command.ensures c.only_option.ensures.rule
+    c.only_option.ensures.local in
+    let start =
+    one_option _ _ _ _ _ c.in_ok-arg-2.ensures only c.start_option.ensures.rule c.start_option.ensures.local in
+    IfOk-weaker c.arg-3.result _ _
+    (λ r h. one_option _ r _ _ _ h start c.most_option.ensures.rule c.most_option.ensures.local) c.arg-3.ensures
