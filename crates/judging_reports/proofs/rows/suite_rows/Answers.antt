@@ -17,5 +17,5 @@ returns-clause-rows c = λ k signals holds named.
     let places : places_in c.in_ok-columns.columns ≡ signals =
     column_places (variables_of c.args.dump.now) names (map wanted_of c.as_slice-2.result.now)
     (places_in c.in_ok-columns.columns) signals c.in_ok-columns.ensures.places asked named in
-    c.in_ok-field.ensures.signals
+    c.in_ok-count.ensures.signals
     ∙ (c.in_ok-signals-2.ensures k holds ∙ ap (λ (ps : List ℕ). map (row_of k ps) ticks) places)
