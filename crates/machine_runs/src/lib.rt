@@ -7,10 +7,16 @@
 //! nothing. A program's line counts what was decided over all rows, and the attempts that failed;
 //! those that are still live after the last clock are counted as open. Its report has that line.
 //!
+//! A batch keeps its attempts as streaks: attempts that began at clocks one after another, and came
+//! to the same at the same age, are one entry. A clause sees the list of the attempts.
+//!
 //! There is no report where the clock (C1, C2), then a signal (C4, C5, in their order), then the
 //! size of the windows (C3) is not as it should be.
 //!
 //! ```text
+//! let mut decided = Streaks::new(alloc);
+//! decided.reserve(10)?;                 // for ten attempts in any case
+//! decided.push(Decided { start: 0, verdict: Verdict::Holds(1) });
 //! let batch = Batch { monitor: 0, first: 0, end: 10, decided };
 //! batches_law();     // does nothing; what it ensures holds of all programs and rows
 //! batches_join();    // so does this: batches that meet, joined, are the batch of all their clocks
@@ -19,7 +25,8 @@
 //! The definitions: the report over the contents of a dump, and why there is none, in
 //! `specs/Reported.antt`; the line of a program over rows in `specs/Lines.antt`; runs between two
 //! clocks and their batch in `specs/Batches.antt`; that rows may be cut anywhere in
-//! `specs/Laws.antt`. What a program decides over rows is that of `machine_definition`, in its
+//! `specs/Laws.antt`; the attempts of streaks in `specs/Streaks.antt`, and what comes to the same
+//! at the same age in `specs/Ages.antt`. What a program decides over rows is that of `machine_definition`, in its
 //! `specs/Runs.antt`; ticks and rows are those of `cycle_window`, and reports those of `verdicts`.
 //!
 //! Not promised: that a `Batch` that anybody makes is right (`workers_core` says which are), or
