@@ -24,11 +24,7 @@ pub(crate) struct Asked {
 impl Asked {
     /// Those of the attempt: the antecedent begins at its start, the consequent at the end that
     /// broke, and the disabling boolean is asked at each clock.
-    pub fn of(
-        alloc: Global,
-        assertion: &Assertion,
-        attempt: Attempt,
-    ) -> Result<Asked, AllocError> {
+    pub fn of(alloc: Global, assertion: &Assertion, attempt: Attempt) -> Result<Asked, AllocError> {
         let mut antecedent = Vec::new(alloc);
         push_places(&assertion.antecedent, at(attempt.start), &mut antecedent)?;
         let mut consequent = Vec::new(alloc);

@@ -10,8 +10,8 @@
 //! A batch keeps its attempts as streaks: attempts that began at clocks one after another, and came
 //! to the same at the same age, are one entry. A clause sees the list of the attempts.
 //!
-//! There is no report where the clock (C1, C2), then a signal (C4, C5, in their order), then the
-//! size of the windows (C3) is not as it should be.
+//! There is no report where the clock (C1, C2), then a signal (C4, C5, in their order) is not as it
+//! should be.
 //!
 //! ```text
 //! let mut decided = Streaks::new(alloc);
@@ -26,8 +26,9 @@
 //! `specs/Reported.antt`; the line of a program over rows in `specs/Lines.antt`; runs between two
 //! clocks and their batch in `specs/Batches.antt`; that rows may be cut anywhere in
 //! `specs/Laws.antt`; the attempts of streaks in `specs/Streaks.antt`, and what comes to the same
-//! at the same age in `specs/Ages.antt`. What a program decides over rows is that of `machine_definition`, in its
-//! `specs/Runs.antt`; ticks and rows are those of `cycle_window`, and reports those of `verdicts`.
+//! at the same age in `specs/Ages.antt`. What a program decides over rows is that of
+//! `machine_definition`, in its `specs/Runs.antt`; ticks and rows are those of `cycle_window`, and
+//! reports those of `verdicts`.
 //!
 //! Not promised: that a `Batch` that anybody makes is right (`workers_core` says which are), or
 //! that a program of unknown origin means anything.
