@@ -7,5 +7,6 @@ pub mod RunLaws
 pub mod ReadyLaws
 pub mod SolveLaws
 pub mod VecLaws
+pub mod SetLaws
 pub mod RowLaws
 pub mod CopyLaws
