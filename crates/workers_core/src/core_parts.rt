@@ -17,6 +17,7 @@ use crate::order::{empty_done, numbers_of};
 use crate::step::Reply;
 use crate::team_size::TeamSize;
 use crate::worker::{Worker, put_down};
+use arrayvec::ArrayVec;
 use cycle_window::{Clocks, Window, WindowSize};
 use machine_runs::Batch;
 use std::alloc::{AllocError, Global};
@@ -113,7 +114,8 @@ impl<'j> CoreParts<'j> {
         if monitor.reserve(clocks).is_err() {
             return Reply::Memory;
         }
-        monitor.advance(&self.window, now + clocks);
+        let mut decided = ArrayVec::new();
+        monitor.advance(&self.window, now + clocks, &mut decided);
         Reply::Done
     }
 

@@ -103,8 +103,9 @@ impl Monitor {
         self.decided.reserve(room)
     }
 
-    /// The clocks up to one of the window's. There is room for what they decide.
-    pub fn advance(&mut self, window: &Window<'_>, to: u64)
+    /// The clocks up to one of the window's. There is room for what they decide. What the buffer
+    /// holds is lost: each clock's verdicts go through it.
+    pub fn advance(&mut self, window: &Window<'_>, to: u64, decided: &mut ArrayVec<Decided, 1024>)
         requires stands { Stands window.now self.old }
         requires ahead { self.old.machine.state.standing.now ≤ to }
         requires inside { to ≤ end_in window.now }
@@ -118,10 +119,9 @@ impl Monitor {
             (monitor_state self.old)
             ≡ monitor_state self.new }
     {
-        let mut decided = ArrayVec::new();
         for clock in self.machine.now()..to {
             window.put_part(&mut self.row, clock, self.from, self.to);
-            self.clock(&mut decided);
+            self.clock(decided);
         }
     }
 

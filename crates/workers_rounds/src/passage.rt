@@ -8,17 +8,20 @@ ghost use Rattle.workers_bench.specs.Monitors.{IsAt};
 ghost use Rattle.workers_bench.specs.Windows.{IsWindowFor};
 ghost use Rattle.workers_rounds.specs.Works.{IsSized, IsBatch, clock_of};
 
+use arrayvec::ArrayVec;
 use cycle_window::Window;
 use machine_runs::Batch;
+use signals::Decided;
 use std::alloc::{AllocError, Global};
 use workers_bench::Numbered;
 
 /// Runs a monitor through the window, and makes the batch of it. Where memory is refused, it stands
-/// where it stood.
+/// where it stood. What the buffer holds is lost.
 pub(crate) fn pass_through(
     alloc: Global,
     window: &Window<'_>,
     given: &mut Numbered,
+    decided: &mut ArrayVec<Decided, 1024>,
 ) -> Result<Batch, AllocError>
     requires stands { Stands window.now given.old.monitor.value }
     requires here { clock_of given.old ≡ first_in window.now }
@@ -34,6 +37,6 @@ pub(crate) fn pass_through(
     let number = given.number;
     let monitor = &mut *given.monitor;
     monitor.reserve(end - first)?;
-    monitor.advance(window, end);
+    monitor.advance(window, end, decided);
     Ok(monitor.take_batch(alloc, number))
 }

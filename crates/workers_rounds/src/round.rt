@@ -21,6 +21,7 @@ ghost use Rattle.workers_rounds.specs.Runs.{TakenIs};
 use crate::crew::{Task, work_all};
 use crate::order::put_in_order;
 use crate::work::{Gate, Published, Worked, run_one};
+use arrayvec::ArrayVec;
 use cycle_window::Window;
 use std::alloc::{AllocError, Global};
 use std::sync::Wait;
@@ -182,8 +183,9 @@ fn run_rest<L: Tallying, G: Gate, R: Wait>(
         ≡ amount_of k share.old + published_count (kind_of k) published.new.items) }
 {
     let _ = job;
+    let mut decided = ArrayVec::new();
     for monitor in rest {
-        let (monitor, receipt) = run_one(rt, alloc, window, board, monitor);
+        let (monitor, receipt) = run_one(rt, alloc, window, board, monitor, &mut decided);
         let Some(receipt) = receipt else {
             return Err(AllocError);
         };

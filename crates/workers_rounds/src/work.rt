@@ -14,7 +14,9 @@ ghost use Rattle.workers_bench.specs.Benches.{IsOf};
 ghost use Rattle.workers_rounds.specs.Works.{Works, IsSized, IsPublished, clock_of};
 
 use crate::passage::pass_through;
+use arrayvec::ArrayVec;
 use cycle_window::Window;
+use signals::Decided;
 use std::alloc::Global;
 use std::sync::Wait;
 use workers_bench::{Bench, Numbered, Pass};
@@ -62,13 +64,14 @@ pub struct Worked<L: Tallying> {
 }
 
 /// Runs a monitor through the window and publishes its batch. Where memory is refused there is no
-/// receipt.
+/// receipt. What the buffer holds is lost.
 pub(crate) fn run_one(
     rt: &impl Wait,
     alloc: Global,
     window: &Window<'_>,
     board: &Board,
     mut given: Numbered,
+    decided: &mut ArrayVec<Decided, 1024>,
 ) -> (Numbered, Option<Receipt>)
     requires stands { Stands window.now given.monitor.value }
     requires here { clock_of given ≡ first_in window.now }
@@ -80,7 +83,7 @@ pub(crate) fn run_one(
         → IsAt j (first_in window.now) given
         → IsPublished j window.now board.now (record { monitor = result.0; receipt = receipt })) }
 {
-    match pass_through(alloc, window, &mut given) {
+    match pass_through(alloc, window, &mut given, decided) {
         Err(_) => (given, None),
         Ok(batch) => match board.publish(rt, batch) {
             Ok(receipt) => (given, Some(receipt)),
@@ -114,6 +117,7 @@ pub fn work<L: Tallying, G: Gate, R: Wait>(
     ensures { Works bench.now board.now window.now (view pass) share claims result }
 {
     let mut published = Vec::new(alloc);
+    let mut decided = ArrayVec::new();
     for _ in rt.forever() {
         if published.reserve(1).is_err() {
             return Worked {
@@ -139,7 +143,7 @@ pub fn work<L: Tallying, G: Gate, R: Wait>(
         };
         claims += 1;
         gate.claimed(worker, claims);
-        let (monitor, receipt) = run_one(rt, alloc, window, board, monitor);
+        let (monitor, receipt) = run_one(rt, alloc, window, board, monitor, &mut decided);
         let Some(receipt) = receipt else {
             return Worked {
                 pass,
