@@ -54,7 +54,8 @@ impl<'j> CoreParts<'j> {
         };
         let monitors = monitors_of(alloc, job.programs.as_slice())?;
         let waiting = numbers_below(alloc, monitors.len())?;
-        let workers = idle_workers(alloc, team.workers())?;
+        let count = team.workers();
+        let workers = idle_workers(alloc, count)?;
         Ok(CoreParts {
             window,
             monitors,

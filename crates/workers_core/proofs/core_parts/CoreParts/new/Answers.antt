@@ -1,6 +1,7 @@
-use Rattle.std.proofs.Common.{map, ap, ◌∙◌}
+use Rattle.std.proofs.Common.{◌≡◌, ℕ, None, [], map, replicate, ap, subst, ◌∙◌}
 use Rattle.std.specs.List.{range_with_len}
 use Rattle.workers_core.specs.Opening.{parts_from, opened_monitor}
+use Rattle.workers_core.specs.Parts.{worker_state}
 use Rattle.workers_core.proofs.StartLaws as laws
 use Rattle.workers_core.proofs.core_parts.CoreParts.new.Goals as goal
 
@@ -14,6 +15,8 @@ returns c = record {
       (c.in_ok-monitors.ensures.parts ∙ ap (parts_from 0) programs)
       c.in_ok-monitors.ensures.new
       (c.from.ensures.0 ∙ c.in_ok-waiting.ensures ∙ ap (range_with_len 0) (c.len.ensures ∙ ms.ok.0))
-      c.in_ok-workers.ensures
+      (subst (λ (n : ℕ). map worker_state c.in_ok-workers.workers.items
+      ≡ replicate n (record { hand = None; done = [] })) c.workers-count.ensures.same
+      c.in_ok-workers.ensures)
       c.new.ensures.items;
 }
