@@ -21,9 +21,9 @@ mod fault;
 mod lines;
 mod report_totals;
 mod statuses;
-mod written;
+mod writing;
 
 pub use fault::Fault;
 pub use lines::fault_line;
 pub use statuses::status;
-pub use written::written;
+pub use writing::written;
