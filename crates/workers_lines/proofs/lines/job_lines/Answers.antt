@@ -1,5 +1,5 @@
-use Rattle.std.proofs.Common.{◌∙◌, ap, sym, subst}
-use Rattle.workers_core.specs.Values.{CoreValue, job_value}
+use Rattle.std.proofs.Common.{◌∙◌, ℕ, ap, sym, subst}
+use Rattle.workers_core.specs.Values.{CoreValue, job_value, opening_core}
 use Rattle.workers_lines.specs.Rounds.{HasTrace, Rests}
 use Rattle.workers_lines.proofs.CoreLaws.{opening-rests}
 use Rattle.workers_lines.proofs.LineLaws.{job-traced}
@@ -12,7 +12,10 @@ drive-requires-clause-trace c =
 
 pub drive-requires-clause-rests : goal.drive-requires-clause-rests
 drive-requires-clause-rests c =
-    subst Rests (sym c.in_ok-core.ensures) (opening-rests (job_value c.args.job.now) c.args.size)
+    let j = job_value c.args.job.now in
+    subst Rests (sym c.in_ok-core.ensures)
+    (subst (λ (n : ℕ). Rests (opening_core j n c.args.size)) (sym c.one.ensures)
+    (opening-rests j c.args.size))
 
 pub lines_of-requires-clause-trace : goal.lines_of-requires-clause-trace
 lines_of-requires-clause-trace c =
