@@ -7,8 +7,8 @@ use Rattle.cli.proofs.TextLaws.{are_named, untyped, unclocked}
 use Rattle.cli_faults.proofs.FaultLaws.{err_is}
 use Rattle.cli.proofs.judged.report_judged.Goals as goal
 
-pub report_by_judge-requires-clause-named : goal.report_by_judge-requires-clause-named
-report_by_judge-requires-clause-named c =
+pub report_by_judge-requires : goal.report_by_judge-requires
+report_by_judge-requires c =
     let k = c.requires.held.0 in
     let holds = c.requires.held.1 in
     are_named k (variables_of c.args.dump.now) (items_of c.in_ok-file.file) c.in_ok-suite.suite

@@ -7,7 +7,7 @@ pub returns-clause-answered : goal.returns-clause-answered
 returns-clause-answered g c =
     let read = c.in_ok-dump.ensures.accepted in
     let r =
-    run_of c.args.text.entry.now (g.S.Source.state c.args.source.now)
+    run_of c.args.text.now (g.S.Source.state c.args.source.now)
     (g.S.Source.state c.read_dump.new.source) (g.W.Sink.state c.args.out.now)
     (g.W.Sink.state c.written.new.out) in
     answered r (data_of c.in_ok-report.report) read.1.0 read.1.1 (record {
@@ -22,7 +22,7 @@ pub returns-clause-refused : goal.returns-clause-refused
 returns-clause-refused g c =
     let read = c.in_ok-dump.ensures.accepted in
     let r =
-    run_of c.args.text.entry.now (g.S.Source.state c.args.source.now)
+    run_of c.args.text.now (g.S.Source.state c.args.source.now)
     (g.S.Source.state c.read_dump.new.source) (g.W.Sink.state c.args.out.now)
     (g.W.Sink.state c.written.new.out) in
     cut r (data_of c.in_ok-report.report) read.1.0 read.1.1 (record {
