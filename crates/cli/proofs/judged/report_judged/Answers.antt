@@ -11,8 +11,10 @@ pub report_by_judge-requires : goal.report_by_judge-requires
 report_by_judge-requires c =
     let k = c.requires.held.0 in
     let holds = c.requires.held.1 in
-    are_named k (variables_of c.args.dump.now) (items_of c.in_ok-file.file) c.in_ok-suite.suite
-    holds.variables (c.in_ok-suite.ensures.ok k holds)
+    record {
+      named = are_named k (variables_of c.args.dump.now) (items_of c.in_ok-file.file)
+          c.in_ok-suite.suite holds.variables (c.in_ok-suite.ensures.ok k holds);
+    }
 
 pub returns-in_err-suite-clause-err : goal.returns-in_err-suite-clause-err
 returns-in_err-suite-clause-err c = λ k holds.
