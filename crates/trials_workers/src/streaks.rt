@@ -4,8 +4,6 @@ use machine_runs::{Streak, Streaks};
 use signals::{Decided, Verdict};
 use std::alloc::Global;
 use std::test::Fail;
-use verdicts::Failure;
-use workers_lines::GrowingLine;
 
 /// Attempts, with the streak in which each stands: two that hold at their second clock; one more of
 /// these after a gap; one at the clock after, at another age; then two failures, and one disabled.
@@ -52,25 +50,5 @@ fn attempts_come_back(rt: HostRuntime) -> Result<(), Fail> {
     }
     assert!(rt; next == 7);
     assert!(rt; streaks.as_slice().len() == 5);
-    Ok(())
-}
-
-#[test]
-fn line_of_streaks(rt: HostRuntime) -> Result<(), Fail> {
-    let streaks = kept(rt.alloc())?;
-    let mut line = GrowingLine::new(rt.alloc());
-    line.take_streaks(&streaks)?;
-    let line = line.into_line(String::from_str(rt.alloc(), "r")?);
-    assert!(rt; line.counts.holds == 4 && line.counts.vacuous == 0 && line.counts.fails == 2);
-    assert!(rt; line.counts.disabled == 1 && line.counts.still_open == 0);
-    let first = Failure {
-        start: 10,
-        clock: 12,
-    };
-    let second = Failure {
-        start: 11,
-        clock: 13,
-    };
-    assert!(rt; line.fails.as_slice() == [first, second].as_slice());
     Ok(())
 }
