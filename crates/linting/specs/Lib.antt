@@ -1,0 +1,6 @@
+pub mod Blanked
+pub mod Hints
+pub mod Items
+pub mod Nearest
+pub mod Places
+pub mod Told
