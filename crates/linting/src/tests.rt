@@ -1,8 +1,8 @@
 //! Each function on its happy path.
 
 use crate::{
-    CODES, MARKS, Place, SIGNS, WORDS, blanked, hint_at, hint_beside, item_at, item_ends, nearest,
-    place_of, push_refusal, push_total, span_at,
+    CODES, FrontEnd, MARKS, Place, Refusal, SIGNS, WORDS, blanked, hint_at, hint_beside, item_at,
+    item_ends, lint, nearest, place_of, push_refusal, push_total, span_at,
 };
 use std::alloc::{AllocError, Global};
 use std::test::Fail;
@@ -121,5 +121,43 @@ fn items_hold(rt: HostRuntime) -> Result<(), Fail> {
             "{at}"
         );
     }
+    Ok(())
+}
+
+/// Refuses each `x` of a text.
+struct NoX;
+
+impl FrontEnd for NoX {
+    ghost use Rattle.std.specs.Prelude.{ℕ, List};
+
+    ghost accepts = { λ _ _. Unit {0} };
+
+    ghost refuses = { λ _ _ _. Unit {0} };
+
+    fn refusal(&self, alloc: Global, text: &str) -> Result<Option<Refusal>, AllocError> {
+        match text.find('x') {
+            None => Ok(None),
+            Some(at) => Ok(Some(Refusal {
+                at,
+                message: String::from_str(alloc, "x")?,
+            })),
+        }
+    }
+}
+
+#[test]
+fn all_are_told(rt: HostRuntime) -> Result<(), Fail> {
+    let text = "a; x b; c x;\nx; d;";
+    let ends = item_ends(rt.alloc(), text)?;
+    let told = lint(rt.alloc(), &NoX, text, ends.as_slice())?;
+    let mut places = Vec::new(rt.alloc());
+    for refusal in &told.refusals {
+        places.push(refusal.at)?;
+    }
+    assert!(rt; places.as_slice() == [3, 10, 13].as_slice());
+    let Some(rest) = told.rest else {
+        return Err(Fail::from("nothing is left"));
+    };
+    assert!(rt; rest.as_str() == "a;          \n   d;");
     Ok(())
 }
