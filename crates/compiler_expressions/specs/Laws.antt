@@ -76,7 +76,7 @@ TellsNames t at sample k =
     Each (OfName (λ name. Tells sample k (slot_of at name) (name_at t name)))
 
 -- Wherever the code stands, with room on the declared stack, it leaves a value of w bits on the
--- stack, and spends one tick for each instruction.
+-- stack, and spends one for each instruction.
 abbrev pub Leaves :
     FrameData → Limits → (ℕ → ℕ → ℕ) → List SampleInstr → ℕ → ℕ → ℕ → Type 0
 Leaves f d sample code w v room =
@@ -161,8 +161,9 @@ SamplesAreTyped =
     IsTypedWithin f (sample_code at es hs) (sample_need es hs) (sample_reach es hs)
 
 -- A program that the verifier accepts, whose sample code is that of these booleans and counters: at
--- each clock it runs to its end, one tick for each instruction. Then each atom is the truth of its
--- boolean at this tick, and each store is what the counter counts from its value at this tick.
+-- each clock it runs to its end, which costs one for each instruction. Then each atom is the truth
+-- of its boolean at this tick, and each store is what the counter counts from its value at this
+-- tick.
 abbrev pub SamplesTell : Type 0
 SamplesTell =
     (p : ProgramData) (at : Slots) (es : List Term) (hs : List Held) →

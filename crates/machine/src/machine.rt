@@ -67,9 +67,9 @@ impl Machine {
         self.memory.live.now
     }
 
-    /// The ticks of the last clock, 0 before the first.
+    /// The cost of the last clock, 0 before the first.
     pub fn spent(&self) -> u64
-        ensures ticks { result ≡ self.now.spent }
+        ensures cost { result ≡ self.now.spent }
         ensures budget { result ≤ self.now.program.header.limits.budget }
     {
         self.spent

@@ -111,8 +111,8 @@ impl Memory {
         })
     }
 
-    /// A clock over the values of the signals: it adds what it decides to `out`, and answers the
-    /// ticks that it took.
+    /// A clock over the values of the signals: it adds what it decides to `out`, and answers its
+    /// cost.
     pub(crate) fn clock(
         &mut self,
         program: &Program,
@@ -130,7 +130,7 @@ impl Memory {
             (running_of (data_of program.now) self.new result) out.new.items }
     {
         let budget = u64::from(program.limits.budget);
-        let ticks = self.code.run(
+        let cost = self.code.run(
             program,
             self.frame.slots.as_slice(),
             &mut self.history,
@@ -138,7 +138,7 @@ impl Memory {
             self.atoms.as_mut_slice(),
             self.counters.as_mut_slice(),
         );
-        let mut left = budget - ticks;
+        let mut left = budget - cost;
         let atoms = self.atoms.as_slice();
         self.live.clock(program, &self.bases, atoms, &mut left, out);
         budget - left

@@ -16,7 +16,7 @@ use Rattle.machine_definition.specs.Clocks.{some_open, Settlement, settle, settl
 use Rattle.machine_definition.specs.Clocks.{opened}
 use Rattle.machine_definition.specs.Bounds.{EachIn, IsAlive, Rises, IsAwaiting, IsAttempt}
 use Rattle.machine_definition.specs.Bounds.{IsObligation}
-use Rattle.machine_definition.proofs.Outcomes.{Meets-and_then, Meets-tick}
+use Rattle.machine_definition.proofs.Outcomes.{Meets-and_then, Meets-costs_one}
 use Rattle.machine_definition.proofs.Blocks.{EachIn-or}
 use Rattle.machine_definition.proofs.Visits.{Visited, visit-meets}
 use Rattle.machine_definition.proofs.Rises.{Rises-within, Rises-low}
@@ -58,7 +58,7 @@ module _ (p : ProgramData) (now : ℕ) where
   visit_attempts-meets atoms section low (a ∷ others) left rises fits =
       let s : ℕ = path_sum 0 p.antecedent.blocks in
       let product : length (a ∷ others) * (1 + s) ≡ 1 + s + length others * (1 + s) = omega arith in
-      Meets-tick (Seen low (a ∷ others) left) left _ (omega (arith, product)) (λ after e.
+      Meets-costs_one (Seen low (a ∷ others) left) left _ (omega (arith, product)) (λ after e.
       Meets-and_then (Visited p.antecedent a.start now after) (Seen low (a ∷ others) left)
       (visit p.antecedent atoms a.positions after) _
       (visit-meets p.antecedent atoms section a.start now a.positions after rises.1.positions (omega (arith, product)))
@@ -104,7 +104,7 @@ module _ (p : ProgramData) (now : ℕ) where
   visit_obligations-meets atoms section low (o ∷ others) left rises fits =
       let s : ℕ = path_sum 0 p.consequent.blocks in
       let product : length (o ∷ others) * (1 + s) ≡ 1 + s + length others * (1 + s) = omega arith in
-      Meets-tick (Tells low (o ∷ others) left) left _ (omega (arith, product)) (λ after e.
+      Meets-costs_one (Tells low (o ∷ others) left) left _ (omega (arith, product)) (λ after e.
       Meets-and_then (Visited p.consequent o.tick now after) (Tells low (o ∷ others) left)
       (visit p.consequent atoms o.positions after) _
       (visit-meets p.consequent atoms section o.tick now o.positions after rises.1.positions (omega (arith, product)))
@@ -192,7 +192,7 @@ module _ (p : ProgramData) (now : ℕ) (fates : List Fate) where
       → Meets (Settles low live left) (settle_all now fates live left)
   settle_all-meets low [] left rises fits = (rises, omega arith)
   settle_all-meets low (a ∷ others) left rises fits =
-      Meets-tick (Settles low (a ∷ others) left) left _ (omega arith) (λ after e.
+      Meets-costs_one (Settles low (a ∷ others) left) left _ (omega arith) (λ after e.
       Meets-and_then (Settles (a.start + 1) others after) (Settles low (a ∷ others) left)
       (settle_all now fates others after) _
       (settle_all-meets (a.start + 1) others after rises.2 (omega arith))
@@ -202,7 +202,7 @@ pub disable_all-meets : (now : ℕ) (live : List Attempt) (left : ℕ) → lengt
     → Meets (λ ds rest. left ≤ rest + length live) (disable_all now live left)
 disable_all-meets now [] left fits = omega arith
 disable_all-meets now (a ∷ others) left fits =
-    Meets-tick (λ ds rest. left ≤ rest + length (a ∷ others)) left _ (omega arith) (λ after e.
+    Meets-costs_one (λ ds rest. left ≤ rest + length (a ∷ others)) left _ (omega arith) (λ after e.
     Meets-and_then (λ ds rest. after ≤ rest + length others) (λ ds rest. left ≤ rest + length (a ∷ others))
     (disable_all now others after) _
     (disable_all-meets now others after (omega arith))

@@ -32,7 +32,7 @@ Meets-both : {A : Type 0} (P Q : A → ℕ → Type 0) (x : Ran A) → Meets P x
 Meets-both P Q (done a n) h g = (h, g)
 Meets-both P Q (trapped t) h g = h
 
--- what comes to this value, with so many ticks left
+-- what comes to this value, with so much of the budget left
 Meets-done : {A : Type 0} (a : A) (n : ℕ) (x : Ran A) → Meets (λ b m. (b ≡ a) × (m ≡ n)) x → x ≡ done a n
 Meets-done a n (done b m) h = ap (λ c. done c m) h.0 ∙ ap (done a) h.1
 Meets-done a n (trapped t) h = absurd h

@@ -51,7 +51,7 @@ pub record IsJudged (verdict : ℕ → Verdict) (count : ℕ) (run : Clocked) : 
   pub batches : run.batches ≡ map (fallen verdict count) (range_with_len 0 count)
   pub live : starts_of run.standing.attempts ≡ open_starts verdict count
 
--- The sample code of a tick set an atom for each of the program's, and took no more ticks than its
+-- The sample code of a tick set an atom for each of the program's, and took no more cost than its
 -- longest path.
 pub record IsSampled (p : ProgramData) (c : Sampled) : Type 0 where
   pub atoms : length c.atoms ≡ p.header.atoms
