@@ -32,9 +32,9 @@
 //! `specs/Shapes.antt`; empty matches, and sequences without a match of a tick or more, by their
 //! form in `specs/Emptiness.antt`; the booleans of a sequence in `specs/Listed.antt`; quantifiers
 //! over ticks in `specs/Quantifiers.antt`; what is read in `specs/Reads.antt`, by the names of an
-//! expression in `specs/Names.antt`, with marks, places and slots in `specs/Marks.antt`. The laws stand
-//! in `specs/Laws.antt`: each attempt has exactly one verdict (`verdict_law`), and no match takes
-//! more ticks than the sequence weighs (`weight_law`).
+//! expression in `specs/Names.antt`, with marks, places and slots in `specs/Marks.antt`. The laws
+//! stand in `specs/Laws.antt`: each attempt has exactly one verdict (`verdict_law`), and no match
+//! takes more ticks than the sequence weighs (`weight_law`).
 //!
 //! Not promised: that a place in a list is one of the suite's expressions, or that a side has a
 //! match at all. A boolean whose expression isn't there is false at each tick.

@@ -19,7 +19,8 @@ use Rattle.machine_definition.specs.Machine.{clock, clocks}
 use Rattle.machine_definition.specs.Awaited.{accepted_of, ticks_of}
 use Rattle.signals.specs.declared.verdict.Decided.{Decided}
 use Rattle.machine_definition.specs.OpenTicks.{OpenAttempt, OpenStanding, OpenSettled, OpenSettlement, OpenVisits}
-use Rattle.machine_definition.specs.OpenTicks.{OpenState, OpenOutcome, visit_each, settle_each, disable_each, opened_if, end_open}
+use Rattle.machine_definition.specs.OpenTicks.{OpenState, OpenOutcome, visit_each, settle_each, end_open}
+use Rattle.machine_definition.specs.OpenTicks.{disable_each, opened_if}
 use Rattle.machine_definition.specs.OpenTicks.{clock_with, open_clock_after, open_clock, open_attempt, open_standing}
 use Rattle.machine_definition.specs.OpenTicks.{open_state, open_outcome, ClocksAgree}
 use Rattle.machine_definition.proofs.RanLaws.{ran_map, IfDone, done_then, done_any}
