@@ -13,7 +13,7 @@ use Rattle.assertions.specs.Written.{Written, boolean, delay, lead, repeat, or, 
 use Rattle.assertions.specs.declared.sequence.Boolean.{Boolean}
 use Rattle.assertions.specs.declared.sequence.Boolean.TheVariants.{One, Listed}
 use Rattle.assertions.specs.Listed.{EachBoolean, IsListed, IsListedOption}
-use Rattle.compiler_reads.specs.Marks.{is_marked, places_from, slots_from}
+use Rattle.assertions.specs.Marks.{is_marked, places_from, slots_from}
 use Rattle.compiler_expressions.specs.declared.slots.SlotTable.{SlotTable}
 use Rattle.compiler_expressions.specs.Codes.{Slots}
 use Rattle.compiler_expressions.specs.Samples.{sample_code, sample_reach}

@@ -30,8 +30,8 @@ use Rattle.verifier_inference.specs.Rules.{block_rules}
 use Rattle.verifier_inference.specs.Typing.{IsFine}
 use Rattle.verifier_inference.specs.Sections.{IsSection, AreTyped, size_of}
 use Rattle.compiler_expressions.proofs.FitLaws.{samples-fit}
-use Rattle.compiler_reads.specs.Marks.{is_marked, places_from}
-use Rattle.compiler_reads.proofs.SlotLaws.{place-at}
+use Rattle.assertions.specs.Marks.{is_marked, places_from}
+use Rattle.assertions.proofs.SlotLaws.{place-at}
 use Rattle.compiler.specs.Conditions.{IsFit}
 use Rattle.compiler.specs.Programs.{disabling_atom}
 use Rattle.compiler.specs.Readings.{IsReading, slots_over, counters_read}

@@ -35,7 +35,7 @@ use Rattle.compiler_expressions.specs.Laws.{IsFrame, IsTypedWithin, Each, progra
 use Rattle.compiler_expressions.specs.Depths.{depth, IsShortPast, IsBounded}
 use Rattle.compiler_expressions.proofs.Quiet.{samples-are-typed}
 use Rattle.compiler_expressions.proofs.DepthLaws.{depth-bounds-code}
-use Rattle.compiler_reads.specs.Marks.{is_marked, places_from}
+use Rattle.assertions.specs.Marks.{is_marked, places_from}
 use Rattle.compiler_positions.specs.Sequences.{atom_of}
 use Rattle.compiler_positions.specs.Laws.{Occurs, IsThere, section_for, led_section}
 use Rattle.compiler_positions.proofs.Theorem.{law-section_is_well_formed, law-section_is_small}

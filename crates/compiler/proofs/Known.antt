@@ -13,14 +13,14 @@ use Rattle.expressions.specs.Terms.{Term, width_of}
 use Rattle.expressions.specs.Expressions.{term_of}
 use Rattle.assertions.specs.declared.assertion.Assertion.{Assertion}
 use Rattle.assertions.specs.declared.suite.Suite.{Suite}
-use Rattle.compiler_reads.specs.Names.{names_in, expression_names, counter_names}
-use Rattle.compiler_reads.specs.Reads.{at_once, through, names_of, boolean_names}
-use Rattle.compiler_reads.specs.Marks.{IsAmong, is_marked, places_from}
+use Rattle.assertions.specs.Names.{names_in, expression_names, counter_names}
+use Rattle.assertions.specs.Reads.{at_once, through, names_of, boolean_names}
+use Rattle.assertions.specs.Marks.{IsAmong, is_marked, places_from}
 use Rattle.compiler_expressions.specs.Samples.{Held, counter_terms}
 use Rattle.compiler_expressions.specs.Chosen.{term_found, terms_at}
 use Rattle.compiler_expressions.specs.Laws.{Each, OfName, program_terms}
 use Rattle.compiler.specs.Programs.{Layout, HoldsAt, HoldsName, IsSampled, IsSlotOf, IsLaidOut}
-use Rattle.compiler_reads.proofs.SlotLaws.{place-at}
+use Rattle.assertions.proofs.SlotLaws.{place-at}
 use Rattle.compiler.proofs.ListLaws.{all-at, all-by-places}
 use Rattle.compiler.specs.Conditions.{IsAt, IsNamed, IsKnown, IsKnownAt, CountsByKnown, IsFit}
 use Rattle.compiler.specs.Readings.{IsReading, counters_read, first_counter, slots_over}

@@ -10,7 +10,7 @@ use Rattle.expressions.specs.declared.counter.Counter.{Counter}
 use Rattle.expressions.specs.Terms.{Term, constant, named, slice, group, concat, inverse, reduce}
 use Rattle.expressions.specs.Terms.{combine, shift, compare, connect, choose, past, change}
 use Rattle.expressions.specs.Expressions.{term_of}
-use Rattle.compiler_reads.specs.Names.{names_in, expression_names, rule_names, counter_names}
+use Rattle.assertions.specs.Names.{names_in, expression_names, rule_names, counter_names}
 use Rattle.compiler_expressions.specs.Samples.{rule_terms, clear_terms, counter_terms}
 use Rattle.compiler_expressions.specs.Laws.{Each, OfName}
 

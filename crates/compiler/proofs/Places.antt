@@ -6,8 +6,8 @@ use Rattle.std.specs.List.{AllByRecursion, AllZip, All}
 use Rattle.std.proofs.lemmas.List.Sums.{sum_by-cons}
 use Rattle.std.proofs.lemmas.Option.{slice_get_within, slice_get_cases}
 use Rattle.expressions.specs.declared.counter.Counter.{Counter}
-use Rattle.compiler_reads.specs.Marks.{is_marked, places_from, slots_from}
-use Rattle.compiler_reads.proofs.SlotLaws.{place-at, marked-at}
+use Rattle.assertions.specs.Marks.{is_marked, places_from, slots_from}
+use Rattle.assertions.proofs.SlotLaws.{place-at, marked-at}
 use Rattle.compiler_expressions.specs.Samples.{Held}
 use Rattle.compiler_expressions.specs.Chosen.{held_found, held_at}
 use Rattle.compiler.proofs.ListLaws.{some-one}

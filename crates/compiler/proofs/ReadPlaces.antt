@@ -16,10 +16,10 @@ use Rattle.expressions.specs.Terms.{combine, shift, compare, connect, choose, pa
 use Rattle.expressions.specs.Expressions.{term_of}
 use Rattle.assertions.specs.declared.assertion.Assertion.{Assertion}
 use Rattle.assertions.specs.declared.suite.Suite.{Suite}
-use Rattle.compiler_reads.specs.Names.{names_in, expression_names, rule_names, counter_names}
-use Rattle.compiler_reads.specs.Reads.{IsRead, at_once, through, names_of, boolean_names, Reads}
-use Rattle.compiler_reads.specs.Marks.{IsAmong, AreMarks, places_from}
-use Rattle.compiler_reads.proofs.SlotLaws.{place-at}
+use Rattle.assertions.specs.Names.{names_in, expression_names, rule_names, counter_names}
+use Rattle.assertions.specs.Reads.{IsRead, at_once, through, names_of, boolean_names, Reads}
+use Rattle.assertions.specs.Marks.{IsAmong, AreMarks, places_from}
+use Rattle.assertions.proofs.SlotLaws.{place-at}
 use Rattle.compiler_expressions.specs.Samples.{Held, rule_terms, clear_terms, counter_terms}
 use Rattle.compiler_expressions.specs.Laws.{Each, OfName}
 use Rattle.compiler.specs.Conditions.{IsAt, IsNamed, IsKnown, IsKnownAt, CountsByKnown, IsFit}

@@ -19,9 +19,9 @@ use Rattle.assertions.specs.declared.assertion.Assertion.{Assertion}
 use Rattle.assertions.specs.declared.suite.Suite.{Suite}
 use Rattle.assertions.specs.Written.{Written, weight, IsOrdered}
 use Rattle.assertions.specs.Shapes.{written_form}
-use Rattle.compiler_reads.specs.Reads.{IsRead, at_once, through, boolean_names}
-use Rattle.compiler_reads.specs.Marks.{places_from}
-use Rattle.compiler_reads.proofs.SlotLaws.{place-at}
+use Rattle.assertions.specs.Reads.{IsRead, at_once, through, boolean_names}
+use Rattle.assertions.specs.Marks.{places_from}
+use Rattle.assertions.proofs.SlotLaws.{place-at}
 use Rattle.compiler_expressions.specs.Codes.{Slots}
 use Rattle.compiler_expressions.specs.Samples.{Held, sample_code}
 use Rattle.compiler_expressions.specs.Chosen.{term_found, terms_at, held_at}

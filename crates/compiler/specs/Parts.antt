@@ -12,7 +12,7 @@ use Rattle.bytecode.specs.declared.limits.Limits.{Limits}
 use Rattle.bytecode.specs.Values.{ProgramData, SlotData}
 use Rattle.verifier_inference.specs.Sections.{size_of}
 use Rattle.verifier.specs.declared.least.LeastLimits.{LeastLimits}
-use Rattle.compiler_reads.specs.Marks.{places_from}
+use Rattle.assertions.specs.Marks.{places_from}
 use Rattle.compiler_positions.specs.Laws.{section_for, led_section}
 use Rattle.compiler_positions.specs.Sequences.{atom_of, largest}
 use Rattle.compiler_positions.specs.Lengths.{HasLongSection}

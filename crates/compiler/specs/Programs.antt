@@ -18,7 +18,7 @@ use Rattle.assertions.specs.Segments.{AdmitsEmpty}
 use Rattle.assertions.specs.Shapes.{written_form, shape}
 use Rattle.assertions.specs.Listed.{EachBoolean, IsListed, IsListedOption}
 use Rattle.bytecode.specs.Values.{ProgramData, SlotData}
-use Rattle.compiler_reads.specs.Reads.{Reads}
+use Rattle.assertions.specs.Reads.{Reads}
 use Rattle.compiler_expressions.specs.Codes.{Slots}
 use Rattle.compiler_expressions.specs.Samples.{Held, sample_code}
 use Rattle.compiler_expressions.specs.Laws.{Each, OfName, program_terms}

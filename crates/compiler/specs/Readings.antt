@@ -6,8 +6,8 @@ use Rattle.expressions.specs.Terms.{Term}
 use Rattle.assertions.specs.declared.assertion.Assertion.{Assertion}
 use Rattle.assertions.specs.declared.suite.Suite.{Suite}
 use Rattle.bytecode.specs.declared.sample_instr.SampleInstr.{SampleInstr}
-use Rattle.compiler_reads.specs.Reads.{AreRead}
-use Rattle.compiler_reads.specs.Marks.{AreMarks, is_marked, places_from, slots_from}
+use Rattle.assertions.specs.Reads.{AreRead}
+use Rattle.assertions.specs.Marks.{AreMarks, is_marked, places_from, slots_from}
 use Rattle.compiler_expressions.specs.Codes.{Slots}
 use Rattle.compiler_expressions.specs.Samples.{Held, sample_code}
 use Rattle.compiler_expressions.specs.Chosen.{terms_at, held_at}

@@ -5,7 +5,7 @@ ghost use Rattle.assertions.specs.declared.sequence.Boolean.TheVariants.{One};
 ghost use Rattle.assertions.specs.Written.{weight, IsOrdered};
 ghost use Rattle.assertions.specs.Shapes.{written_form};
 ghost use Rattle.assertions.specs.Listed.{EachBoolean, IsListed, IsListedOption};
-ghost use Rattle.compiler_reads.specs.Marks.{places_from, slots_from};
+ghost use Rattle.assertions.specs.Marks.{places_from, slots_from};
 ghost use Rattle.compiler_positions.specs.Sequences.{atom_of, largest};
 ghost use Rattle.compiler_positions.specs.Laws.{section_for, led_section};
 ghost use Rattle.compiler.specs.Programs.{disabling_atom};
@@ -21,11 +21,10 @@ ghost use Rattle.compiler.specs.Parts.{AreParts, IsCodeFault, IsSideFault, no_li
 use crate::fault::CompileFault;
 use crate::reading::Reading;
 use crate::slots::{counter_widths, signal_slots};
-use assertions::{Assertion, Boolean, Sequence, Suite};
+use assertions::{Assertion, Boolean, Sequence, Suite, slots_of};
 use bytecode::{Limits, Program, SampleInstr, Section};
 use compiler_expressions::{LengthFault, SlotTable, sample_code};
 use compiler_positions::{SectionFault, accepting_first, positions_of};
-use compiler_reads::slots_of;
 use std::alloc::{AllocError, Global};
 
 /// The slots of the names that are read.

@@ -6,8 +6,8 @@ use Rattle.expressions.specs.declared.name.Name.{Name}
 use Rattle.expressions.specs.declared.name.Origin.{Origin}
 use Rattle.expressions.specs.declared.name.Origin.TheVariants.{Signal as FromSignal}
 use Rattle.expressions.specs.declared.name.Origin.TheVariants.{Counter as FromCounter}
-use Rattle.compiler_reads.specs.Marks.{AreMarks, places_from}
-use Rattle.compiler_reads.specs.Reads.{AreRead}
+use Rattle.assertions.specs.Marks.{AreMarks, places_from}
+use Rattle.assertions.specs.Reads.{AreRead}
 use Rattle.explaining.specs.declared.sheet.Sheet.{Sheet}
 use Rattle.explaining.specs.declared.sheet.SheetRow.{SheetRow}
 use Rattle.expressions.specs.declared.rows.Rows.{Rows}

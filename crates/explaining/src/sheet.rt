@@ -8,7 +8,7 @@ ghost use Rattle.explaining.specs.Shown.{IsSheet};
 use crate::asked::{Asked, Attempt};
 use crate::cells::{Read, RowSource, cells_of};
 use crate::expression_text::{Names, expression_text};
-use compiler_reads::{marked_places, marks_of, names_read};
+use assertions::{marked_places, marks_of, names_read};
 use expressions::{Name, Origin};
 use std::alloc::{AllocError, Global};
 

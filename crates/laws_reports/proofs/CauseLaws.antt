@@ -9,7 +9,7 @@ use Rattle.parser_grammar.specs.Trees.{AssertionForm, ItemForm}
 use Rattle.assertions.specs.declared.sequence.Boolean.{Boolean}
 use Rattle.assertions.specs.declared.assertion.Assertion.{Assertion}
 use Rattle.assertions.specs.declared.suite.Suite.{Suite}
-use Rattle.compiler_reads.specs.Marks.{places_from}
+use Rattle.assertions.specs.Marks.{places_from}
 use Rattle.types_sequences.specs.Drafts.{Draft, IsIn}
 use Rattle.types_names.specs.Scopes.{Scope, path_text, first_byte}
 use Rattle.types_names.specs.Columns.{columns_of}

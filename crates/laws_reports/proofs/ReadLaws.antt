@@ -20,8 +20,8 @@ use Rattle.assertions.specs.declared.suite.Suite.{Suite}
 use Rattle.assertions.specs.Written as written
 use Rattle.assertions.specs.Written.{Written}
 use Rattle.assertions.specs.Listed.{IsUsed}
-use Rattle.compiler_reads.specs.Names.{expression_names, rule_names, counter_names}
-use Rattle.compiler_reads.specs.Reads.{names_of, IsRead, at_once, through, boolean_names}
+use Rattle.assertions.specs.Names.{expression_names, rule_names, counter_names}
+use Rattle.assertions.specs.Reads.{names_of, IsRead, at_once, through, boolean_names}
 use Rattle.types_sequences.specs.Drafts.{Draft, IsIn}
 use Rattle.types_sequences.specs.Outlines.{map_written}
 use Rattle.types_sequences.specs.Leaves.{leaves}

@@ -15,7 +15,7 @@ use Rattle.assertions.specs.declared.assertion.Assertion.{Assertion}
 use Rattle.assertions.specs.declared.suite.Suite.{Suite}
 use Rattle.assertions.specs.Written.{Written, weight}
 use Rattle.assertions.specs.Shapes.{written_form}
-use Rattle.compiler_reads.specs.Names.{expression_names}
+use Rattle.assertions.specs.Names.{expression_names}
 use Rattle.compiler_expressions.specs.Chosen.{term_found, terms_at}
 use Rattle.compiler_expressions.specs.Laws.{Each, IsNoChange, size}
 use Rattle.compiler_positions.specs.Laws.{IsPlain, booleans}

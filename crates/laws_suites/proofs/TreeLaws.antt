@@ -12,7 +12,7 @@ use Rattle.expressions.specs.declared.name.Origin.TheVariants as origins
 use Rattle.expressions.specs.declared.name.Name.{Name}
 use Rattle.expressions.specs.Terms as terms
 use Rattle.expressions.specs.Terms.{Term}
-use Rattle.compiler_reads.specs.Names.{names_in}
+use Rattle.assertions.specs.Names.{names_in}
 use Rattle.types_names.specs.declared.own.Own.TheVariants.{Counter, Sequence}
 use Rattle.types_names.specs.declared.own.Meaning.{Meaning}
 use Rattle.types_names.specs.declared.own.Meaning.TheVariants.{Signal, Own as Declared}

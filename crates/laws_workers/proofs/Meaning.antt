@@ -48,7 +48,7 @@ use Rattle.machine_definition.specs.Outcomes.{done}
 use Rattle.machine_definition.specs.Machine.{State, opening, clocks}
 use Rattle.machine_runs.specs.Batches.{batch_of}
 use Rattle.laws_programs.specs.LineLaws.{row_of as row_at}
-use Rattle.compiler_reads.specs.Reads.{Reads}
+use Rattle.assertions.specs.Reads.{Reads}
 use Rattle.compiler.specs.Programs.{IsSlotOf, IsProgramOf}
 use Rattle.compiler.proofs.ListLaws.{some-one}
 use Rattle.laws_programs.specs.Laws.{AreRowsOf, picked}

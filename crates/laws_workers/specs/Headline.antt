@@ -14,7 +14,7 @@ use Rattle.bytecode.specs.Values.{ProgramData}
 use Rattle.vcd_reader.specs.Variables.{variable_named}
 use Rattle.vcd_reader.specs.Dump.{Contents}
 use Rattle.cycle_window.specs.Ticks.{ticks_of, sample}
-use Rattle.compiler_reads.specs.Reads.{Reads}
+use Rattle.assertions.specs.Reads.{Reads}
 use Rattle.machine_sections.specs.Laws.{fallen, open_starts, starts_of}
 use Rattle.compiler.specs.Programs.{IsProgramOf}
 use Rattle.laws_programs.specs.Laws.{AreRowsOf}

@@ -17,8 +17,8 @@ use Rattle.machine_definition.proofs.Typing.{IsSection}
 use Rattle.machine_definition.proofs.Visits.{Visited, visit-meets}
 use Rattle.machine_definition.proofs.Parts.{began, IsRunning}
 use Rattle.verifier.proofs.LifeLaws.{start_life-most}
-use Rattle.machine_pool.specs.Pooled.{Pooled, pooled, slot_after}
-use Rattle.machine_pool.specs.Walk.{IsAt, left_at}
+use Rattle.machine_memory.specs.Pooled.{Pooled, pooled, slot_after}
+use Rattle.machine_memory.specs.Walk.{IsAt, left_at}
 use Rattle.machine_visits.specs.declared.attempt.AttemptRecord.{AttemptRecord}
 use Rattle.machine_visits.specs.Records.{attempt_of}
 use Rattle.machine.specs.Live.{attempts_in}

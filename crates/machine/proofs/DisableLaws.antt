@@ -8,8 +8,8 @@ use Rattle.signals.specs.declared.verdict.Verdict.TheVariants.{Disabled}
 use Rattle.signals.specs.declared.verdict.Decided.{Decided}
 use Rattle.machine_definition.specs.Outcomes.{Ran, done, trapped, and_then}
 use Rattle.machine_definition.specs.Clocks.{disable_all}
-use Rattle.machine_pool.specs.Pooled.{Pooled, pooled, first_slot, slot_after}
-use Rattle.machine_pool.specs.Walk.{IsAt}
+use Rattle.machine_memory.specs.Pooled.{Pooled, pooled, first_slot, slot_after}
+use Rattle.machine_memory.specs.Walk.{IsAt}
 use Rattle.machine_visits.specs.declared.attempt.AttemptRecord.{AttemptRecord}
 use Rattle.machine_visits.specs.Records.{attempt_of}
 use Rattle.machine.specs.Live.{attempts_in, AreDisabled}

@@ -17,8 +17,8 @@ use Rattle.machine_definition.proofs.Outcomes.{Meets-at}
 use Rattle.machine_definition.proofs.Typing.{IsSection}
 use Rattle.machine_definition.proofs.Visits.{Visited, visit-meets}
 use Rattle.machine_definition.proofs.Parts.{since, IsOwed}
-use Rattle.machine_pool.specs.Pooled.{Pooled, pooled, slot_after}
-use Rattle.machine_pool.specs.Walk.{IsAt, left_at}
+use Rattle.machine_memory.specs.Pooled.{Pooled, pooled, slot_after}
+use Rattle.machine_memory.specs.Walk.{IsAt, left_at}
 use Rattle.machine_visits.specs.declared.fates.Fates.{Fates}
 use Rattle.machine_visits.specs.declared.obligation.ObligationRecord.{ObligationRecord}
 use Rattle.machine_visits.specs.Marks.{mark_if, marked, is_open, fates_of, AreRecent}

@@ -18,7 +18,7 @@ use crate::own::{
 };
 use arrayvec::ArrayVec;
 use bytecode::Program;
-use machine_pool::Pool;
+use machine_memory::Pool;
 use machine_visits::{AttemptRecord, ObligationRecord};
 use signals::Decided;
 

@@ -5,7 +5,7 @@ ghost use Rattle.bytecode.specs.Programs.{data_of};
 ghost use Rattle.machine.specs.SampleCode.{kept_in};
 
 use bytecode::Program;
-use machine_ring::Ring;
+use machine_memory::Ring;
 
 /// Pushes the row of a clock on the history, where the program keeps one.
 pub(crate) fn keep_row(program: &Program, history: &mut Ring, row: &[u128])

@@ -4,13 +4,13 @@ ghost use Rattle.std.specs.Prelude.{◌≡◌, ◌≤◌, ◌∷◌, ◌++◌, l
 ghost use Rattle.bytecode.specs.Programs.{data_of};
 ghost use Rattle.verifier.specs.Programs.{IsAccepted};
 ghost use Rattle.machine_definition.specs.Values.{AreValues};
-ghost use Rattle.machine_ring.specs.History.{pushed};
+ghost use Rattle.machine_memory.specs.History.{pushed};
 ghost use Rattle.machine_samples.specs.Memory.{AreRows};
 ghost use Rattle.machine_samples.specs.Runs.{HasRun, longest_run};
 
 use bytecode::Program;
 use machine_decoded::fill_row;
-use machine_ring::Ring;
+use machine_memory::Ring;
 use machine_samples::{Stack, run};
 
 /// The stack, and where the row of a clock is made.

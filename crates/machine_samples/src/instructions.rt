@@ -11,7 +11,7 @@ ghost use Rattle.machine_samples.specs.Steps.{next_after, atoms_after, counters_
 use crate::operators::{compared_value, joined_value, reduced_value, shifted_value};
 use crate::stack::Stack;
 use bytecode::{CompareOperator, JoinOperator, ReduceOperator, SampleInstr, ShiftOperator};
-use machine_ring::Ring;
+use machine_memory::Ring;
 use signals::Bits;
 
 /// Puts a constant on top.

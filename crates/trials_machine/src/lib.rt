@@ -1,4 +1,4 @@
-//! Trials of the parts of a machine: `machine_ring`, `machine_pool`, `machine_samples` and
+//! Trials of the parts of a machine: `machine_memory`, `machine_memory`, `machine_samples` and
 //! `machine_decoded`.
 //!
 //! A ring keeps the last rows of a monitor: the tests look back each number of pushes at each slot,

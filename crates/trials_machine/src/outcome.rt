@@ -12,7 +12,7 @@ ghost use Rattle.machine_definition.specs.Values.{AreValues};
 use bytecode::Program;
 use bytecode_files::decode;
 use machine_decoded::Decoded;
-use machine_ring::Ring;
+use machine_memory::Ring;
 use machine_samples::{Stack, run};
 use signals::Bits;
 use std::alloc::{AllocError, Global};

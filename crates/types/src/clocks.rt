@@ -1,12 +1,12 @@
 //! Clocks.
 
 ghost use Rattle.std.specs.Prelude.{◌≡◌, map, IfOk, string_bytes};
-ghost use Rattle.parser_trees.specs.Views.{path_of, item_of};
+ghost use Rattle.parser_grammar.specs.Views.{path_of, item_of};
 ghost use Rattle.types_names.specs.Faults.{least};
 ghost use Rattle.types_names.specs.Scopes.{first_byte};
 ghost use Rattle.types_suites.specs.Texts.{assertions_of, clocks_unlike, clock_of};
 
-use parser_trees::{ItemTree, Path};
+use parser_grammar::{ItemTree, Path};
 use std::alloc::{AllocError, Global};
 use types_faults::earlier;
 use types_names::path_string;

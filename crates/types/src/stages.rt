@@ -1,7 +1,7 @@
 //! Faults in their order.
 
 ghost use Rattle.std.specs.Prelude.{◌≡◌, ◌<◌, ℕ, true, false, map, length, IfOk, IfErr};
-ghost use Rattle.parser_trees.specs.Views.{item_of};
+ghost use Rattle.parser_grammar.specs.Views.{item_of};
 ghost use Rattle.types_names.specs.Views.{scope_of};
 ghost use Rattle.types_suites.specs.Texts.{assertions_of, clock_of};
 ghost use Rattle.types_suites.specs.Readings.{Where, outlines_of};
@@ -17,7 +17,7 @@ use crate::clocks::first_other_clock;
 use crate::cycles::{first_cycle, has_all};
 use crate::names::first_duplicate;
 use crate::side::{Side, first_degenerate, first_empty, first_wide};
-use parser_trees::ItemTree;
+use parser_grammar::ItemTree;
 use std::alloc::Global;
 use types_faults::first_fault;
 use types_names::{Scope, Sought};

@@ -3,7 +3,7 @@
 ghost use Rattle.std.specs.Prelude.{◌≡◌, ◌<◌, ℕ, [], true, map, length, Some, string_bytes, IfOk};
 ghost use Rattle.std.specs.Prelude.{IfErr, OnOk, IsTrue};
 ghost use Rattle.parser_grammar.specs.Trees.{Tree};
-ghost use Rattle.parser_trees.specs.Views.{item_of, items_of};
+ghost use Rattle.parser_grammar.specs.Views.{item_of, items_of};
 ghost use Rattle.types_sequences.specs.Entries.{has_entry};
 ghost use Rattle.types_names.specs.declared.own.Sought.{Sought};
 ghost use Rattle.types_names.specs.Scopes.{sequence_named};
@@ -26,7 +26,7 @@ use crate::clocks::first_clock;
 use crate::sides::written_sides;
 use crate::stages::{check_cycles, check_expressions, check_sides};
 use assertions::Suite;
-use parser_trees::{File, ItemTree};
+use parser_grammar::{File, ItemTree};
 use std::alloc::Global;
 use types_faults::{columns_of, scope_for};
 use types_names::{PathWidths, Scope, SignalPaths};

@@ -14,8 +14,8 @@ use Rattle.parser_grammar.specs.Trees.{Tree, number, path, concatenation, past, 
 use Rattle.parser_grammar.specs.Trees.{link}
 use Rattle.parser_grammar.specs.Trees.{Parts, no_part, part}
 use Rattle.parser_grammar.specs.ReadExpressions.{parts_of}
-use Rattle.parser_trees.specs.declared.expression.ExprTree.{ExprTree}
-use Rattle.parser_trees.specs.Views.{tree_of}
+use Rattle.parser_grammar.specs.declared.expression.ExprTree.{ExprTree}
+use Rattle.parser_grammar.specs.Views.{tree_of}
 use Rattle.signals.specs.declared.bits.Bits.{Bits}
 use Rattle.expressions.specs.Terms as terms
 use Rattle.expressions.specs.Terms.{Term, width_of}

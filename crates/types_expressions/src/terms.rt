@@ -2,7 +2,7 @@
 
 ghost use Rattle.std.specs.Prelude.{◌≡◌, ◌≤◌, [], map, IfOk, IsTrue, is_some};
 ghost use Rattle.parser_grammar.specs.ReadExpressions.{links_of, parts_of};
-ghost use Rattle.parser_trees.specs.Views.{path_of, tree_of, link_of};
+ghost use Rattle.parser_grammar.specs.Views.{path_of, tree_of, link_of};
 ghost use Rattle.expressions.specs.declared.name.Origin.TheVariants.{Signal};
 ghost use Rattle.expressions.specs.Terms.{width_of, choose};
 ghost use Rattle.expressions.specs.Expressions.{term_of};
@@ -19,8 +19,7 @@ ghost use Rattle.types_expressions.specs.Meanings.{binary_term, unary_term, call
 ghost use Rattle.types_names.specs.Views.{scope_of, columns_in};
 
 use expressions::{Name, Origin, Slice};
-use parser_grammar::{Bound, Infix, Select};
-use parser_trees::{ExprTree, Path};
+use parser_grammar::{Bound, ExprTree, Infix, Path, Select};
 use std::alloc::{AllocError, Global};
 use types_names::{
     Binary, Call, Meaning, Own, Scope, SignalPaths, Unary, binary_of, call_of, low_of, number_bits,

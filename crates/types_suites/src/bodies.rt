@@ -1,7 +1,7 @@
 //! The named sequences of a text.
 
 ghost use Rattle.std.specs.Prelude.{◌≡◌, [], map, length, IfOk, OnOk, IsTrue};
-ghost use Rattle.parser_trees.specs.Views.{item_of};
+ghost use Rattle.parser_grammar.specs.Views.{item_of};
 ghost use Rattle.types_sequences.specs.Views.{draft_of};
 ghost use Rattle.types_names.specs.declared.own.Sought.{Sought};
 ghost use Rattle.types_names.specs.Faults.{file_faults};
@@ -12,7 +12,7 @@ ghost use Rattle.types_suites.specs.Readings.{AllRead};
 ghost use Rattle.types_suites.specs.Texts.{declarations_of};
 
 use crate::drafts::draft_of;
-use parser_trees::ItemTree;
+use parser_grammar::ItemTree;
 use std::alloc::{AllocError, Global};
 use types_names::{Scope, SignalPaths};
 use types_sequences::Draft;

@@ -1,7 +1,7 @@
 //! Assertions with their sides as drafts.
 
 ghost use Rattle.std.specs.Prelude.{◌≡◌, ◌<◌, [], IfOk, OnOk, IsTrue, option_map};
-ghost use Rattle.parser_trees.specs.Views.{boxed_of, property_of, assertion_of};
+ghost use Rattle.parser_grammar.specs.Views.{boxed_of, property_of, assertion_of};
 ghost use Rattle.types_sequences.specs.Views.{draft_of};
 ghost use Rattle.types_names.specs.declared.own.Sought.{Sought};
 ghost use Rattle.types_names.specs.Columns.{all_listed, property_signals, optional_signals};
@@ -17,7 +17,7 @@ ghost use Rattle.types_suites.specs.Drafted.{antecedent_byte, consequent_byte, I
 use crate::bytes::sequence_at;
 use crate::drafts::{atom, draft_of};
 use crate::label::label_string;
-use parser_trees::{AssertionTree, ExprTree, PropertyTree};
+use parser_grammar::{AssertionTree, ExprTree, PropertyTree};
 use std::alloc::{AllocError, Global};
 use types_names::{Scope, SignalPaths};
 use types_sequences::{Draft, rewrite_antecedent};

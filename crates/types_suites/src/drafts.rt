@@ -2,7 +2,7 @@
 
 ghost use Rattle.std.specs.Prelude.{◌≡◌, [], map, length, IfOk, OnOk, IsTrue};
 ghost use Rattle.parser_grammar.specs.ReadSequences.{steps_of, others_of};
-ghost use Rattle.parser_trees.specs.Views.{tree_of, sequence_of, delay_step_of};
+ghost use Rattle.parser_grammar.specs.Views.{tree_of, sequence_of, delay_step_of};
 ghost use Rattle.assertions.specs.declared.sequence.Boolean.TheVariants.{Listed};
 ghost use Rattle.types_sequences.specs.Drafts.{name, delay, lead, repeat, throughout};
 ghost use Rattle.types_sequences.specs.Views.{draft_of};
@@ -17,8 +17,7 @@ ghost use Rattle.types_suites.specs.Readings.{least_of, extra_of, IsAtom, ReadsB
 ghost use Rattle.types_suites.specs.Readings.{joined_by, ReadsSteps, ReadsOthers};
 ghost use Rattle.types_sequences.specs.Placed.{Extends};
 
-use parser_grammar::{Junction, Range};
-use parser_trees::{ExprTree, SequenceTree};
+use parser_grammar::{ExprTree, Junction, Range, SequenceTree};
 use std::alloc::{AllocError, Global};
 use types_expressions::typed_expression;
 use types_names::{Scope, SignalPaths};

@@ -2,7 +2,7 @@
 
 ghost use Rattle.std.specs.Prelude.{◌≡◌, ◌<◌, ℕ, [], true, map, length, Some, IfOk, OnOk, IsTrue};
 ghost use Rattle.parser_grammar.specs.Trees.{Tree};
-ghost use Rattle.parser_trees.specs.Views.{assertion_of, item_of};
+ghost use Rattle.parser_grammar.specs.Views.{assertion_of, item_of};
 ghost use Rattle.types_sequences.specs.Drafts.{IsIn, uses};
 ghost use Rattle.types_sequences.specs.Entries.{Bodies, HasEntry, IsTable, has_entry};
 ghost use Rattle.types_sequences.specs.Views.{draft_of};
@@ -16,7 +16,7 @@ ghost use Rattle.types_suites.specs.Texts.{assertions_of};
 ghost use Rattle.types_suites.specs.Resolved.{IsResolved, AreResolved};
 
 use crate::drafted_assertion::drafted_of;
-use parser_trees::{AssertionTree, ItemTree};
+use parser_grammar::{AssertionTree, ItemTree};
 use std::alloc::{AllocError, Global};
 use types_names::{Scope, SignalPaths};
 use types_sequences::{Draft, Entry, entry_of};

@@ -25,11 +25,11 @@ use Rattle.workers_lines.specs.declared.growing_line.GrowingLine.{GrowingLine}
 use Rattle.workers_lines.specs.Taken.{TookIn}
 use Rattle.workers_lines.proofs.CoreLaws.{same-traced}
 use Rattle.workers_lines.proofs.LineLaws.{job-traced}
-use Rattle.workers_board.specs.declared.board.Board.{Board}
-use Rattle.workers_board.specs.Receipts.{shown_by}
+use Rattle.workers_shared.specs.declared.board.Board.{Board}
+use Rattle.workers_shared.specs.Receipts.{shown_by}
 use Rattle.machine_runs.specs.Lines.{attempts_of}
-use Rattle.workers_tally.specs.Counts.{count_of}
-use Rattle.workers_tally.specs.Shares.{each_capped}
+use Rattle.workers_shared.specs.Counts.{count_of}
+use Rattle.workers_shared.specs.Shares.{each_capped}
 use Rattle.workers_rounds.specs.declared.work.Published.{Published}
 use Rattle.workers_rounds.specs.Works.{IsPublished, published_count}
 use Rattle.workers_rounds.specs.Adding.{kind_of}

@@ -18,8 +18,8 @@ use Rattle.workers_lines.proofs.RunLaws.{ComesTo, comes-to}
 use Rattle.workers_lines.proofs.RoundLaws.{many-rows}
 use Rattle.workers_lines.proofs.CoreLaws.{same-traced}
 use Rattle.workers_lines.proofs.LineLaws.{job-traced}
-use Rattle.workers_bench.specs.declared.numbered.Numbered.{Numbered}
-use Rattle.workers_bench.specs.Monitors.{IsAt}
+use Rattle.workers_shared.specs.declared.numbered.Numbered.{Numbered}
+use Rattle.workers_shared.specs.Monitors.{IsAt}
 use Rattle.workers.specs.Between.{clocks_of, IsTold}
 use Rattle.workers.proofs.Telling.{program-at}
 

@@ -10,11 +10,11 @@ use Rattle.cycle_window.specs.Held.{columns_in, places_in, size_in, first_in, en
 use Rattle.workers_core.specs.declared.job.Job.{Job}
 use Rattle.workers_lines.specs.declared.growing_line.GrowingLine.{GrowingLine}
 use Rattle.workers_lines.proofs.TakenLaws.{some-at}
-use Rattle.workers_board.specs.declared.board.Board.{Board}
-use Rattle.workers_board.specs.Receipts.{IsReceiptOf, shown_by}
-use Rattle.workers_bench.specs.declared.numbered.Numbered.{Numbered}
-use Rattle.workers_bench.specs.Windows.{IsWindowFor}
-use Rattle.workers_bench.specs.Monitors.{IsAt}
+use Rattle.workers_shared.specs.declared.board.Board.{Board}
+use Rattle.workers_shared.specs.Receipts.{IsReceiptOf, shown_by}
+use Rattle.workers_shared.specs.declared.numbered.Numbered.{Numbered}
+use Rattle.workers_shared.specs.Windows.{IsWindowFor}
+use Rattle.workers_shared.specs.Monitors.{IsAt}
 use Rattle.workers_rounds.specs.declared.work.Published.{Published}
 use Rattle.workers_rounds.specs.Works.{IsSized, IsPublished, published_count}
 use Rattle.workers_rounds.specs.Adding.{kind_of}

@@ -28,11 +28,11 @@ use Rattle.workers_lines.proofs.RunLaws.{runs, accepted-on, accepted-clocks}
 use Rattle.workers_lines.proofs.CoreLaws.{less-traced}
 use Rattle.workers_lines.proofs.LineLaws.{job-traced}
 use Rattle.workers_lines.proofs.TakenLaws.{some-at}
-use Rattle.workers_board.specs.declared.board.Board.{Board}
-use Rattle.workers_board.specs.Receipts.{shown_by}
-use Rattle.workers_bench.specs.declared.numbered.Numbered.{Numbered}
-use Rattle.workers_bench.specs.Monitors.{IsAt}
-use Rattle.workers_bench.specs.Hands.{number_of, numbers}
+use Rattle.workers_shared.specs.declared.board.Board.{Board}
+use Rattle.workers_shared.specs.Receipts.{shown_by}
+use Rattle.workers_shared.specs.declared.numbered.Numbered.{Numbered}
+use Rattle.workers_shared.specs.Monitors.{IsAt}
+use Rattle.workers_shared.specs.Hands.{number_of, numbers}
 use Rattle.workers_rounds.specs.declared.work.Published.{Published}
 use Rattle.workers_rounds.specs.Works.{IsPublished, published_number}
 use Rattle.workers_rounds.specs.Runs.{upto, published_numbers}

@@ -5,8 +5,8 @@ use Rattle.std.specs.List.{sum_by}
 use Rattle.verdicts.specs.declared.line.Counts.{Counts}
 use Rattle.verdicts.specs.declared.line.Line.{Line}
 use Rattle.workers_lines.specs.declared.growing_line.GrowingLine.{GrowingLine}
-use Rattle.workers_tally.specs.declared.tally.Share.{Share}
-use Rattle.workers_tally.specs.Shares.{each_capped}
+use Rattle.workers_shared.specs.declared.tally.Share.{Share}
+use Rattle.workers_shared.specs.Shares.{each_capped}
 use Rattle.workers_rounds.specs.declared.round.Member.{Member}
 use Rattle.workers_rounds.specs.Adding.{amount_of, added_by}
 

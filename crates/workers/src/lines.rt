@@ -7,8 +7,8 @@ ghost use Rattle.machine_runs.specs.Lines.{IsLineOver, attempts_of};
 ghost use Rattle.workers_core.specs.Values.{Says, job_value, rows_over};
 ghost use Rattle.workers_lines.specs.declared.growing_line.GrowingLine.{GrowingLine};
 ghost use Rattle.workers_lines.specs.Lines.{AreLinesOf};
-ghost use Rattle.workers_bench.specs.declared.numbered.Numbered.{Numbered};
-ghost use Rattle.workers_bench.specs.Monitors.{IsAt};
+ghost use Rattle.workers_shared.specs.declared.numbered.Numbered.{Numbered};
+ghost use Rattle.workers_shared.specs.Monitors.{IsAt};
 ghost use Rattle.workers.specs.Between.{IsTold, clocks_of};
 ghost use Rattle.workers.specs.Tallied.{count_in, told_by, said_by};
 
@@ -16,9 +16,9 @@ use std::alloc::{AllocError, Global};
 use std::mem;
 use verdicts::Line;
 use verifier::Verified;
-use workers_bench::Numbered;
 use workers_core::Job;
 use workers_lines::GrowingLine;
+use workers_shared::Numbered;
 
 /// The line of the program of a number, of what its monitor published and of the attempts that are
 /// still live, as open.

@@ -5,7 +5,7 @@ ghost use Rattle.vcd_reader.specs.Dump.{Contents};
 ghost use Rattle.verdicts.specs.Shown.{data_of};
 ghost use Rattle.machine_runs.specs.Lines.{attempts_of};
 ghost use Rattle.workers_core.specs.Values.{Says, WhyNoCore, job_value};
-ghost use Rattle.workers_tally.specs.Blanks.{HaveParts, AreOf};
+ghost use Rattle.workers_shared.specs.Blanks.{HaveParts, AreOf};
 ghost use Rattle.workers.specs.Between.{clocks_of};
 ghost use Rattle.workers.specs.Reports.{IsJobReport};
 
@@ -21,7 +21,7 @@ use std::thread::Threads;
 use verdicts::Report;
 use workers_core::{Job, RunFault, TeamSize, window_of};
 use workers_rounds::work::Gate;
-use workers_tally::{Blanks, Tally, Tallying};
+use workers_shared::{Blanks, Tally, Tallying};
 
 /// The run, with a tally of those names.
 fn run_in<L: Tallying + Send + Sync, G: Gate + Sync, R: Threads + Wait + Sync>(

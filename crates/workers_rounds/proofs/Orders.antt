@@ -7,17 +7,17 @@ use Rattle.std.proofs.lemmas.List.Sums.{sum_by-cons}
 use Rattle.std.proofs.lemmas.List.Sorted.{sum_by-IsPermutation}
 use native.Mathlib.Decide.{dec_le}
 use Rattle.std.proofs.lemmas.List.Elements.{All-head, All-tail}
-use Rattle.workers_bench.specs.declared.numbered.Numbered.{Numbered}
+use Rattle.workers_shared.specs.declared.numbered.Numbered.{Numbered}
 use Rattle.workers_rounds.specs.declared.work.Published.{Published}
-use Rattle.workers_bench.specs.Hands.{numbers, total, RisesFrom, hand}
+use Rattle.workers_shared.specs.Hands.{numbers, total, RisesFrom, hand}
 use Rattle.workers_rounds.specs.Works.{published_number, numbers_back, IsPublished}
-use Rattle.workers_bench.proofs.Keeps.{total-append}
+use Rattle.workers_shared.proofs.Keeps.{total-append}
 use Rattle.workers_rounds.specs.Runs.{upto, published_numbers, Begins, Ends}
 use Rattle.workers_rounds.specs.Crews.{WorksFrom}
 use Rattle.crossbeam_queue.specs.Passes.{view}
-use Rattle.workers_board.specs.declared.board.Board.{Board}
-use Rattle.workers_bench.specs.declared.hand.Hand.{Hand}
-use Rattle.workers_bench.specs.declared.bench.Bench.{Bench}
+use Rattle.workers_shared.specs.declared.board.Board.{Board}
+use Rattle.workers_shared.specs.declared.hand.Hand.{Hand}
+use Rattle.workers_shared.specs.declared.bench.Bench.{Bench}
 use Rattle.workers_rounds.specs.declared.crew.Task.{Task}
 use Rattle.cycle_window.specs.declared.window.Window.{Window}
 use Rattle.workers_rounds.specs.declared.work.Worked.{Worked}

@@ -41,9 +41,9 @@ use Rattle.workers_core.proofs.PlaceLaws.{few-live}
 use Rattle.workers_lines.proofs.RunLaws.{Runs, runs, accepted-on, accepted-clocks}
 use Rattle.workers_lines.proofs.CoreLaws.{less-traced}
 use Rattle.workers_lines.proofs.LineLaws.{job-traced}
-use Rattle.workers_bench.specs.declared.numbered.Numbered.{Numbered}
-use Rattle.workers_bench.specs.Monitors.{IsAt}
-use Rattle.workers_bench.specs.Windows.{IsWindowFor}
+use Rattle.workers_shared.specs.declared.numbered.Numbered.{Numbered}
+use Rattle.workers_shared.specs.Monitors.{IsAt}
+use Rattle.workers_shared.specs.Windows.{IsWindowFor}
 use Rattle.workers_rounds.specs.Works.{IsSized, IsBatch}
 
 length-parts : (a : ℕ) (ps : List ProgramData) → length (parts_from a ps) ≡ length ps

@@ -11,18 +11,18 @@ use Rattle.cycle_window.specs.Held.{first_in, end_in}
 use Rattle.machine_runs.specs.declared.batch.Batch.{Batch}
 use Rattle.workers_core.specs.declared.job.Job.{Job}
 use Rattle.crossbeam_queue.specs.Passes.{Pass, view}
-use Rattle.workers_board.specs.declared.board.Board.{Board}
-use Rattle.workers_board.specs.Receipts.{shown_by}
-use Rattle.workers_tally.specs.declared.tally.Share.{Share}
-use Rattle.workers_tally.specs.Counts.{count_of, counts_of}
-use Rattle.workers_tally.specs.Shares.{parts, amounts, plus, EachAtMost}
-use Rattle.workers_bench.specs.declared.numbered.Numbered.{Numbered}
-use Rattle.workers_bench.specs.declared.hand.Hand.{Hand}
-use Rattle.workers_bench.specs.declared.bench.Bench.{Bench}
-use Rattle.workers_bench.specs.Monitors.{IsAt}
-use Rattle.workers_bench.specs.Hands.{hand, with_taken, TakesOne, Rises, RisesFrom, end_of}
-use Rattle.workers_bench.specs.Benches.{IsOf}
-use Rattle.workers_bench.proofs.Keeps.{all_pushed, none_fail, end_push}
+use Rattle.workers_shared.specs.declared.board.Board.{Board}
+use Rattle.workers_shared.specs.Receipts.{shown_by}
+use Rattle.workers_shared.specs.declared.tally.Share.{Share}
+use Rattle.workers_shared.specs.Counts.{count_of, counts_of}
+use Rattle.workers_shared.specs.Shares.{parts, amounts, plus, EachAtMost}
+use Rattle.workers_shared.specs.declared.numbered.Numbered.{Numbered}
+use Rattle.workers_shared.specs.declared.hand.Hand.{Hand}
+use Rattle.workers_shared.specs.declared.bench.Bench.{Bench}
+use Rattle.workers_shared.specs.Monitors.{IsAt}
+use Rattle.workers_shared.specs.Hands.{hand, with_taken, TakesOne, Rises, RisesFrom, end_of}
+use Rattle.workers_shared.specs.Benches.{IsOf}
+use Rattle.workers_shared.proofs.Keeps.{all_pushed, none_fail, end_push}
 use Rattle.workers_rounds.specs.declared.work.Published.{Published}
 use Rattle.workers_rounds.specs.Works.{IsPublished, published_number, kept_number, numbers_back, published_count}
 use Rattle.workers_rounds.specs.Works.{published_counts, clock_of, Has}

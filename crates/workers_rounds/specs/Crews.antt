@@ -2,12 +2,12 @@
 use Rattle.std.specs.Prelude.{◌≡◌, ◌^◌, ◌<◌, ◌≤◌, false, length}
 use Rattle.crossbeam_queue.specs.Passes.{view}
 use Rattle.cycle_window.specs.declared.window.Window.{Window}
-use Rattle.workers_board.specs.declared.board.Board.{Board}
-use Rattle.workers_tally.specs.Shares.{parts, amounts, EachAtMost}
-use Rattle.workers_bench.specs.declared.bench.Bench.{Bench}
-use Rattle.workers_bench.specs.Hands.{Rises, end_of}
-use Rattle.workers_bench.specs.Passes.{parts_of}
-use Rattle.workers_bench.specs.Benches.{IsOf}
+use Rattle.workers_shared.specs.declared.board.Board.{Board}
+use Rattle.workers_shared.specs.Shares.{parts, amounts, EachAtMost}
+use Rattle.workers_shared.specs.declared.bench.Bench.{Bench}
+use Rattle.workers_shared.specs.Hands.{Rises, end_of}
+use Rattle.workers_shared.specs.Passes.{parts_of}
+use Rattle.workers_shared.specs.Benches.{IsOf}
 use Rattle.workers_rounds.specs.declared.crew.Task.{Task}
 use Rattle.workers_rounds.specs.declared.work.Worked.{Worked}
 use Rattle.workers_rounds.specs.Works.{Works}

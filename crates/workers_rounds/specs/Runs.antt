@@ -2,14 +2,14 @@
 use Rattle.std.specs.Prelude.{◌≡◌, ℕ, zero, suc, ◌≤◌, ◌^◌, false, All, List, [], ◌∷◌, map}
 use Rattle.crossbeam_queue.specs.Passes.{Pass, view}
 use Rattle.cycle_window.specs.declared.window.Window.{Window}
-use Rattle.workers_board.specs.declared.board.Board.{Board}
-use Rattle.workers_tally.specs.Shares.{parts, amounts, plus, EachAtMost}
-use Rattle.workers_bench.specs.declared.numbered.Numbered.{Numbered}
-use Rattle.workers_bench.specs.declared.hand.Hand.{Hand}
-use Rattle.workers_bench.specs.declared.bench.Bench.{Bench}
-use Rattle.workers_bench.specs.Hands.{hand, fresh, total}
-use Rattle.workers_bench.specs.Passes.{taken_of}
-use Rattle.workers_bench.specs.Benches.{IsOf, round_of}
+use Rattle.workers_shared.specs.declared.board.Board.{Board}
+use Rattle.workers_shared.specs.Shares.{parts, amounts, plus, EachAtMost}
+use Rattle.workers_shared.specs.declared.numbered.Numbered.{Numbered}
+use Rattle.workers_shared.specs.declared.hand.Hand.{Hand}
+use Rattle.workers_shared.specs.declared.bench.Bench.{Bench}
+use Rattle.workers_shared.specs.Hands.{hand, fresh, total}
+use Rattle.workers_shared.specs.Passes.{taken_of}
+use Rattle.workers_shared.specs.Benches.{IsOf, round_of}
 use Rattle.workers_rounds.specs.declared.crew.Task.{Task}
 use Rattle.workers_rounds.specs.declared.round.Member.{Member}
 use Rattle.workers_rounds.specs.declared.work.Published.{Published}

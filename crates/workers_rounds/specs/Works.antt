@@ -12,18 +12,18 @@ use Rattle.machine_runs.specs.declared.batch.Batch.{Batch}
 use Rattle.machine_runs.specs.Batches.{batch_of}
 use Rattle.workers_core.specs.declared.job.Job.{Job}
 use Rattle.workers_core.specs.Values.{Says, job_value, rows_over}
-use Rattle.workers_board.specs.declared.board.Board.{Board}
-use Rattle.workers_board.specs.Receipts.{IsReceiptOf, shown_by}
-use Rattle.workers_tally.specs.declared.tally.Share.{Share}
-use Rattle.workers_tally.specs.Counts.{count_of}
-use Rattle.workers_tally.specs.Shares.{parts, amounts, plus}
+use Rattle.workers_shared.specs.declared.board.Board.{Board}
+use Rattle.workers_shared.specs.Receipts.{IsReceiptOf, shown_by}
+use Rattle.workers_shared.specs.declared.tally.Share.{Share}
+use Rattle.workers_shared.specs.Counts.{count_of}
+use Rattle.workers_shared.specs.Shares.{parts, amounts, plus}
 use Rattle.crossbeam_queue.specs.Passes.{Pass, view}
-use Rattle.workers_bench.specs.declared.numbered.Numbered.{Numbered}
-use Rattle.workers_bench.specs.declared.hand.Hand.{Hand}
-use Rattle.workers_bench.specs.declared.bench.Bench.{Bench}
-use Rattle.workers_bench.specs.Monitors.{IsAt}
-use Rattle.workers_bench.specs.Hands.{hand, Rises, end_of}
-use Rattle.workers_bench.specs.Benches.{IsOf}
+use Rattle.workers_shared.specs.declared.numbered.Numbered.{Numbered}
+use Rattle.workers_shared.specs.declared.hand.Hand.{Hand}
+use Rattle.workers_shared.specs.declared.bench.Bench.{Bench}
+use Rattle.workers_shared.specs.Monitors.{IsAt}
+use Rattle.workers_shared.specs.Hands.{hand, Rises, end_of}
+use Rattle.workers_shared.specs.Benches.{IsOf}
 use Rattle.workers_rounds.specs.declared.work.Published.{Published}
 use Rattle.workers_rounds.specs.declared.work.Worked.{Worked}
 

@@ -3,7 +3,7 @@
 ghost use Rattle.std.specs.Prelude.{◌≡◌, ◌≤◌, ◌<◌, ℕ, All, IfOk, length};
 ghost use Rattle.std.specs.List.{slice_index_or};
 ghost use Rattle.cycle_window.specs.Held.{first_in};
-ghost use Rattle.workers_bench.specs.Windows.{IsWindowFor};
+ghost use Rattle.workers_shared.specs.Windows.{IsWindowFor};
 ghost use Rattle.workers_rounds.specs.Works.{IsSized};
 ghost use Rattle.workers_rounds.specs.Crews.{IsReady, WorksFrom};
 
@@ -13,9 +13,7 @@ use std::alloc::{AllocError, Global};
 use std::sync::Wait;
 use std::thread;
 use std::thread::Threads;
-use workers_bench::{Bench, Pass};
-use workers_board::Board;
-use workers_tally::{Share, Tally, Tallying};
+use workers_shared::{Bench, Board, Pass, Share, Tally, Tallying};
 
 /// What a worker begins a round with.
 #[derive(Drop)]

@@ -4,8 +4,8 @@ ghost use Rattle.std.specs.Prelude.{◌≡◌, ℕ, IfOk, OnErr};
 ghost use Rattle.cycle_window.specs.Held.{first_in, end_in};
 ghost use Rattle.workers_core.specs.declared.job.Job.{Job};
 ghost use Rattle.workers_core.specs.Standing.{Stands};
-ghost use Rattle.workers_bench.specs.Monitors.{IsAt};
-ghost use Rattle.workers_bench.specs.Windows.{IsWindowFor};
+ghost use Rattle.workers_shared.specs.Monitors.{IsAt};
+ghost use Rattle.workers_shared.specs.Windows.{IsWindowFor};
 ghost use Rattle.workers_rounds.specs.Works.{IsSized, IsBatch, clock_of};
 
 use arrayvec::ArrayVec;
@@ -13,7 +13,7 @@ use cycle_window::Window;
 use machine_runs::Batch;
 use signals::Decided;
 use std::alloc::{AllocError, Global};
-use workers_bench::Numbered;
+use workers_shared::Numbered;
 
 /// Runs a monitor through the window, and makes the batch of it. Where memory is refused, it stands
 /// where it stood. What the buffer holds is lost.

@@ -4,12 +4,12 @@ ghost use Rattle.std.specs.Prelude.{◌≡◌, ◌≤◌, ◌<◌, ◌+◌, ℕ,
 ghost use Rattle.std.specs.Prelude.{length, vec_len};
 ghost use Rattle.crossbeam_queue.specs.Passes.{view};
 ghost use Rattle.cycle_window.specs.Held.{first_in, end_in};
-ghost use Rattle.workers_tally.specs.Shares.{parts};
-ghost use Rattle.workers_bench.specs.Monitors.{IsAt};
-ghost use Rattle.workers_bench.specs.Windows.{IsWindowFor};
-ghost use Rattle.workers_bench.specs.Hands.{hand, total, numbers};
-ghost use Rattle.workers_bench.specs.Passes.{parts_of, taken_of, TakesNone};
-ghost use Rattle.workers_bench.specs.Benches.{IsOf, room_of, round_of};
+ghost use Rattle.workers_shared.specs.Shares.{parts};
+ghost use Rattle.workers_shared.specs.Monitors.{IsAt};
+ghost use Rattle.workers_shared.specs.Windows.{IsWindowFor};
+ghost use Rattle.workers_shared.specs.Hands.{hand, total, numbers};
+ghost use Rattle.workers_shared.specs.Passes.{parts_of, taken_of, TakesNone};
+ghost use Rattle.workers_shared.specs.Benches.{IsOf, room_of, round_of};
 ghost use Rattle.workers_rounds.specs.Works.{IsSized, IsPublished};
 ghost use Rattle.workers_rounds.specs.Works.{published_count};
 ghost use Rattle.workers_rounds.specs.Adding.{HaveAdded, kind_of, amount_of, added_by};
@@ -26,10 +26,8 @@ use cycle_window::Window;
 use std::alloc::{AllocError, Global};
 use std::sync::Wait;
 use std::thread::Threads;
-use workers_bench::{Bench, Numbered, Pass};
-use workers_board::Board;
 use workers_core::Job;
-use workers_tally::{Share, Tally, Tallying};
+use workers_shared::{Bench, Board, Numbered, Pass, Share, Tally, Tallying};
 
 /// The most claims of a worker before a round.
 const MOST_CLAIMS: u64 = 36_028_797_018_963_968;

@@ -5,12 +5,12 @@ ghost use Rattle.crossbeam_queue.specs.Passes.{view};
 ghost use Rattle.cycle_window.specs.Held.{first_in, end_in};
 ghost use Rattle.workers_core.specs.declared.job.Job.{Job};
 ghost use Rattle.workers_core.specs.Standing.{Stands};
-ghost use Rattle.workers_tally.specs.Shares.{parts, amounts, EachAtMost};
-ghost use Rattle.workers_bench.specs.Monitors.{IsAt};
-ghost use Rattle.workers_bench.specs.Windows.{IsWindowFor};
-ghost use Rattle.workers_bench.specs.Hands.{Rises, end_of};
-ghost use Rattle.workers_bench.specs.Passes.{parts_of};
-ghost use Rattle.workers_bench.specs.Benches.{IsOf};
+ghost use Rattle.workers_shared.specs.Shares.{parts, amounts, EachAtMost};
+ghost use Rattle.workers_shared.specs.Monitors.{IsAt};
+ghost use Rattle.workers_shared.specs.Windows.{IsWindowFor};
+ghost use Rattle.workers_shared.specs.Hands.{Rises, end_of};
+ghost use Rattle.workers_shared.specs.Passes.{parts_of};
+ghost use Rattle.workers_shared.specs.Benches.{IsOf};
 ghost use Rattle.workers_rounds.specs.Works.{Works, IsSized, IsPublished, clock_of};
 
 use crate::passage::pass_through;
@@ -19,9 +19,7 @@ use cycle_window::Window;
 use signals::Decided;
 use std::alloc::Global;
 use std::sync::Wait;
-use workers_bench::{Bench, Numbered, Pass};
-use workers_board::{Board, Receipt};
-use workers_tally::{Share, Tally, Tallying};
+use workers_shared::{Bench, Board, Numbered, Pass, Receipt, Share, Tally, Tallying};
 
 /// Who wants to know what workers do. It is called with nothing held.
 pub trait Gate {

@@ -1,5 +1,5 @@
 use Rattle.std.proofs.Common.{◌≡◌, map, drop}
-use Rattle.parser_trees.specs.Views.{item_of}
+use Rattle.parser_grammar.specs.Views.{item_of}
 use Rattle.types_suites.specs.Texts.{assertions_of, clock_of}
 use Rattle.types.proofs.clocks.first_clock.Given as goal
 

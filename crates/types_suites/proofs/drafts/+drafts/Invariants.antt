@@ -1,6 +1,6 @@
 use Rattle.std.proofs.Common.{map, drop, List}
 use Rattle.parser_grammar.specs.ReadSequences.{steps_of, others_of}
-use Rattle.parser_trees.specs.Views.{sequence_of, delay_step_of}
+use Rattle.parser_grammar.specs.Views.{sequence_of, delay_step_of}
 use Rattle.expressions.specs.declared.expr.Expr.{Expr}
 use Rattle.assertions.specs.declared.sequence.Boolean.{Boolean}
 use Rattle.types_sequences.specs.Drafts.{Draft}

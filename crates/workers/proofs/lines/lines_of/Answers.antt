@@ -12,8 +12,8 @@ use Rattle.workers_core.proofs.CorePartLaws.{get-some}
 use Rattle.workers_lines.specs.declared.growing_line.GrowingLine.{GrowingLine}
 use Rattle.workers_lines.proofs.LineLaws.{line-more}
 use Rattle.workers_lines.proofs.TakenLaws.{each-but}
-use Rattle.workers_bench.specs.declared.numbered.Numbered.{Numbered}
-use Rattle.workers_bench.specs.Monitors.{IsAt}
+use Rattle.workers_shared.specs.declared.numbered.Numbered.{Numbered}
+use Rattle.workers_shared.specs.Monitors.{IsAt}
 use Rattle.workers.specs.Between.{IsTold, clocks_of}
 use Rattle.workers.specs.Tallied.{told_by}
 use Rattle.workers.proofs.Telling.{all-at, get-other}

@@ -1,8 +1,8 @@
 use Rattle.std.proofs.Common.{◌≡◌, ℕ, List, All, length, ap, ◌∙◌, sym, subst, arith}
 use Rattle.std.specs.Prelude.{slice_get}
 use Rattle.cycle_window.specs.Held.{end_in}
-use Rattle.workers_bench.specs.declared.numbered.Numbered.{Numbered}
-use Rattle.workers_bench.specs.Monitors.{IsAt}
+use Rattle.workers_shared.specs.declared.numbered.Numbered.{Numbered}
+use Rattle.workers_shared.specs.Monitors.{IsAt}
 use Rattle.workers.specs.Between.{IsTold, IsBetween, clocks_of}
 use Rattle.workers.proofs.Telling.{placed-monitor, none-told}
 use Rattle.workers.proofs.Adding.{none-told-by, all-counts, four-held}

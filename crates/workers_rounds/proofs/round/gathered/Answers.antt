@@ -1,16 +1,16 @@
 use Rattle.std.proofs.Common.{◌≡◌, ◌+◌, ◌++◌, ◌∙◌, ap, refl, None, subst, All, arith, rules}
 use Rattle.std.specs.Vec.Iter.{into_iter_items}
 use Rattle.std.proofs.lemmas.List.Elements.{All-head, All-tail, All-append, All-same}
-use Rattle.workers_bench.specs.declared.hand.Hand.{Hand}
-use Rattle.workers_bench.specs.Hands.{total}
-use Rattle.workers_bench.specs.Passes.{parts_of, taken_of}
-use Rattle.workers_bench.specs.Benches.{IsOf}
+use Rattle.workers_shared.specs.declared.hand.Hand.{Hand}
+use Rattle.workers_shared.specs.Hands.{total}
+use Rattle.workers_shared.specs.Passes.{parts_of, taken_of}
+use Rattle.workers_shared.specs.Benches.{IsOf}
 use Rattle.workers_rounds.specs.declared.round.Member.{Member}
 use Rattle.workers_rounds.specs.Works.{IsPublished, published_count}
 use Rattle.workers_rounds.specs.Adding.{kind_of, amount_of, added_by, added_by_worked, counted_by}
 use Rattle.workers_rounds.proofs.Added.{counts-append}
 use Rattle.workers_rounds.specs.Runs.{Ends, published_numbers, IsMember}
-use Rattle.workers_bench.proofs.Keeps.{all_pushed, total_push}
+use Rattle.workers_shared.proofs.Keeps.{all_pushed, total_push}
 use Rattle.workers_rounds.proofs.Orders.{published_more, back_none}
 use Rattle.workers_rounds.proofs.round.gathered.Goals as goal
 

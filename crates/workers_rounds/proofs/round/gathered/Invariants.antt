@@ -1,8 +1,8 @@
 use Rattle.std.proofs.Common.{◌≡◌, ◌≤◌, ◌+◌, ◌++◌, ℕ, All, vec_len, vec_capacity, length}
 use Rattle.std.specs.Vec.Iter.{into_iter_items, into_iter_len}
-use Rattle.workers_bench.specs.Hands.{total}
-use Rattle.workers_bench.specs.Passes.{parts_of}
-use Rattle.workers_bench.specs.Benches.{IsOf}
+use Rattle.workers_shared.specs.Hands.{total}
+use Rattle.workers_shared.specs.Passes.{parts_of}
+use Rattle.workers_shared.specs.Benches.{IsOf}
 use Rattle.workers_rounds.specs.Works.{IsPublished, published_count}
 use Rattle.workers_rounds.specs.Adding.{kind_of, added_by, added_by_worked, counted_by}
 use Rattle.workers_rounds.specs.Runs.{Ends, TakenIs, IsMember}

@@ -1,11 +1,11 @@
 use Rattle.std.proofs.Common.{◌≡◌, ◌≤◌, ◌++◌, ◌∷◌, ap, ◌∙◌, sym, subst, vec_len, rules, All}
 use Rattle.std.proofs.lemmas.List.Elements.{All-same}
-use Rattle.workers_bench.specs.Monitors.{IsAt}
+use Rattle.workers_shared.specs.Monitors.{IsAt}
 use Rattle.std.specs.Vec.Iter.{into_iter_items}
-use Rattle.workers_bench.specs.declared.hand.Hand.{Hand}
-use Rattle.workers_bench.specs.declared.numbered.Numbered.{Numbered}
-use Rattle.workers_bench.specs.Hands.{end_of, numbers, Rises}
-use Rattle.workers_bench.proofs.Keeps.{next_rises}
+use Rattle.workers_shared.specs.declared.hand.Hand.{Hand}
+use Rattle.workers_shared.specs.declared.numbered.Numbered.{Numbered}
+use Rattle.workers_shared.specs.Hands.{end_of, numbers, Rises}
+use Rattle.workers_shared.proofs.Keeps.{next_rises}
 use Rattle.workers_rounds.proofs.Orders.{rises_upto, middle}
 use Rattle.workers_rounds.proofs.round.put_all.Goals as goal
 

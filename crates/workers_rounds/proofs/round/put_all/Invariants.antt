@@ -1,8 +1,8 @@
 use Rattle.std.proofs.Common.{◌≡◌, ◌++◌}
 use Rattle.std.specs.Vec.Iter.{into_iter_items}
 use Rattle.crossbeam_queue.specs.Passes.{view}
-use Rattle.workers_bench.specs.Hands.{hand, numbers}
-use Rattle.workers_bench.specs.Benches.{IsOf}
+use Rattle.workers_shared.specs.Hands.{hand, numbers}
+use Rattle.workers_shared.specs.Benches.{IsOf}
 use Rattle.workers_rounds.proofs.round.put_all.Given as goal
 
 abbrev pub invariant-loop-monitor : goal.invariant-loop-monitor

@@ -1,16 +1,16 @@
 use Rattle.std.proofs.Common.{◌≡◌, ◌+◌, ◌∙◌, ap, sym, subst, vec_len, arith, rules}
 use Rattle.std.proofs.lemmas.List.Sorted.{All-permutation}
 use Rattle.crossbeam_queue.specs.Passes.{view}
-use Rattle.workers_bench.specs.declared.hand.Hand.{Hand}
-use Rattle.workers_bench.specs.Hands.{Rises, total, numbers}
-use Rattle.workers_bench.specs.Passes.{taken_of}
+use Rattle.workers_shared.specs.declared.hand.Hand.{Hand}
+use Rattle.workers_shared.specs.Hands.{Rises, total, numbers}
+use Rattle.workers_shared.specs.Passes.{taken_of}
 use Rattle.workers_rounds.specs.Works.{IsPublished}
-use Rattle.workers_bench.proofs.Keeps.{all_popped, all_pushed}
+use Rattle.workers_shared.proofs.Keeps.{all_popped, all_pushed}
 use Rattle.workers_rounds.specs.Runs.{published_numbers, upto, IsMember}
 use Rattle.workers_rounds.specs.declared.round.Member.{Member}
 use Rattle.workers_rounds.specs.Works.{published_count}
 use Rattle.workers_rounds.specs.Adding.{kind_of, amount_of, added_by, added_by_tasks, added_by_worked, counted_by}
-use Rattle.workers_bench.proofs.Keeps.{total_push}
+use Rattle.workers_shared.proofs.Keeps.{total_push}
 use Rattle.workers_rounds.proofs.Added.{works-add, counts-moved}
 use Rattle.workers_rounds.proofs.Orders.{ends_all, ordered, moved}
 use Rattle.workers_rounds.proofs.round.round.Goals as goal

@@ -3,15 +3,15 @@ use Rattle.std.specs.Vec.Iter.{into_iter_items}
 use Rattle.std.proofs.lemmas.List.Elements.{All-head, All-tail}
 use Rattle.cycle_window.specs.Held.{first_in}
 use Rattle.workers_rounds.specs.declared.work.Published.{Published}
-use Rattle.workers_bench.specs.Monitors.{IsAt}
-use Rattle.workers_bench.specs.Hands.{total, numbers}
+use Rattle.workers_shared.specs.Monitors.{IsAt}
+use Rattle.workers_shared.specs.Hands.{total, numbers}
 use Rattle.workers_rounds.specs.Works.{IsPublished, published_count}
 use Rattle.workers_rounds.specs.Runs.{published_numbers}
-use Rattle.workers_bench.proofs.Keeps.{all_pushed}
+use Rattle.workers_shared.proofs.Keeps.{all_pushed}
 use Rattle.machine_runs.specs.declared.batch.Batch.{Batch}
-use Rattle.workers_tally.specs.Shares.{amounts, plus, EachAtMost}
-use Rattle.workers_tally.specs.Counts.{count_of, counts_of}
-use Rattle.workers_board.specs.Receipts.{shown_by}
+use Rattle.workers_shared.specs.Shares.{amounts, plus, EachAtMost}
+use Rattle.workers_shared.specs.Counts.{count_of, counts_of}
+use Rattle.workers_shared.specs.Receipts.{shown_by}
 use Rattle.workers_rounds.specs.Adding.{kind_of, amount_of}
 use Rattle.workers_rounds.proofs.Added.{same-amount, more-amount, counts-push}
 use Rattle.workers_rounds.proofs.Placing.{stands-at}

@@ -1,9 +1,9 @@
 use Rattle.std.proofs.Common.{◌≡◌, ◌+◌, ◌<◌, ℕ, All, vec_len}
 use Rattle.std.specs.Vec.Iter.{into_iter_items}
 use Rattle.cycle_window.specs.Held.{first_in}
-use Rattle.workers_tally.specs.Shares.{parts}
-use Rattle.workers_bench.specs.Monitors.{IsAt}
-use Rattle.workers_bench.specs.Hands.{total, numbers}
+use Rattle.workers_shared.specs.Shares.{parts}
+use Rattle.workers_shared.specs.Monitors.{IsAt}
+use Rattle.workers_shared.specs.Hands.{total, numbers}
 use Rattle.workers_rounds.specs.Works.{IsPublished, published_count}
 use Rattle.workers_rounds.specs.Adding.{kind_of, amount_of}
 use Rattle.workers_rounds.specs.Runs.{published_numbers}

@@ -1,11 +1,11 @@
 use Rattle.std.proofs.Common.{◌≡◌, ◌+◌, ◌^◌, true, ap, ◌∙◌, sym, subst, All, arith, rules}
 use Rattle.std.specs.Vec.Iter.{into_iter_items}
 use Rattle.std.proofs.lemmas.List.Elements.{All-head, All-tail}
-use Rattle.workers_tally.specs.Shares.{amounts, EachAtMost}
-use Rattle.workers_bench.specs.Passes.{TakesNone}
-use Rattle.workers_bench.specs.Benches.{IsOf, round_of}
+use Rattle.workers_shared.specs.Shares.{amounts, EachAtMost}
+use Rattle.workers_shared.specs.Passes.{TakesNone}
+use Rattle.workers_shared.specs.Benches.{IsOf, round_of}
 use Rattle.workers_rounds.specs.Runs.{IsMember, Begins}
-use Rattle.workers_bench.proofs.Keeps.{all_pushed, all_popped, total_push}
+use Rattle.workers_shared.proofs.Keeps.{all_pushed, all_popped, total_push}
 use Rattle.workers_rounds.specs.declared.crew.Task.{Task}
 use Rattle.workers_rounds.specs.Adding.{amount_of, added_by, added_by_tasks}
 use Rattle.workers_rounds.proofs.Added.{same-amount}

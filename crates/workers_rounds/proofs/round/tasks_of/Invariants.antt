@@ -1,7 +1,7 @@
 use Rattle.std.proofs.Common.{◌≡◌, ◌≤◌, ◌+◌, ◌++◌, ℕ, All, vec_len, vec_capacity, length}
 use Rattle.std.specs.Vec.Iter.{into_iter_items, into_iter_len}
-use Rattle.workers_bench.specs.Passes.{TakesNone}
-use Rattle.workers_bench.specs.Benches.{IsOf, round_of}
+use Rattle.workers_shared.specs.Passes.{TakesNone}
+use Rattle.workers_shared.specs.Benches.{IsOf, round_of}
 use Rattle.workers_rounds.specs.Runs.{IsMember, Begins}
 use Rattle.workers_rounds.specs.Adding.{added_by, added_by_tasks}
 use Rattle.workers_rounds.proofs.round.tasks_of.Given as goal

@@ -1,7 +1,7 @@
 use Rattle.std.proofs.Common.{subst, sym}
 use Rattle.cycle_window.specs.Held.{first_in, end_in}
-use Rattle.workers_bench.specs.declared.numbered.Numbered.{Numbered}
-use Rattle.workers_bench.specs.Monitors.{IsAt}
+use Rattle.workers_shared.specs.declared.numbered.Numbered.{Numbered}
+use Rattle.workers_shared.specs.Monitors.{IsAt}
 use Rattle.workers_rounds.specs.Works.{IsBatch, IsPublished}
 use Rattle.workers_rounds.proofs.work.run_one.Goals as goal
 

@@ -3,13 +3,13 @@ use Rattle.crossbeam_queue.specs.Passes.{view}
 use Rattle.machine_runs.specs.declared.batch.Batch.{Batch}
 use Rattle.cycle_window.specs.Held.{first_in}
 use Rattle.workers_core.proofs.CorePartLaws.{of-ok}
-use Rattle.workers_board.specs.Receipts.{shown_by}
-use Rattle.workers_tally.specs.Shares.{EachAtMost, amounts, plus}
-use Rattle.workers_tally.specs.Counts.{counts_of}
-use Rattle.workers_bench.specs.declared.hand.Hand.{Hand}
-use Rattle.workers_bench.specs.declared.numbered.Numbered.{Numbered}
-use Rattle.workers_bench.specs.Monitors.{IsAt}
-use Rattle.workers_bench.specs.Hands.{TakesOne}
+use Rattle.workers_shared.specs.Receipts.{shown_by}
+use Rattle.workers_shared.specs.Shares.{EachAtMost, amounts, plus}
+use Rattle.workers_shared.specs.Counts.{counts_of}
+use Rattle.workers_shared.specs.declared.hand.Hand.{Hand}
+use Rattle.workers_shared.specs.declared.numbered.Numbered.{Numbered}
+use Rattle.workers_shared.specs.Monitors.{IsAt}
+use Rattle.workers_shared.specs.Hands.{TakesOne}
 use Rattle.workers_rounds.specs.declared.work.Published.{Published}
 use Rattle.workers_rounds.specs.Works.{IsPublished}
 use Rattle.workers_rounds.proofs.Placing.{stands-at, below}

@@ -8,7 +8,7 @@ use Rattle.machine_definition.specs.Clocks.{Attempt, Obligation, Visits, visit_a
 use Rattle.machine_definition.specs.Bounds.{Rises}
 use Rattle.machine_definition.proofs.Parts.{began, since, IsRunning, IsOwed}
 use Rattle.machine.specs.Live.{attempts_in, obligations_in, standing_of, OpenedLately}
-use Rattle.machine_pool.specs.Pooled.{Pooled}
+use Rattle.machine_memory.specs.Pooled.{Pooled}
 use Rattle.machine_visits.specs.declared.attempt.AttemptRecord.{AttemptRecord}
 use Rattle.machine_visits.specs.declared.obligation.ObligationRecord.{ObligationRecord}
 use Rattle.machine_visits.specs.Records.{attempt_of, obligation_of}

@@ -1,7 +1,7 @@
 use Rattle.std.proofs.Common.{◌≡◌, ◌-◌, ◌∷◌, ◌++◌, length, List, map, take, refl, sym, ap, ◌∙◌, subst, arith}
 use Rattle.bytecode.specs.Programs.{data_of}
 use Rattle.machine_definition.specs.Machine.{with_row}
-use Rattle.machine_ring.specs.History.{pushed}
+use Rattle.machine_memory.specs.History.{pushed}
 use Rattle.machine_samples.specs.Memory.{AreRows}
 use Rattle.machine_samples.specs.Runs.{HasRun}
 use Rattle.machine_samples.proofs.RowLaws.{AreRows-pushed}

@@ -4,8 +4,8 @@ use Rattle.std.proofs.Math.ListN.{length-replicate}
 use Rattle.std.specs.Prelude.{slice_index}
 use Rattle.bytecode.specs.Programs.{data_of}
 use Rattle.bytecode.specs.Instructions.{frame_of}
-use Rattle.machine_ring.specs.History.{cleared}
-use Rattle.machine_pool.specs.Pooled.{Pooled}
+use Rattle.machine_memory.specs.History.{cleared}
+use Rattle.machine_memory.specs.Pooled.{Pooled}
 use Rattle.machine_visits.specs.declared.attempt.AttemptRecord.{AttemptRecord}
 use Rattle.machine_visits.specs.declared.obligation.ObligationRecord.{ObligationRecord}
 use Rattle.machine_samples.specs.Memory.{AreRows}
