@@ -9,7 +9,7 @@ use Rattle.std.proofs.lemmas.List.{take-replicate, drop-replicate, length-take-l
 use Rattle.std.proofs.lemmas.List.{get_or-append_right, get_or_append_left}
 use Rattle.std.proofs.Math.Seq.{take-append_seam, drop-append_seam}
 use native.Mathlib.Nat.{zero-mul, suc-mul}
-use Rattle.machine_memory.specs.History.{History, zeros, cleared, pushed, past, KeepsLastRows}
+use Rattle.machine_memory.specs.History.{History, zeros, cleared, pushed, KeepsLastRows}
 use Rattle.machine_memory.specs.Turned.{rows_of, turned, history_of, IsTurned, IsBefore, IsBehind}
 
 -- how many values so many rows have
@@ -252,12 +252,13 @@ before_newest depth slots newest back row reach e =
     let a : (row + 1) * slots ≤ newest * slots = product_le (row + 1) newest slots (omega arith) in
     omega (arith, next_row row slots)
 
-pub past-history_of : (depth slots newest back row slot : ℕ) (values : List ℕ)
+pub get_or-history_of : (depth slots newest back row slot : ℕ) (values : List ℕ)
     → IsTurned depth slots newest values → IsBehind depth newest back row → back ≤ depth
     → slot < slots
-    → past (history_of depth slots newest values) back slot ≡ get_or values (row * slots + slot) 0
+    → get_or (get_or (history_of depth slots newest values).rows back []) slot 0
+    ≡ get_or values (row * slots + slot) 0
 unfolding history_of
-past-history_of depth slots newest back row slot values t b reach range =
+get_or-history_of depth slots newest back row slot values t b reach range =
     let full : length values ≡ depth * slots + slots = t.full ∙ next_row depth slots in
     let fits = row_fits depth slots row b.inside in
     let start : newest * slots ≤ depth * slots = product_le newest depth slots t.inside in

@@ -1,7 +1,7 @@
 //! The ring: rows that turn in a store of values.
 
-ghost use Rattle.std.specs.Prelude.{◌≡◌, ◌<◌, ◌≤◌, length, IfOk};
-ghost use Rattle.machine_memory.specs.History.{cleared, pushed, past, KeepsLastRows};
+ghost use Rattle.std.specs.Prelude.{◌≡◌, ◌<◌, ◌≤◌, [], length, get_or, IfOk};
+ghost use Rattle.machine_memory.specs.History.{cleared, pushed, KeepsLastRows};
 ghost use Rattle.machine_memory.specs.Turned.{IsBefore, IsBehind};
 
 use crate::store::Store;
@@ -81,7 +81,7 @@ impl Ring {
     pub fn get(&self, back: usize, slot: usize) -> u128
         requires reach { back ≤ self.now.depth }
         requires range { slot < self.now.slots }
-        ensures { result ≡ past self.now back slot }
+        ensures { result ≡ get_or (get_or self.now.rows back []) slot 0 }
     {
         let row = behind(self.depth, self.newest, back);
         self.store.read(row * self.slots + slot)

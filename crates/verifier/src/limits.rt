@@ -9,7 +9,7 @@ ghost use Rattle.verifier.specs.Programs.{HasRoom, least_stack, least_limits};
 
 use crate::least::LeastLimits;
 use crate::lives::start_life;
-use crate::paths::{larger, path_sum, sample_path};
+use crate::paths::{path_sum, sample_path};
 use bytecode::{Program, SampleInstr};
 use std::alloc::{AllocError, Global};
 
@@ -29,7 +29,7 @@ fn farthest(code: &[SampleInstr]) -> usize
 {
     let mut most = 0;
     'code: for k in 0..code.len() {
-        most = larger(most, reach_of(code[k]));
+        most = most.max(reach_of(code[k]));
     }
     most
 }
