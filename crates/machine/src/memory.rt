@@ -7,7 +7,7 @@ ghost use Rattle.verifier.specs.Programs.{IsAccepted};
 ghost use Rattle.machine_definition.specs.Machine.{opening};
 ghost use Rattle.machine.specs.Code.{AreBasesOf};
 ghost use Rattle.machine.specs.Memory.{IsLiveAtFirst, IsMemory, state_of, running_of};
-ghost use Rattle.machine.specs.Running.{IsClock, IsRowOf};
+ghost use Rattle.machine.specs.Running.{IsOneClock, IsRowOf};
 
 use crate::bases::Bases;
 use crate::live::Live;
@@ -124,7 +124,7 @@ impl Memory {
         requires room { length out.old.items + (data_of program.now).header.limits.attempts ≤ 1024 }
         requires more { self.old.live.now + 1 < 2 ^ 64 }
         ensures memory { IsMemory (data_of program.now) self.new }
-        ensures clock { IsClock (running_of (data_of program.now) self.old 0)
+        ensures clock { IsOneClock (running_of (data_of program.now) self.old 0)
             signals.now out.old.items
             (running_of (data_of program.now) self.new result) out.new.items }
     {

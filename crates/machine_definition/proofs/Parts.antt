@@ -14,7 +14,7 @@ use Rattle.machine_definition.specs.Clocks.{Attempt, Obligation, Visits, visit_a
 use Rattle.machine_definition.specs.Clocks.{visit_obligations, is_ended, staying, awaits, some_broken}
 use Rattle.machine_definition.specs.Clocks.{some_open, Settlement, settle, settle_all, disable_all}
 use Rattle.machine_definition.specs.Clocks.{opened}
-use Rattle.machine_definition.specs.Bounds.{EachIn, IsAlive, Rises, IsAwaiting, IsAttempt}
+use Rattle.machine_definition.specs.Bounds.{EachIn, IsAlive, RisesBetween, IsAwaiting, IsAttempt}
 use Rattle.machine_definition.specs.Bounds.{IsObligation}
 use Rattle.machine_definition.proofs.Outcomes.{Meets-and_then, Meets-costs_one}
 use Rattle.machine_definition.proofs.Blocks.{EachIn-or}
@@ -46,12 +46,12 @@ module _ (p : ProgramData) (now : ℕ) where
   -- the visits of attempts
   abbrev pub Seen : ℕ → List Attempt → ℕ → Visits → ℕ → Type 0
   Seen low live left vs rest =
-      Rises began (IsRunning p (now + 1)) low (now + 1) vs.attempts
+      RisesBetween began (IsRunning p (now + 1)) low (now + 1) vs.attempts
       × (left ≤ rest + length live * (1 + path_sum 0 p.antecedent.blocks))
       × (length vs.attempts ≡ length live)
 
   pub visit_attempts-meets : (atoms : List Bool) → IsSection (length atoms) p.antecedent
-      → (low : ℕ) (live : List Attempt) (left : ℕ) → Rises began (IsRunning p now) low (now + 1) live
+      → (low : ℕ) (live : List Attempt) (left : ℕ) → RisesBetween began (IsRunning p now) low (now + 1) live
       → length live * (1 + path_sum 0 p.antecedent.blocks) ≤ left
       → Meets (Seen low live left) (visit_attempts p.antecedent atoms now live left)
   visit_attempts-meets atoms section low [] left rises fits = (rises, omega arith, refl)
@@ -93,11 +93,11 @@ module _ (p : ProgramData) (now : ℕ) where
   -- the visits of obligations
   abbrev pub Tells : ℕ → List Obligation → ℕ → List Fate → ℕ → Type 0
   Tells low os left fs rest =
-      Rises since_fate (IsFated p now) low (now + 1) fs
+      RisesBetween since_fate (IsFated p now) low (now + 1) fs
       × (left ≤ rest + length os * (1 + path_sum 0 p.consequent.blocks))
 
   pub visit_obligations-meets : (atoms : List Bool) → IsSection (length atoms) p.consequent
-      → (low : ℕ) (os : List Obligation) (left : ℕ) → Rises since (IsOwed p now) low (now + 1) os
+      → (low : ℕ) (os : List Obligation) (left : ℕ) → RisesBetween since (IsOwed p now) low (now + 1) os
       → length os * (1 + path_sum 0 p.consequent.blocks) ≤ left
       → Meets (Tells low os left) (visit_obligations p.consequent atoms os left)
   visit_obligations-meets atoms section low [] left rises fits = (rises, omega arith)
@@ -117,8 +117,8 @@ module _ (p : ProgramData) (now : ℕ) where
         omega (arith, product, done.1, told.1),
       ))))
 
-  pub staying-rises : (low high : ℕ) (fs : List Fate) → Rises since_fate (IsFated p now) low high fs
-      → Rises since (IsObligation p (now + 1)) low high (staying fs)
+  pub staying-rises : (low high : ℕ) (fs : List Fate) → RisesBetween since_fate (IsFated p now) low high fs
+      → RisesBetween since (IsObligation p (now + 1)) low high (staying fs)
   staying-rises low high [] rises = rises
   staying-rises low high (f ∷ fs) rises =
       let rest = staying-rises (f.tick + 1) high fs rises.2 in
@@ -154,7 +154,7 @@ some_open-stays a (f ∷ fs) h =
 module _ (p : ProgramData) (now : ℕ) (fates : List Fate) where
   -- the attempts that stay are as between clocks
   abbrev pub Live : ℕ → Settlement → Type 0
-  Live low r = Rises began (IsAttempt p (now + 1) (staying fates)) low (now + 1) r.live
+  Live low r = RisesBetween began (IsAttempt p (now + 1) (staying fates)) low (now + 1) r.live
 
   settle-live : (low : ℕ) (a : Attempt) (r : Settlement) → low ≤ a.start → IsRunning p (now + 1) a
       → Live (a.start + 1) r → Live low (settle now fates a r)
@@ -188,7 +188,7 @@ module _ (p : ProgramData) (now : ℕ) (fates : List Fate) where
   Settles low live left r rest = Live low r × (left ≤ rest + length live)
 
   pub settle_all-meets : (low : ℕ) (live : List Attempt) (left : ℕ)
-      → Rises began (IsRunning p (now + 1)) low (now + 1) live → length live ≤ left
+      → RisesBetween began (IsRunning p (now + 1)) low (now + 1) live → length live ≤ left
       → Meets (Settles low live left) (settle_all now fates live left)
   settle_all-meets low [] left rises fits = (rises, omega arith)
   settle_all-meets low (a ∷ others) left rises fits =

@@ -2,7 +2,7 @@
 
 ghost use Rattle.std.specs.Prelude.{◌≡◌, ◌<◌, ◌≤◌, [], length, get_or, IfOk};
 ghost use Rattle.machine_memory.specs.History.{cleared, pushed, KeepsLastRows};
-ghost use Rattle.machine_memory.specs.Turned.{IsBefore, IsBehind};
+ghost use Rattle.machine_memory.specs.Turned.{IsRowBefore, IsBehind};
 
 use crate::store::Store;
 use std::alloc::{AllocError, Global};
@@ -34,7 +34,7 @@ impl Model for Ring {
 /// The row that the next push writes.
 fn before(depth: usize, newest: usize) -> usize
     requires { newest ≤ depth }
-    ensures { IsBefore depth newest result }
+    ensures { IsRowBefore depth newest result }
 {
     if newest == 0 { depth } else { newest - 1 }
 }

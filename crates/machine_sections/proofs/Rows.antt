@@ -24,7 +24,7 @@ use Rattle.machine_definition.proofs.Samples.{run_sample-meets}
 use Rattle.machine_definition.proofs.Machine.{cost, longer}
 use Rattle.machine_sections.specs.Monitors.{Monitor, monitor_of}
 use Rattle.machine_sections.specs.Standing.{standing_at, falling}
-use Rattle.machine_sections.specs.History.{rows_before, rows_at, sample_run, IsMadeOf, SamplesAs}
+use Rattle.machine_sections.specs.History.{rows_before, rows_at, sample_run, IsSampleMade, SamplesAs}
 use Rattle.machine_sections.specs.Laws.{Watches, Fills, fallen, all_fallen, IsJudgedOver, RunsByMeaning}
 use Rattle.machine_sections.proofs.Deciding.{Goes, clock-decides, falling-fallen, starts-open}
 
@@ -67,7 +67,7 @@ module _ (p : ProgramData) (signals counters : ℕ → List ℕ) (atoms : ℕ �
   outcome_at n = record { state = state_at (n + 1); decided = falling v n }
 
   abbrev Makes : ℕ → Made → ℕ → Type 0
-  Makes n made left = IsMadeOf (counters n) (atoms n) (counters (n + 1)) made
+  Makes n made left = IsSampleMade (counters n) (atoms n) (counters (n + 1)) made
 
   abbrev Steps : ℕ → Outcome → ℕ → Type 0
   Steps n o left = IsReached p o.state.standing × (o ≡ outcome_at n)

@@ -14,7 +14,7 @@ use Rattle.machine_definition.specs.Outcomes.{Meets}
 use Rattle.machine_definition.specs.Clocks.{Attempt, none_standing}
 use Rattle.machine_definition.specs.Machine.{State, sample_of}
 use Rattle.machine_definition.specs.Runs.{Decides}
-use Rattle.machine_sections.specs.Automata.{Follows}
+use Rattle.machine_sections.specs.Automata.{AutomatonFollows}
 use Rattle.machine_sections.specs.Effects.{automaton_of}
 use Rattle.machine_sections.specs.Monitors.{monitor_of}
 use Rattle.machine_sections.specs.Standing.{select, is_open, falls_at}
@@ -24,8 +24,8 @@ use Rattle.machine_sections.specs.History.{row_at, rows_at, held, SamplesAs}
 -- On these atoms of each tick the sections follow the antecedent r and the consequent s.
 pub record Watches {B : Type 0} (p : ProgramData) (atoms : ℕ → List Bool) (value : B → ℕ → Bool)
     (r : Antecedent B) (s : Seq B) : Type 0 where
-  pub antecedent : Follows value r (automaton_of p.antecedent atoms)
-  pub consequent : Follows value (every s) (automaton_of p.consequent atoms)
+  pub antecedent : AutomatonFollows value r (automaton_of p.antecedent atoms)
+  pub consequent : AutomatonFollows value (every s) (automaton_of p.consequent atoms)
 
 -- no match is empty
 abbrev pub Fills : {B : Type 0} → (B → ℕ → Bool) → Seq B → Type 0

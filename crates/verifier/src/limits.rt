@@ -27,7 +27,7 @@ fn reach_of(instr: SampleInstr) -> usize
 fn farthest(code: &[SampleInstr]) -> usize
     ensures { result ≡ farthest code.now }
 {
-    let mut most = 0;
+    let mut most = 0_usize;
     'code: for k in 0..code.len() {
         most = most.max(reach_of(code[k]));
     }

@@ -30,7 +30,7 @@ fn longest_entered(lives: &[usize], next: usize, block: &[BlockInstr]) -> usize
     ensures life { result ≡ longest_entered next (drop next lives.now) block.now }
     ensures few { (m : ℕ) → ((j : ℕ) → slice_index lives.now j ≤ m) → result ≤ m }
 {
-    let mut most = 0;
+    let mut most = 0_usize;
     'block: for k in 0..block.len() {
         most = most.max(entered_life(lives, next, block[k]));
     }
@@ -68,7 +68,7 @@ fn most_in(set: u128, lives: &[usize]) -> usize
     ensures most { result ≡ most_in set 0 lives.now }
     ensures few { (m : ℕ) → ((j : ℕ) → slice_index lives.now j ≤ m) → result ≤ m }
 {
-    let mut most = 0;
+    let mut most = 0_usize;
     'lives: for p in 0..lives.len() {
         most = most.max(life_in(set, p, lives[p]));
     }

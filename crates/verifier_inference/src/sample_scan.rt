@@ -205,7 +205,7 @@ fn scan(
     ensures refused { IfErr result (λ r. (r ≡ Refusal.Memory)
         ⊎ IsFirstRefusal r (code_faults (rules_of frame.now) 0 code.now)) }
 {
-    let mut longest = 0;
+    let mut longest = 0_usize;
     'code: for pc in 0..code.len() {
         let instr = code[pc];
         let arrival = take_arrival(pending, pc);
