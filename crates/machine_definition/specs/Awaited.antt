@@ -16,11 +16,11 @@ abbrev pub awaited_ticks : Attempt → List Obligation → List ℕ
 awaited_ticks a os = accepted_of a (map (λ o. o.tick) os)
 
 -- the ticks of the obligations that were visited, and of those that are broken
-abbrev pub ticks_of : List Fate → List ℕ
-ticks_of fates = map (λ f. f.tick) fates
+abbrev pub fate_ticks : List Fate → List ℕ
+fate_ticks fates = map (λ f. f.tick) fates
 
 abbrev pub broken_ticks : List Fate → List ℕ
-broken_ticks fates = ticks_of (filter is_broken fates)
+broken_ticks fates = fate_ticks (filter is_broken fates)
 
 abbrev pub is_some : List ℕ → Bool
 is_some [] = false

@@ -11,7 +11,7 @@ use Rattle.verifier_inference.specs.Rules.{block_rules}
 use Rattle.bytecode.specs.Instructions.{block_flow}
 use Rattle.verifier_inference.specs.Inference.{Message, sends, jump_faults, end_faults, faults_at, left_by}
 use Rattle.verifier_inference.specs.Inference.{code_faults, found, entry}
-use Rattle.verifier_inference.specs.Order.{part_of, IsFirstFound, first_of}
+use Rattle.verifier_inference.specs.Order.{fault_part, IsFirstFound, first_refusal}
 use Rattle.verifier_inference.specs.Scans.{list_at, HasRead}
 use Rattle.verifier_inference.specs.Marks.{marked, Reached}
 use Rattle.verifier_inference.proofs.OrderLaws.{Rises, NamesRise}
@@ -38,7 +38,7 @@ block_rise section atoms positions p pc Accept = omega arith
 block_rise section atoms positions p pc Stop = omega arith
 block_rise section atoms positions p pc AcceptFirst = kind_name (section == 2) pc
 
-pub none_first : (rs : List Refusal) → None ≡ first_of rs → rs ≡ []
+pub none_first : (rs : List Refusal) → None ≡ first_refusal rs → rs ≡ []
 none_first [] h = refl
 none_first (r ∷ rs) h = cc
 
@@ -68,10 +68,10 @@ module _ (section atoms positions p base : ℕ) (block : List BlockInstr) where
     where
       pub block_refused : (e : Refusal)
           → Some e
-          ≡ first_of
+          ≡ first_refusal
           (faults_at (block_rules section atoms positions p) (base + length block) (base + k) i (marked mark)) →
           IsFirstFound (found section (base + k) e) (code_faults (block_rules section atoms positions p) base block)
-          × (part_of e ≡ 0)
+          × (fault_part e ≡ 0)
       block_refused e h =
           refused_at (block_rules section atoms positions p) base block (Reached base marks) 0 (base + length block)
           (base + k) k i d (marked mark) read below here (sym (read.holds k mark at)) e
@@ -80,7 +80,7 @@ module _ (section atoms positions p base : ℕ) (block : List BlockInstr) where
 
       pub block_step : (new : List Bool)
           → None
-          ≡ first_of
+          ≡ first_refusal
           (faults_at (block_rules section atoms positions p) (base + length block) (base + k) i (marked mark)) →
           ((ms : List Message) → Reached base marks ms → Reached base new (sends (base + k) (block_flow i) [] ms))
           → HasRead (block_rules section atoms positions p) base block (Reached base new) 0 (base + length block)
@@ -96,7 +96,7 @@ module _ (section atoms positions p base : ℕ) (block : List BlockInstr) where
           (none_first _ clear) (left_marked section atoms positions p i mark) (omega (arith, none)) sent)
 
       pub block_parts : None
-          ≡ first_of
+          ≡ first_refusal
           (faults_at (block_rules section atoms positions p) (base + length block) (base + k) i (marked mark)) →
           (jump_faults (base + length block) (base + k) (block_flow i) ≡ [])
           × (end_faults (base + length block) (base + k) (block_flow i) ≡ [])
