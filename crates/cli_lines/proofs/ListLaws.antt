@@ -44,11 +44,11 @@ use Rattle.cli_lines.specs.declared.fault.LinesFault.{LinesFault}
 use Rattle.cli_lines.specs.declared.fault.LinesFault.TheVariants.{Program, BadJob, Memory}
 use Rattle.cli_lines.specs.Faults.{
   IsMadeOf,
-  HasProgram,
+  HasAcceptedProgram,
   IsNoMisfit,
   program_fault,
   WhyNoPrograms,
-  WhyNoJob,
+  WhyBadJob,
   WhyNoLines,
 }
 
@@ -95,7 +95,7 @@ program-pushed P front more a grown is h =
 
 -- assertions with their programs have programs
 pub have-programs : (suite : Suite) (all : List Assertion) (ps : List ProgramData)
-    → AllZip (IsMadeOf suite) all ps → AllByRecursion (HasProgram suite) all
+    → AllZip (IsMadeOf suite) all ps → AllByRecursion (HasAcceptedProgram suite) all
 have-programs suite [] [] made = tt
 have-programs suite [] (p ∷ ps) made = absurd made
 have-programs suite (a ∷ all) [] made = absurd made
@@ -119,7 +119,7 @@ same-long R (x ∷ xs) (y ∷ ys) h = ap (λ n. suc n) (same-long R xs ys h.1)
 -- why there are no programs
 pub no-programs : (suite : Suite) (place : ℕ) (a : Assertion) (e : CompileFault) →
     slice_get suite.assertions.items place ≡ Some a →
-    AllByRecursion (HasProgram suite) (take place suite.assertions.items) →
+    AllByRecursion (HasAcceptedProgram suite) (take place suite.assertions.items) →
     WhyNotCompiled suite a e → WhyNoPrograms suite (program_fault e)
 no-programs suite place a faults.TooManyAtoms is before why =
     record { place = place; assertion = a; is = is; why = why; before = before }
@@ -133,7 +133,7 @@ no-programs suite place a faults.Memory is before why = tt
 
 -- no job, and so no lines
 pub job-lines : (suite : Suite) (ps : List ProgramData) (e : LinesFault)
-    → AllZip (IsMadeOf suite) suite.assertions.items ps → WhyNoJob ps e → WhyNoLines suite e
+    → AllZip (IsMadeOf suite) suite.assertions.items ps → WhyBadJob ps e → WhyNoLines suite e
 job-lines suite ps (Program fault) made why = absurd why
 job-lines suite ps BadJob made why =
     let long = same-long (IsMadeOf suite) suite.assertions.items ps made in

@@ -57,7 +57,7 @@ use Rattle.cycle_window.specs.Ticks.{ticks_of, sample, row_of}
 use Rattle.machine_runs.specs.Reported.{wanted_slot}
 use Rattle.compiler.specs.Programs.{IsSlotOf}
 use Rattle.compiler.proofs.ListLaws.{some-one, map-twice, map-alike, by-index}
-use Rattle.laws_programs.specs.Laws.{AreRowsOf, picked}
+use Rattle.laws_programs.specs.Laws.{AreSuiteRows, picked}
 use Rattle.cli_lines.specs.Lines.{IsWatched, AreVariables, rows_at}
 
 -- the value of a variable fits it
@@ -183,7 +183,7 @@ value-at c k signals place s one =
 pub are-rows : (c : Contents) (suite : Suite) (signals : List ℕ) (code : ℕ) →
     AreVariables c suite signals →
     AllByRecursion (IsWatched c.variables) suite.names.items →
-    AreRowsOf suite (rows_at c signals code)
+    AreSuiteRows suite (rows_at c signals code)
 are-rows c suite signals code named watched k place s is =
     let rows = rows_at c signals code in
     let ticks = ticks_of c code in

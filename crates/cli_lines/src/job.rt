@@ -8,9 +8,9 @@ ghost use Rattle.vcd_reader.specs.Held.{variables_of};
 ghost use Rattle.cycle_window.specs.Bound.{first_refused};
 ghost use Rattle.cycle_window.specs.Held.{AreClocksOf};
 ghost use Rattle.workers_core.specs.Wanted.{wanted_in, WhyUnfit};
-ghost use Rattle.compiler.specs.Conditions.{IsFit};
+ghost use Rattle.compiler.specs.Conditions.{FitsSuite};
 ghost use Rattle.cli_lines.specs.Lines.{IsWatched};
-ghost use Rattle.cli_lines.specs.Faults.{IsNoMisfit, IsMadeOf, WhyNoJob, WhyNoLines};
+ghost use Rattle.cli_lines.specs.Faults.{IsNoMisfit, IsMadeOf, WhyBadJob, WhyNoLines};
 
 use crate::fault::LinesFault;
 use crate::programs::programs_of;
@@ -25,7 +25,7 @@ use workers_core::{Job, JobFault};
 fn job_fault(fault: JobFault) -> LinesFault
     requires { IsNoMisfit fault }
     ensures { (vs : List Declared) (ps : List ProgramData)
-        → WhyUnfit vs ps fault → WhyNoJob ps result }
+        → WhyUnfit vs ps fault → WhyBadJob ps result }
 {
     match fault {
         JobFault::BadJob => LinesFault::BadJob,
@@ -46,7 +46,7 @@ fn job_of(
     ensures programs { IfOk result (λ j. j.programs.items ≡ programs.items) }
     ensures dump { IfOk result (λ j. j.dump ≡ dump) }
     ensures clocks { IfOk result (λ j. j.clocks ≡ clocks) }
-    ensures fault { IfErr result (WhyNoJob programs.items) }
+    ensures fault { IfErr result (WhyBadJob programs.items) }
 {
     // An arm knows that the fault is no misfit, as `job_fault` asks; a `From` can't ask it.
     match Job::over(alloc, programs, dump, clocks) {
@@ -64,7 +64,7 @@ pub(crate) fn suite_job(
 ) -> Result<Job, LinesFault>
     requires clocks { AreClocksOf dump clocks }
     requires watched { AllByRecursion (IsWatched (variables_of dump)) suite.now.names.items }
-    requires fit { AllByRecursion (IsFit suite.now) suite.now.assertions.items }
+    requires fit { AllByRecursion (FitsSuite suite.now) suite.now.assertions.items }
     ensures made { IfOk result (λ j.
         AllZip (IsMadeOf suite.now) suite.now.assertions.items j.programs.items) }
     ensures dump { IfOk result (λ j. j.dump ≡ dump) }

@@ -19,7 +19,7 @@ use Rattle.compiler_expressions.specs.Codes.{Slots}
 use Rattle.compiler_expressions.specs.Samples.{sample_code, sample_reach}
 use Rattle.compiler_expressions.specs.Chosen.{terms_at, held_at}
 use Rattle.compiler_expressions.specs.Slots.{slots_in}
-use Rattle.compiler.specs.Conditions.{IsFit}
+use Rattle.compiler.specs.Conditions.{FitsSuite}
 use Rattle.compiler.specs.Readings.{IsReading, first_counter, slots_over, boolean_terms, counters_read, code_over}
 use Rattle.compiler.proofs.Places.{places-long}
 use Rattle.compiler.proofs.Known as known
@@ -38,7 +38,7 @@ slots-same t signals counters s c = fun_ext (λ o. fun_ext (λ p. at o p))
     at Signal p = ap (λ xs. unwrap_or (slice_get xs p) 0) s
     at Counter p = ap (λ xs. unwrap_or (slice_get xs p) 0) c
 
-module _ (suite : Suite) (a : Assertion) (fit : IsFit suite a) (signals counters : List Bool)
+module _ (suite : Suite) (a : Assertion) (fit : FitsSuite suite a) (signals counters : List Bool)
     (reading : IsReading suite a signals counters)
     (bs : List Expr) (at_s : List ℕ) (cs : List Counting) (ps : List ℕ)
     (e1 : bs ≡ suite.booleans.items) (e2 : at_s ≡ a.booleans.items) (e3 : cs ≡ suite.counters.items)

@@ -9,12 +9,12 @@ use Rattle.compiler.specs.declared.fault.CompileFault.{CompileFault}
 use Rattle.compiler.specs.declared.fault.CompileFault.TheVariants.{TooManyAtoms, CodeTooLong}
 use Rattle.compiler.specs.declared.fault.CompileFault.TheVariants.{TooManySlots, TextTooLong, Memory}
 use Rattle.compiler.specs.Readings.{IsReading}
-use Rattle.compiler.specs.Faults.{StandsOver, HasLongCode, AreCounted, IsFaultless, rank}
-use Rattle.compiler.specs.Parts.{AreParts}
+use Rattle.compiler.specs.Faults.{StandsOver, HasLongCode, AreCounted, HasNoFault, rank}
+use Rattle.compiler.specs.Parts.{AreProgramParts}
 use Rattle.compiler.proofs.LedLaws.{led-size}
 
 module _ (suite : Suite) (a : Assertion) (signals counters : List Bool) (p : ProgramData) where
-  short : AreParts suite a signals counters p → HasLongCode suite a signals counters → ⊥
+  short : AreProgramParts suite a signals counters p → HasLongCode suite a signals counters → ⊥
   short parts (inl long) = omega (arith, long, parts.short_sample, ap length parts.sample)
   short parts (inr (inl (inl long))) =
       omega (
@@ -29,7 +29,7 @@ module _ (suite : Suite) (a : Assertion) (signals counters : List Bool) (p : Pro
       omega (arith, long, parts.short_consequent, ap (λ (s : SectionData). size_of s.blocks) parts.consequent)
   short parts (inr (inr (inr long))) = omega (arith, long, parts.light_consequent)
 
-  none : AreCounted suite a signals counters → AreParts suite a signals counters p → (fault : CompileFault)
+  none : AreCounted suite a signals counters → AreProgramParts suite a signals counters p → (fault : CompileFault)
       → rank fault < rank Memory →
       StandsOver suite a signals counters fault → ⊥
   none counted parts TooManyAtoms lt h = omega (arith, counted.atoms, h)
@@ -39,6 +39,6 @@ module _ (suite : Suite) (a : Assertion) (signals counters : List Bool) (p : Pro
   none counted parts Memory lt h = omega (arith, lt)
 
   pub faultless : IsReading suite a signals counters → AreCounted suite a signals counters
-      → AreParts suite a signals counters p → IsFaultless suite a
+      → AreProgramParts suite a signals counters p → HasNoFault suite a
   faultless reading counted parts =
       record { signals = signals; counters = counters; reading = reading; none = none counted parts }

@@ -32,11 +32,11 @@ use Rattle.verifier_inference.specs.Sections.{IsSection, AreTyped, size_of}
 use Rattle.compiler_expressions.proofs.FitLaws.{samples-fit}
 use Rattle.assertions.specs.Marks.{is_marked, places_from}
 use Rattle.assertions.proofs.SlotLaws.{place-at}
-use Rattle.compiler.specs.Conditions.{IsFit}
+use Rattle.compiler.specs.Conditions.{FitsSuite}
 use Rattle.compiler.specs.Programs.{disabling_atom}
 use Rattle.compiler.specs.Readings.{IsReading, slots_over, counters_read}
 use Rattle.compiler.specs.Faults.{is_long, is_long_found, is_long_path, AreCounted}
-use Rattle.compiler.specs.Parts.{slot_found, slot_at, width_found, width_at, AreParts}
+use Rattle.compiler.specs.Parts.{slot_found, slot_at, width_found, width_at, AreProgramParts}
 use Rattle.compiler.proofs.ListLaws.{some-one, all-at}
 use Rattle.compiler.proofs.Places.{AreBelow, stands-at, places-long, held-long}
 use Rattle.compiler.proofs.Known as known
@@ -146,9 +146,10 @@ disabling-fits n None few h = refl
 disabling-fits n (Some One) few h = absurd h
 disabling-fits n (Some (Listed i)) few h = small i 255 (omega (arith, few, h))
 
-module _ (suite : Suite) (a : Assertion) (fit : IsFit suite a) (signals counters : List Bool)
+module _ (suite : Suite) (a : Assertion) (fit : FitsSuite suite a) (signals counters : List Bool)
     (reading : IsReading suite a signals counters)
-    (counted : AreCounted suite a signals counters) (p : ProgramData) (parts : AreParts suite a signals counters p)
+    (counted : AreCounted suite a signals counters) (p : ProgramData)
+    (parts : AreProgramParts suite a signals counters p)
   where
     abbrev paths : Bool
     paths = list_any (is_long_path suite.names.items) (places_from 0 signals)

@@ -59,7 +59,7 @@ rank CodeTooLong = 4
 rank Memory = 5
 
 -- The fault stands, and none of an earlier kind.
-pub record IsFirstFault (suite : Suite) (a : Assertion) (fault : CompileFault) : Type 0 where
+pub record IsFirstCompileFault (suite : Suite) (a : Assertion) (fault : CompileFault) : Type 0 where
   pub signals : List Bool
   pub counters : List Bool
   pub reading : IsReading suite a signals counters
@@ -84,10 +84,10 @@ pub record IsCountFault (suite : Suite) (a : Assertion) (signals counters : List
 -- why there is no program; want of memory says nothing of the assertion
 abbrev pub WhyNotCompiled : Suite → Assertion → CompileFault → Type 0
 WhyNotCompiled suite a Memory = Unit {0}
-WhyNotCompiled suite a fault = IsFirstFault suite a fault
+WhyNotCompiled suite a fault = IsFirstCompileFault suite a fault
 
 -- No fault stands: an assertion that has a program.
-pub record IsFaultless (suite : Suite) (a : Assertion) : Type 0 where
+pub record HasNoFault (suite : Suite) (a : Assertion) : Type 0 where
   pub signals : List Bool
   pub counters : List Bool
   pub reading : IsReading suite a signals counters

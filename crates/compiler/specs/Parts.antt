@@ -44,7 +44,7 @@ no_limits =
     record { history = 0; stack = 0; attempts = 0; obligations = 0; budget = 0 }
 
 -- The parts of an assertion's program, which declares no limits yet.
-pub record AreParts (suite : Suite) (a : Assertion) (signals counters : List Bool)
+pub record AreProgramParts (suite : Suite) (a : Assertion) (signals counters : List Bool)
     (p : ProgramData) : Type 0 where
   pub limits : p.header.limits ≡ no_limits
   pub disable : p.header.disable ≡ disabling_atom a.disabling

@@ -12,11 +12,11 @@ ghost use Rattle.compiler.specs.Programs.{disabling_atom};
 ghost use Rattle.bytecode.specs.Programs.{data_of};
 ghost use Rattle.bytecode.specs.Views.{section_data};
 ghost use Rattle.verifier_inference.specs.Sections.{size_of};
-ghost use Rattle.compiler.specs.Conditions.{IsFit};
+ghost use Rattle.compiler.specs.Conditions.{FitsSuite};
 ghost use Rattle.compiler.specs.Readings.{first_counter, code_over};
 ghost use Rattle.compiler.specs.Reads.{IsReadingOf};
 ghost use Rattle.compiler.specs.Faults.{AreCounted};
-ghost use Rattle.compiler.specs.Parts.{AreParts, IsCodeFault, IsSideFault, no_limits};
+ghost use Rattle.compiler.specs.Parts.{AreProgramParts, IsCodeFault, IsSideFault, no_limits};
 
 use crate::fault::CompileFault;
 use crate::reading::Reading;
@@ -53,7 +53,7 @@ fn code_of(
     suite: &Suite,
     reading: &Reading,
 ) -> Result<Vec<SampleInstr>, CompileFault>
-    requires fit { IsFit suite.now assertion.now }
+    requires fit { FitsSuite suite.now assertion.now }
     requires reading { IsReadingOf suite.now assertion.now reading.now }
     requires atoms { length assertion.now.booleans.items ≤ 127 }
     requires slots { length reading.now.signal_places.items
@@ -147,11 +147,11 @@ pub(crate) fn program_of(
     suite: &Suite,
     reading: &Reading,
 ) -> Result<Program, CompileFault>
-    requires fit { IsFit suite.now assertion.now }
+    requires fit { FitsSuite suite.now assertion.now }
     requires reading { IsReadingOf suite.now assertion.now reading.now }
     requires counted { AreCounted suite.now assertion.now reading.now.signals.items
         reading.now.counters.items }
-    ensures made { IfOk result (λ p. AreParts suite.now assertion.now
+    ensures made { IfOk result (λ p. AreProgramParts suite.now assertion.now
         reading.now.signals.items reading.now.counters.items (data_of p)) }
     ensures fault { IfErr result (IsCodeFault suite.now assertion.now
         reading.now.signals.items reading.now.counters.items) }

@@ -7,7 +7,7 @@ use Rattle.bytecode.specs.declared.sample_instr.SampleInstr.TheVariants.{Halt}
 use Rattle.bytecode.specs.Instructions.{FrameData, leaves, frame_of, LeadsTo, sample_flow}
 use Rattle.verifier_inference.specs.Rules.{sample_rules}
 use Rattle.verifier_inference.specs.Inference.{after_of}
-use Rattle.verifier_inference.specs.Typing.{IsTyped, longest_list}
+use Rattle.verifier_inference.specs.Typing.{IsCodeTyped, longest_list}
 use Rattle.verifier.specs.Limits.{farthest, longest_path}
 use Rattle.machine_definition.specs.Outcomes.{done}
 use Rattle.machine_definition.specs.Samples.{Operand, width_of, results, nothing_made, run_sample}
@@ -34,7 +34,7 @@ list-within table pc (i ∷ code) (suc k) lt =
 
 -- Typed code that runs under some limits runs under any that hold its lists and its reach.
 module _ (f : FrameData) (wide d : Limits) (s : ℕ → ℕ → ℕ) (code : List SampleInstr) (table : ℕ →
-    List ℕ) (typed : IsTyped (sample_rules f) 0 code table) (lists : longest_list table 0 code ≤
+    List ℕ) (typed : IsCodeTyped (sample_rules f) 0 code table) (lists : longest_list table 0 code ≤
     d.stack) where
   fit : (pc : ℕ) → pc < length code → length (table pc) ≤ d.stack
   fit pc lt =
@@ -87,8 +87,8 @@ samples-tell p at es hs accepted is frame t s k told =
     let to : State = state [] (made_by t k es hs) in
     let wide : steps f (asked es hs) s part from ≡ Some to =
     body-steps f (asked es hs) t at s k es hs frame told (omega arith) (omega arith) in
-    let typed : IsTyped (sample_rules f) 0 code accepted.table =
-    subst (λ c. IsTyped (sample_rules f) 0 c accepted.table) is accepted.sample in
+    let typed : IsCodeTyped (sample_rules f) 0 code accepted.table =
+    subst (λ c. IsCodeTyped (sample_rules f) 0 c accepted.table) is accepted.sample in
     let lists : longest_list accepted.table 0 code ≤ d.stack =
     subst (λ c. longest_list accepted.table 0 c ≤ d.stack) is accepted.stack in
     let near : farthest code ≤ d.history =

@@ -23,7 +23,7 @@ use Rattle.compiler_expressions.specs.Codes.{reads_slot, guarded_need, need, rea
 use Rattle.compiler_expressions.specs.Samples.{amount_need, sum_need, loaded_need, cleared_need}
 use Rattle.compiler_expressions.specs.Samples.{next_need, largest, rule_terms, clear_terms}
 use Rattle.compiler_expressions.specs.Samples.{counter_terms}
-use Rattle.compiler_expressions.specs.Laws.{Each}
+use Rattle.compiler_expressions.specs.Laws.{EachPart}
 use Rattle.compiler_expressions.specs.Depths.{arithmetic_level, comparison_level, connective_level}
 use Rattle.compiler_expressions.specs.Depths.{level}
 use Rattle.compiler_expressions.specs.Depths.{bracketed, left_depth, reduction_depth, braced, depth}
@@ -161,7 +161,7 @@ braced-deeper : (e : Term) (deep : ℕ) → deep ≤ braced e deep
 braced-deeper (concat a b) deep = omega arith
 braced-deeper e deep = omega arith
 
-reach-within : (e : Term) → Each IsShortPast e → reach e ≤ 64 * depth e
+reach-within : (e : Term) → EachPart IsShortPast e → reach e ≤ 64 * depth e
 reach-within (constant bits) h = omega arith
 reach-within (named name) h = omega arith
 reach-within (slice part) h = omega arith
@@ -204,11 +204,11 @@ largest-under f P n go (x ∷ xs) h =
 
 module _ (most : ℕ) where
   abbrev Shallow : Term → Type 0
-  Shallow e = (depth e ≤ most) × Each IsShortPast e
+  Shallow e = (depth e ≤ most) × EachPart IsShortPast e
 
   both :
       (es : List Term) → AllByRecursion (λ e. depth e ≤ most) es →
-      AllByRecursion (Each IsShortPast) es → AllByRecursion Shallow es
+      AllByRecursion (EachPart IsShortPast) es → AllByRecursion Shallow es
   both [] g h = tt
   both (e ∷ es) g h = ((g.0, h.0), both es g.1 h.1)
 

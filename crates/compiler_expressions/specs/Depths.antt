@@ -12,7 +12,7 @@ use Rattle.expressions.specs.declared.operator.Reduction.TheVariants.{OneHot, On
 use Rattle.expressions.specs.Terms.{Term, constant, named, slice, group, concat, inverse, reduce}
 use Rattle.expressions.specs.Terms.{combine, shift, compare, connect, choose, past, change}
 use Rattle.compiler_expressions.specs.Samples.{Held, sample_need, sample_reach}
-use Rattle.compiler_expressions.specs.Laws.{Each, program_terms}
+use Rattle.compiler_expressions.specs.Laws.{EachPart, program_terms}
 
 -- How loosely operators join their operands: 1 to 9 are left operators, from the tightest, 10 is
 -- the condition, and 0 is what needs no brackets anywhere (11.3.2).
@@ -94,4 +94,4 @@ abbrev pub DepthBoundsCode : Type 0
 DepthBoundsCode =
     (es : List Term) (hs : List Held) (most : ℕ) →
     AllByRecursion (λ e. depth e ≤ most) (program_terms es hs) →
-    AllByRecursion (Each IsShortPast) (program_terms es hs) → IsBounded es hs most
+    AllByRecursion (EachPart IsShortPast) (program_terms es hs) → IsBounded es hs most

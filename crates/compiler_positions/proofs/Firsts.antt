@@ -10,9 +10,9 @@ use Rattle.bytecode.specs.declared.flow.Flow.TheVariants.{Stops}
 use Rattle.bytecode.specs.Instructions.{LeadsTo, block_flow}
 use Rattle.bytecode.specs.Values.{SectionData}
 use Rattle.verifier_inference.specs.Rules.{block_rules}
-use Rattle.verifier_inference.specs.Typing.{IsFine, IsTyped}
+use Rattle.verifier_inference.specs.Typing.{IsFine, IsCodeTyped}
 use Rattle.verifier_inference.specs.Sections.{AreTyped, IsSection, size_of}
-use Rattle.machine_sections.specs.Firsts.{first_step, accepting_first, IsPlain, ArePlain}
+use Rattle.machine_sections.specs.Firsts.{first_step, accepting_first, HasNoAcceptFirst, ArePlain}
 use Rattle.machine_sections.proofs.Firsts as firsts
 use Rattle.compiler_positions.specs.Tables.{Edge, Table, table_of}
 use Rattle.compiler_positions.specs.Plans.{plan}
@@ -27,7 +27,7 @@ use Rattle.std.specs.Prelude.{Bool, true, false}
 
 -- ---- the code of edges has no AcceptFirst
 
-plain-append : (xs ys : List BlockInstr) → IsPlain xs → IsPlain ys → IsPlain (xs ++ ys)
+plain-append : (xs ys : List BlockInstr) → HasNoAcceptFirst xs → HasNoAcceptFirst ys → HasNoAcceptFirst (xs ++ ys)
 plain-append [] ys p q = q
 plain-append (Unless atom target ∷ xs) ys p q = plain-append xs ys p q
 plain-append (Enter n ∷ xs) ys p q = plain-append xs ys p q
@@ -35,19 +35,19 @@ plain-append (Accept ∷ xs) ys p q = plain-append xs ys p q
 plain-append (Stop ∷ xs) ys p q = plain-append xs ys p q
 plain-append (AcceptFirst ∷ xs) ys p q = absurd p
 
-guards-plain : (end : ℕ) (ns : List ℕ) → IsPlain (guards end ns)
+guards-plain : (end : ℕ) (ns : List ℕ) → HasNoAcceptFirst (guards end ns)
 guards-plain end [] = tt
 guards-plain end (n ∷ ns) = guards-plain end ns
 
-enters-plain : (qs : List ℕ) → IsPlain (enter_all qs)
+enters-plain : (qs : List ℕ) → HasNoAcceptFirst (enter_all qs)
 enters-plain [] = tt
 enters-plain (q ∷ qs) = enters-plain qs
 
-accept-plain : (b : Bool) → IsPlain (accept_if b)
+accept-plain : (b : Bool) → HasNoAcceptFirst (accept_if b)
 accept-plain true = tt
 accept-plain false = tt
 
-block-plain : (base : ℕ) (es : List (Edge ℕ)) → IsPlain (block_of base es)
+block-plain : (base : ℕ) (es : List (Edge ℕ)) → HasNoAcceptFirst (block_of base es)
 block-plain base [] = tt
 block-plain base (e ∷ es) =
     plain-append (edge_code base e) (block_of (base + edge_size e) es)
@@ -99,8 +99,8 @@ module _ (atoms positions p : ℕ) where
   fine-first end pc Stop h = h
   fine-first end pc AcceptFirst h = h
 
-  typed-first : (base : ℕ) (b : List BlockInstr) → IsTyped (block_rules 2 atoms positions p) base b (λ n. [])
-      → IsTyped (block_rules 2 atoms positions p) base (map first_step b) (λ n. [])
+  typed-first : (base : ℕ) (b : List BlockInstr) → IsCodeTyped (block_rules 2 atoms positions p) base b (λ n. [])
+      → IsCodeTyped (block_rules 2 atoms positions p) base (map first_step b) (λ n. [])
   typed-first base b h =
       let long : length (map first_step b) ≡ length b = length-map b first_step in
       record {

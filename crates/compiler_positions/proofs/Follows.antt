@@ -7,15 +7,16 @@ use Rattle.std.proofs.lemmas.Bool.{cases_lt, and_parts, and_from, or_left, le-le
 use Rattle.std.proofs.lemmas.Nat.Bits.{bit_at-zero, bit_at-lt, same_from_bits}
 use Rattle.machine_definition.specs.Blocks.{Visit, ended}
 use Rattle.assertions.specs.Segments.{sat, Matches}
-use Rattle.assertions.specs.Attempts.{IsOver, every}
+use Rattle.assertions.specs.Attempts.{IsAntecedentOver, every}
 use Rattle.compiler_positions.specs.Plans.{Plan, shape}
-use Rattle.compiler_positions.specs.Tables.{Edge, Table, EachOf, Has, Fires, Enters, Accepts, IsRising, Spells}
+use Rattle.compiler_positions.specs.Tables.{Edge, Table, EachOf, HasNumber, Fires, Enters, Accepts, IsRising}
+use Rattle.compiler_positions.specs.Tables.{NumbersStates}
 use Rattle.compiler_positions.proofs.Ticks.{Left-after, Match-At, At-Match, Match-ends, ends-Match}
-use Rattle.machine_sections.specs.Automata.{Automaton, places, accepts, Follows}
+use Rattle.machine_sections.specs.Automata.{Automaton, places, accepts, AutomatonFollows}
 use Rattle.machine_sections.specs.Effects.{visit_of, automaton_of}
 use Rattle.compiler_positions.proofs.Local.{seen-sat, sat-seen}
 use Rattle.compiler_positions.specs.Sections.{section_of, coded, numbered, with_atom, atoms_of, told}
-use Rattle.compiler_positions.specs.States.{State, Left}
+use Rattle.compiler_positions.specs.States.{PlanState, Left}
 use Rattle.compiler_positions.proofs.Effects.{bits-Has, Has-bits, all_now, made_by, blocks-effects, EnterNow, AcceptNow}
 use Rattle.compiler_positions.proofs.Effects.{by-bit}
 use Rattle.compiler_positions.proofs.Effects.{bit-by, by-accepts, accepts-by, ended-same, made_by-first}
@@ -75,15 +76,17 @@ module _ (B : Type 0) (t : Table B) (rising : IsRising t) (atom : B → Option �
 
   Enter-prow : (i p q : ℕ) → EnterNow (rows i) (prow p) q → Enters value t p i q
   Enter-prow i p q h =
-      SomeOf-each (λ e. (all_now (rows i) (atoms_of atom e.wanted) ≡ true) × Has e.enters q)
-      (λ e. Fires value i e × Has e.enters q) (t.row p) (λ e x. (fires-now i e.wanted x.0, x.1))
-      (SomeOf-map (λ (e : Edge ℕ). (all_now (rows i) e.wanted ≡ true) × Has e.enters q) (numbered atom) (t.row p) h)
+      SomeOf-each (λ e. (all_now (rows i) (atoms_of atom e.wanted) ≡ true) × HasNumber e.enters q)
+      (λ e. Fires value i e × HasNumber e.enters q) (t.row p) (λ e x. (fires-now i e.wanted x.0, x.1))
+      (SomeOf-map (λ (e : Edge ℕ). (all_now (rows i) e.wanted ≡ true) × HasNumber e.enters q) (numbered atom)
+      (t.row p) h)
 
   prow-Enter : (i p q : ℕ) → Enters value t p i q → EnterNow (rows i) (prow p) q
   prow-Enter i p q h =
-      map-SomeOf (λ (e : Edge ℕ). (all_now (rows i) e.wanted ≡ true) × Has e.enters q) (numbered atom) (t.row p)
-      (SomeOf-each (λ e. Fires value i e × Has e.enters q) (λ e. (all_now (rows i) (atoms_of atom e.wanted) ≡ true)
-      × Has e.enters q) (t.row p) (λ e x. (now-fires i e.wanted x.0, x.1)) h)
+      map-SomeOf (λ (e : Edge ℕ). (all_now (rows i) e.wanted ≡ true) × HasNumber e.enters q) (numbered atom) (t.row p)
+      (SomeOf-each (λ e. Fires value i e × HasNumber e.enters q)
+      (λ e. (all_now (rows i) (atoms_of atom e.wanted) ≡ true)
+      × HasNumber e.enters q) (t.row p) (λ e x. (now-fires i e.wanted x.0, x.1)) h)
 
   Accept-prow : (i p : ℕ) → AcceptNow (rows i) (prow p) → Accepts value t p i
   Accept-prow i p h =
@@ -134,7 +137,7 @@ module _ (B : Type 0) (t : Table B) (rising : IsRising t) (atom : B → Option �
 
 -- the section of the positions that may still come to an end
 module _ (B : Type 0) (t : Table B) (up : IsRising t) (atom : B → Option ℕ) (rows : ℕ → List Bool) (r : Plan B)
-    (spells : Spells r t) where
+    (spells : NumbersStates r t) where
   abbrev s : Automaton
   s = a B (sifted t) (sifted-rising B t up) atom rows
 
@@ -160,7 +163,7 @@ module _ (B : Type 0) (t : Table B) (up : IsRising t) (atom : B → Option ℕ) 
       (Accepts-sifted B t up seen (spells.number x.0) (c + k)
       (Stands-kept B t up seen c k (spells.number x.0) stands living) on)
 
-  over-forth : (c k : ℕ) → places s c k ≡ 0 → IsOver seen (every (shape r)) (c + k) c
+  over-forth : (c k : ℕ) → places s c k ≡ 0 → IsAntecedentOver seen (every (shape r)) (c + k) c
   over-forth c k none j past h =
       let holds : B → ℕ → Bool = sat seen (c + k) in
       let x = Match-At B holds r c k j past h in
@@ -175,7 +178,7 @@ module _ (B : Type 0) (t : Table B) (up : IsRising t) (atom : B → Option ℕ) 
       let zeros = ap (λ m. bit_at m n) none in
       omega (arith, bit, zeros, bit_at-zero n)
 
-  over-back : (c k : ℕ) → IsOver seen (every (shape r)) (c + k) c → places s c k ≡ 0
+  over-back : (c k : ℕ) → IsAntecedentOver seen (every (shape r)) (c + k) c → places s c k ≡ 0
   over-back c k over = set-none (places s c k) (λ q bit.
       let holds : B → ℕ → Bool = sat seen (c + k) in
       let stands =
@@ -189,7 +192,7 @@ module _ (B : Type 0) (t : Table B) (up : IsRising t) (atom : B → Option ℕ) 
       (subst (λ p. IsTrue (lives t p)) (sym y.1) f) in
       over rest.0 (Left-after B holds r y.0 (c + k) rest.0 rest.1) (At-Match B holds r c k rest.0 y.0 y.2 rest.1))
 
-  pub section-follows : Follows seen (every (shape r)) s
+  pub section-follows : AutomatonFollows seen (every (shape r)) s
   section-follows = record {
     ends = λ c k. (ends-forth c k, ends-back c k);
     over = λ c k. (over-forth c k, over-back c k);

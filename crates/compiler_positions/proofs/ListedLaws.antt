@@ -7,7 +7,8 @@ use Rattle.std.proofs.lemmas.Bool.{lt-ltb, le-ltb}
 use Rattle.std.proofs.lemmas.List.{append-nil, map-append}
 use Rattle.std.proofs.lemmas.Nat.{div-mul-add, mod-mul-add}
 use Rattle.std.proofs.Math.Nat.{mul-le-mul_right}
-use Rattle.compiler_positions.specs.Tables.{Edge, Table, Has, IsRising, shift, shifted, picked, numbers, tick_table}
+use Rattle.compiler_positions.specs.Tables.{Edge, Table, HasNumber, IsRising, shift, shifted, picked, numbers}
+use Rattle.compiler_positions.specs.Tables.{tick_table}
 use Rattle.compiler_positions.specs.Tables.{any_table, wanting, under_table, onward, leading, joined, fusing, crossing}
 use Rattle.compiler_positions.specs.Tables.{link_table}
 use Rattle.compiler_positions.specs.Tables.{copies, looping, loop_table, products, paired, all_table, coupled}
@@ -257,7 +258,7 @@ module _ (B : Type 0) (atom : B → Option ℕ) where
   past-same t g = ap (λ k. k + g.size) (sym (count t)) ∙ ap (λ k. length (listed atom t).rows + k) (sym (count g))
 
   -- the edges of the first positions
-  firsts-listed : (k : ℕ) (u : Table B) (e : Edge ℕ) (qs : List ℕ) → ((q : ℕ) → Has qs q → q < u.size) →
+  firsts-listed : (k : ℕ) (u : Table B) (e : Edge ℕ) (qs : List ℕ) → ((q : ℕ) → HasNumber qs q → q < u.size) →
       map (joined_data k e) (map num (flat_map u.row qs))
       ≡ flat_map (λ q. map (joined_data k e) (row_at (listed atom u).rows q)) qs
   firsts-listed k u e [] there = refl

@@ -6,9 +6,10 @@ use Rattle.std.proofs.Math.Nat.{mul-le-mul_right}
 use Rattle.std.proofs.lemmas.Nat.{div-mul-add, mod-mul-add, div-add-mod'}
 use Rattle.std.proofs.lemmas.Bool.{lt-ltb, le-ltb, cases_lt, cases_eq, and_parts, and_from}
 use Rattle.compiler_positions.specs.Plans.{Plan, all}
-use Rattle.compiler_positions.specs.States.{State, First, Ends, Steps}
+use Rattle.compiler_positions.specs.States.{PlanState, First, Ends, StepsTo}
 use Rattle.std.specs.List.{flat_map}
-use Rattle.compiler_positions.specs.Tables.{Edge, Table, SomeOf, Has, Fires, Enters, Accepts, Spells, shift, shifted}
+use Rattle.compiler_positions.specs.Tables.{Edge, Table, SomeOf, HasNumber, Fires, Enters, Accepts, NumbersStates}
+use Rattle.compiler_positions.specs.Tables.{shift, shifted}
 use Rattle.compiler_positions.specs.Tables.{picked}
 use Rattle.compiler_positions.specs.Tables.{products, paired, all_table}
 use Rattle.compiler_positions.proofs.Lists.{SomeOf-each, map-SomeOf, SomeOf-append, append-SomeOf, SomeOf-flat}
@@ -18,19 +19,19 @@ use Rattle.compiler_positions.proofs.Lists.{EachOf-append, append-EachOf}
 use Rattle.compiler_positions.proofs.Tables.{EnterIn, AcceptIn, shifted-Enter, Enter-shifted, shifted-Accept}
 use Rattle.compiler_positions.proofs.Tables.{Accept-shifted}
 
-pub Has-products : (size : ℕ) (xs ys : List ℕ) (q : ℕ) → Has (products size xs ys) q → (x : ℕ) × (y : ℕ)
-    × (x * size + y ≡ q) × Has xs x × Has ys y
+pub Has-products : (size : ℕ) (xs ys : List ℕ) (q : ℕ) → HasNumber (products size xs ys) q → (x : ℕ) × (y : ℕ)
+    × (x * size + y ≡ q) × HasNumber xs x × HasNumber ys y
 Has-products size xs ys q h =
     let a =
-    SomeOf-Has (λ x. Has (shift (x * size) ys) q) xs (SomeOf-flat (λ z. z ≡ q) (λ x. shift (x * size) ys) xs h) in
+    SomeOf-Has (λ x. HasNumber (shift (x * size) ys) q) xs (SomeOf-flat (λ z. z ≡ q) (λ x. shift (x * size) ys) xs h) in
     let b = Has-shift (a.0 * size) ys q a.2 in
     (a.0, b.0, b.1, a.1, b.2)
 
-pub products-Has : (size : ℕ) (xs ys : List ℕ) (x y q : ℕ) → x * size + y ≡ q → Has xs x → Has ys y
-    → Has (products size xs ys) q
+pub products-Has : (size : ℕ) (xs ys : List ℕ) (x y q : ℕ) → x * size + y ≡ q → HasNumber xs x → HasNumber ys y
+    → HasNumber (products size xs ys) q
 products-Has size xs ys x y q e hx hy =
     flat-SomeOf (λ z. z ≡ q) (λ x. shift (x * size) ys) xs
-    (Has-SomeOf (λ x. Has (shift (x * size) ys) q) xs x hx (shift-Has (x * size) ys y q e hy))
+    (Has-SomeOf (λ x. HasNumber (shift (x * size) ys) q) xs x hx (shift-Has (x * size) ys y q e hy))
 
 module _ (B : Type 0) (t u : Table B) (holds : B → ℕ → Bool) (i : ℕ) where
   abbrev Enter : ℕ → List (Edge B) → Type 0
@@ -46,8 +47,8 @@ module _ (B : Type 0) (t u : Table B) (holds : B → ℕ → Bool) (i : ℕ) whe
   abbrev Beside : ℕ → Edge B → List (Edge B) → Type 0
   Beside q e fs =
       Fires holds i e
-      × (((x : ℕ) × (y : ℕ) × (x * u.size + y ≡ q) × Has e.enters x × Enter y fs)
-      ⊎ (((x : ℕ) × (t.size * u.size + x ≡ q) × Has e.enters x × Accept fs)
+      × (((x : ℕ) × (y : ℕ) × (x * u.size + y ≡ q) × HasNumber e.enters x × Enter y fs)
+      ⊎ (((x : ℕ) × (t.size * u.size + x ≡ q) × HasNumber e.enters x × Accept fs)
       ⊎ ((y : ℕ) × (t.size * u.size + t.size + y ≡ q) × (e.accepts ≡ true) × Enter y fs)))
 
   paired-Beside : (q : ℕ) (e : Edge B) (fs : List (Edge B)) → Enter q (map (paired t u e) fs) → Beside q e fs
@@ -90,7 +91,7 @@ module _ (B : Type 0) (t u : Table B) (holds : B → ℕ → Bool) (i : ℕ) whe
   pub pair-Enter : (q : ℕ) (es fs : List (Edge B)) → Enter q (pair_rows es fs) → Pairing q es fs
   pair-Enter q [] fs h = absurd h
   pair-Enter q (e ∷ es) fs h =
-      elim (SomeOf-append (λ e. Fires holds i e × Has e.enters q) (map (paired t u e) fs) (pair_rows es fs) h) [
+      elim (SomeOf-append (λ e. Fires holds i e × HasNumber e.enters q) (map (paired t u e) fs) (pair_rows es fs) h) [
         | inl a ↦
             let b = paired-Beside q e fs a in
             elim b.1 [
@@ -117,8 +118,8 @@ module _ (B : Type 0) (t u : Table B) (holds : B → ℕ → Bool) (i : ℕ) whe
 
   pub Enter-pair : (q : ℕ) (es fs : List (Edge B)) → Pairing q es fs → Enter q (pair_rows es fs)
   Enter-pair q es fs (inl h) =
-      pair-each (λ e. Fires holds i e × Has e.enters h.0) (λ f. Fires holds i f × Has f.enters h.1)
-      (λ e. Fires holds i e × Has e.enters q) es fs
+      pair-each (λ e. Fires holds i e × HasNumber e.enters h.0) (λ f. Fires holds i f × HasNumber f.enters h.1)
+      (λ e. Fires holds i e × HasNumber e.enters q) es fs
       (λ e f a b. (
         append-EachOf (λ b. IsTrue (holds b i)) e.wanted f.wanted a.0 b.0,
         append-SomeOf (λ z. z ≡ q) (products u.size e.enters f.enters)
@@ -128,8 +129,8 @@ module _ (B : Type 0) (t u : Table B) (holds : B → ℕ → Bool) (i : ℕ) whe
       ))
       h.3 h.4
   Enter-pair q es fs (inr (inl h)) =
-      pair-each (λ e. Fires holds i e × Has e.enters h.0) (λ f. Fires holds i f × (f.accepts ≡ true))
-      (λ e. Fires holds i e × Has e.enters q) es fs
+      pair-each (λ e. Fires holds i e × HasNumber e.enters h.0) (λ f. Fires holds i f × (f.accepts ≡ true))
+      (λ e. Fires holds i e × HasNumber e.enters q) es fs
       (λ e f a b. (
         append-EachOf (λ b. IsTrue (holds b i)) e.wanted f.wanted a.0 b.0,
         append-SomeOf (λ z. z ≡ q) (products u.size e.enters f.enters)
@@ -142,8 +143,8 @@ module _ (B : Type 0) (t u : Table B) (holds : B → ℕ → Bool) (i : ℕ) whe
       ))
       h.2 h.3
   Enter-pair q es fs (inr (inr h)) =
-      pair-each (λ e. Fires holds i e × (e.accepts ≡ true)) (λ f. Fires holds i f × Has f.enters h.0)
-      (λ e. Fires holds i e × Has e.enters q) es fs
+      pair-each (λ e. Fires holds i e × (e.accepts ≡ true)) (λ f. Fires holds i f × HasNumber f.enters h.0)
+      (λ e. Fires holds i e × HasNumber e.enters q) es fs
       (λ e f a b. (
         append-EachOf (λ b. IsTrue (holds b i)) e.wanted f.wanted a.0 b.0,
         append-SomeOf (λ z. z ≡ q) (products u.size e.enters f.enters)
@@ -181,9 +182,9 @@ module _ (B : Type 0) (t u : Table B) (holds : B → ℕ → Bool) (i : ℕ) whe
       (append-EachOf (λ b. IsTrue (holds b i)) e.wanted f.wanted a.0 b.0, and_from e.accepts f.accepts a.1 b.1))
       he hf
 
-module _ (B : Type 0) (r s : Plan B) (t u : Table B) (sr : Spells r t) (ss : Spells s u) where
+module _ (B : Type 0) (r s : Plan B) (t u : Table B) (sr : NumbersStates r t) (ss : NumbersStates s u) where
   abbrev Both : Type 0
-  Both = (State r × State s) ⊎ (State r ⊎ State s)
+  Both = (PlanState r × PlanState s) ⊎ (PlanState r ⊎ PlanState s)
 
   abbrev grid : ℕ
   grid = t.size * u.size
@@ -250,7 +251,7 @@ module _ (B : Type 0) (r s : Plan B) (t u : Table B) (sr : Spells r t) (ss : Spe
     ]
   ]
 
-  all-rises : (holds : B → ℕ → Bool) (x y : Both) (i : ℕ) → Steps holds (all r s) x i y → all-number x < all-number y
+  all-rises : (holds : B → ℕ → Bool) (x y : Both) (i : ℕ) → StepsTo holds (all r s) x i y → all-number x < all-number y
   unfolding all-number
   all-rises holds (inl x) (inl y) i st =
       let up = sr.rises holds x.0 y.0 i st.0 in
@@ -269,7 +270,7 @@ module _ (B : Type 0) (r s : Plan B) (t u : Table B) (sr : Spells r t) (ss : Spe
   all-rises holds (inr (inr x)) (inr (inr y)) i st = omega (arith, ss.rises holds x y i st)
 
   abbrev NextOf : (B → ℕ → Bool) → Both → ℕ → ℕ → Type 0
-  NextOf holds x i q = (y : Both) × (all-number y ≡ q) × Steps holds (all r s) x i y
+  NextOf holds x i q = (y : Both) × (all-number y ≡ q) × StepsTo holds (all r s) x i y
 
   all-enters : (holds : B → ℕ → Bool) (x : Both) (i q : ℕ) → Enters holds (all_table t u) (all-number x) i q
       ↔ NextOf holds x i q
@@ -374,7 +375,7 @@ module _ (B : Type 0) (r s : Plan B) (t u : Table B) (sr : Spells r t) (ss : Spe
         (Accept-shifted B holds i (grid + t.size) (u.row (ss.number x)) ((ss.accepts holds x i).1 h)),
   )
 
-  all-starts : (q : ℕ) → Has (all_table t u).starts q ↔ ((x : Both) × (all-number x ≡ q) × First (all r s) x)
+  all-starts : (q : ℕ) → HasNumber (all_table t u).starts q ↔ ((x : Both) × (all-number x ≡ q) × First (all r s) x)
   unfolding all-number
   all-starts q = (
     λ h. elim
@@ -406,7 +407,7 @@ module _ (B : Type 0) (r s : Plan B) (t u : Table B) (sr : Spells r t) (ss : Spe
     fro,
   )
     where
-      fro : ((x : Both) × (all-number x ≡ q) × First (all r s) x) → Has (all_table t u).starts q
+      fro : ((x : Both) × (all-number x ≡ q) × First (all r s) x) → HasNumber (all_table t u).starts q
       fro (inl x, e, f) =
           append-SomeOf (λ z. z ≡ q) (products u.size t.starts u.starts)
           (picked u.empty (shift grid t.starts) ++ picked t.empty (shift (grid + t.size) u.starts))
@@ -427,7 +428,7 @@ module _ (B : Type 0) (r s : Plan B) (t u : Table B) (sr : Spells r t) (ss : Spe
           (inr (picked-SomeOf (λ z. z ≡ q) t.empty (shift (grid + t.size) u.starts) (sr.empty.1 f.0)
           (shift-Has (grid + t.size) u.starts (ss.number y) q e ((ss.starts (ss.number y)).1 (y, refl, f.1)))))))
 
-  pub all-spells : Spells (all r s) (all_table t u)
+  pub all-spells : NumbersStates (all r s) (all_table t u)
   all-spells = record {
     number = all-number;
     below = all-below;

@@ -17,13 +17,14 @@ use Rattle.assertions.specs.Emptiness.{admits_empty}
 use Rattle.compiler_positions.specs.Plans.{Plan, tick, skip, any, all, pair, under, loop, link, apart, moving, weighs}
 use Rattle.compiler_positions.specs.Plans.{plan}
 use Rattle.compiler_positions.specs.Living.{is_kept, sifted}
-use Rattle.compiler_positions.specs.States.{State, First}
-use Rattle.compiler_positions.specs.Tables.{Edge, Table, SomeOf, EachOf, Has, Fires, IsRising, table_of, tick_table}
+use Rattle.compiler_positions.specs.States.{PlanState, First}
+use Rattle.compiler_positions.specs.Tables.{Edge, Table, SomeOf, EachOf, HasNumber, Fires, IsRising, table_of}
+use Rattle.compiler_positions.specs.Tables.{tick_table}
 use Rattle.compiler_positions.specs.Tables.{loop_table}
 use Rattle.compiler_positions.specs.Tables.{shift}
 use Rattle.compiler_positions.specs.Sections.{edge_size, numbered, coded, rows_of}
 use Rattle.compiler_positions.specs.Sequences.{atom_of, listed_for, kept_for, at_least_own}
-use Rattle.compiler_positions.specs.Rows.{TableData, IsPlaced, listed, edges_size, rows_size, row_at, joined_data}
+use Rattle.compiler_positions.specs.Rows.{TableData, IsClosedTable, listed, edges_size, rows_size, row_at, joined_data}
 use Rattle.compiler_positions.specs.Rows.{fused_data}
 use Rattle.compiler_positions.specs.Rows.{still_data, tick_data, either_data, during_data, link_data, repeat_data}
 use Rattle.compiler_positions.specs.Rows.{both_data}
@@ -40,7 +41,7 @@ use Rattle.compiler_positions.proofs.ListedLaws.{listed-all, listed-pair}
 
 -- rising tables are placed
 
-Has-EachOf : (P : ℕ → Type 0) (qs : List ℕ) → ((q : ℕ) → Has qs q → P q) → EachOf P qs
+Has-EachOf : (P : ℕ → Type 0) (qs : List ℕ) → ((q : ℕ) → HasNumber qs q → P q) → EachOf P qs
 Has-EachOf P [] each = tt
 Has-EachOf P (q ∷ qs) each = (each q (inl refl), Has-EachOf P qs (λ p has. each p (inr has)))
 
@@ -48,7 +49,7 @@ module _ (B : Type 0) (atom : B → Option ℕ) (t : Table B) (up : IsRising t) 
   abbrev Near : List (Edge ℕ) → Type 0
   Near row = EachOf (λ (e : Edge ℕ). EachOf (λ q. q < t.size) e.enters) row
 
-  row-near : (es : List (Edge B)) → ((q : ℕ) → SomeOf (λ (e : Edge B). Has e.enters q) es → q < t.size)
+  row-near : (es : List (Edge B)) → ((q : ℕ) → SomeOf (λ (e : Edge B). HasNumber e.enters q) es → q < t.size)
       → Near (map (numbered atom) es)
   row-near [] each = tt
   row-near (e ∷ es) each =
@@ -59,7 +60,7 @@ module _ (B : Type 0) (atom : B → Option ℕ) (t : Table B) (up : IsRising t) 
   rows-near p (suc n) within =
       (row-near (t.row p) (λ q has. (up.enters p q (omega arith) has).1), rows-near (p + 1) n (omega arith))
 
-  pub placed : t.size ≤ 127 → IsPlaced (listed atom t)
+  pub placed : t.size ≤ 127 → IsClosedTable (listed atom t)
   placed few =
       let count : length (listed atom t).rows ≡ t.size = rows_of-length (coded atom t) 0 t.size in
       record {
@@ -72,10 +73,10 @@ module _ (B : Type 0) (atom : B → Option ℕ) (t : Table B) (up : IsRising t) 
       }
 
   -- a start with an edge that leads on
-  starts-some : (q : ℕ) → Has t.starts q → 1 ≤ length t.starts
+  starts-some : (q : ℕ) → HasNumber t.starts q → 1 ≤ length t.starts
   starts-some q has = some t.starts has
     where
-      some : (qs : List ℕ) → Has qs q → 1 ≤ length qs
+      some : (qs : List ℕ) → HasNumber qs q → 1 ≤ length qs
       some [] h = absurd h
       some (x ∷ xs) h = omega arith
 
@@ -118,7 +119,7 @@ still-for (intersect r s) still =
 still-for (throughout b r) still =
     still-moving (weighs (throughout b r)) (admits_empty (throughout b r)) (under b (plan One r)) still
 
-pub placed-for : (w : Written Boolean) → IsOrdered w → weight w ≤ 127 → IsPlaced (L w)
+pub placed-for : (w : Written Boolean) → IsOrdered w → weight w ≤ 127 → IsClosedTable (L w)
 placed-for w ordered bound =
     placed Boolean atom_of (table_for w) (rises w) (omega (arith, size-weight One w ordered, bound))
 
@@ -126,9 +127,9 @@ placed-for w ordered bound =
 pub kept-for : (w : Written Boolean) → listed atom_of (sifted (table_for w)) ≡ kept_for w
 kept-for w = listed-sifted Boolean atom_of (table_for w)
 
-pub kept-placed : (w : Written Boolean) → IsOrdered w → weight w ≤ 127 → IsPlaced (kept_for w)
+pub kept-placed : (w : Written Boolean) → IsOrdered w → weight w ≤ 127 → IsClosedTable (kept_for w)
 kept-placed w ordered bound =
-    subst IsPlaced (kept-for w)
+    subst IsClosedTable (kept-for w)
     (placed Boolean atom_of (sifted (table_for w)) (sifted-rising Boolean (table_for w) (rises w))
     (omega (arith, rank-few (is_kept (table_for w)) (table_for w).size, size-weight One w ordered, bound)))
 
@@ -277,20 +278,20 @@ ticks-length least most =
     ap (λ (d : TableData). length d.rows) (sym (made-ticks least most))
     ∙ rows_of-length (coded atom_of (loop_table (tick_table One) least most)) 0 (most * 1) ∙ one
 
-pub ticks-placed : (least most : ℕ) → most ≤ 127 → IsPlaced (repeat_data (tick_data None) least most)
+pub ticks-placed : (least most : ℕ) → most ≤ 127 → IsClosedTable (repeat_data (tick_data None) least most)
 ticks-placed least most few =
     let one : most * 1 ≡ most = omega arith in
-    subst IsPlaced (made-ticks least most)
+    subst IsClosedTable (made-ticks least most)
     (placed Boolean atom_of (loop_table (tick_table One) least most) (ticks-rising least most)
     (omega (arith, one)))
 
-pub still-placed : (empty : Bool) → IsPlaced (still_data empty)
+pub still-placed : (empty : Bool) → IsClosedTable (still_data empty)
 still-placed empty = record { few = omega arith; starts = tt; enters = tt }
 
-pub gap-placed : (least most : ℕ) → most ≤ 127 → IsPlaced (gap_data least most)
+pub gap-placed : (least most : ℕ) → most ≤ 127 → IsClosedTable (gap_data least most)
 gap-placed least zero few = still-placed true
 gap-placed least (suc most) few =
-    subst IsPlaced (sym (gap-some least most)) (ticks-placed (least - 1) (suc most - 1) (omega arith))
+    subst IsClosedTable (sym (gap-some least most)) (ticks-placed (least - 1) (suc most - 1) (omega arith))
 
 pub gap-length : (least most : ℕ) → length (gap_data least most).rows ≤ most
 gap-length least zero = omega arith

@@ -12,9 +12,9 @@ use Rattle.bytecode.specs.declared.block_instr.BlockInstr.TheVariants.{AcceptFir
 use Rattle.bytecode.specs.declared.flow.Flow.TheVariants.{Stops}
 use Rattle.bytecode.specs.Instructions.{LeadsTo, block_flow}
 use Rattle.verifier_inference.specs.Rules.{block_rules}
-use Rattle.verifier_inference.specs.Typing.{IsFine, IsTyped}
+use Rattle.verifier_inference.specs.Typing.{IsFine, IsCodeTyped}
 use Rattle.verifier_inference.specs.Sections.{AreTyped, IsSection}
-use Rattle.compiler_positions.specs.Tables.{Edge, Table, SomeOf, EachOf, Has, IsRising}
+use Rattle.compiler_positions.specs.Tables.{Edge, Table, SomeOf, EachOf, HasNumber, IsRising}
 use Rattle.compiler_positions.specs.Sections.{edge_size, guards, enter_all, accept_if, edge_code, block_of, blocks_of}
 use Rattle.compiler_positions.specs.Sections.{bits, with_atom, atoms_of, numbered, coded, rows_of, section_of}
 use Rattle.compiler_positions.specs.Laws.{IsThere}
@@ -86,7 +86,7 @@ module _ (section atoms positions p end : ℕ) where
   guards-good target pc (n ∷ ns) there within before =
       ((there.0, omega arith, before), guards-good target (pc + 1) ns there.1 (omega arith) before)
 
-  enters-good : (pc : ℕ) (qs : List ℕ) → ((q : ℕ) → Has qs q → (p < q) × (q < positions)) → pc + length qs < end
+  enters-good : (pc : ℕ) (qs : List ℕ) → ((q : ℕ) → HasNumber qs q → (p < q) × (q < positions)) → pc + length qs < end
       → AreGood pc (enter_all qs)
   enters-good pc [] up before = tt
   enters-good pc (q ∷ qs) up before =
@@ -98,7 +98,7 @@ module _ (section atoms positions p end : ℕ) where
   accept-good pc false before = tt
 
   block-good : (base : ℕ) (es : List (Edge ℕ)) → EachOf (λ (e : Edge ℕ). EachOf (λ n. n < atoms) e.wanted) es
-      → ((q : ℕ) → SomeOf (λ (e : Edge ℕ). Has e.enters q) es → (p < q) × (q < positions))
+      → ((q : ℕ) → SomeOf (λ (e : Edge ℕ). HasNumber e.enters q) es → (p < q) × (q < positions))
       → base + length (block_of base es) ≡ end → AreGood base (block_of base es)
   block-good base [] there up ends = (ends, tt)
   block-good base (e ∷ es) there up ends =
@@ -179,8 +179,8 @@ some-at (i ∷ is) (suc k) below = some-at is k (omega arith)
 
 module _ (section atoms positions : ℕ) where
   block-typed : (p base : ℕ) (es : List (Edge ℕ)) → EachOf (λ (e : Edge ℕ). EachOf (λ n. n < atoms) e.wanted) es
-      → ((q : ℕ) → SomeOf (λ (e : Edge ℕ). Has e.enters q) es → (p < q) × (q < positions))
-      → IsTyped (block_rules section atoms positions p) base (block_of base es) (λ n. [])
+      → ((q : ℕ) → SomeOf (λ (e : Edge ℕ). HasNumber e.enters q) es → (p < q) × (q < positions))
+      → IsCodeTyped (block_rules section atoms positions p) base (block_of base es) (λ n. [])
   block-typed p base es there up =
       let code : List BlockInstr = block_of base es in
       let end : ℕ = base + length code in
@@ -207,7 +207,7 @@ module _ (section atoms positions : ℕ) where
 
   blocks-typed : (row : ℕ → List (Edge ℕ)) (p base count : ℕ)
       → ((k : ℕ) → EachOf (λ (e : Edge ℕ). EachOf (λ n. n < atoms) e.wanted) (row k))
-      → ((k q : ℕ) → k < p + count → SomeOf (λ (e : Edge ℕ). Has e.enters q) (row k) → (k < q) × (q < positions))
+      → ((k q : ℕ) → k < p + count → SomeOf (λ (e : Edge ℕ). HasNumber e.enters q) (row k) → (k < q) × (q < positions))
       → AreTyped section atoms positions p base (blocks_of base (rows_of row p count))
   blocks-typed row p base zero there up = tt
   blocks-typed row p base (suc count) there up = (
@@ -220,7 +220,7 @@ pub blocks-length : (row : ℕ → List (Edge ℕ)) (base p count : ℕ) → len
 blocks-length row base p zero = refl
 blocks-length row base p (suc count) = ap suc (blocks-length row (base + length (block_of base (row p))) (p + 1) count)
 
-bits-below : (n : ℕ) (qs : List ℕ) → ((q : ℕ) → Has qs q → q < n) → bits qs < 2 ^ n
+bits-below : (n : ℕ) (qs : List ℕ) → ((q : ℕ) → HasNumber qs q → q < n) → bits qs < 2 ^ n
 bits-below n [] below = pow_pos n
 bits-below n (q ∷ qs) below =
     or_lt n (bits qs) (2 ^ q) (bits-below n qs (λ r has. below r (inr has))) (pow-lt (below q (inl refl)))
@@ -251,6 +251,6 @@ is-section B t rising section atoms atom there =
           (blocks-typed section atoms t.size (coded atom t) 0 0 t.size
           (λ k. edges-there atoms atom (t.row k) (there k))
           (λ k q below has. rising.enters k q (omega arith)
-          (SomeOf-map (λ (e : Edge ℕ). Has e.enters q) (numbered atom) (t.row k) has)));
+          (SomeOf-map (λ (e : Edge ℕ). HasNumber e.enters q) (numbered atom) (t.row k) has)));
       start = subst (λ n. bits t.starts < 2 ^ n) (sym size) (bits-below t.size t.starts (λ q h. rising.starts q h));
     }

@@ -6,8 +6,9 @@ use Rattle.std.specs.List.{list_any, flat_map}
 use Rattle.std.proofs.lemmas.Bool.{cases_Bool, cases_eq, or_cases, or_left, or_right, and_parts, and_from, both_ways}
 use Rattle.std.proofs.lemmas.Bool.{false_from_ne_true, eqb-true, eq-eqb, lt-ltb, ltb-true}
 use Rattle.compiler_positions.specs.Plans.{Plan}
-use Rattle.compiler_positions.specs.States.{State, Steps, Left}
-use Rattle.compiler_positions.specs.Tables.{Edge, Table, SomeOf, EachOf, Has, Fires, Enters, Accepts, IsRising, Spells}
+use Rattle.compiler_positions.specs.States.{PlanState, StepsTo, Left}
+use Rattle.compiler_positions.specs.Tables.{Edge, Table, SomeOf, EachOf, HasNumber, Fires, Enters, Accepts, IsRising}
+use Rattle.compiler_positions.specs.Tables.{NumbersStates}
 use Rattle.compiler_positions.specs.Tables.{picked}
 use Rattle.compiler_positions.specs.Living.{leads, lives_for, lives, is_among, led_to, is_kept, rank, place, sift}
 use Rattle.compiler_positions.specs.Living.{sifted_edge}
@@ -98,7 +99,7 @@ module _ (keeps : ℕ → Bool) where
         ∙ place-rank n p (omega arith) kept
   ]
 
-  sift-Has : (qs : List ℕ) (q : ℕ) → Has (sift keeps qs) q → (x : ℕ) × Has qs x × IsTrue (keeps x)
+  sift-Has : (qs : List ℕ) (q : ℕ) → HasNumber (sift keeps qs) q → (x : ℕ) × HasNumber qs x × IsTrue (keeps x)
       × (rank keeps x ≡ q)
   sift-Has [] q h = absurd h
   sift-Has (x ∷ xs) q h =
@@ -109,7 +110,7 @@ module _ (keeps : ℕ → Bool) where
         | inr a ↦ let k = sift-Has xs q a in (k.0, inr k.1, k.2, k.3)
       ]
 
-  Has-sift : (qs : List ℕ) (x : ℕ) → Has qs x → IsTrue (keeps x) → Has (sift keeps qs) (rank keeps x)
+  Has-sift : (qs : List ℕ) (x : ℕ) → HasNumber qs x → IsTrue (keeps x) → HasNumber (sift keeps qs) (rank keeps x)
   Has-sift [] x h kept = absurd h
   Has-sift (y ∷ ys) x (inl same) kept =
       append-SomeOf (λ z. z ≡ rank keeps x) (picked (keeps y) (rank keeps y ∷ [])) (sift keeps ys)
@@ -129,7 +130,7 @@ any-some p (x ∷ xs) (inl h) = or_left (p x) (list_any p xs) h
 any-some p (x ∷ xs) (inr h) = or_right (p x) (list_any p xs) (any-some p xs h)
 
 -- an edge that leads to what passes
-leads-on : {B : Type 0} (passes : ℕ → Bool) (e : Edge B) (q : ℕ) → Has e.enters q → IsTrue (passes q)
+leads-on : {B : Type 0} (passes : ℕ → Bool) (e : Edge B) (q : ℕ) → HasNumber e.enters q → IsTrue (passes q)
     → IsTrue (leads passes e)
 leads-on passes e q has h =
     or_right e.accepts (list_any passes e.enters)
@@ -137,7 +138,7 @@ leads-on passes e q has h =
 
 leads-from : {B : Type 0} (passes : ℕ → Bool) (es : List (Edge B)) → SomeOf (λ e. IsTrue (leads passes e)) es
     → SomeOf (λ (e : Edge B). e.accepts ≡ true) es
-    ⊎ ((q : ℕ) × SomeOf (λ (e : Edge B). Has e.enters q) es × IsTrue (passes q))
+    ⊎ ((q : ℕ) × SomeOf (λ (e : Edge B). HasNumber e.enters q) es × IsTrue (passes q))
 leads-from passes [] h = absurd h
 leads-from passes (e ∷ es) (inl h) = elim (or_cases e.accepts (list_any passes e.enters) h) [
   | inl a ↦ inl (inl a)
@@ -182,7 +183,7 @@ module _ (B : Type 0) (t : Table B) (up : IsRising t) where
       (some-any (leads (Within n)) (t.row p) c.1))
     where
       each : ((q : ℕ) → IsTrue (Within n q) → t.size ≤ q + m → IsTrue (Within m q)) → (es : List (Edge B))
-          → ((q : ℕ) → SomeOf (λ (e : Edge B). Has e.enters q) es → t.size ≤ q + m)
+          → ((q : ℕ) → SomeOf (λ (e : Edge B). HasNumber e.enters q) es → t.size ≤ q + m)
           → SomeOf (λ e. IsTrue (leads (Within n) e)) es → SomeOf (λ e. IsTrue (leads (Within m) e)) es
       each enough [] late h = absurd h
       each enough (e ∷ es) late (inl h) = elim (or_cases e.accepts (list_any (Within n) e.enters) h) [
@@ -199,7 +200,7 @@ module _ (B : Type 0) (t : Table B) (up : IsRising t) where
   lives-enters holds p i q below h on =
       lives-enough (suc t.size) t.size p
       (living t.size p below
-      (SomeOf-each (λ e. Fires holds i e × Has e.enters q) (λ e. IsTrue (leads (Within t.size) e)) (t.row p)
+      (SomeOf-each (λ e. Fires holds i e × HasNumber e.enters q) (λ e. IsTrue (leads (Within t.size) e)) (t.row p)
       (λ e x. leads-on (Within t.size) e q x.1 on) h))
       (omega arith)
 
@@ -212,8 +213,8 @@ module _ (B : Type 0) (t : Table B) (up : IsRising t) where
       (omega arith)
 
   -- a state with a match left lives
-  module _ (r : Plan B) (spells : Spells r t) where
-    Left-lives-for : (holds : B → ℕ → Bool) (n : ℕ) (x : State r) (i j : ℕ) → t.size ≤ spells.number x + n
+  module _ (r : Plan B) (spells : NumbersStates r t) where
+    Left-lives-for : (holds : B → ℕ → Bool) (n : ℕ) (x : PlanState r) (i j : ℕ) → t.size ≤ spells.number x + n
         → Left holds r x i j → IsTrue (Within n (spells.number x))
     Left-lives-for holds zero x i j le h = absurd (omega (arith, spells.below x))
     Left-lives-for holds (suc n) x i j le h = elim (Left-goes B holds r x i j h) [
@@ -226,17 +227,18 @@ module _ (B : Type 0) (t : Table B) (up : IsRising t) where
           let later = spells.rises holds x a.0 i a.1 in
           let on = Left-lives-for holds n a.0 (i + 1) j (omega (arith, le, later)) a.2 in
           living n (spells.number x) (spells.below x)
-          (SomeOf-each (λ e. Fires holds i e × Has e.enters (spells.number a.0)) (λ e. IsTrue (leads (Within n) e))
+          (SomeOf-each (λ e. Fires holds i e × HasNumber e.enters (spells.number a.0))
+          (λ e. IsTrue (leads (Within n) e))
           (t.row (spells.number x)) (λ e y. leads-on (Within n) e (spells.number a.0) y.1 on)
           ((spells.enters holds x i (spells.number a.0)).1 (a.0, refl, a.1)))
     ]
 
-    pub Left-lives : (holds : B → ℕ → Bool) (x : State r) (i j : ℕ) → Left holds r x i j
+    pub Left-lives : (holds : B → ℕ → Bool) (x : PlanState r) (i j : ℕ) → Left holds r x i j
         → IsTrue (lives t (spells.number x))
     Left-lives holds x i j h = Left-lives-for holds t.size x i j (omega arith) h
 
     -- a state that lives has a match left, where every boolean is true from then on
-    lives-for-Left : (holds : B → ℕ → Bool) (n : ℕ) (x : State r) (i : ℕ)
+    lives-for-Left : (holds : B → ℕ → Bool) (n : ℕ) (x : PlanState r) (i : ℕ)
         → ((b : B) (k : ℕ) → i ≤ k → IsTrue (holds b k)) → IsTrue (Within n (spells.number x))
         → (j : ℕ) × Left holds r x i j
     lives-for-Left holds zero x i free h = cc
@@ -254,7 +256,7 @@ module _ (B : Type 0) (t : Table B) (up : IsRising t) where
               (i + 1, goes-Left B holds r x i (i + 1) (inl (refl, (spells.accepts holds x i).0 on)))
           | inr a ↦
               let on : Enters holds t (spells.number x) i a.0 =
-              SomeOf-each (λ (e : Edge B). Has e.enters a.0) (λ e. Fires holds i e × Has e.enters a.0)
+              SomeOf-each (λ (e : Edge B). HasNumber e.enters a.0) (λ e. Fires holds i e × HasNumber e.enters a.0)
               (t.row (spells.number x)) (λ e y. (fires e, y)) a.1 in
               let y = (spells.enters holds x i a.0).0 on in
               let rest =
@@ -263,7 +265,7 @@ module _ (B : Type 0) (t : Table B) (up : IsRising t) where
               (rest.0, goes-Left B holds r x i rest.0 (inr (y.0, y.2, rest.1)))
         ]
 
-    pub lives-Left : (holds : B → ℕ → Bool) (x : State r) (i : ℕ) → ((b : B) (k : ℕ) → i ≤ k → IsTrue (holds b k))
+    pub lives-Left : (holds : B → ℕ → Bool) (x : PlanState r) (i : ℕ) → ((b : B) (k : ℕ) → i ≤ k → IsTrue (holds b k))
         → IsTrue (lives t (spells.number x)) → (j : ℕ) × Left holds r x i j
     lives-Left holds x i free h = lives-for-Left holds t.size x i free h
 
@@ -271,32 +273,33 @@ module _ (B : Type 0) (t : Table B) (up : IsRising t) where
   abbrev Led : ℕ → List ℕ
   Led n = led_to t.starts t.row n
 
-  led-more : (n m q : ℕ) → n ≤ m → Has (Led n) q → Has (Led m) q
-  led-more n zero q le h = let e : n ≡ 0 = omega arith in subst (λ k. Has (Led k) q) e h
+  led-more : (n m q : ℕ) → n ≤ m → HasNumber (Led n) q → HasNumber (Led m) q
+  led-more n zero q le h = let e : n ≡ 0 = omega arith in subst (λ k. HasNumber (Led k) q) e h
   led-more n (suc m) q le h = elim (cases_eq n (suc m)) [
-    | inl e ↦ subst (λ k. Has (Led k) q) e h
+    | inl e ↦ subst (λ k. HasNumber (Led k) q) e h
     | inr other ↦
         append-SomeOf (λ x. x ≡ q) (Led m) (picked (is_among (Led m) m) (flat_map (λ e. e.enters) (t.row m)))
         (inl (led-more n m q (omega arith) h))
   ]
 
-  Has-among : (qs : List ℕ) (q : ℕ) → Has qs q → IsTrue (is_among qs q)
+  Has-among : (qs : List ℕ) (q : ℕ) → HasNumber qs q → IsTrue (is_among qs q)
   Has-among qs q h =
       any-some (λ x. x == q) qs (SomeOf-each (λ x. x ≡ q) (λ x. IsTrue (x == q)) qs (λ x e. eq-eqb x q e) h)
 
-  led-on : (p q : ℕ) → Has (Led p) p → SomeOf (λ (e : Edge B). Has e.enters q) (t.row p) → Has (Led (suc p)) q
+  led-on : (p q : ℕ) → HasNumber (Led p) p → SomeOf (λ (e : Edge B). HasNumber e.enters q) (t.row p)
+      → HasNumber (Led (suc p)) q
   led-on p q here on =
       append-SomeOf (λ x. x ≡ q) (Led p) (picked (is_among (Led p) p) (flat_map (λ e. e.enters) (t.row p)))
       (inr (picked-SomeOf (λ x. x ≡ q) (is_among (Led p) p) (flat_map (λ e. e.enters) (t.row p))
       (Has-among (Led p) p here)
       (flat-SomeOf (λ x. x ≡ q) (λ (e : Edge B). e.enters) (t.row p) on)))
 
-  Stands-led : (holds : B → ℕ → Bool) (c k q : ℕ) → Stands B t up holds c k q → Has (Led q) q
+  Stands-led : (holds : B → ℕ → Bool) (c k q : ℕ) → Stands B t up holds c k q → HasNumber (Led q) q
   Stands-led holds c zero q h = led-more 0 q q (omega arith) h
   Stands-led holds c (suc k) q h =
       let below = Stands-below B t up holds c k h.0 h.1 in
       let on =
-      SomeOf-each (λ e. Fires holds (c + k) e × Has e.enters q) (λ (e : Edge B). Has e.enters q) (t.row h.0)
+      SomeOf-each (λ e. Fires holds (c + k) e × HasNumber e.enters q) (λ (e : Edge B). HasNumber e.enters q) (t.row h.0)
       (λ e x. x.1) h.2 in
       let later = up.enters h.0 q below on in
       led-more (suc h.0) q q (omega (arith, later.0)) (led-on h.0 q (Stands-led holds c k h.0 h.1) on)
@@ -327,17 +330,19 @@ module _ (B : Type 0) (t : Table B) (up : IsRising t) where
 
   -- an edge of what is kept, and the edge that it was
   sifted-some : (P : Edge B → Type 0) (es : List (Edge B)) (q : ℕ)
-      → SomeOf (λ e. P e × Has (sift (is_kept t) e.enters) q) es → (x : ℕ) × SomeOf (λ e. P e × Has e.enters x) es
+      → SomeOf (λ e. P e × HasNumber (sift (is_kept t) e.enters) q) es → (x : ℕ)
+      × SomeOf (λ e. P e × HasNumber e.enters x) es
       × IsTrue (is_kept t x) × (rank (is_kept t) x ≡ q)
   sifted-some P [] q h = absurd h
   sifted-some P (e ∷ es) q (inl h) =
       let k = sift-Has (is_kept t) e.enters q h.1 in (k.0, inl (h.0, k.1), k.2, k.3)
   sifted-some P (e ∷ es) q (inr h) = let k = sifted-some P es q h in (k.0, inr k.1, k.2, k.3)
 
-  some-sifted : (P : Edge B → Type 0) (es : List (Edge B)) (x : ℕ) → SomeOf (λ e. P e × Has e.enters x) es
-      → IsTrue (is_kept t x) → SomeOf (λ e. P e × Has (sift (is_kept t) e.enters) (rank (is_kept t) x)) es
+  some-sifted : (P : Edge B → Type 0) (es : List (Edge B)) (x : ℕ) → SomeOf (λ e. P e × HasNumber e.enters x) es
+      → IsTrue (is_kept t x) → SomeOf (λ e. P e × HasNumber (sift (is_kept t) e.enters) (rank (is_kept t) x)) es
   some-sifted P es x h on =
-      SomeOf-each (λ e. P e × Has e.enters x) (λ e. P e × Has (sift (is_kept t) e.enters) (rank (is_kept t) x)) es
+      SomeOf-each (λ e. P e × HasNumber e.enters x)
+      (λ e. P e × HasNumber (sift (is_kept t) e.enters) (rank (is_kept t) x)) es
       (λ e a. (a.0, Has-sift (is_kept t) e.enters x a.1 on)) h
 
   pub sifted-rising : IsRising (sifted t)
@@ -349,14 +354,15 @@ module _ (B : Type 0) (t : Table B) (up : IsRising t) where
     enters = λ p q below h.
         let f = from-kept p below in
         let here =
-        SomeOf-map (λ (e : Edge B). Has e.enters q) (sifted_edge (is_kept t)) (t.row (from p)) h in
+        SomeOf-map (λ (e : Edge B). HasNumber e.enters q) (sifted_edge (is_kept t)) (t.row (from p)) h in
         let k =
         sifted-some (λ e. Unit {0}) (t.row (from p)) q
-        (SomeOf-each (λ e. Has (sift (is_kept t) e.enters) q) (λ e. Unit {0} × Has (sift (is_kept t) e.enters) q)
+        (SomeOf-each (λ e. HasNumber (sift (is_kept t) e.enters) q)
+        (λ e. Unit {0} × HasNumber (sift (is_kept t) e.enters) q)
         (t.row (from p)) (λ e x. (tt, x)) here) in
         let later =
         up.enters (from p) k.0 f.0
-        (SomeOf-each (λ (e : Edge B). Unit {0} × Has e.enters k.0) (λ e. Has e.enters k.0) (t.row (from p))
+        (SomeOf-each (λ (e : Edge B). Unit {0} × HasNumber e.enters k.0) (λ e. HasNumber e.enters k.0) (t.row (from p))
         (λ e x. x.1) k.1) in
         let more = rank-below (is_kept t) (from p) k.0 later.0 f.1 in
         let less = rank-below (is_kept t) k.0 t.size later.1 k.2 in
@@ -378,13 +384,13 @@ module _ (B : Type 0) (t : Table B) (up : IsRising t) where
       × Enters holds t (from p) i x × IsTrue (is_kept t x) × (rank (is_kept t) x ≡ q)
   sifted-Enters holds p i q h =
       sifted-some (Fires holds i) (t.row (from p)) q
-      (SomeOf-map (λ (e : Edge B). Fires holds i e × Has e.enters q) (sifted_edge (is_kept t)) (t.row (from p)) h)
+      (SomeOf-map (λ (e : Edge B). Fires holds i e × HasNumber e.enters q) (sifted_edge (is_kept t)) (t.row (from p)) h)
 
   Enters-sifted : (holds : B → ℕ → Bool) (p i x : ℕ) → IsTrue (is_kept t p) → Enters holds t p i x → IsTrue
       (is_kept t x)
       → Enters holds (sifted t) (rank (is_kept t) p) i (rank (is_kept t) x)
   Enters-sifted holds p i x on h also =
-      map-SomeOf (λ (e : Edge B). Fires holds i e × Has e.enters (rank (is_kept t) x)) (sifted_edge (is_kept t))
+      map-SomeOf (λ (e : Edge B). Fires holds i e × HasNumber e.enters (rank (is_kept t) x)) (sifted_edge (is_kept t))
       (t.row (from (rank (is_kept t) p)))
       (some-sifted (Fires holds i) (t.row (from (rank (is_kept t) p))) x
       (subst (λ k. Enters holds t k i x) (sym (from-rank p on)) h) also)
@@ -395,7 +401,7 @@ module _ (B : Type 0) (t : Table B) (up : IsRising t) where
   sifted-Stands holds c zero q h =
       let x = sift-Has (is_kept t) t.starts q h in
       let e : x.0 ≡ from q = sym (from-rank x.0 x.2) ∙ ap from x.3 in
-      subst (λ p. Has t.starts p) e x.1
+      subst (λ p. HasNumber t.starts p) e x.1
   sifted-Stands holds c (suc k) q h =
       let x = sifted-Enters holds h.0 (c + k) q h.2 in
       let e : x.0 ≡ from q = sym (from-rank x.0 x.2) ∙ ap from x.3 in

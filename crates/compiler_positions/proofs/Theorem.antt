@@ -16,7 +16,7 @@ use Rattle.assertions.specs.Emptiness.{admits_empty}
 use Rattle.compiler_positions.specs.Tables.{Table, table_of}
 use Rattle.compiler_positions.proofs.Rising.{rising}
 use Rattle.compiler_positions.proofs.Spelling.{spelling}
-use Rattle.machine_sections.specs.Automata.{Automaton, Follows}
+use Rattle.machine_sections.specs.Automata.{Automaton, AutomatonFollows}
 use Rattle.machine_sections.specs.Effects.{automaton_of}
 use Rattle.compiler_positions.specs.Sections.{coded, told}
 use Rattle.compiler_positions.specs.Laws.{IsThere, Occurs, section_for, SectionFollows, SectionIsWellFormed}
@@ -28,8 +28,9 @@ use Rattle.compiler_positions.proofs.Shapes.{is-section, blocks-length}
 
 -- what follows a sequence follows one that matches the same
 Follows-same : (B : Type 0) (value : B → ℕ → Bool) (r s : Seq B) (a : Automaton)
-    → ((holds : B → ℕ → Bool) (i j : ℕ) → Matches holds r i j ↔ Matches holds s i j) → Follows value (every s) a
-    → Follows value (every r) a
+    → ((holds : B → ℕ → Bool) (i j : ℕ) → Matches holds r i j ↔ Matches holds s i j)
+    → AutomatonFollows value (every s) a
+    → AutomatonFollows value (every r) a
 Follows-same B value r s a same follows = record {
   ends = λ c k. (
     λ h. (same value c (c + k + 1)).1 ((follows.ends c k).0 h),
@@ -116,8 +117,8 @@ module _ (B : Type 0) (true_one : B) (h g : B → ℕ → Bool) where
 
 -- only the booleans that occur count
 Follows-told : (B : Type 0) (true_one : B) (w : Written B) (v value : B → ℕ → Bool) (a : Automaton)
-    → ((k : ℕ) (b : B) → Occurs true_one b w → v b k ≡ value b k) → Follows v (every (kernel true_one w)) a
-    → Follows value (every (kernel true_one w)) a
+    → ((k : ℕ) (b : B) → Occurs true_one b w → v b k ≡ value b k) → AutomatonFollows v (every (kernel true_one w)) a
+    → AutomatonFollows value (every (kernel true_one w)) a
 Follows-told B true_one w v value a told_so follows =
     let forth : (b : B) → Occurs true_one b w → (k : ℕ) → IsTrue (v b k) → IsTrue (value b k) =
     λ b o k x. sym (told_so k b o) ∙ x in

@@ -6,7 +6,7 @@ use Rattle.std.proofs.lemmas.Bool.{cases_eq}
 use Rattle.assertions.specs.Segments.{Matches, Chain}
 use Rattle.assertions.proofs.Segments.{Matches-forward, Chain-forward}
 use Rattle.compiler_positions.specs.Plans.{Plan, tick, skip, any, all, pair, under, loop, link, shape}
-use Rattle.compiler_positions.specs.States.{State, Nullable, First, Ends, Steps, Left, At}
+use Rattle.compiler_positions.specs.States.{PlanState, Nullable, First, Ends, StepsTo, Left, At}
 
 module _ (B : Type 0) (holds : B → ℕ → Bool) where
   -- the two ways of a link
@@ -36,7 +36,7 @@ module _ (B : Type 0) (holds : B → ℕ → Bool) where
   Linked-link false false r g s i j (inr x) = cc
 
   -- what is left takes a tick at least
-  pub Left-after : (r : Plan B) (t : State r) (i j : ℕ) → Left holds r t i j → i < j
+  pub Left-after : (r : Plan B) (t : PlanState r) (i j : ℕ) → Left holds r t i j → i < j
   Left-after (tick b) t i j h = omega (arith, h.0)
   Left-after skip t i j h = absurd h
   Left-after (any r s) (inl p) i j h = Left-after r p i j h
@@ -88,7 +88,7 @@ module _ (B : Type 0) (holds : B → ℕ → Bool) where
 
   -- a match is empty, or begins with a first state
   abbrev pub Begins : (r : Plan B) (i j : ℕ) → Type 0
-  Begins r i j = ((i ≡ j) × Nullable r) ⊎ ((t : State r) × First r t × Left holds r t i j)
+  Begins r i j = ((i ≡ j) × Nullable r) ⊎ ((t : PlanState r) × First r t × Left holds r t i j)
 
   -- what is left of a chain, with a match in front
   Chain-front : (P : ℕ → ℕ → Type 0) (n i m j : ℕ) → P i m → Chain P n m j → Chain P (suc n) i j
@@ -105,7 +105,7 @@ module _ (B : Type 0) (holds : B → ℕ → Bool) where
   -- a chain is empty, or so many empty matches, and then one that begins with a first state
   Chain-begins : (r : Plan B) → ((i j : ℕ) → Matches holds (shape r) i j → Begins r i j) → (n i j : ℕ)
       → Chain (Matches holds (shape r)) n i j → ((i ≡ j) × ((n ≡ 0) ⊎ Nullable r))
-      ⊎ ((c : ℕ) × (p : State r) × (m : ℕ) × (k : ℕ) × (c + 1 + k ≡ n) × ((c ≡ 0) ⊎ Nullable r) × First r p
+      ⊎ ((c : ℕ) × (p : PlanState r) × (m : ℕ) × (k : ℕ) × (c + 1 + k ≡ n) × ((c ≡ 0) ⊎ Nullable r) × First r p
       × Left holds r p i m × Chain (Matches holds (shape r)) k m j)
   Chain-begins r begins zero i j h = inl (h, inl refl)
   Chain-begins r begins (suc n) i j h =
@@ -200,7 +200,7 @@ module _ (B : Type 0) (holds : B → ℕ → Bool) where
       ]
 
   -- what is left from a first state is a match
-  First-Match : (r : Plan B) (t : State r) (i j : ℕ) → First r t → Left holds r t i j → Matches holds (shape r) i j
+  First-Match : (r : Plan B) (t : PlanState r) (i j : ℕ) → First r t → Left holds r t i j → Matches holds (shape r) i j
   First-Match (tick b) t i j f h = h
   First-Match skip t i j f h = absurd h
   First-Match (any r s) (inl p) i j f h = inl (First-Match r p i j f h)
@@ -240,11 +240,12 @@ module _ (B : Type 0) (holds : B → ℕ → Bool) where
   ]
 
   -- a tick: the state ends a match, or goes on to a state that does
-  abbrev pub Goes : (r : Plan B) (t : State r) (i j : ℕ) → Type 0
-  Goes r t i j = ((j ≡ i + 1) × Ends holds r t i) ⊎ ((u : State r) × Steps holds r t i u × Left holds r u (i + 1) j)
+  abbrev pub Goes : (r : Plan B) (t : PlanState r) (i j : ℕ) → Type 0
+  Goes r t i j = ((j ≡ i + 1) × Ends holds r t i) ⊎
+      ((u : PlanState r) × StepsTo holds r t i u × Left holds r u (i + 1) j)
 
   -- what is left goes on so
-  pub Left-goes : (r : Plan B) (t : State r) (i j : ℕ) → Left holds r t i j → Goes r t i j
+  pub Left-goes : (r : Plan B) (t : PlanState r) (i j : ℕ) → Left holds r t i j → Goes r t i j
   Left-goes (tick b) t i j h = inl h
   Left-goes skip t i j h = absurd h
   Left-goes (any r s) (inl p) i j h = elim (Left-goes r p i j h) [ inl a ↦ inl a | inr a ↦ inr (inl a.0, a.1, a.2) ]
@@ -368,7 +369,7 @@ module _ (B : Type 0) (holds : B → ℕ → Bool) where
       elim (Left-goes s t i j h) [ inl b ↦ inl b | inr b ↦ inr (inr (inr b.0), b.1, b.2) ]
 
   -- what goes on so is left
-  pub goes-Left : (r : Plan B) (t : State r) (i j : ℕ) → Goes r t i j → Left holds r t i j
+  pub goes-Left : (r : Plan B) (t : PlanState r) (i j : ℕ) → Goes r t i j → Left holds r t i j
   goes-Left (tick b) t i j (inl a) = a
   goes-Left (tick b) t i j (inr a) = absurd a.1
   goes-Left skip t i j h = absurd t
@@ -510,7 +511,8 @@ module _ (B : Type 0) (holds : B → ℕ → Bool) where
   goes-Left (link f a r g s) (inr (inr t)) i j (inr (inr (inr u), st, le)) = goes-Left s t i j (inr (u, st, le))
 
   -- a match that goes on past n ticks stands in a state there
-  pub Match-At : (r : Plan B) (c n j : ℕ) → c + n < j → Matches holds (shape r) c j → (t : State r) × At holds r c n t
+  pub Match-At : (r : Plan B) (c n j : ℕ) → c + n < j → Matches holds (shape r) c j → (t : PlanState r)
+      × At holds r c n t
       × Left holds r t (c + n) j
   Match-At r c zero j past h = elim (Match-begins r c j h) [
     | inl a ↦ absurd (omega (arith, a.0))
@@ -525,7 +527,7 @@ module _ (B : Type 0) (holds : B → ℕ → Bool) where
             (a.0, (before.0, before.1, a.1), subst (λ k. Left holds r a.0 k j) e a.2)
       ]
 
-  pub At-Match : (r : Plan B) (c n j : ℕ) (t : State r) → At holds r c n t → Left holds r t (c + n) j
+  pub At-Match : (r : Plan B) (c n j : ℕ) (t : PlanState r) → At holds r c n t → Left holds r t (c + n) j
       → Matches holds (shape r) c j
   At-Match r c zero j t at h =
       let e : c + 0 ≡ c = omega arith in First-Match r t c j at (subst (λ k. Left holds r t k j) e h)
@@ -534,7 +536,7 @@ module _ (B : Type 0) (holds : B → ℕ → Bool) where
       At-Match r c n j at.0 at.1 (goes-Left r at.0 (c + n) j (inr (t, at.2, subst (λ k. Left holds r t k j) e h)))
 
   -- a match ends at a tick where a state ends one there
-  pub Match-ends : (r : Plan B) (c n : ℕ) → Matches holds (shape r) c (c + n + 1) → (t : State r) × At holds r c n t
+  pub Match-ends : (r : Plan B) (c n : ℕ) → Matches holds (shape r) c (c + n + 1) → (t : PlanState r) × At holds r c n t
       × Ends holds r t (c + n)
   Match-ends r c n h =
       let here = Match-At r c n (c + n + 1) (omega arith) h in
@@ -543,6 +545,6 @@ module _ (B : Type 0) (holds : B → ℕ → Bool) where
         | inr a ↦ absurd (omega (arith, Left-after r a.0 (c + n + 1) (c + n + 1) a.2))
       ]
 
-  pub ends-Match : (r : Plan B) (c n : ℕ) (t : State r) → At holds r c n t → Ends holds r t (c + n)
+  pub ends-Match : (r : Plan B) (c n : ℕ) (t : PlanState r) → At holds r c n t → Ends holds r t (c + n)
       → Matches holds (shape r) c (c + n + 1)
   ends-Match r c n t at ends = At-Match r c n (c + n + 1) t at (goes-Left r t (c + n) (c + n + 1) (inl (refl, ends)))

@@ -6,7 +6,7 @@ use Rattle.verifier_inference.specs.Sections.{IsSection, size_of}
 use Rattle.assertions.specs.declared.sequence.Boolean.{Boolean}
 use Rattle.assertions.specs.Written.{Written, boolean, delay, lead, repeat, or, and, intersect}
 use Rattle.assertions.specs.Written.{throughout, kernel, weight, IsOrdered}
-use Rattle.machine_sections.specs.Automata.{Follows}
+use Rattle.machine_sections.specs.Automata.{AutomatonFollows}
 use Rattle.machine_sections.specs.Effects.{automaton_of}
 use Rattle.machine_sections.specs.Firsts.{accepting_first}
 use Rattle.assertions.specs.Segments.{Matches}
@@ -29,9 +29,9 @@ Occurs true_one b (intersect r s) = Occurs true_one b r ⊎ Occurs true_one b s
 Occurs true_one b (throughout c r) = (c ≡ b) ⊎ Occurs true_one b r
 
 -- The atoms of each tick tell the booleans that occur.
-abbrev pub Tells :
+abbrev pub TellBooleans :
     {B : Type 0} → (B → Option ℕ) → (ℕ → List Bool) → (B → ℕ → Bool) → B → Written B → Type 0
-Tells {B} atom rows value true_one w =
+TellBooleans {B} atom rows value true_one w =
     (k : ℕ) (b : B) → Occurs true_one b w → told (atom b) (rows k) ≡ value b k
 
 -- an atom that a boolean has is there
@@ -53,8 +53,9 @@ abbrev pub SectionFollows : Type 0
 SectionFollows =
     (atom : Boolean → Option ℕ) (true_one : Boolean) (rows : ℕ → List Bool)
     (value : Boolean → ℕ → Bool) (w : Written Boolean) →
-    IsOrdered w → Tells atom rows value true_one w →
-    Follows value (every (kernel true_one w)) (automaton_of (section_for atom true_one w) rows)
+    IsOrdered w → TellBooleans atom rows value true_one w →
+    AutomatonFollows value (every (kernel true_one w))
+    (automaton_of (section_for atom true_one w) rows)
 
 -- It is well formed, as whichever section of a program that has an atom for each boolean.
 abbrev pub SectionIsWellFormed : Type 0
@@ -105,9 +106,9 @@ abbrev pub SectionFollowsFirst : Type 0
 SectionFollowsFirst =
     (atom : Boolean → Option ℕ) (true_one : Boolean) (rows : ℕ → List Bool)
     (value : Boolean → ℕ → Bool) (w : Written Boolean) →
-    IsOrdered w → Tells atom rows value true_one w →
+    IsOrdered w → TellBooleans atom rows value true_one w →
     ((e : ℕ) → Matches value (kernel true_one w) e e → ⊥) →
-    Follows value (first_match (kernel true_one w))
+    AutomatonFollows value (first_match (kernel true_one w))
     (automaton_of (accepting_first (section_for atom true_one w)) rows)
 
 -- A well formed antecedent stays so with AcceptFirst in place of Accept, and is as long.

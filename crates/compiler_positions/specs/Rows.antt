@@ -253,7 +253,7 @@ sift_data t = record {
 }
 
 -- Few positions, and what is entered is there.
-pub record IsPlaced (d : TableData) : Type 0 where
+pub record IsClosedTable (d : TableData) : Type 0 where
   pub few : length d.rows ≤ 127
   pub starts : EachOf (λ q. q < length d.rows) d.starts
   pub enters :

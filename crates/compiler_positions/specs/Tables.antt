@@ -4,7 +4,7 @@ use Rattle.std.specs.Prelude.{nat_lt, nat_le, min, Bool, true, false, ◌&&◌, 
 use Rattle.std.specs.Prelude.{if◌then◌else◌, List, [], ◌∷◌, ◌++◌, map}
 use Rattle.std.specs.List.{flat_map}
 use Rattle.compiler_positions.specs.Plans.{Plan, tick, skip, any, all, pair, under, loop, link}
-use Rattle.compiler_positions.specs.States.{State, First, Ends, Steps, Nullable}
+use Rattle.compiler_positions.specs.States.{PlanState, First, Ends, StepsTo, Nullable}
 
 -- What a position may do at a tick: where each wanted boolean is true, it goes on to each of these,
 -- and accepts or not.
@@ -28,8 +28,8 @@ abbrev pub EachOf : {A : Type 0} → (A → Type 0) → List A → Type 0
 EachOf P [] = Unit {0}
 EachOf P (x ∷ xs) = P x × EachOf P xs
 
-abbrev pub Has : List ℕ → ℕ → Type 0
-Has xs q = SomeOf (λ x. x ≡ q) xs
+abbrev pub HasNumber : List ℕ → ℕ → Type 0
+HasNumber xs q = SomeOf (λ x. x ≡ q) xs
 
 -- each boolean that the edge wants is true at tick i
 abbrev pub Fires : {B : Type 0} → (B → ℕ → Bool) → ℕ → Edge B → Type 0
@@ -37,28 +37,28 @@ Fires holds i e = EachOf (λ b. IsTrue (holds b i)) e.wanted
 
 -- at tick i position p goes on to q; it accepts
 abbrev pub Enters : {B : Type 0} → (B → ℕ → Bool) → Table B → ℕ → ℕ → ℕ → Type 0
-Enters holds t p i q = SomeOf (λ e. Fires holds i e × Has e.enters q) (t.row p)
+Enters holds t p i q = SomeOf (λ e. Fires holds i e × HasNumber e.enters q) (t.row p)
 
 abbrev pub Accepts : {B : Type 0} → (B → ℕ → Bool) → Table B → ℕ → ℕ → Type 0
 Accepts holds t p i = SomeOf (λ e. Fires holds i e × (e.accepts ≡ true)) (t.row p)
 
 -- Edges lead to later positions.
 pub record IsRising {B : Type 0} (t : Table B) : Type 0 where
-  pub starts : (q : ℕ) → Has t.starts q → q < t.size
-  pub enters : (p q : ℕ) → p < t.size → SomeOf (λ (e : Edge B). Has e.enters q) (t.row p) →
+  pub starts : (q : ℕ) → HasNumber t.starts q → q < t.size
+  pub enters : (p q : ℕ) → p < t.size → SomeOf (λ (e : Edge B). HasNumber e.enters q) (t.row p) →
       (p < q) × (q < t.size)
 
 -- The table's positions are the plan's states by their numbers.
-pub record Spells {B : Type 0} (r : Plan B) (t : Table B) : Type 0 where
-  pub number : State r → ℕ
-  pub below : (x : State r) → number x < t.size
-  pub state : (p : ℕ) → p < t.size → (x : State r) × (number x ≡ p)
-  pub rises : (holds : B → ℕ → Bool) (x y : State r) (i : ℕ) →
-      Steps holds r x i y → number x < number y
-  pub starts : (q : ℕ) → Has t.starts q ↔ ((x : State r) × (number x ≡ q) × First r x)
-  pub enters : (holds : B → ℕ → Bool) (x : State r) (i q : ℕ) →
-      Enters holds t (number x) i q ↔ ((y : State r) × (number y ≡ q) × Steps holds r x i y)
-  pub accepts : (holds : B → ℕ → Bool) (x : State r) (i : ℕ) →
+pub record NumbersStates {B : Type 0} (r : Plan B) (t : Table B) : Type 0 where
+  pub number : PlanState r → ℕ
+  pub below : (x : PlanState r) → number x < t.size
+  pub state : (p : ℕ) → p < t.size → (x : PlanState r) × (number x ≡ p)
+  pub rises : (holds : B → ℕ → Bool) (x y : PlanState r) (i : ℕ) →
+      StepsTo holds r x i y → number x < number y
+  pub starts : (q : ℕ) → HasNumber t.starts q ↔ ((x : PlanState r) × (number x ≡ q) × First r x)
+  pub enters : (holds : B → ℕ → Bool) (x : PlanState r) (i q : ℕ) →
+      Enters holds t (number x) i q ↔ ((y : PlanState r) × (number y ≡ q) × StepsTo holds r x i y)
+  pub accepts : (holds : B → ℕ → Bool) (x : PlanState r) (i : ℕ) →
       Accepts holds t (number x) i ↔ Ends holds r x i
   pub empty : IsTrue t.empty ↔ Nullable r
 

@@ -27,8 +27,8 @@ abbrev pub rows_data : List (Vec code.Edge Global) → List (List (Edge ℕ))
 rows_data rows = map row_data rows
 
 -- What edges enter is below a number.
-abbrev pub IsBelow : ℕ → code.Edge → Type 0
-IsBelow n e = All (λ q. q < n) e.enters.items
+abbrev pub EntersBelow : ℕ → code.Edge → Type 0
+EntersBelow n e = All (λ q. q < n) e.enters.items
 
-abbrev pub AreBelow : ℕ → List code.Edge → Type 0
-AreBelow n es = All (IsBelow n) es
+abbrev pub EnterBelow : ℕ → List code.Edge → Type 0
+EnterBelow n es = All (EntersBelow n) es

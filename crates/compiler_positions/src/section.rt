@@ -7,7 +7,7 @@ ghost use Rattle.assertions.specs.declared.sequence.Boolean.TheVariants.{One};
 ghost use Rattle.assertions.specs.Written.{weight, IsOrdered};
 ghost use Rattle.assertions.specs.Shapes.{written_form};
 ghost use Rattle.assertions.specs.Listed.{EachBoolean, IsListed};
-ghost use Rattle.compiler_positions.specs.Rows.{IsPlaced};
+ghost use Rattle.compiler_positions.specs.Rows.{IsClosedTable};
 ghost use Rattle.compiler_positions.specs.Sections.{bits};
 ghost use Rattle.compiler_positions.specs.Sequences.{atom_of, largest, coded_section};
 ghost use Rattle.compiler_positions.specs.Laws.{section_for};
@@ -40,7 +40,7 @@ const LONGEST: usize = 4096;
 
 /// The section of a table.
 fn section_at(alloc: Global, table: &Table) -> Result<Section, SectionFault>
-    requires { IsPlaced table.now }
+    requires { IsClosedTable table.now }
     ensures made { IfOk result (λ s. section_data s ≡ coded_section table.now) }
     ensures short { IfOk result (λ s. size_of (section_data s).blocks ≤ 4096) }
     ensures err { IfErr result (λ fault. fault ≡ TooLong

@@ -41,14 +41,14 @@ is_always_shown (Counter place) = true
 is_always_shown (Listed place) = false
 
 -- what a cell says of a value
-abbrev pub Says : Bool → Option ℕ → ℕ → Type 0
-Says always None value = always ≡ false
-Says always (Some shown) value = shown ≡ value
+abbrev pub CellSays : Bool → Option ℕ → ℕ → Type 0
+CellSays always None value = always ≡ false
+CellSays always (Some shown) value = shown ≡ value
 
 -- There is a cell for each clock. It has the value at the clock, or none where that need not be
 -- shown.
 abbrev pub ShowsValues : (ℕ → ℕ) → Bool → List ℕ → List (Option ℕ) → Type 0
-ShowsValues value always = AllZip (λ clock cell. Says always cell (value clock))
+ShowsValues value always = AllZip (λ clock cell. CellSays always cell (value clock))
 
 -- the cells of a row of an assertion
 abbrev pub ShowsSource : Suite → Assertion → Rows → List ℕ → RowSource → List (Option ℕ) → Type 0
@@ -56,7 +56,7 @@ ShowsSource suite a rows clocks source cells =
     ShowsValues (value_of_row suite a rows source) (is_always_shown source) clocks cells
 
 -- A row shows the values of its source.
-pub record IsRowOf (suite : Suite) (a : Assertion) (rows : Rows) (clocks : List ℕ)
+pub record IsShownRow (suite : Suite) (a : Assertion) (rows : Rows) (clocks : List ℕ)
     (source : RowSource) (row : SheetRow) : Type 0 where
   pub source_is : row.source ≡ source
   pub shows : ShowsSource suite a rows clocks source row.cells.items
@@ -64,7 +64,7 @@ pub record IsRowOf (suite : Suite) (a : Assertion) (rows : Rows) (clocks : List 
 -- There is a row for each source.
 abbrev pub ShowsRows :
     Suite → Assertion → Rows → List ℕ → List RowSource → List SheetRow → Type 0
-ShowsRows suite a rows clocks = AllZip (IsRowOf suite a rows clocks)
+ShowsRows suite a rows clocks = AllZip (IsShownRow suite a rows clocks)
 
 -- the booleans of so many places
 abbrev pub listed_below : ℕ → List RowSource

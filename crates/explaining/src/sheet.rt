@@ -2,7 +2,8 @@
 
 ghost use Rattle.std.specs.Prelude.{◌≡◌, ◌++◌, ◌<◌, ◌≤◌, ◌^◌, IfOk, OnOk, map, length};
 ghost use Rattle.explaining.specs.declared.cells.RowSource.TheVariants.{Signal, Counter};
-ghost use Rattle.explaining.specs.Shown.{IsRowOf, ShowsRows, ArePlaces, AreSources, listed_below};
+ghost use Rattle.explaining.specs.Shown.{IsShownRow, ShowsRows, ArePlaces, AreSources};
+ghost use Rattle.explaining.specs.Shown.{listed_below};
 ghost use Rattle.explaining.specs.Shown.{IsSheet};
 
 use crate::asked::{Asked, Attempt};
@@ -182,7 +183,7 @@ fn row_of(
     source: RowSource,
     clocks: &[usize],
 ) -> Result<SheetRow, AllocError>
-    ensures { IfOk result (IsRowOf read.now.suite.now read.now.assertion.now
+    ensures { IfOk result (IsShownRow read.now.suite.now read.now.assertion.now
         read.now.rows.now clocks.now source) }
 {
     let label = label_of(alloc, read, names, source)?;

@@ -8,7 +8,7 @@ ghost use Rattle.assertions.specs.Shapes.{shape};
 ghost use Rattle.assertions.specs.Verdicts.{antecedent_of};
 ghost use Rattle.judging.specs.Tables.{marks, links, HasSeen};
 ghost use Rattle.judging.specs.Courses.{value_over};
-ghost use Rattle.judging.specs.Causes.{IsCause, IsPlaced};
+ghost use Rattle.judging.specs.Causes.{IsCause, IsEndTick};
 
 use crate::row::some_mark;
 use crate::seen::{Seen, values_at};
@@ -76,7 +76,7 @@ fn ticks_with_end(
 ) -> Result<Vec<usize>, AllocError>
     requires { start + below < 2 ^ 64 }
     ensures { IfOk result (λ ticks. (tick : ℕ)
-        → Contains ticks.items tick ↔ IsPlaced ends.now start below tick) }
+        → Contains ticks.items tick ↔ IsEndTick ends.now start below tick) }
 {
     let mut ticks = Vec::new(alloc);
     for place in 0..below {

@@ -25,16 +25,17 @@ use Rattle.verifier.specs.Programs.{IsAccepted}
 use Rattle.machine_definition.specs.Outcomes.{Meets}
 use Rattle.machine_definition.specs.Samples.{nothing_made}
 use Rattle.machine_definition.specs.Machine.{sample_of, stored}
-use Rattle.machine_sections.specs.History.{row_at, rows_at, held, IsMadeOf, SamplesAs}
+use Rattle.machine_sections.specs.History.{row_at, rows_at, held, IsSampleMade, SamplesAs}
 use Rattle.machine_sections.proofs.Histories.{reads}
 use Rattle.laws_programs.specs.LineLaws.{row_of}
 use Rattle.compiler_expressions.specs.Codes.{slot_of}
 use Rattle.compiler_expressions.specs.Samples.{Held, held_slot}
-use Rattle.compiler_expressions.specs.Laws.{Each, OfName, HasSlot, IsNarrow, Tells, TellsNames, IsFrame, AreTold}
+use Rattle.compiler_expressions.specs.Laws.{EachPart, OfName, HasSlot, IsNarrow, TellsSlot, TellsNames, IsFrame}
+use Rattle.compiler_expressions.specs.Laws.{AreTold}
 use Rattle.compiler_expressions.specs.Laws.{program_terms}
 use Rattle.compiler_expressions.proofs.Accepted.{samples-tell}
-use Rattle.compiler.specs.Programs.{HoldsAt, HoldsName, IsSampled, IsSlotOf, IsProgramOf}
-use Rattle.laws_programs.specs.Laws.{AreRowsOf, picked}
+use Rattle.compiler.specs.Programs.{HoldsAt, HoldsName, IsSampledIn, IsSlotOf, IsProgramOf}
+use Rattle.laws_programs.specs.Laws.{AreSuiteRows, picked}
 use Rattle.compiler.proofs.ListLaws.{some-one, zip-at, zip-long, all-at, all-by-places, all-more, map-twice, all-zeros}
 use Rattle.compiler.proofs.ListLaws.{signal-slot, counter-slot, by-index}
 use Rattle.laws_programs.proofs.SampleLaws.{same-run}
@@ -42,14 +43,14 @@ use Rattle.compiler.proofs.Frames.{each-more, of-name-more, frame}
 
 -- a slot that holds at each tick what is told of it
 tells : (row : ℕ → List ℕ) (k slot : ℕ) (value : ℕ → ℕ) → ((j : ℕ) → j ≤ k → slice_index (row j) slot ≡ value j)
-    → Tells (held row k) k slot value
+    → TellsSlot (held row k) k slot value
 tells row k slot value each = record {
   seen = λ back le. rw (le-leb back k le) (each (k - back) (omega arith));
   before = λ back lt. rw (lt-leb back k lt) refl;
 }
 
 module _ (suite : Suite) (a : Assertion) (p : ProgramData) (of : IsProgramOf suite a p) (rows : List (List ℕ))
-    (fit : AreRowsOf suite rows) where
+    (fit : AreSuiteRows suite rows) where
   abbrev pub t : Samples
   t = counter_samples (column rows) suite.counters.items
 
@@ -86,9 +87,9 @@ module _ (suite : Suite) (a : Assertion) (p : ProgramData) (of : IsProgramOf sui
       h is)
 
   tells-at : (k : ℕ) → k < length rows → (o : Origin) (place width : ℕ) → HoldsAt suite of.layout o place width →
-      Tells (held (row_at signals counters) k) k (of.at o place) (λ j. sample_at t o place j % 2 ^ width)
+      TellsSlot (held (row_at signals counters) k) k (of.at o place) (λ j. sample_at t o place j % 2 ^ width)
   tells-at k below Signal place width h =
-      subst (λ s. Tells (held (row_at signals counters) k) k s (λ j. cell rows j place % 2 ^ width))
+      subst (λ s. TellsSlot (held (row_at signals counters) k) k s (λ j. cell rows j place % 2 ^ width))
       (sym (of.laid.signals h.slot place h.held))
       (tells (row_at signals counters) k (1 + h.slot) (λ j. cell rows j place % 2 ^ width) (λ j le.
       signal-held j h.slot place (omega (arith, below, le)) h.held
@@ -96,8 +97,9 @@ module _ (suite : Suite) (a : Assertion) (p : ProgramData) (of : IsProgramOf sui
   tells-at k below Counter place width h =
       let slot = of.laid.counters h.slot h.counter h.held in
       let fits = (counts_by_rule (column rows) suite.counters.items).fits in
-      subst (λ q. Tells (held (row_at signals counters) k) k (of.at Counter q) (λ j. t.counter_at q j % 2 ^ width)) h.is
-      (subst (λ s. Tells (held (row_at signals counters) k) k s (λ j. t.counter_at h.counter.place j % 2 ^ width))
+      subst (λ q. TellsSlot (held (row_at signals counters) k) k (of.at Counter q)
+      (λ j. t.counter_at q j % 2 ^ width)) h.is
+      (subst (λ s. TellsSlot (held (row_at signals counters) k) k s (λ j. t.counter_at h.counter.place j % 2 ^ width))
       (sym slot)
       (tells (row_at signals counters) k (1 + (length of.layout.signals + h.slot))
       (λ j. t.counter_at h.counter.place j % 2 ^ width) (λ j le.
@@ -111,12 +113,12 @@ module _ (suite : Suite) (a : Assertion) (p : ProgramData) (of : IsProgramOf sui
   told k below = record {
     ticks = tells (row_at signals counters) k 0 (λ j. 1) (λ j le. refl);
     names =
-        all-more (Each (IsSampled suite of.layout)) (TellsNames t of.at (held (row_at signals counters) k) k)
+        all-more (EachPart (IsSampledIn suite of.layout)) (TellsNames t of.at (held (row_at signals counters) k) k)
         (program_terms (map term_of of.booleans) of.layout.counters)
-        (each-more (IsSampled suite of.layout)
-        (OfName (λ name. Tells (held (row_at signals counters) k) k (slot_of of.at name) (name_at t name)))
+        (each-more (IsSampledIn suite of.layout)
+        (OfName (λ name. TellsSlot (held (row_at signals counters) k) k (slot_of of.at name) (name_at t name)))
         (λ e s. of-name-more (HoldsName suite of.layout)
-        (λ name. Tells (held (row_at signals counters) k) k (slot_of of.at name) (name_at t name))
+        (λ name. TellsSlot (held (row_at signals counters) k) k (slot_of of.at name) (name_at t name))
         (λ name h. tells-at k below name.origin name.place name.width h) e s.name))
         of.sampled;
     counts =
@@ -160,7 +162,7 @@ module _ (suite : Suite) (a : Assertion) (p : ProgramData) (of : IsProgramOf sui
         ∙ ap (λ n. replicate n 0)
         (sym (ap length of.widths ∙ length-map of.layout.counters (λ (h : Held). h.counter.width)));
     each = λ k below.
-        subst (Meets (λ made left. IsMadeOf (counters k) (atoms k) (counters (k + 1)) made))
+        subst (Meets (λ made left. IsSampleMade (counters k) (atoms k) (counters (k + 1)) made))
         (sym (same-run (frame_of p) p.header.limits (sample_of (rows_at p signals counters k))
         (held (row_at signals counters) k)
         (λ back slot le. reads p signals counters k back slot le) p.sample p.header.limits.budget 0 []

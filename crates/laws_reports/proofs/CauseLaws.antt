@@ -10,7 +10,7 @@ use Rattle.assertions.specs.declared.sequence.Boolean.{Boolean}
 use Rattle.assertions.specs.declared.assertion.Assertion.{Assertion}
 use Rattle.assertions.specs.declared.suite.Suite.{Suite}
 use Rattle.assertions.specs.Marks.{places_from}
-use Rattle.types_sequences.specs.Drafts.{Draft, IsIn}
+use Rattle.types_sequences.specs.Drafts.{Draft, IsNumberIn}
 use Rattle.types_names.specs.Scopes.{Scope, path_text, first_byte}
 use Rattle.types_names.specs.Columns.{columns_of}
 use Rattle.types_suites.specs.declared.fault.TypeFault.TheVariants.{OtherClock}
@@ -28,7 +28,7 @@ use Rattle.cli.specs.Dumps.{width_named}
 use Rattle.cli.specs.Named.{scope_over}
 use Rattle.cli.specs.Reported.{SaysSuite}
 use Rattle.laws_reports.specs.ReadInText.{IsLongText, HasLongName}
-use Rattle.laws_reports.specs.Causes.{IsCause, HasCause, FaultsHaveCauses, HasNamedCause, BuildFaultsHaveCauses}
+use Rattle.laws_reports.specs.Causes.{IsCompileCause, HasCause, FaultsHaveCauses, HasNamedCause, BuildFaultsHaveCauses}
 use Rattle.laws_reports.proofs.ReadLaws.{TextReads, text_reads}
 use Rattle.laws_reports.proofs.ManyLaws.{long_is, reads_many, reads_long}
 
@@ -84,7 +84,7 @@ some_form : (a b : AssertionForm) → Some a ≡ Some b → a ≡ b
 some_form a b h = cc
 
 one_clock : (clock : List ℕ) (forms : List AssertionForm) (place : ℕ) (a : AssertionForm) →
-    ((at : ℕ) → IsIn at (clocks_unlike clock forms) → ⊥) → slice_get forms place ≡ Some a →
+    ((at : ℕ) → IsNumberIn at (clocks_unlike clock forms) → ⊥) → slice_get forms place ≡ Some a →
     path_text a.clock ≡ clock
 one_clock clock [] place a none is = absurd cc
 one_clock clock (b ∷ forms) place a none is =
@@ -92,9 +92,9 @@ one_clock clock (b ∷ forms) place a none is =
   where
     here : (t : Bool) → bytes_eq (path_text b.clock) clock ≡ t →
         ((at : ℕ) →
-        IsIn at (if t then clocks_unlike clock forms else first_byte b.clock ∷ clocks_unlike clock forms) → ⊥) →
+        IsNumberIn at (if t then clocks_unlike clock forms else first_byte b.clock ∷ clocks_unlike clock forms) → ⊥) →
         (k : ℕ) → slice_get (b ∷ forms) k ≡ Some a →
-        ((i : ℕ) → ((at : ℕ) → IsIn at (clocks_unlike clock forms) → ⊥) → slice_get forms i ≡ Some a →
+        ((i : ℕ) → ((at : ℕ) → IsNumberIn at (clocks_unlike clock forms) → ⊥) → slice_get forms i ≡ Some a →
         path_text a.clock ≡ clock) →
         path_text a.clock ≡ clock
     here false e f k h rest = absurd (f (first_byte b.clock) (inl refl))
@@ -126,7 +126,7 @@ module _ (law : SmallHaveCode) (s : Scope) (items : List ItemForm) (suite : Suit
             ]
       ]
 
-  cause_of : (fault : CompileFault) → WhyNotCompiled suite m fault → IsCause s items place found.form fault
+  cause_of : (fault : CompileFault) → WhyNotCompiled suite m fault → IsCompileCause s items place found.form fault
   cause_of compiles.TooManyAtoms why = found.keeps.few why.stands
   cause_of compiles.CodeTooLong why =
       λ small. law suite m why.signals why.counters why.reading (found.keeps.small small) why.stands

@@ -13,7 +13,7 @@ use Rattle.parser_grammar.specs.Trees.{CounterForm, DeclarationForm, AssertionFo
 use Rattle.parser_grammar.specs.Trees.{assertion}
 use Rattle.assertions.specs.Written.{Written}
 use Rattle.types_sequences.specs.Drafts as drafts
-use Rattle.types_sequences.specs.Drafts.{Draft, IsIn, IsCyclic}
+use Rattle.types_sequences.specs.Drafts.{Draft, IsNumberIn, IsCyclic}
 use Rattle.types_names.specs.declared.own.Sought.{Sought}
 use Rattle.types_names.specs.Scopes.{Scope, path_text, first_byte, bits_of, meaning, sequence_named}
 use Rattle.types_names.specs.Width.{own_width, chain_width, parts_width, path_width_by, unary_width, unary_of}
@@ -393,8 +393,8 @@ module _ (lies : ℕ → ℕ × ℕ) where
         let first : SideAt ds ys IsSo at = subst (λ (zs : List Side). SideAt ds zs IsSo at) (sym f) h in
         subst (λ (bs : List (Draft Dot)). SideAt bs ys IsSo at) (sym e) first
 
-    is_in-moved : (at : ℕ) (xs ys : List ℕ) → ys ≡ xs → IsIn at xs → IsIn at ys
-    is_in-moved at xs ys e h = subst (λ (zs : List ℕ). IsIn at zs) (sym e) h
+    is_in-moved : (at : ℕ) (xs ys : List ℕ) → ys ≡ xs → IsNumberIn at xs → IsNumberIn at ys
+    is_in-moved at xs ys e h = subst (λ (zs : List ℕ). IsNumberIn at zs) (sym e) h
 
     -- A fault that stands in items stands in them moved.
     pub stands-moved : (items : List ItemForm) (fault : TypeFault) → FaultStands s items fault

@@ -33,21 +33,21 @@ use Rattle.types_names.specs.declared.operator.Unary.TheVariants as unaries
 use Rattle.types_names.specs.Scopes.{Scope, meaning, path_text}
 use Rattle.types_names.specs.Columns.{column_of}
 use Rattle.types_names.specs.Width.{binary_of, unary_of, call_of, ticks_of}
-use Rattle.types_expressions.specs.Meanings.{binary_term, unary_term, call_term, IsRead, Means, Chains, Joins}
+use Rattle.types_expressions.specs.Meanings.{binary_term, unary_term, call_term, IsReference, Means, Chains, Joins}
 use Rattle.types_expressions.specs.Meanings.{JoinsMore}
-use Rattle.compiler_expressions.specs.Laws.{Each}
+use Rattle.compiler_expressions.specs.Laws.{EachPart}
 use Rattle.compiler_expressions.specs.Depths.{depth, level, bracketed, braced, reduction_depth, left_depth, IsShortPast}
 use Rattle.laws_suites.proofs.LevelLaws.{binary_level, level-infix}
 
 -- so many are open in it
 pub record Shallow (deep : ℕ) (e : Term) : Type 0 where
   pub within : depth e ≤ deep
-  pub near : Each IsShortPast e
+  pub near : EachPart IsShortPast e
 
 -- so many are open in it where it is an operand, with brackets round what is looser than the level
 pub record Fits (most deep : ℕ) (e : Term) : Type 0 where
   pub within : bracketed most (level e) (depth e) ≤ deep
-  pub near : Each IsShortPast e
+  pub near : EachPart IsShortPast e
 
 -- brackets
 
@@ -111,8 +111,8 @@ binary-left (Shift op) a b = (refl, refl)
 binary-left (Comparison op) a b = (refl, refl)
 binary-left (Connective op) a b = (refl, refl)
 
-binary-near : (op : Binary) (a b : Term) → Each IsShortPast a → Each IsShortPast b
-    → Each IsShortPast (binary_term op a b)
+binary-near : (op : Binary) (a b : Term) → EachPart IsShortPast a → EachPart IsShortPast b
+    → EachPart IsShortPast (binary_term op a b)
 binary-near (Arithmetic op) a b x y = (tt, x, y)
 binary-near (Shift op) a b x y = (tt, x, y)
 binary-near (Comparison op) a b x y = (tt, x, y)
@@ -223,7 +223,7 @@ fits-as : (m deep : ℕ) (e f : Term) → e ≡ f → Fits m deep f → Fits m d
 fits-as m deep e f is fits = subst (Fits m deep) (sym is) fits
 
 path-fits : {d : ℕ} {x : Option Select} {ts rest : List Token} (means : Option Meaning) (column : Option ℕ) (e : Term)
-    → IsSelected d x ts rest → IsRead means column x e → Fits 0 d e
+    → IsSelected d x ts rest → IsReference means column x e → Fits 0 d e
 path-fits {d = d} means column e whole is =
     fits-as 0 d e (terms.named is.name) is.is
     (in-place 0 d (terms.named is.name) (omega arith) (record { within = omega arith; near = tt }))
@@ -255,7 +255,7 @@ braced-most (terms.change x y) d = omega arith
 -- so many are open in what is joined so far
 pub record Joined (deep : ℕ) (e : Term) : Type 0 where
   pub within : braced e (depth e) ≤ deep
-  pub near : Each IsShortPast e
+  pub near : EachPart IsShortPast e
 
 joined-first : (deep : ℕ) (e : Term) → Shallow deep e → Joined (suc deep) e
 joined-first deep e shallow =

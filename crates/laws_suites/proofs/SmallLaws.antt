@@ -17,7 +17,7 @@ use Rattle.assertions.specs.Written.{Written, weight}
 use Rattle.assertions.specs.Shapes.{written_form}
 use Rattle.assertions.specs.Names.{expression_names}
 use Rattle.compiler_expressions.specs.Chosen.{term_found, terms_at}
-use Rattle.compiler_expressions.specs.Laws.{Each, IsNoChange, size}
+use Rattle.compiler_expressions.specs.Laws.{EachPart, IsNoChange, size}
 use Rattle.compiler_positions.specs.Laws.{IsPlain, booleans}
 use Rattle.types_sequences.specs.Drafts.{Draft}
 use Rattle.types_sequences.specs.Outlines.{map_written}
@@ -27,7 +27,7 @@ use Rattle.types_names.specs.Scopes.{Scope}
 use Rattle.types_names.specs.Asked.{scope_for}
 use Rattle.types_names.specs.Columns.{columns_of}
 use Rattle.types_suites.specs.Texts.{declarations_of, assertions_of}
-use Rattle.types_suites.specs.Readings.{IsAtom, AllRead}
+use Rattle.types_suites.specs.Readings.{IsBooleanOf, AllRead}
 use Rattle.types_suites.specs.Suites.{IsMeant, IsDisabledBy, off_places, IsAssertion, AreAssertions}
 use Rattle.compiler.specs.Readings.{boolean_terms}
 use Rattle.compiler.specs.Small.{IsSmallSide, IsSmall}
@@ -69,12 +69,12 @@ module _ (s : Scope) (cs : List (List ℕ)) (bs : List Expr) where
       found None h = omega (arith, h)
       found (Some e) h = omega (arith, sum_by-cons size (term_of e) (terms_at bs ps), h)
 
-  terms_still : (ps : List ℕ) → AllByRecursion IsQuietAt ps → AllByRecursion (Each IsNoChange) (terms_at bs ps)
+  terms_still : (ps : List ℕ) → AllByRecursion IsQuietAt ps → AllByRecursion (EachPart IsNoChange) (terms_at bs ps)
   terms_still [] h = tt
   terms_still (p ∷ ps) h = found (slice_get bs p) h.0 (terms_still ps h.1)
     where
-      found : (o : Option Expr) → IsQuietFound o → AllByRecursion (Each IsNoChange) (terms_at bs ps) →
-          AllByRecursion (Each IsNoChange) (term_found o (terms_at bs ps))
+      found : (o : Option Expr) → IsQuietFound o → AllByRecursion (EachPart IsNoChange) (terms_at bs ps) →
+          AllByRecursion (EachPart IsNoChange) (term_found o (terms_at bs ps))
       found None q k = k
       found (Some e) q k = (q.still, k)
 
@@ -92,7 +92,7 @@ module _ (s : Scope) (cs : List (List ℕ)) (bs : List Expr) where
       (quiet_names (slice_get bs p) h.0) (names_quiet ps h.1) n c
 
   -- places of expressions of the text
-  atom_found : (t : Tree) (p : ℕ) (h : IsAtom s cs bs t (Listed p)) → slice_get bs p ≡ Some h.expression
+  atom_found : (t : Tree) (p : ℕ) (h : IsBooleanOf s cs bs t (Listed p)) → slice_get bs p ≡ Some h.expression
   atom_found t p h =
       let is : Listed p ≡ Listed h.place = h.is in
       let same : p ≡ h.place = cc in

@@ -51,7 +51,7 @@ use Rattle.laws_programs.specs.LineLaws.{row_of as row_at}
 use Rattle.assertions.specs.Reads.{Reads}
 use Rattle.compiler.specs.Programs.{IsSlotOf, IsProgramOf}
 use Rattle.compiler.proofs.ListLaws.{some-one}
-use Rattle.laws_programs.specs.Laws.{AreRowsOf, picked}
+use Rattle.laws_programs.specs.Laws.{AreSuiteRows, picked}
 use Rattle.laws_programs.proofs.Samples as made
 use Rattle.laws_programs.proofs.Decides as decides
 use Rattle.workers_core.specs.States.{MonitorState, BatchState, place}
@@ -68,7 +68,7 @@ use Rattle.laws_workers.specs.Headline.{
 use Rattle.laws_workers.proofs.Cuts as cuts
 
 module _ (suite : Suite) (a : Assertion) (p : ProgramData) (of : IsProgramOf suite a p)
-    (rows : List (List ℕ)) (fit : AreRowsOf suite rows) (accepted : IsAccepted p)
+    (rows : List (List ℕ)) (fit : AreSuiteRows suite rows) (accepted : IsAccepted p)
     (verdict_at : ℕ → Verdict) (are : AreVerdictsOf suite rows a verdict_at) where
   abbrev own : List (List ℕ)
   own = map (picked of.layout.signals) rows

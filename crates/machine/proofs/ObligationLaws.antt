@@ -12,13 +12,13 @@ use Rattle.verifier.specs.Limits.{path_sum}
 use Rattle.machine_definition.specs.Outcomes.{Ran, done, trapped, and_then}
 use Rattle.machine_definition.specs.Blocks.{Visit, visit}
 use Rattle.machine_definition.specs.Clocks.{Obligation, Fate, visit_obligations, staying, is_ended, is_broken}
-use Rattle.machine_definition.specs.Bounds.{Rises}
+use Rattle.machine_definition.specs.Bounds.{RisesBetween}
 use Rattle.machine_definition.proofs.Outcomes.{Meets-at}
 use Rattle.machine_definition.proofs.Typing.{IsSection}
 use Rattle.machine_definition.proofs.Visits.{Visited, visit-meets}
 use Rattle.machine_definition.proofs.Parts.{since, IsOwed}
 use Rattle.machine_memory.specs.Pooled.{Pooled, pooled, slot_after}
-use Rattle.machine_memory.specs.Walk.{IsAt, left_at}
+use Rattle.machine_memory.specs.Walk.{WalkIsAt, left_at}
 use Rattle.machine_visits.specs.declared.fates.Fates.{Fates}
 use Rattle.machine_visits.specs.declared.obligation.ObligationRecord.{ObligationRecord}
 use Rattle.machine_visits.specs.Marks.{mark_if, marked, is_open, fates_of, AreRecent}
@@ -72,9 +72,9 @@ pub record Visiting (p : ProgramData) (atoms : List Bool) (now : ℕ) (pool : Po
     (left : ℕ) (fates : Fates) (old : Pooled ObligationRecord) (first : ℕ) : Type 0 where
   pub before : List (ℕ × ObligationRecord)
   pub rest : List (ℕ × ObligationRecord)
-  pub stands : IsAt pool.live at before rest
+  pub stands : WalkIsAt pool.live at before rest
   pub low : ℕ
-  pub rises : Rises since (IsOwed p now) low (now + 1) (obligations_in rest)
+  pub rises : RisesBetween since (IsOwed p now) low (now + 1) (obligations_in rest)
   pub lately : OpenedLately now (obligations_in rest)
   pub fits : length rest * (1 + path_sum 0 p.consequent.blocks) ≤ left
   pub fs : List Fate
@@ -86,8 +86,9 @@ pub record Visiting (p : ProgramData) (atoms : List Bool) (now : ℕ) (pool : Po
   pub cap : pool.cap ≡ old.cap
 
 pub visiting-first : (p : ProgramData) (atoms : List Bool) (now : ℕ) (pool : Pooled ObligationRecord) (at : Option ℕ)
-    (left : ℕ) (fates : Fates) → fates ≡ fates_of 0 [] → IsAt pool.live at [] pool.live
-    → Rises since (IsOwed p now) 0 (now + 1) (obligations_in pool.live) → OpenedLately now (obligations_in pool.live)
+    (left : ℕ) (fates : Fates) → fates ≡ fates_of 0 [] → WalkIsAt pool.live at [] pool.live
+    → RisesBetween since (IsOwed p now) 0 (now + 1) (obligations_in pool.live)
+    → OpenedLately now (obligations_in pool.live)
     → length pool.live * (1 + path_sum 0 p.consequent.blocks) ≤ left
     → Visiting p atoms now pool at left fates pool left
 visiting-first p atoms now pool at left fates none stands rises lately fits = record {
@@ -135,9 +136,10 @@ module _ (p : ProgramData) (atoms : List Bool) (now : ℕ) (pool : Pooled Obliga
   split : i.rest ≡ (s, x) ∷ tail
   split = steps.split pool at s i.before i.rest i.stands is x got
 
-  rises-here : Rises since (IsOwed p now) i.low (now + 1) (obligation_of x ∷ obligations_in tail)
+  rises-here : RisesBetween since (IsOwed p now) i.low (now + 1) (obligation_of x ∷ obligations_in tail)
   rises-here =
-      subst (λ (l : List (ℕ × ObligationRecord)). Rises since (IsOwed p now) i.low (now + 1) (obligations_in l)) split
+      subst (λ (l : List (ℕ × ObligationRecord)). RisesBetween since (IsOwed p now) i.low (now + 1)
+      (obligations_in l)) split
       i.rises
 
   lately-here : OpenedLately now (obligation_of x ∷ obligations_in tail)
@@ -174,7 +176,7 @@ module _ (p : ProgramData) (atoms : List Bool) (now : ℕ) (pool : Pooled Obliga
     fate = record { tick = x.tick; positions = v.entered; kept = v.accepted }
 
     moved-on : (after : Pooled ObligationRecord) (at' : Option ℕ) (before : List (ℕ × ObligationRecord))
-        → IsAt after.live at' before tail → obligations_in before ≡ obligations_in i.before ++ stays fate
+        → WalkIsAt after.live at' before tail → obligations_in before ≡ obligations_in i.before ++ stays fate
         → after.cap ≡ pool.cap → (noted : Fates)
         → noted.open_ticks ≡ bit_or fates.open_ticks (mark_if is_open now fate) → noted.broken_ticks
         ≡ bit_or fates.broken_ticks (mark_if is_broken now fate) → Visiting p atoms now after at' less noted old first

@@ -13,11 +13,11 @@
 //! let mut machine = Machine::new(alloc, verify(alloc, program)?)?;
 //! let mut decided = ArrayVec::new();
 //! machine.clock(&row, &mut decided);
-//! let ticks = machine.spent();
+//! let cost = machine.spent();
 //! machine.open_starts(&mut decided);
 //! ```
 //!
-//! A contract sees the program, the state of the checked machine, and the ticks of the last clock:
+//! A contract sees the program, the state of the checked machine, and the cost of the last clock:
 //! `specs/Running.antt`. The definitions of a clock stand in `machine_definition`: `clock` there
 //! says what a clock comes to, with every test that it could fail.
 //!

@@ -160,7 +160,7 @@ impl Live {
     }
 
     /// A clock after its sample code, which gave these atoms: it adds what it decides to `out`,
-    /// and takes its ticks off `left`.
+    /// and takes its cost off `left`.
     pub(crate) fn clock(
         &mut self,
         program: &Program,

@@ -29,7 +29,7 @@ impl Model for Machine {
 
 impl Machine {
     ghost use Rattle.std.specs.Prelude.{◌≡◌, ◌+◌, ◌^◌, ◌<◌, ◌≤◌, ◌++◌, length, IfOk, IfErr};
-    ghost use Rattle.machine.specs.Running.{opened_on, IsClock, IsRowOf};
+    ghost use Rattle.machine.specs.Running.{opened_on, IsOneClock, IsRowOf};
     ghost use Rattle.machine_definition.specs.Runs.{open_ones};
 
     /// A machine before its first clock, or the program again where memory is refused. No other
@@ -54,7 +54,7 @@ impl Machine {
         requires row { IsRowOf self.old.program row.now }
         requires room { length out.old.items + self.old.program.header.limits.attempts ≤ 1024 }
         requires more { self.old.state.standing.now + 1 < 2 ^ 64 }
-        ensures clock { IsClock self.old row.now out.old.items self.new out.new.items }
+        ensures clock { IsOneClock self.old row.now out.old.items self.new out.new.items }
         ensures budget { self.new.spent ≤ self.new.program.header.limits.budget }
     {
         self.spent = self.memory.clock(self.verified.program(), row, out);
@@ -67,9 +67,9 @@ impl Machine {
         self.memory.live.now
     }
 
-    /// The ticks of the last clock, 0 before the first.
+    /// The cost of the last clock, 0 before the first.
     pub fn spent(&self) -> u64
-        ensures ticks { result ≡ self.now.spent }
+        ensures cost { result ≡ self.now.spent }
         ensures budget { result ≤ self.now.program.header.limits.budget }
     {
         self.spent

@@ -7,7 +7,7 @@ ghost use Rattle.verifier.specs.Programs.{IsAccepted};
 ghost use Rattle.machine_definition.specs.Machine.{opening};
 ghost use Rattle.machine.specs.Code.{AreBasesOf};
 ghost use Rattle.machine.specs.Memory.{IsLiveAtFirst, IsMemory, state_of, running_of};
-ghost use Rattle.machine.specs.Running.{IsClock, IsRowOf};
+ghost use Rattle.machine.specs.Running.{IsOneClock, IsRowOf};
 
 use crate::bases::Bases;
 use crate::live::Live;
@@ -110,8 +110,8 @@ impl Memory {
         })
     }
 
-    /// A clock over the values of the signals: it adds what it decides to `out`, and answers the
-    /// ticks that it took.
+    /// A clock over the values of the signals: it adds what it decides to `out`, and answers its
+    /// cost.
     pub(crate) fn clock(
         &mut self,
         program: &Program,
@@ -124,12 +124,12 @@ impl Memory {
         requires room { length out.old.items + (data_of program.now).header.limits.attempts ≤ 1024 }
         requires more { self.old.live.now + 1 < 2 ^ 64 }
         ensures memory { IsMemory (data_of program.now) self.new }
-        ensures clock { IsClock (running_of (data_of program.now) self.old 0)
+        ensures clock { IsOneClock (running_of (data_of program.now) self.old 0)
             signals.now out.old.items
             (running_of (data_of program.now) self.new result) out.new.items }
     {
         let budget = u64::from(program.limits.budget);
-        let ticks = self.code.run(
+        let cost = self.code.run(
             program,
             self.frame.slots.as_slice(),
             &mut self.history,
@@ -137,7 +137,7 @@ impl Memory {
             self.atoms.as_mut_slice(),
             self.counters.as_mut_slice(),
         );
-        let mut left = budget - ticks;
+        let mut left = budget - cost;
         let atoms = self.atoms.as_slice();
         self.live.clock(program, &self.bases, atoms, &mut left, out);
         budget - left

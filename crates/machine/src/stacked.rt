@@ -41,7 +41,7 @@ impl Stacked {
         ensures pushed { history.new ≡ pushed history.old (1 ∷ (signals.now ++ counters.old)) }
         ensures ran { HasRun (data_of program.now) history.new.rows counters.old
             result atoms.new counters.new }
-        ensures ticks { result ≤ longest_run (data_of program.now) }
+        ensures cost { result ≤ longest_run (data_of program.now) }
         ensures kept { AreValues (data_of program.now).counters counters.new }
     {
         fill_row(&mut self.row, signals, counters);

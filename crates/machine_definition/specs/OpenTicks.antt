@@ -9,7 +9,7 @@ use Rattle.signals.specs.declared.verdict.Decided.{Decided}
 use Rattle.signals.specs.declared.verdict.Verdict.TheVariants.{Holds, Vacuous, Fails, Disabled}
 use Rattle.bytecode.specs.Values.{SectionData, ProgramData}
 use Rattle.bytecode.specs.Instructions.{frame_of}
-use Rattle.machine_definition.specs.Outcomes.{Ran, done, trapped, bad_operand, and_then, tick}
+use Rattle.machine_definition.specs.Outcomes.{Ran, done, trapped, bad_operand, and_then, costs_one}
 use Rattle.machine_definition.specs.Blocks.{Visit, visit}
 use Rattle.machine_definition.specs.Samples.{nothing_made, run_sample}
 use Rattle.machine_definition.specs.Clocks.{Attempt, Obligation, Fate, Standing, opened}
@@ -51,7 +51,7 @@ visited_open now a v = record {
 abbrev pub visit_each : SectionData → List Bool → ℕ → List OpenAttempt → ℕ → Ran OpenVisits
 visit_each s atoms now [] left = done (record { attempts = []; accepted = false }) left
 visit_each s atoms now (a ∷ others) left =
-    tick left (λ left.
+    costs_one left (λ left.
     and_then (visit s atoms a.positions left) (λ v left.
     and_then (visit_each s atoms now others left) (λ vs left.
     done
@@ -104,7 +104,7 @@ settle_open now fates a r =
 abbrev pub settle_each : ℕ → List Fate → List OpenAttempt → ℕ → Ran OpenSettlement
 settle_each now fates [] left = done (record { live = []; decided = [] }) left
 settle_each now fates (a ∷ others) left =
-    tick left (λ left.
+    costs_one left (λ left.
     and_then (settle_each now fates others left) (λ r left.
     done (settle_open now fates a r) left))
 
@@ -112,7 +112,7 @@ settle_each now fates (a ∷ others) left =
 abbrev pub disable_each : ℕ → List OpenAttempt → ℕ → Ran (List Decided)
 disable_each now [] left = done [] left
 disable_each now (a ∷ others) left =
-    tick left (λ left.
+    costs_one left (λ left.
     and_then (disable_each now others left) (λ ds left.
     done (record { start = a.start; verdict = Disabled now } ∷ ds) left))
 
@@ -159,7 +159,7 @@ clock_with p now atoms live os left (Some false) =
     and_then (visit_each p.antecedent atoms now live left) (λ vs left.
     opened_if vs.accepted p now os (end_open p now atoms vs.attempts left))
 
--- A clock after its sample code, with the atoms that this gave and the ticks that it left. An
+-- A clock after its sample code, with the atoms that this gave and the cost that it left. An
 -- attempt that begins awaits nothing and never accepted.
 abbrev pub open_clock_after : ProgramData → OpenStanding → List Bool → ℕ → Ran OpenSettled
 open_clock_after p s atoms left =
@@ -228,7 +228,7 @@ open_outcome r =
     done (record { state = open_state o.state; decided = o.decided }) left)
 
 -- Over any rows, a clock of the checked machine comes to what it comes to over such attempts: the
--- same trap, or the same decisions in the same ticks, and the next state of the one is that of the
+-- same trap, or the same decisions at the same cost, and the next state of the one is that of the
 -- other. This is so of each program, accepted or not.
 abbrev pub ClocksAgree : Type 0
 ClocksAgree =

@@ -2,9 +2,9 @@
 //!
 //! The definitions alone. A clock pushes its row, runs the sample code, opens an attempt, visits
 //! what is live, opens an obligation where an attempt accepted, visits the obligations and settles
-//! the attempts; each instruction, visit and settling costs one tick. It comes to the next state
+//! the attempts; each instruction, visit and settling costs one. It comes to the next state
 //! with the attempts that it decided, or to a trap: a bad operand, a jump outside its code, a
-//! sample past its history, a full pool, or a tick over its budget.
+//! sample past its history, a full pool, or a cost over its budget.
 //!
 //! ```text
 //! never_traps();    // a contract and no code: what a verified program never meets

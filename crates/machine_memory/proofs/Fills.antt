@@ -9,9 +9,11 @@ use Rattle.std.proofs.lemmas.List.{take-append-le, drop-append-le, drop-replicat
 use Rattle.std.proofs.lemmas.List.{get_or-replicate}
 use Rattle.std.proofs.Math.Seq.{take-append_seam, take-suc, drop-append-add}
 use Rattle.std.proofs.Math.Seq.{drop-drop}
-use Rattle.machine_memory.specs.Held.{values_of, spare, AllHeld, IsRowWritten}
+use Rattle.machine_memory.specs.Held.{spare, AllHeld, IsRowWritten}
+use Rattle.machine_memory.specs.Filled.{values_of}
 
 pub values_of-map : (xs : List ℕ) → values_of (map Some xs ++ spare) ≡ xs
+unfolding values_of
 values_of-map [] = refl
 values_of-map (x ∷ xs) = ap (λ ys. x ∷ ys) (values_of-map xs)
 

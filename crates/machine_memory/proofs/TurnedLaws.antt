@@ -9,8 +9,8 @@ use Rattle.std.proofs.lemmas.List.{take-replicate, drop-replicate, length-take-l
 use Rattle.std.proofs.lemmas.List.{get_or-append_right, get_or_append_left}
 use Rattle.std.proofs.Math.Seq.{take-append_seam, drop-append_seam}
 use native.Mathlib.Nat.{zero-mul, suc-mul}
-use Rattle.machine_memory.specs.History.{History, zeros, cleared, pushed, past, KeepsLastRows}
-use Rattle.machine_memory.specs.Turned.{rows_of, turned, history_of, IsTurned, IsBefore, IsBehind}
+use Rattle.machine_memory.specs.History.{History, zeros, cleared, pushed, KeepsLastRows}
+use Rattle.machine_memory.specs.Turned.{rows_of, turned, history_of, IsTurned, IsRowBefore, IsBehind}
 
 -- how many values so many rows have
 one_more : (n s : ℕ) → suc n * s ≡ s + n * s
@@ -173,7 +173,7 @@ round depth slots newest row values e f le =
 
 -- a push keeps the rows behind the new one
 turned-kept : (depth slots newest row : ℕ) (values : List ℕ)
-    → IsTurned depth slots newest values → IsBefore depth newest row
+    → IsTurned depth slots newest values → IsRowBefore depth newest row
     → take depth (rows_of (suc depth) slots (turned
     (newest * slots) values)) ≡ rows_of depth slots (drop (row * slots + slots) values ++ take
     (row * slots) values)
@@ -203,7 +203,7 @@ turned-kept depth slots newest row values t b =
     ]
 
 pub history_of-written : (depth slots newest row : ℕ) (values new : List ℕ)
-    → IsTurned depth slots newest values → IsBefore depth newest row → length new ≡ slots
+    → IsTurned depth slots newest values → IsRowBefore depth newest row → length new ≡ slots
     → history_of depth slots row (written (row * slots) new values) ≡ pushed
     (history_of depth slots newest values) new
 unfolding history_of
@@ -231,7 +231,7 @@ history_of-written depth slots newest row values new t b long =
     } in h) (ap (λ xs. rows_of (suc depth) slots xs) whole ∙ rows)
 
 pub IsTurned-written : (depth slots newest row : ℕ) (values new : List ℕ)
-    → IsTurned depth slots newest values → IsBefore depth newest row → length new ≡ slots
+    → IsTurned depth slots newest values → IsRowBefore depth newest row → length new ≡ slots
     → IsTurned depth slots row (written (row * slots) new values)
 IsTurned-written depth slots newest row values new t b long =
     let full : length values ≡ depth * slots + slots = t.full ∙ next_row depth slots in
@@ -252,12 +252,13 @@ before_newest depth slots newest back row reach e =
     let a : (row + 1) * slots ≤ newest * slots = product_le (row + 1) newest slots (omega arith) in
     omega (arith, next_row row slots)
 
-pub past-history_of : (depth slots newest back row slot : ℕ) (values : List ℕ)
+pub get_or-history_of : (depth slots newest back row slot : ℕ) (values : List ℕ)
     → IsTurned depth slots newest values → IsBehind depth newest back row → back ≤ depth
     → slot < slots
-    → past (history_of depth slots newest values) back slot ≡ get_or values (row * slots + slot) 0
+    → get_or (get_or (history_of depth slots newest values).rows back []) slot 0
+    ≡ get_or values (row * slots + slot) 0
 unfolding history_of
-past-history_of depth slots newest back row slot values t b reach range =
+get_or-history_of depth slots newest back row slot values t b reach range =
     let full : length values ≡ depth * slots + slots = t.full ∙ next_row depth slots in
     let fits = row_fits depth slots row b.inside in
     let start : newest * slots ≤ depth * slots = product_le newest depth slots t.inside in

@@ -14,7 +14,7 @@ use Rattle.std.specs.Prelude.{eqb, nat_eq, true, false, cond, IsSome}
 use Rattle.std.specs.List.{IsDistinct, AllByRecursion}
 use Rattle.std.specs.Map.{lookup, set_value, remove_entry, keys_of}
 use Rattle.machine_memory.specs.Pooled.{first_slot, slot_after}
-use Rattle.machine_memory.specs.Walk.{IsAt, from_slot, left_at}
+use Rattle.machine_memory.specs.Walk.{WalkIsAt, from_slot, left_at}
 
 same_test : (s : ℕ) → eqb s s ≡ true
 same_test s = elim (eqb_tells s s) [ inl h ↦ h.0 | inr h ↦ absurd (h.1 refl) ]
@@ -107,7 +107,7 @@ module _ {T : Type 0} where
     distinct_left (p ∷ done) d = (each_left p.0 done d.0, distinct_left done d.1)
 
   pub begins : (live : List (ℕ × T)) → IsDistinct nat_eq (keys_of live)
-      → IsAt live (first_slot live) [] live
+      → WalkIsAt live (first_slot live) [] live
   begins live d = record { all = refl; slot = refl; distinct = d }
 
   pub record Head (s : ℕ) (rest : List (ℕ × T)) : Type 0 where
@@ -116,13 +116,13 @@ module _ {T : Type 0} where
     pub is : rest ≡ (s, item) ∷ tail
 
   pub head : (live : List (ℕ × T)) (s : ℕ) (done rest : List (ℕ × T))
-      → IsAt live (Some s) done rest → Head s rest
+      → WalkIsAt live (Some s) done rest → Head s rest
   head live s done [] h = let e : Some s ≡ None = h.slot in cc
   head live s done (p ∷ ps) h = let e : Some s ≡ Some p.0 = h.slot in let is : p.0 ≡ s = cc in
       record { item = p.1; tail = ps; is = ap (λ (k : ℕ). (k, p.1) ∷ ps) is }
 
   module _ (live : List (ℕ × T)) (s : ℕ) (x : T) (done tail : List (ℕ × T)) (at : Option ℕ)
-      (h : IsAt live at done ((s, x) ∷ tail)) where
+      (h : WalkIsAt live at done ((s, x) ∷ tail)) where
     distinct' : IsDistinct nat_eq (keys_of (done ++ (s, x) ∷ tail))
     distinct' = subst (λ l. IsDistinct nat_eq (keys_of l)) h.all h.distinct
 
@@ -138,7 +138,7 @@ module _ {T : Type 0} where
     pub after : slot_after s live ≡ first_slot tail
     after = ap (slot_after s) h.all ∙ after_at s x tail done first
 
-    pub kept : IsAt live (slot_after s live) (done ++ (s, x) ∷ []) tail
+    pub kept : WalkIsAt live (slot_after s live) (done ++ (s, x) ∷ []) tail
     kept = record {
       all = h.all ∙ sym (append_assoc done ((s, x) ∷ []) tail);
       slot =
@@ -146,7 +146,7 @@ module _ {T : Type 0} where
       distinct = h.distinct;
     }
 
-    pub reset : (y : T) → IsAt (set_value (nat_eq s) live y) (slot_after s live)
+    pub reset : (y : T) → WalkIsAt (set_value (nat_eq s) live y) (slot_after s live)
         (done ++ (s, y) ∷ []) tail
     reset y =
         let all = ap (λ l. set_value (nat_eq s) l y) h.all ∙ set_at s x tail y done first in
@@ -157,7 +157,7 @@ module _ {T : Type 0} where
               (sym (ap keys_of all ∙ keys_after_set s x tail y done)) distinct';
         }
 
-    pub retired : IsAt (remove_entry (nat_eq s) live) (slot_after s live) done tail
+    pub retired : WalkIsAt (remove_entry (nat_eq s) live) (slot_after s live) done tail
     retired =
         let all = ap (remove_entry (nat_eq s)) h.all ∙ removed_at s x tail done first in
         record {
@@ -172,16 +172,16 @@ module _ {T : Type 0} where
     unfolding left_at
     left = ap (from_slot s) h.all ∙ left_of s x tail done first
 
-  pub ends : (live done rest : List (ℕ × T)) → IsAt live None done rest
+  pub ends : (live done rest : List (ℕ × T)) → WalkIsAt live None done rest
       → (rest ≡ []) × (live ≡ done)
   ends live done [] h = (refl, h.all ∙ append-nil done)
   ends live done (p ∷ ps) h = let e : None ≡ Some p.0 = h.slot in cc
 
   -- what is left where a walk stands
   pub left_is : (live : List (ℕ × T)) (at : Option ℕ) (done rest : List (ℕ × T))
-      → IsAt live at done rest → left_at at live ≡ length rest
+      → WalkIsAt live at done rest → left_at at live ≡ length rest
   unfolding left_at
   left_is live None done rest h = ap length (sym (ends live done rest h).0)
   left_is live (Some s) done rest h = let on = head live s done rest h in
-      left live s on.item done on.tail (Some s) (subst (IsAt live (Some s) done) on.is h)
+      left live s on.item done on.tail (Some s) (subst (WalkIsAt live (Some s) done) on.is h)
       ∙ ap length (sym on.is)

@@ -1,12 +1,7 @@
 -- The values that places hold.
 use Rattle.std.specs.Prelude.{◌≡◌, ℕ, ◌+◌, List, [], ◌∷◌, ◌++◌, length, take, drop, map, Option}
 use Rattle.std.specs.Prelude.{Some, None, replicate}
-
--- the values of the places that hold one
-abbrev pub values_of : List (Option ℕ) → List ℕ
-values_of [] = []
-values_of (None ∷ places) = values_of places
-values_of (Some value ∷ places) = value ∷ values_of places
+use Rattle.machine_memory.specs.Filled.{values_of}
 
 -- the places at the end that stay empty
 abbrev pub spare : List (Option ℕ)

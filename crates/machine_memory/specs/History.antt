@@ -32,10 +32,6 @@ cleared depth slots = record {
 abbrev pub pushed : History → List ℕ → History
 pushed h row = record { depth = h.depth; slots = h.slots; rows = row ∷ take h.depth h.rows }
 
--- the value of a slot, so many pushes back
-abbrev pub past : History → ℕ → ℕ → ℕ
-past h back slot = get_or (get_or h.rows back []) slot 0
-
 -- the last rows of a list that has all rows that were pushed, newest first, with zeros before the
 -- first
 abbrev pub last_rows : ℕ → ℕ → List (List ℕ) → List (List ℕ)

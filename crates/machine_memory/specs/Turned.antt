@@ -28,7 +28,7 @@ pub record IsTurned (depth slots newest : ℕ) (values : List ℕ) : Type 0 wher
   pub full : length values ≡ (depth + 1) * slots
 
 -- the row that the next push writes: the one before, and the last from the first
-pub record IsBefore (depth newest row : ℕ) : Type 0 where
+pub record IsRowBefore (depth newest row : ℕ) : Type 0 where
   pub inside : row ≤ depth
   pub turns : (newest ≡ row + 1) ⊎ ((newest ≡ 0) × (row ≡ depth))
 

@@ -7,7 +7,8 @@ use Rattle.machine_memory.specs.Pooled.{first_slot}
 module _ {T : Type 0} where
   -- the walk stands at this slot, or at none once it is over: done lies behind it, and rest begins
   -- with it
-  pub record IsAt (live : List (ℕ × T)) (at : Option ℕ) (done rest : List (ℕ × T)) : Type 0 where
+  pub record WalkIsAt (live : List (ℕ × T)) (at : Option ℕ)
+      (done rest : List (ℕ × T)) : Type 0 where
     pub all : live ≡ done ++ rest
     pub slot : at ≡ first_slot rest
     pub distinct : IsDistinct nat_eq (keys_of live)

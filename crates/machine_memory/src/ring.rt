@@ -1,8 +1,8 @@
 //! The ring: rows that turn in a store of values.
 
-ghost use Rattle.std.specs.Prelude.{◌≡◌, ◌<◌, ◌≤◌, length, IfOk};
-ghost use Rattle.machine_memory.specs.History.{cleared, pushed, past, KeepsLastRows};
-ghost use Rattle.machine_memory.specs.Turned.{IsBefore, IsBehind};
+ghost use Rattle.std.specs.Prelude.{◌≡◌, ◌<◌, ◌≤◌, [], length, get_or, IfOk};
+ghost use Rattle.machine_memory.specs.History.{cleared, pushed, KeepsLastRows};
+ghost use Rattle.machine_memory.specs.Turned.{IsRowBefore, IsBehind};
 
 use crate::store::Store;
 use std::alloc::{AllocError, Global};
@@ -34,7 +34,7 @@ impl Model for Ring {
 /// The row that the next push writes.
 fn before(depth: usize, newest: usize) -> usize
     requires { newest ≤ depth }
-    ensures { IsBefore depth newest result }
+    ensures { IsRowBefore depth newest result }
 {
     if newest == 0 { depth } else { newest - 1 }
 }
@@ -81,7 +81,7 @@ impl Ring {
     pub fn get(&self, back: usize, slot: usize) -> u128
         requires reach { back ≤ self.now.depth }
         requires range { slot < self.now.slots }
-        ensures { result ≡ past self.now back slot }
+        ensures { result ≡ get_or (get_or self.now.rows back []) slot 0 }
     {
         let row = behind(self.depth, self.newest, back);
         self.store.read(row * self.slots + slot)

@@ -21,7 +21,8 @@ pub struct Store {
 
 impl Model for Store {
     ghost use Rattle.std.specs.Prelude.{◌≡◌, ℕ, List};
-    ghost use Rattle.machine_memory.specs.Held.{values_of, AllHeld};
+    ghost use Rattle.machine_memory.specs.Filled.{values_of};
+    ghost use Rattle.machine_memory.specs.Held.{AllHeld};
 
     ghost Value = { List ℕ };
 

@@ -16,8 +16,8 @@ use Rattle.assertions.specs.declared.decision.Decision.TheVariants.{Held, Vacuou
 use Rattle.assertions.specs.Quantifiers.{some_in, each_in}
 use Rattle.assertions.proofs.Quantifiers.{some_in-found, some_in-true, each_in-at, each_in-true, each_in-end}
 use Rattle.assertions.specs.Segments.{Seq, sat, Matches}
-use Rattle.assertions.specs.Attempts.{Antecedent, every, Leads, IsEnd, IsKept, IsOver, IsDecided}
-use Rattle.machine_sections.specs.Automata.{Automaton, places, accepts, accepted_at, Follows}
+use Rattle.assertions.specs.Attempts.{Antecedent, every, Leads, EndsAntecedent, IsKept, IsAntecedentOver, IsDecided}
+use Rattle.machine_sections.specs.Automata.{Automaton, places, accepts, accepted_at, AutomatonFollows}
 use Rattle.machine_sections.specs.Monitors.{Monitor, visit_each, some_accepts, with_new, fate_of, fates_of, settle_each}
 use Rattle.machine_sections.specs.Monitors.{disable_each, settled_with, clock_with, new_attempt, clock_of}
 use Rattle.machine_sections.specs.Standing.{select, is_open, falls_at, attempt_at, is_awaited, is_unsettled, is_owed}
@@ -105,7 +105,7 @@ module _ (m : Monitor) where
       ap (λ k. record { tick = n; positions = places m.consequent n k }) none
 
 module _ (B : Type 0) (value : B → ℕ → Bool) (r : Antecedent B) (s : Seq B) (m : Monitor)
-    (fr : Follows value r m.antecedent) (fs : Follows value (every s) m.consequent)
+    (fr : AutomatonFollows value r m.antecedent) (fs : AutomatonFollows value (every s) m.consequent)
     (fills : (e : ℕ) → Matches value s e e → ⊥) (verdict : ℕ → ℕ → Verdict)
     (are : AreVerdicts value m.off r s verdict) (n : ℕ) where
   abbrev running : ℕ → Type 0
@@ -222,14 +222,14 @@ module _ (B : Type 0) (value : B → ℕ → Bool) (r : Antecedent B) (s : Seq B
       abbrev x : Attempt
       x = attempt_at m (n + 1) c
 
-      awaits-IsEnd : (e : ℕ) → awaits x e ≡ true → IsEnd value r (n + 1) c e
+      awaits-IsEnd : (e : ℕ) → awaits x e ≡ true → EndsAntecedent value r (n + 1) c e
       awaits-IsEnd e h =
           let p = and_parts (nat_le c e) (bit_at (accepted_at m.antecedent c (n + 1 - c)) (e - c) == 1) h in
           let b = accepted_at-bit m.antecedent c (n + 1 - c) (e - c) (eqb-true _ 1 p.1) in
           let from : c ≤ e = leb-true c e p.0 in
           accepts-IsEnd B value r m.antecedent fr (n + 1) c e from (omega (arith, b.0)) b.1
 
-      IsEnd-awaits : (e : ℕ) → IsEnd value r (n + 1) c e → awaits x e ≡ true
+      IsEnd-awaits : (e : ℕ) → EndsAntecedent value r (n + 1) c e → awaits x e ≡ true
       IsEnd-awaits e end =
           and_from (nat_le c e) (bit_at (accepted_at m.antecedent c (n + 1 - c)) (e - c) == 1) (le-leb c e end.0)
           (eq-eqb _ 1
@@ -237,7 +237,7 @@ module _ (B : Type 0) (value : B → ℕ → Bool) (r : Antecedent B) (s : Seq B
           (IsEnd-accepts B value r m.antecedent fr (n + 1) c e end)))
 
       -- an obligation that it awaits is live, or kept before
-      owed-or-kept : (e : ℕ) → IsEnd value r (n + 1) c e → (owed e ≡ true) ⊎ IsKept value s n e
+      owed-or-kept : (e : ℕ) → EndsAntecedent value r (n + 1) c e → (owed e ≡ true) ⊎ IsKept value s n e
       owed-or-kept e end =
           let from : e ≤ n = omega (arith, end.1) in
           let awaited : is_awaited m verdict e ≡ true =
@@ -269,7 +269,7 @@ module _ (B : Type 0) (value : B → ℕ → Bool) (r : Antecedent B) (s : Seq B
             ]
           ]
         where
-          Leads-now : (e : ℕ) → e < n → IsEnd value r (n + 1) c e → Leads (sat value n) r c (e + 1)
+          Leads-now : (e : ℕ) → e < n → EndsAntecedent value r (n + 1) c e → Leads (sat value n) r c (e + 1)
           Leads-now e early end =
               Leads-sat B value r n c (e + 1) (omega arith)
               (Leads-seen B value r (n + 1) c (e + 1) (omega (arith, end.1)) end.2)
@@ -326,7 +326,8 @@ module _ (B : Type 0) (value : B → ℕ → Bool) (r : Antecedent B) (s : Seq B
           ∙ some_in-true 0 (suc n) (λ e. owed e && (is_broken (fate_at m n e) && awaits x e)) e (omega arith)
           (omega arith) (and_from _ _ is (and_from _ _ broken (IsEnd-awaits e fails.1)))
 
-      open-unkept : some_open x fates ≡ true → (e : ℕ) × IsEnd value r (n + 1) c e × (IsKept value s (n + 1) e → ⊥)
+      open-unkept : some_open x fates ≡ true → (e : ℕ) × EndsAntecedent value r (n + 1) c e
+          × (IsKept value s (n + 1) e → ⊥)
       open-unkept h =
           let f =
           some_in-found 0 (suc n) (λ e. owed e && (not (is_ended (fate_at m n e)) && awaits x e))
@@ -338,7 +339,7 @@ module _ (B : Type 0) (value : B → ℕ → Bool) (r : Antecedent B) (s : Seq B
           let b = or_parts (accepts m.consequent e (n - e)) (places m.consequent e (n + 1 - e) == 0) (not-true _ q.0) in
           (e, awaits-IsEnd e q.1, owed-unkept e (omega (arith, f.2)) p.0 b.0)
 
-      each-kept : some_broken x fates ≡ false → some_open x fates ≡ false → (e : ℕ) → IsEnd value r (n + 1) c e
+      each-kept : some_broken x fates ≡ false → some_open x fates ≡ false → (e : ℕ) → EndsAntecedent value r (n + 1) c e
           → IsKept value s (n + 1) e
       each-kept unbroken closed e end =
           let from : e ≤ n = omega (arith, end.1) in
@@ -392,7 +393,7 @@ module _ (B : Type 0) (value : B → ℕ → Bool) (r : Antecedent B) (s : Seq B
           ≡ settled (verdict (n + 1) c) x rest
       ends-so unbroken closed rest =
           let p = or_parts (some_open x fates) (not (x.positions == 0)) closed in
-          let over : IsOver value r (n + 1) c =
+          let over : IsAntecedentOver value r (n + 1) c =
           places-IsOver B value r m.antecedent fr (n + 1) c (omega arith)
           (eqb-true x.positions 0 (not-false _ p.1)) in
           elim (cases_Bool (x.awaited == 0)) [
@@ -408,7 +409,7 @@ module _ (B : Type 0) (value : B → ℕ → Bool) (r : Antecedent B) (s : Seq B
             | inr some ↦
                 let at = some-accepted_at m.antecedent c (n + 1 - c) (eqb-false x.awaited 0 some) in
                 let same : at.0 ≡ c + at.0 - c = omega arith in
-                let end : IsEnd value r (n + 1) c (c + at.0) =
+                let end : EndsAntecedent value r (n + 1) c (c + at.0) =
                 accepts-IsEnd B value r m.antecedent fr (n + 1) c (c + at.0) (omega arith) (omega (arith, at.1))
                 (ap (accepts m.antecedent c) (sym same) ∙ at.2) in
                 let is : verdict (n + 1) c ≡ outcome.Holds n =

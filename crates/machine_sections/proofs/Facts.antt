@@ -7,9 +7,10 @@ use Rattle.std.proofs.lemmas.Bool.{both_ways, not-true, and_parts, and_cases, or
 use Rattle.std.proofs.lemmas.Bool.{cases_lt, cases_eq, eqb-true}
 use Rattle.std.proofs.lemmas.Nat.Bits.{bit_at_or, bit_at-pow_same, bit_at-pow_other, bit_at-zero, bit_at-lt}
 use Rattle.assertions.specs.Segments.{Seq, sat, Matches}
-use Rattle.assertions.specs.Attempts.{Antecedent, every, MatchesBy, Leads, IsEnd, IsKept, IsBroken, IsOver}
+use Rattle.assertions.specs.Attempts.{Antecedent, every, MatchesBy, Leads, EndsAntecedent, IsKept, IsBroken}
+use Rattle.assertions.specs.Attempts.{IsAntecedentOver}
 use Rattle.assertions.proofs.Segments.{Matches-forward}
-use Rattle.machine_sections.specs.Automata.{Automaton, places, accepts, accepted_at, Follows}
+use Rattle.machine_sections.specs.Automata.{Automaton, places, accepts, accepted_at, AutomatonFollows}
 use Rattle.machine_sections.specs.Standing.{is_unsettled}
 use Rattle.machine_sections.proofs.Local.{Matches-seen, Matches-sat, Matches-earlier}
 
@@ -105,14 +106,15 @@ pub Leads-sat : (B : Type 0) (value : B → ℕ → Bool) (r : Antecedent B) (n 
     → Leads value r i j → Leads (sat value n) r i j
 Leads-sat B value r n i j by h = sat-by B value r.first r.sequence n i j by h
 
-module _ (B : Type 0) (value : B → ℕ → Bool) (r : Antecedent B) (a : Automaton) (follows : Follows value r a) where
-  pub IsEnd-accepts : (n c e : ℕ) → IsEnd value r n c e → IsTrue (accepts a c (e - c))
+module _ (B : Type 0) (value : B → ℕ → Bool) (r : Antecedent B) (a : Automaton)
+    (follows : AutomatonFollows value r a) where
+  pub IsEnd-accepts : (n c e : ℕ) → EndsAntecedent value r n c e → IsTrue (accepts a c (e - c))
   IsEnd-accepts n c e end =
       let same : e + 1 ≡ c + (e - c) + 1 = omega (arith, end.0) in
       (follows.ends c (e - c)).1
       (subst (Leads value r c) same (Leads-seen B value r n c (e + 1) (omega (arith, end.1)) end.2))
 
-  pub accepts-IsEnd : (n c e : ℕ) → c ≤ e → e < n → IsTrue (accepts a c (e - c)) → IsEnd value r n c e
+  pub accepts-IsEnd : (n c e : ℕ) → c ≤ e → e < n → IsTrue (accepts a c (e - c)) → EndsAntecedent value r n c e
   accepts-IsEnd n c e from below h =
       let same : c + (e - c) + 1 ≡ e + 1 = omega arith in (
         from,
@@ -120,17 +122,18 @@ module _ (B : Type 0) (value : B → ℕ → Bool) (r : Antecedent B) (a : Autom
         Leads-sat B value r n c (e + 1) (omega arith) (subst (Leads value r c) same ((follows.ends c (e - c)).0 h)),
       )
 
-  pub IsOver-places : (n c : ℕ) → c ≤ n → IsOver value r n c → places a c (n - c) ≡ 0
+  pub IsOver-places : (n c : ℕ) → c ≤ n → IsAntecedentOver value r n c → places a c (n - c) ≡ 0
   IsOver-places n c le over =
       let same : n ≡ c + (n - c) = omega arith in
-      (follows.over c (n - c)).1 (subst (λ k. IsOver value r k c) same over)
+      (follows.over c (n - c)).1 (subst (λ k. IsAntecedentOver value r k c) same over)
 
-  pub places-IsOver : (n c : ℕ) → c ≤ n → places a c (n - c) ≡ 0 → IsOver value r n c
+  pub places-IsOver : (n c : ℕ) → c ≤ n → places a c (n - c) ≡ 0 → IsAntecedentOver value r n c
   places-IsOver n c le h =
       let same : c + (n - c) ≡ n = omega arith in
-      subst (λ k. IsOver value r k c) same ((follows.over c (n - c)).0 h)
+      subst (λ k. IsAntecedentOver value r k c) same ((follows.over c (n - c)).0 h)
 
-module _ (B : Type 0) (value : B → ℕ → Bool) (r : Seq B) (a : Automaton) (follows : Follows value (every r) a) where
+module _ (B : Type 0) (value : B → ℕ → Bool) (r : Seq B) (a : Automaton)
+    (follows : AutomatonFollows value (every r) a) where
   -- an obligation that is kept stays kept; one that is broken stays broken; none is both
   pub IsKept-later : (m n e : ℕ) → m ≤ n → IsKept value r m e → IsKept value r n e
   IsKept-later m n e le kept = (

@@ -12,11 +12,11 @@ use Rattle.bytecode.specs.declared.block_instr.BlockInstr.TheVariants.{AcceptFir
 use Rattle.bytecode.specs.Values.{SectionData}
 use Rattle.machine_definition.specs.Blocks.{Visit, ended}
 use Rattle.assertions.specs.Segments.{Seq, sat, Matches, MatchesFirst}
-use Rattle.assertions.specs.Attempts.{every, first_match, IsOver}
+use Rattle.assertions.specs.Attempts.{every, first_match, IsAntecedentOver}
 use Rattle.assertions.proofs.Segments.{Matches-forward}
-use Rattle.machine_sections.specs.Automata.{Automaton, places, accepts, Follows}
+use Rattle.machine_sections.specs.Automata.{Automaton, places, accepts, AutomatonFollows}
 use Rattle.machine_sections.specs.Effects.{effect, effects, visit_of, automaton_of}
-use Rattle.machine_sections.specs.Firsts.{first_step, accepting_first, IsPlain, ArePlain, AcceptsFirst}
+use Rattle.machine_sections.specs.Firsts.{first_step, accepting_first, HasNoAcceptFirst, ArePlain, AcceptsFirst}
 use Rattle.machine_sections.proofs.Local.{Matches-seen, Matches-sat}
 
 -- ---- what the blocks make
@@ -25,7 +25,7 @@ use Rattle.machine_sections.proofs.Local.{Matches-seen, Matches-sat}
 turned : Visit → Visit
 turned v = record { entered = v.entered; accepted = v.accepted; first = v.accepted }
 
-effect-turned : (atoms : List Bool) (k pc : ℕ) (is : List BlockInstr) → IsPlain is → (v : Visit)
+effect-turned : (atoms : List Bool) (k pc : ℕ) (is : List BlockInstr) → HasNoAcceptFirst is → (v : Visit)
     → effect atoms k pc (map first_step is) (turned v) ≡ turned (effect atoms k pc is v)
 unfolding turned
 effect-turned atoms k pc [] plain v = refl
@@ -43,7 +43,7 @@ effect-turned atoms zero pc (Enter q ∷ is) plain v =
 effect-turned atoms zero pc (Unless atom target ∷ is) plain v =
     effect-turned atoms (if slice_index_or atoms atom true then 0 else target - (pc + 1)) (pc + 1) is plain v
 
-effect-first : (atoms : List Bool) (k pc : ℕ) (is : List BlockInstr) → IsPlain is → (v : Visit)
+effect-first : (atoms : List Bool) (k pc : ℕ) (is : List BlockInstr) → HasNoAcceptFirst is → (v : Visit)
     → (effect atoms k pc is v).first ≡ v.first
 effect-first atoms k pc [] plain v = refl
 effect-first atoms (suc k) pc (Unless atom target ∷ is) plain v = effect-first atoms k (pc + 1) is plain v
@@ -178,7 +178,7 @@ module _ (a f : Automaton) (start : f.start ≡ a.start)
   accepts-first c k = accepts-by c k (before a c k) (places-first c k)
 
   module _ (B : Type 0) (value : B → ℕ → Bool) (r : Seq B) (fills : (e : ℕ) → Matches value r e e → ⊥)
-      (follows : Follows value (every r) a) where
+      (follows : AutomatonFollows value (every r) a) where
     -- a match that ends by a tick was accepted before it
     match-before : (c k j : ℕ) → j < c + k + 1 → Matches value r c j → before a c k ≡ true
     match-before c k j below m =
@@ -254,7 +254,7 @@ module _ (a f : Automaton) (start : f.start ≡ a.start)
               ∙ (follows.over c k).1 (λ j later m. none-later c k never over (suc j) j (omega arith) later m)
         ]
 
-    follows-first : Follows value (first_match r) f
+    follows-first : AutomatonFollows value (first_match r) f
     follows-first = record {
       ends = λ c k. (first-ends c k, ends-first c k);
       over = λ c k. (over-first c k, first-over c k);

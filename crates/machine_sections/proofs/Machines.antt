@@ -16,7 +16,7 @@ use Rattle.machine_sections.specs.Monitors.{Monitor, monitor_of, visit_each, som
 use Rattle.machine_sections.specs.Monitors.{settle_each}
 use Rattle.machine_sections.specs.Monitors.{disable_each, settled_with, clock_with, new_attempt, clock_of}
 use Rattle.machine_sections.specs.Effects.{visit_of}
-use Rattle.machine_sections.proofs.Blocks.{Gives, Gives-and_then, Gives-tick, visit-gives}
+use Rattle.machine_sections.proofs.Blocks.{Gives, Gives-and_then, Gives-costs_one, visit-gives}
 
 module _ (p : ProgramData) (atoms : ℕ → List Bool) (now : ℕ) (fine_a : IsSection (length (atoms now)) p.antecedent)
     (fine_c : IsSection (length (atoms now)) p.consequent) where
@@ -30,7 +30,7 @@ module _ (p : ProgramData) (atoms : ℕ → List Bool) (now : ℕ) (fine_a : IsS
       → Gives (λ x. x ≡ visits_of live) (visit_attempts p.antecedent (atoms now) now live left)
   visit_attempts-gives [] left = refl
   visit_attempts-gives (a ∷ others) left =
-      Gives-tick (λ x. x ≡ visits_of (a ∷ others)) left _ (λ left.
+      Gives-costs_one (λ x. x ≡ visits_of (a ∷ others)) left _ (λ left.
       Gives-and_then (λ x. x ≡ visit_of p.antecedent (atoms now) a.positions) (λ x. x ≡ visits_of (a ∷ others))
       (visit p.antecedent (atoms now) a.positions left) _
       (visit-gives p.antecedent (atoms now) fine_a a.positions left)
@@ -49,7 +49,7 @@ module _ (p : ProgramData) (atoms : ℕ → List Bool) (now : ℕ) (fine_a : IsS
       → Gives (λ x. x ≡ fates_of m.consequent now os) (visit_obligations p.consequent (atoms now) os left)
   visit_obligations-gives [] left = refl
   visit_obligations-gives (o ∷ os) left =
-      Gives-tick (λ x. x ≡ fates_of m.consequent now (o ∷ os)) left _ (λ left.
+      Gives-costs_one (λ x. x ≡ fates_of m.consequent now (o ∷ os)) left _ (λ left.
       Gives-and_then (λ x. x ≡ visit_of p.consequent (atoms now) o.positions)
       (λ x. x ≡ fates_of m.consequent now (o ∷ os)) (visit p.consequent (atoms now) o.positions left) _
       (visit-gives p.consequent (atoms now) fine_c o.positions left)
@@ -69,7 +69,7 @@ module _ (p : ProgramData) (atoms : ℕ → List Bool) (now : ℕ) (fine_a : IsS
       → Gives (λ x. x ≡ settle_each now fates live) (settle_all now fates live left)
   settle_all-gives fates [] left = refl
   settle_all-gives fates (a ∷ others) left =
-      Gives-tick (λ x. x ≡ settle_each now fates (a ∷ others)) left _ (λ left.
+      Gives-costs_one (λ x. x ≡ settle_each now fates (a ∷ others)) left _ (λ left.
       Gives-and_then (λ x. x ≡ settle_each now fates others) (λ x. x ≡ settle_each now fates (a ∷ others))
       (settle_all now fates others left) _
       (settle_all-gives fates others left)
@@ -79,7 +79,7 @@ module _ (p : ProgramData) (atoms : ℕ → List Bool) (now : ℕ) (fine_a : IsS
       → Gives (λ x. x ≡ disable_each now live) (disable_all now live left)
   disable_all-gives [] left = refl
   disable_all-gives (a ∷ others) left =
-      Gives-tick (λ x. x ≡ disable_each now (a ∷ others)) left _ (λ left.
+      Gives-costs_one (λ x. x ≡ disable_each now (a ∷ others)) left _ (λ left.
       Gives-and_then (λ x. x ≡ disable_each now others) (λ x. x ≡ disable_each now (a ∷ others))
       (disable_all now others left) _
       (disable_all-gives others left)

@@ -24,7 +24,7 @@ use Rattle.machine_definition.proofs.Samples.{run_sample-meets}
 use Rattle.machine_definition.proofs.Machine.{cost, longer}
 use Rattle.machine_sections.specs.Monitors.{Monitor, monitor_of}
 use Rattle.machine_sections.specs.Standing.{standing_at, falling}
-use Rattle.machine_sections.specs.History.{rows_before, rows_at, sample_run, IsMadeOf, SamplesAs}
+use Rattle.machine_sections.specs.History.{rows_before, rows_at, sample_run, IsSampleMade, SamplesAs}
 use Rattle.machine_sections.specs.Laws.{Watches, Fills, fallen, all_fallen, IsJudgedOver, RunsByMeaning}
 use Rattle.machine_sections.proofs.Deciding.{Goes, clock-decides, falling-fallen, starts-open}
 
@@ -32,7 +32,7 @@ Meets-both : {A : Type 0} (P Q : A → ℕ → Type 0) (x : Ran A) → Meets P x
 Meets-both P Q (done a n) h g = (h, g)
 Meets-both P Q (trapped t) h g = h
 
--- what comes to this value, with so many ticks left
+-- what comes to this value, with so much of the budget left
 Meets-done : {A : Type 0} (a : A) (n : ℕ) (x : Ran A) → Meets (λ b m. (b ≡ a) × (m ≡ n)) x → x ≡ done a n
 Meets-done a n (done b m) h = ap (λ c. done c m) h.0 ∙ ap (done a) h.1
 Meets-done a n (trapped t) h = absurd h
@@ -67,7 +67,7 @@ module _ (p : ProgramData) (signals counters : ℕ → List ℕ) (atoms : ℕ �
   outcome_at n = record { state = state_at (n + 1); decided = falling v n }
 
   abbrev Makes : ℕ → Made → ℕ → Type 0
-  Makes n made left = IsMadeOf (counters n) (atoms n) (counters (n + 1)) made
+  Makes n made left = IsSampleMade (counters n) (atoms n) (counters (n + 1)) made
 
   abbrev Steps : ℕ → Outcome → ℕ → Type 0
   Steps n o left = IsReached p o.state.standing × (o ≡ outcome_at n)

@@ -11,7 +11,7 @@ use Rattle.assertions.specs.Segments.{Seq, Matches}
 use Rattle.assertions.specs.Attempts.{Antecedent, every, IsFirstDecided, IsUndecided, IsFirstOff, IsNeverOff}
 use Rattle.assertions.specs.Attempts.{IsVerdict, verdict}
 use Rattle.assertions.proofs.Verdicts.{IsVerdict-verdict, IsVerdict-only}
-use Rattle.machine_sections.specs.Automata.{Follows}
+use Rattle.machine_sections.specs.Automata.{AutomatonFollows}
 use Rattle.machine_sections.specs.Monitors.{Monitor, clock_of, after, decided_at}
 use Rattle.machine_sections.specs.Standing.{select, is_open, falls_at, standing_at, falling}
 use Rattle.machine_sections.proofs.Selections.{select-same}
@@ -136,8 +136,9 @@ module _ (B : Type 0) (value : B → ℕ → Bool) (off : ℕ → Bool) (r : Ant
       falls-closed n (outcome.Disabled t) h = refl
 
 module _ (B : Type 0) (value : B → ℕ → Bool) (r : Antecedent B) (s : Seq B) (m : Monitor)
-    (fr : Follows value r m.antecedent)
-    (fs : Follows value (every s) m.consequent) (fills : (e : ℕ) → Matches value s e e → ⊥) (v : ℕ → ℕ → Verdict)
+    (fr : AutomatonFollows value r m.antecedent)
+    (fs : AutomatonFollows value (every s) m.consequent) (fills : (e : ℕ) → Matches value s e e → ⊥)
+    (v : ℕ → ℕ → Verdict)
     (are : AreVerdicts value m.off r s v) where
   -- the state after any clocks stands for the meaning
   pub after-standing : (n : ℕ) → after m n ≡ standing_at m v n

@@ -36,7 +36,8 @@ sample_run p signals counters k =
 
 -- Over counters that are read so, the sample code set these atoms, and with what it stored the next
 -- clock reads those counters.
-pub record IsMadeOf (read : List ℕ) (set : List Bool) (next : List ℕ) (made : Made) : Type 0 where
+pub record IsSampleMade (read : List ℕ) (set : List Bool) (next : List ℕ)
+    (made : Made) : Type 0 where
   pub atoms : made.atoms ≡ set
   pub counters : stored made.stores read ≡ next
 
@@ -46,5 +47,5 @@ pub record SamplesAs (p : ProgramData) (signals counters : ℕ → List ℕ) (at
     (count : ℕ) : Type 0 where
   pub opening : counters 0 ≡ replicate (length p.counters) 0
   pub each : (k : ℕ) → k < count →
-      Meets (λ made left. IsMadeOf (counters k) (atoms k) (counters (k + 1)) made)
+      Meets (λ made left. IsSampleMade (counters k) (atoms k) (counters (k + 1)) made)
       (sample_run p signals counters k)

@@ -14,7 +14,7 @@ use Rattle.machine_definition.specs.Outcomes.{Meets}
 use Rattle.machine_definition.specs.Clocks.{Attempt, none_standing}
 use Rattle.machine_definition.specs.Machine.{State, sample_of}
 use Rattle.machine_definition.specs.Runs.{Decides}
-use Rattle.machine_sections.specs.Automata.{Follows}
+use Rattle.machine_sections.specs.Automata.{AutomatonFollows}
 use Rattle.machine_sections.specs.Effects.{automaton_of}
 use Rattle.machine_sections.specs.Monitors.{monitor_of}
 use Rattle.machine_sections.specs.Standing.{select, is_open, falls_at}
@@ -24,8 +24,8 @@ use Rattle.machine_sections.specs.History.{row_at, rows_at, held, SamplesAs}
 -- On these atoms of each tick the sections follow the antecedent r and the consequent s.
 pub record Watches {B : Type 0} (p : ProgramData) (atoms : ℕ → List Bool) (value : B → ℕ → Bool)
     (r : Antecedent B) (s : Seq B) : Type 0 where
-  pub antecedent : Follows value r (automaton_of p.antecedent atoms)
-  pub consequent : Follows value (every s) (automaton_of p.consequent atoms)
+  pub antecedent : AutomatonFollows value r (automaton_of p.antecedent atoms)
+  pub consequent : AutomatonFollows value (every s) (automaton_of p.consequent atoms)
 
 -- no match is empty
 abbrev pub Fills : {B : Type 0} → (B → ℕ → Bool) → Seq B → Type 0
@@ -51,7 +51,7 @@ pub record IsJudged (verdict : ℕ → Verdict) (count : ℕ) (run : Clocked) : 
   pub batches : run.batches ≡ map (fallen verdict count) (range_with_len 0 count)
   pub live : starts_of run.standing.attempts ≡ open_starts verdict count
 
--- The sample code of a tick set an atom for each of the program's, and took no more ticks than its
+-- The sample code of a tick set an atom for each of the program's, and took no more cost than its
 -- longest path.
 pub record IsSampled (p : ProgramData) (c : Sampled) : Type 0 where
   pub atoms : length c.atoms ≡ p.header.atoms

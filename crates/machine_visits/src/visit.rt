@@ -35,7 +35,7 @@ impl Visit {
     }
 }
 
-/// Runs the blocks of a set of positions in rising order, and takes a tick for each instruction.
+/// Runs the blocks of a set of positions in rising order, and each instruction costs one.
 fn run_set(section: &Section, bases: &[usize], atoms: &[bool], set: u128, left: &mut u64) -> Visit
     requires few { length section.now.blocks.items ≤ 127 }
     requires size { size_of (section_data section.now).blocks ≤ 4096 }

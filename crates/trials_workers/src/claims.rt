@@ -1,7 +1,7 @@
 //! Claims from a bench, and one worker's round.
 
 ghost use Rattle.std.specs.Prelude.{◌≡◌};
-ghost use Rattle.workers_shared.specs.Blanks.{HaveParts, AreOf};
+ghost use Rattle.workers_shared.specs.Blanks.{HaveParts, HaveNames};
 
 use crate::job::job_of;
 use crate::tests::{OVERLAPPED, THREE, TWO_POSITIONS};
@@ -80,7 +80,7 @@ fn round_alone<L: Tallying>(
 ) -> Result<Alone, AllocError>
     requires shares { L.shares ≡ 1 }
     requires parts { HaveParts 1 blanks }
-    requires names { AreOf L.holds L.vacuous L.fails L.disabled blanks }
+    requires names { HaveNames L.holds L.vacuous L.fails L.disabled blanks }
 {
     let Ok(window) = window_of(alloc, job, WindowSize::usual()) else {
         return Err(AllocError);

@@ -10,7 +10,7 @@ ghost use Rattle.types_suites.specs.Faults.{IsTypeFault};
 ghost use Rattle.types.specs.Cycles.{AreOutlined};
 ghost use Rattle.types.specs.Sides.{AreWeighed, AreLight};
 ghost use Rattle.types_sequences.specs.Cycles.{ReachesCycle};
-ghost use Rattle.types_sequences.specs.Entries.{IsTable, has_entry};
+ghost use Rattle.types_sequences.specs.Entries.{IsEntryTable, has_entry};
 ghost use Rattle.types_sequences.specs.Views.{draft_of};
 
 use crate::clocks::first_other_clock;
@@ -122,7 +122,7 @@ pub(crate) fn check_cycles(
 ) -> Result<(), TypeFault>
     requires bytes { length bytes.now ≡ length bodies.now }
     requires long { length table.now ≡ length bodies.now }
-    requires entries { IsTable (map draft_of bodies.now) table.now }
+    requires entries { IsEntryTable (map draft_of bodies.now) table.now }
     requires cyclic { (p : ℕ) → p < length bodies.now → has_entry table.now p ≡ false
         → ReachesCycle (map draft_of bodies.now) p }
     ensures entries { IfOk result (λ _.

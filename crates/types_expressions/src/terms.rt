@@ -14,7 +14,8 @@ ghost use Rattle.types_names.specs.Faults.{IsSound, has_bits, path_faults, link_
 ghost use Rattle.types_names.specs.Faults.{part_faults};
 ghost use Rattle.types_names.specs.Columns.{HasColumns, column_of, is_listed, all_listed};
 ghost use Rattle.types_names.specs.Columns.{path_signals, link_signals, part_signals};
-ghost use Rattle.types_expressions.specs.Meanings.{IsName, IsNameOf, IsRead, Means, Chains, Joins};
+ghost use Rattle.types_expressions.specs.Meanings.{IsName, IsNameOf, IsReference, Means, Chains};
+ghost use Rattle.types_expressions.specs.Meanings.{Joins};
 ghost use Rattle.types_expressions.specs.Meanings.{binary_term, unary_term, call_term};
 ghost use Rattle.types_names.specs.Views.{scope_of, columns_in};
 
@@ -187,7 +188,7 @@ fn typed_path(
     requires listed { IsTrue (all_listed (columns_in columns.now)
         (path_signals (path_text (path_of path.now))
         (meaning (scope_of scope.now) (path_of path.now)))) }
-    ensures { IfOk result (λ e. IsRead (meaning (scope_of scope.now) (path_of path.now))
+    ensures { IfOk result (λ e. IsReference (meaning (scope_of scope.now) (path_of path.now))
         (column_of (columns_in columns.now) (path_text (path_of path.now))) select (term_of e)) }
 {
     let name = path_name(alloc, scope, columns, path)?;

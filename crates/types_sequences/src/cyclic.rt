@@ -2,7 +2,7 @@
 
 ghost use Rattle.std.specs.Prelude.{◌≡◌, ◌<◌, ◌≤◌, ◌↔◌, ◌⊎◌, ℕ, true, false, map, length, IsTrue};
 ghost use Rattle.std.specs.Prelude.{IfOk, OnOk};
-ghost use Rattle.types_sequences.specs.Drafts.{IsIn, uses, uses_at, IsCyclic};
+ghost use Rattle.types_sequences.specs.Drafts.{IsNumberIn, uses, uses_at, IsCyclic};
 ghost use Rattle.types_sequences.specs.Views.{draft_of};
 ghost use Rattle.types_sequences.specs.Marks.{some_use, mark_at, leads};
 ghost use Rattle.types_sequences.specs.Sweeps.{AreSound, Covers, AreQuiet};
@@ -87,7 +87,7 @@ fn no_marks(alloc: Global, count: usize) -> Result<Vec<bool>, AllocError>
 
 /// The places below the count.
 pub(crate) fn all_places(alloc: Global, count: usize) -> Result<Vec<usize>, AllocError>
-    ensures { IfOk result (λ places. (p : ℕ) → p < count → IsIn p places.items) }
+    ensures { IfOk result (λ places. (p : ℕ) → p < count → IsNumberIn p places.items) }
 {
     let mut places = Vec::with_capacity(alloc, count)?;
     for place in 0..count {

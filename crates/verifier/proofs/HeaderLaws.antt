@@ -11,8 +11,8 @@ use Rattle.verifier_inference.specs.declared.pool.Pool.TheVariants as pools
 use Rattle.verifier_inference.specs.declared.refusal.Refusal.TheVariants.{SlotRange, PoolTooSmall}
 use Rattle.verifier_inference.specs.declared.refusal.Refusal.TheVariants.{LimitTooLarge}
 use Rattle.verifier_inference.specs.Inference.{Found, found}
-use Rattle.verifier_inference.specs.Order.{number_of, part_of, field_place, IsUpTo, place_of, IsIn, IsFirst}
-use Rattle.verifier_inference.specs.Scans.{IsHead}
+use Rattle.verifier_inference.specs.Order.{number_of, part_of, field_place, IsUpTo, place_of, IsIn, IsFirstFound}
+use Rattle.verifier_inference.specs.Scans.{IsHeadRefusal}
 use Rattle.verifier_inference.specs.Sections.{size_of}
 use Rattle.bytecode.specs.Instructions.{frame_of}
 use Rattle.bytecode.specs.Values.{ProgramData}
@@ -201,9 +201,9 @@ abbrev pub AreSmall : List Refusal → Type 0
 AreSmall rs = (x : Refusal) → IsIn x rs → part_of x < 16
 
 pub head_first : (section low high : ℕ) (rs : List Refusal) (e : Refusal) → Climbs low high rs → AreSmall rs
-    → IsHead e rs → IsFirst (found section 0 e) (map (found section 0) rs)
+    → IsHeadRefusal e rs → IsFirstFound (found section 0 e) (map (found section 0) rs)
 head_first section low high rs e climbs small h =
-    subst (λ (xs : List Refusal). IsFirst (found section 0 e) (map (found section 0) xs)) (sym h.1)
+    subst (λ (xs : List Refusal). IsFirstFound (found section 0 e) (map (found section 0) xs)) (sym h.1)
     (record { stands = inl refl; first = λ y i. by_part y i })
   where
     climbs_e : Climbs low high (e ∷ h.0)

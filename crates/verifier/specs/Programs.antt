@@ -19,7 +19,7 @@ use Rattle.verifier_inference.specs.Inference.{Found, found, code_faults}
 use Rattle.bytecode.specs.Values.{ProgramData}
 use Rattle.verifier_inference.specs.Sections.{section_faults, IsSection, size_of}
 use Rattle.verifier_inference.specs.Scans.{entry_longest}
-use Rattle.verifier_inference.specs.Typing.{IsTyped, AreShort, longest_list}
+use Rattle.verifier_inference.specs.Typing.{IsCodeTyped, AreShort, longest_list}
 use Rattle.verifier.specs.Limits.{farthest, longest_path, path_sum, start_life}
 
 abbrev pub disable_faults : Option ℕ → ℕ → List Refusal
@@ -126,7 +126,7 @@ pub record IsWellFormed (p : ProgramData) : Type 0 where
   pub disable : IsAtom p.header.disable p.header.atoms
   -- the lists of the sample code
   pub table : ℕ → List ℕ
-  pub sample : IsTyped (sample_rules (frame_of p)) 0 p.sample table
+  pub sample : IsCodeTyped (sample_rules (frame_of p)) 0 p.sample table
   pub short : AreShort (sample_rules (frame_of p)) 0 p.sample table
   pub antecedent : IsSection 2 p.header.atoms p.antecedent
   pub consequent : IsSection 3 p.header.atoms p.consequent
@@ -149,7 +149,7 @@ pub record IsAcceptable (p : ProgramData) : Type 0 where
 pub record IsAccepted (p : ProgramData) : Type 0 where
   pub disable : IsAtom p.header.disable p.header.atoms
   pub table : ℕ → List ℕ
-  pub sample : IsTyped (sample_rules (frame_of p)) 0 p.sample table
+  pub sample : IsCodeTyped (sample_rules (frame_of p)) 0 p.sample table
   pub antecedent : IsSection 2 p.header.atoms p.antecedent
   pub consequent : IsSection 3 p.header.atoms p.consequent
   -- nothing is over the most

@@ -11,7 +11,7 @@ use Rattle.verifier_inference.specs.Rules.{block_rules}
 use Rattle.bytecode.specs.Instructions.{block_flow}
 use Rattle.verifier_inference.specs.Inference.{Message, sends, jump_faults, end_faults, faults_at, left_by}
 use Rattle.verifier_inference.specs.Inference.{code_faults, found, entry}
-use Rattle.verifier_inference.specs.Order.{part_of, IsFirst, first_of}
+use Rattle.verifier_inference.specs.Order.{part_of, IsFirstFound, first_of}
 use Rattle.verifier_inference.specs.Scans.{list_at, HasRead}
 use Rattle.verifier_inference.specs.Marks.{marked, Reached}
 use Rattle.verifier_inference.proofs.OrderLaws.{Rises, NamesRise}
@@ -70,7 +70,7 @@ module _ (section atoms positions p base : ℕ) (block : List BlockInstr) where
           → Some e
           ≡ first_of
           (faults_at (block_rules section atoms positions p) (base + length block) (base + k) i (marked mark)) →
-          IsFirst (found section (base + k) e) (code_faults (block_rules section atoms positions p) base block)
+          IsFirstFound (found section (base + k) e) (code_faults (block_rules section atoms positions p) base block)
           × (part_of e ≡ 0)
       block_refused e h =
           refused_at (block_rules section atoms positions p) base block (Reached base marks) 0 (base + length block)

@@ -10,7 +10,7 @@ use Rattle.std.proofs.lemmas.Bool.{and_cases, ltb-true, ltb-false, leb-true, leb
 use Rattle.std.proofs.lemmas.Bool.{eqb-false}
 use Rattle.verifier_inference.specs.declared.fault.Fault.{Fault}
 use Rattle.verifier_inference.specs.Inference.{Message, agreed, merge, arrival_at, entry, Found, found}
-use Rattle.verifier_inference.specs.Order.{number_of, part_of, IsUpTo, place_of, IsIn, IsFirst}
+use Rattle.verifier_inference.specs.Order.{number_of, part_of, IsUpTo, place_of, IsIn, IsFirstFound}
 use Rattle.verifier_inference.specs.Scans.{IsFirstOf}
 use Rattle.verifier_inference.specs.Marks.{marked, Reached, is_up_to}
 use Rattle.verifier_inference.proofs.ArrivalLaws.{set_same, set_other}
@@ -58,8 +58,9 @@ up_to_trans (x ∷ xs) (y ∷ ys) (z ∷ zs) (inl l) (inr m) = inl (omega (arith
 up_to_trans (x ∷ xs) (y ∷ ys) (z ∷ zs) (inr l) (inl m) = inl (omega (arith, l.0, m))
 up_to_trans (x ∷ xs) (y ∷ ys) (z ∷ zs) (inr l) (inr m) = inr (l.0 ∙ m.0, up_to_trans xs ys zs l.1 m.1)
 
-pub first_left : (x y : Found) (xs ys : List Found) → IsFirst x xs → IsFirst y ys → IsUpTo (place_of x) (place_of y)
-    → IsFirst x (xs ++ ys)
+pub first_left : (x y : Found) (xs ys : List Found) → IsFirstFound x xs → IsFirstFound y ys
+    → IsUpTo (place_of x) (place_of y)
+    → IsFirstFound x (xs ++ ys)
 first_left x y xs ys f g up =
     record {
       stands = in_left x xs ys f.stands;
@@ -69,8 +70,9 @@ first_left x y xs ys f g up =
       ];
     }
 
-pub first_right : (x y : Found) (xs ys : List Found) → IsFirst x xs → IsFirst y ys → IsUpTo (place_of y) (place_of x)
-    → IsFirst y (xs ++ ys)
+pub first_right : (x y : Found) (xs ys : List Found) → IsFirstFound x xs → IsFirstFound y ys
+    → IsUpTo (place_of y) (place_of x)
+    → IsFirstFound y (xs ++ ys)
 first_right x y xs ys f g up =
     record {
       stands = in_right y xs ys g.stands;
@@ -80,7 +82,7 @@ first_right x y xs ys f g up =
       ];
     }
 
-pub first_with_none : (x : Found) (xs ys : List Found) → ys ≡ [] → IsFirst x xs → IsFirst x (xs ++ ys)
+pub first_with_none : (x : Found) (xs ys : List Found) → ys ≡ [] → IsFirstFound x xs → IsFirstFound x (xs ++ ys)
 first_with_none x xs ys none f =
     record {
       stands = in_left x xs ys f.stands;

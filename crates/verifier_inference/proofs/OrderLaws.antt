@@ -13,7 +13,7 @@ use Rattle.verifier_inference.specs.Inference.{Message, ArrivalData, nothing, ag
 use Rattle.verifier_inference.specs.Inference.{effect_faults, operand_faults, target_faults, jump_faults}
 use Rattle.verifier_inference.specs.Inference.{arrival_faults, end_faults, faults_at, told, Found, found}
 use Rattle.verifier_inference.specs.Inference.{faults_from}
-use Rattle.verifier_inference.specs.Order.{number_of, part_of, IsUpTo, place_of, IsIn, IsFirst}
+use Rattle.verifier_inference.specs.Order.{number_of, part_of, IsUpTo, place_of, IsIn, IsFirstFound}
 
 pub in_append : {A : Type 0} (y : A) (xs ys : List A) → IsIn y (xs ++ ys) → IsIn y xs ⊎ IsIn y ys
 in_append y [] ys h = inr h
@@ -140,7 +140,7 @@ stands_from r end pc (i ∷ is) ms y h =
 -- the first of those at one place, before all that stand later in the section
 pub first_here : (section pc : ℕ) (e : Refusal) (rest : List Refusal) (later : List Found) → Rises 0 17 (e ∷ rest)
     → ((y : Found) → IsIn y later → Stands section (pc + 1) y) →
-    IsFirst (found section pc e) (map (found section pc) (e ∷ rest) ++ later)
+    IsFirstFound (found section pc e) (map (found section pc) (e ∷ rest) ++ later)
 first_here section pc e rest later rises after =
     record {
       stands = inl refl;

@@ -23,7 +23,7 @@ use Rattle.verifier_inference.specs.Inference.{faults_from, entry}
 use Rattle.verifier_inference.specs.Scans.{list_at, longest_from}
 use Rattle.verifier_inference.specs.Order.{IsIn}
 use Rattle.bytecode.specs.Instructions.{LeadsTo}
-use Rattle.verifier_inference.specs.Typing.{IsFine, IsTyped, AreShort, longest_list}
+use Rattle.verifier_inference.specs.Typing.{IsFine, IsCodeTyped, AreShort, longest_list}
 use Rattle.verifier_inference.proofs.ScanLaws.{told-clear}
 
 -- parts of an empty list
@@ -458,7 +458,7 @@ module _ {I : Type 0} (r : Rules I) (base : ℕ) (code : List I) (some : 0 < len
         names = s.clear.names;
       }
 
-  pub typed_by : IsTyped r base code table_of × AreShort r base code table_of
+  pub typed_by : IsCodeTyped r base code table_of × AreShort r base code table_of
   typed_by = (
     record {
       some = some;
@@ -509,7 +509,8 @@ module _ {I : Type 0} (r : Rules I) (base : ℕ) (code : List I) (some : 0 < len
           by_source k positive m.0 m.2 (comes r (base + length code) base code (entry base) m.0 m.1)
 
 -- Typed code has no fault, and its longest list is that of the table.
-module _ {I : Type 0} (r : Rules I) (base : ℕ) (code : List I) (table : ℕ → List ℕ) (typed : IsTyped r base code table)
+module _ {I : Type 0} (r : Rules I) (base : ℕ) (code : List I) (table : ℕ → List ℕ)
+    (typed : IsCodeTyped r base code table)
     (are_short : AreShort r base code table) where
   -- what was sent agrees with the table, and each instruction below k has sent
   record IsFaithful (k : ℕ) (ms : List Message) : Type 0 where

@@ -72,14 +72,14 @@ IsIn x [] = ⊥
 IsIn x (y ∷ ys) = (x ≡ y) ⊎ IsIn x ys
 
 -- the first of the faults
-pub record IsFirst (x : Found) (fs : List Found) : Type 0 where
+pub record IsFirstFound (x : Found) (fs : List Found) : Type 0 where
   pub stands : IsIn x fs
   pub first : (y : Found) → IsIn y fs → IsUpTo (place_of x) (place_of y)
 
 -- that fault, the first, is what was answered
 pub record IsFirstRefusal (r : Refusal) (fs : List Found) : Type 0 where
   pub fault : Found
-  pub first : IsFirst fault fs
+  pub first : IsFirstFound fault fs
   pub is : fault.refusal ≡ r
 
 abbrev pub first_of : List Refusal → Option Refusal

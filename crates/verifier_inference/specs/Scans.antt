@@ -7,7 +7,7 @@ use Rattle.verifier_inference.specs.Rules.{Rules}
 use Rattle.verifier_inference.specs.Inference.{Message, ArrivalData, agreed, arrival_at, told}
 use Rattle.verifier_inference.specs.Inference.{Found}
 use Rattle.verifier_inference.specs.Inference.{faults_from, code_faults, entry}
-use Rattle.verifier_inference.specs.Order.{IsFirst, part_of}
+use Rattle.verifier_inference.specs.Order.{IsFirstFound, part_of}
 
 -- the list that is agreed on
 abbrev pub list_at : ArrivalData → List ℕ
@@ -24,12 +24,12 @@ abbrev pub entry_longest : {I : Type 0} → Rules I → List I → ℕ
 entry_longest r instrs = longest_from r (length instrs) 0 instrs (entry 0)
 
 -- the first of the faults at a place
-abbrev pub IsHead : Refusal → List Refusal → Type 0
-IsHead r rs = (rest : List Refusal) × (rs ≡ r ∷ rest)
+abbrev pub IsHeadRefusal : Refusal → List Refusal → Type 0
+IsHeadRefusal r rs = (rest : List Refusal) × (rs ≡ r ∷ rest)
 
 -- memory, or the first of the faults at a place
 abbrev pub IsHeadOr : Refusal → List Refusal → Type 0
-IsHeadOr r rs = (r ≡ Memory) ⊎ IsHead r rs
+IsHeadOr r rs = (r ≡ Memory) ⊎ IsHeadRefusal r rs
 
 -- The first k instructions of code that begins at base were read without a fault, and what is left
 -- of it decides.
@@ -49,4 +49,4 @@ pub record HasRead {I : Type 0} (r : Rules I) (base : ℕ) (instrs : List I)
 -- there is one of a number at a place
 abbrev pub IsFirstOf : List Found → Option Found → Type 0
 IsFirstOf fs None = fs ≡ []
-IsFirstOf fs (Some x) = IsFirst x fs × (part_of x.refusal ≡ 0)
+IsFirstOf fs (Some x) = IsFirstFound x fs × (part_of x.refusal ≡ 0)

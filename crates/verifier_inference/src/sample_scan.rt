@@ -1,6 +1,6 @@
 //! One forward pass over sample code.
 
-ghost use Rattle.std.specs.Prelude.{◌≡◌, ◌⊎◌, ◌<◌, ◌≤◌, ◌+◌, ◌++◌, ℕ, max, List, [], length};
+ghost use Rattle.std.specs.Prelude.{◌≡◌, ◌⊎◌, ◌<◌, ◌≤◌, ◌+◌, ◌++◌, ℕ, List, [], length};
 ghost use Rattle.std.specs.Prelude.{reverse, OnOk, IfOk, IfErr};
 ghost use Rattle.verifier_inference.specs.declared.refusal.Refusal.{Refusal};
 ghost use Rattle.bytecode.specs.Instructions.{sample_flow};
@@ -189,13 +189,6 @@ fn agreed_len(arrival: &Arrival) -> usize
     }
 }
 
-/// The larger of two numbers.
-fn larger(first: usize, second: usize) -> usize
-    ensures { result ≡ max first second }
-{
-    if first < second { second } else { first }
-}
-
 /// The longest list of code at whose first instruction the empty list arrives, or its first fault.
 fn scan(
     alloc: Global,
@@ -212,11 +205,11 @@ fn scan(
     ensures refused { IfErr result (λ r. (r ≡ Refusal.Memory)
         ⊎ IsFirstRefusal r (code_faults (rules_of frame.now) 0 code.now)) }
 {
-    let mut longest = 0;
+    let mut longest = 0_usize;
     'code: for pc in 0..code.len() {
         let instr = code[pc];
         let arrival = take_arrival(pending, pc);
-        longest = larger(longest, agreed_len(&arrival));
+        longest = longest.max(agreed_len(&arrival));
         let list = check(alloc, frame, code.len(), pc, instr, arrival)?;
         send_on(alloc, pending, pc, instr.flow(), list)?;
     }

@@ -19,11 +19,11 @@ use Rattle.workers_lines.proofs.RoundLaws.{many-rows}
 use Rattle.workers_lines.proofs.CoreLaws.{same-traced}
 use Rattle.workers_lines.proofs.LineLaws.{job-traced}
 use Rattle.workers_shared.specs.declared.numbered.Numbered.{Numbered}
-use Rattle.workers_shared.specs.Monitors.{IsAt}
+use Rattle.workers_shared.specs.Monitors.{IsMonitorAt}
 use Rattle.workers.specs.Between.{clocks_of, IsTold}
 use Rattle.workers.proofs.Telling.{program-at}
 
-module _ (j : Job) (x : Numbered) (p : ProgramData) (h : IsAt j (clocks_of j) x)
+module _ (j : Job) (x : Numbered) (p : ProgramData) (h : IsMonitorAt j (clocks_of j) x)
     (is : slice_get j.programs.items x.number ≡ Some p) where
   rows-are : (c : Contents) → Says (job_value j) c → length (rows_over (job_value j) c p) ≡ clocks_of j
   rows-are c says = many-rows (job_value j) c p ((job-traced j).ticks c says)

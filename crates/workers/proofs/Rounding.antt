@@ -14,7 +14,7 @@ use Rattle.workers_shared.specs.declared.board.Board.{Board}
 use Rattle.workers_shared.specs.Receipts.{IsReceiptOf, shown_by}
 use Rattle.workers_shared.specs.declared.numbered.Numbered.{Numbered}
 use Rattle.workers_shared.specs.Windows.{IsWindowFor}
-use Rattle.workers_shared.specs.Monitors.{IsAt}
+use Rattle.workers_shared.specs.Monitors.{IsMonitorAt}
 use Rattle.workers_rounds.specs.declared.work.Published.{Published}
 use Rattle.workers_rounds.specs.Works.{IsSized, IsPublished, published_count}
 use Rattle.workers_rounds.specs.Adding.{kind_of}
@@ -45,8 +45,8 @@ module _ (j : Job) (v w : Window) (ms : List Numbered) (ls : List GrowingLine) (
   pub further : end_in v < end_in w
   further = let a = h.size.0 in omega (arith, end, more)
 
-  pub next-start : All (IsAt j (first_in w)) ms
-  next-start = subst (λ (n : ℕ). All (IsAt j n) ms) (sym first) h.at
+  pub next-start : All (IsMonitorAt j (first_in w)) ms
+  next-start = subst (λ (n : ℕ). All (IsMonitorAt j n) ms) (sym first) h.at
 
   module _ (board : Board) (ps : List Published) (order : published_numbers ps ≡ upto 0 (length ms))
       (published : All (IsPublished j w board) ps) where

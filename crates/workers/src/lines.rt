@@ -8,7 +8,7 @@ ghost use Rattle.workers_core.specs.Values.{Says, job_value, rows_over};
 ghost use Rattle.workers_lines.specs.declared.growing_line.GrowingLine.{GrowingLine};
 ghost use Rattle.workers_lines.specs.Lines.{AreLinesOf};
 ghost use Rattle.workers_shared.specs.declared.numbered.Numbered.{Numbered};
-ghost use Rattle.workers_shared.specs.Monitors.{IsAt};
+ghost use Rattle.workers_shared.specs.Monitors.{IsMonitorAt};
 ghost use Rattle.workers.specs.Between.{IsTold, clocks_of};
 ghost use Rattle.workers.specs.Tallied.{count_in, told_by, said_by};
 
@@ -29,7 +29,7 @@ fn program_line(
     stopped: &Numbered,
     told: GrowingLine,
 ) -> Result<Line, AllocError>
-    requires at { IsAt job.now (clocks_of job.now) stopped.now }
+    requires at { IsMonitorAt job.now (clocks_of job.now) stopped.now }
     requires program { slice_get job.now.programs.items stopped.now.number ≡ Some verified.now }
     requires told { IsTold job.now (clocks_of job.now) stopped.now.number told }
     ensures line { (c : Contents) → Says (job_value job.now) c → IfOk result (λ l.
@@ -56,7 +56,7 @@ pub(crate) fn lines_of(
     requires programs { programs.now ≡ job.now.programs.items }
     requires many { length stopped.now ≡ length job.now.programs.items }
     requires order { (i : ℕ) (x : Numbered) → slice_get stopped.now i ≡ Some x → x.number ≡ i }
-    requires at { All (IsAt job.now (clocks_of job.now)) stopped.now }
+    requires at { All (IsMonitorAt job.now (clocks_of job.now)) stopped.now }
     requires lines { length told.items ≡ length job.now.programs.items }
     requires told { (i : ℕ) (l : GrowingLine) → slice_get told.items i ≡ Some l
         → IsTold job.now (clocks_of job.now) i l }

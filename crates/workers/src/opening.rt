@@ -3,7 +3,7 @@
 ghost use Rattle.std.specs.Prelude.{◌≡◌, ℕ, [], All, IfOk, Some, length, map, vec_len};
 ghost use Rattle.std.specs.Prelude.{slice_get};
 ghost use Rattle.workers_shared.specs.Shares.{IsFresh};
-ghost use Rattle.workers_shared.specs.Monitors.{IsAt};
+ghost use Rattle.workers_shared.specs.Monitors.{IsMonitorAt};
 ghost use Rattle.workers_shared.specs.Hands.{numbers};
 ghost use Rattle.workers.specs.Taking.{monitor_of};
 ghost use Rattle.workers_rounds.specs.Runs.{upto, IsMember};
@@ -39,7 +39,7 @@ pub fn first_monitors(alloc: Global, job: &Job) -> Result<Vec<Numbered>, AllocEr
     ensures order { IfOk result (λ all.
         numbers all.items ≡ upto 0 (length job.now.programs.items)) }
     ensures count { IfOk result (λ all. vec_len all ≡ length job.now.programs.items) }
-    ensures start { IfOk result (λ all. All (IsAt job.now 0) all.items) }
+    ensures start { IfOk result (λ all. All (IsMonitorAt job.now 0) all.items) }
 {
     let monitors = monitors_of(alloc, job.programs())?;
     let all = numbered(alloc, monitors)?;

@@ -9,7 +9,7 @@ ghost use Rattle.cycle_window.specs.Bound.{IsClock, IsClockFault, IsSignalFault}
 ghost use Rattle.cycle_window.specs.Held.{code_in, AreClocksOf};
 ghost use Rattle.verdicts.specs.Shown.{data_of};
 ghost use Rattle.machine_runs.specs.Lines.{attempts_of};
-ghost use Rattle.machine_runs.specs.Reported.{HasSignals, Reports, WhyNoRun, wanted_slot};
+ghost use Rattle.machine_runs.specs.Reported.{HasSignals, ReportsRun, WhyNoRun, wanted_slot};
 ghost use Rattle.workers_core.specs.Wanted.{WhyUnfit};
 ghost use Rattle.workers.specs.Faults.{IsOfSignals};
 
@@ -84,7 +84,7 @@ pub fn report_run<G: Gate + Sync, R: Threads + Wait + Sync>(
     gate: &G,
 ) -> Result<Report, WindowFault>
     ensures report { (c : Contents) → HoldsContents dump c
-        → IfOk result (λ r. Reports c verified (data_of r)) }
+        → IfOk result (λ r. ReportsRun c verified (data_of r)) }
     // One attempt begins at each clock, and each is counted once.
     ensures count { IfOk result (λ r. attempts_of r.total ≡ r.clocks) }
     // The first cause that stands.

@@ -32,8 +32,8 @@ use Rattle.machine_runs.specs.Reported.{wanted_slot}
 use Rattle.workers_core.specs.declared.job.Job.{Job}
 use Rattle.workers_core.specs.declared.core_parts.CoreParts.{CoreParts}
 use Rattle.workers_core.specs.Standing.{variables_in}
-use Rattle.workers_core.specs.Parts.{core_state, IsSound, IsKept, SeeAs}
-use Rattle.workers_core.specs.Opening.{Part, part_of}
+use Rattle.workers_core.specs.Parts.{core_state, AreSoundParts, KeepsParts, SeeAs}
+use Rattle.workers_core.specs.Opening.{MonitorPart, part_of}
 use Rattle.workers_core.specs.Jobs.{sampled}
 use Rattle.workers_core.specs.Wanted.{wanted_in}
 use Rattle.workers_core.specs.Cores.{IsCore}
@@ -45,12 +45,12 @@ use Rattle.workers_core.specs.Values.{CoreValue, Says, job_value, value_of, sett
 use Rattle.workers_core.proofs.CorePartLaws.{get-mapped}
 use Rattle.workers_core.proofs.PartLaws.{IsPlaced, each-placed}
 
-pub kept-places : (j : Job) (old new : CoreParts) → IsKept old new
+pub kept-places : (j : Job) (old new : CoreParts) → KeepsParts old new
     → map Some (places_in (columns_in old.window)) ≡ places_of (variables_of j.dump) (wanted_in j.programs.items)
     → map Some (places_in (columns_in new.window)) ≡ places_of (variables_of j.dump) (wanted_in j.programs.items)
 kept-places j old new kept places = ap (λ (cs : Columns). map Some (places_in cs)) kept.columns ∙ places
 
-pub kept-core : (j : Job) (old new : CoreParts) → IsCore j old → IsSound new → IsKept old new
+pub kept-core : (j : Job) (old new : CoreParts) → IsCore j old → AreSoundParts new → KeepsParts old new
     → new.window ≡ old.window → EachStandsOnce (core_state new) → IsCore j new
 kept-core j old new h sound kept same once = record {
   sound = sound;
@@ -80,7 +80,7 @@ sees j f c h says i m is =
     let places = places_in (columns_in f.window) in
     let part : IsPlaced vs places (part_of m) =
     each-placed vs places j.programs.items 0 (omega arith) h.places i (part_of m)
-    (sym (ap (λ (qs : List Part). slice_get qs i) h.parts)
+    (sym (ap (λ (qs : List MonitorPart). slice_get qs i) h.parts)
     ∙ get-mapped part_of f.monitors.items i m is) in
     let named : sampled c.variables m.machine.program ≡ variables_in f.window m =
     ap (λ (ds : List Declared). sampled ds m.machine.program) (sym says.variables)

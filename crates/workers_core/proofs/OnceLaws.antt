@@ -19,8 +19,8 @@ use Rattle.workers_core.specs.States.{is_empty, is_none, is_free, is_free_one, f
 use Rattle.workers_core.specs.States.{next_claim, may_claim, next_publish, publish_by, publish_one, next_gather}
 use Rattle.workers_core.specs.States.{put, put_each, put_done}
 use Rattle.workers_core.specs.Standing.{monitor_state}
-use Rattle.workers_core.specs.Parts.{core_state, worker_state, IsKept}
-use Rattle.workers_core.specs.Opening.{Part, part_of, opened_monitor}
+use Rattle.workers_core.specs.Parts.{core_state, worker_state, KeepsParts}
+use Rattle.workers_core.specs.Opening.{MonitorPart, part_of, opened_monitor}
 use Rattle.workers_core.specs.Cores.{opening_state}
 
 -- what one number counts
@@ -262,7 +262,7 @@ pub gather-once : (old new : CoreState) (r : Reply) → Replies old (next_gather
 gather-once old new r h = replied-once old new (next_gather old) r h (gather-alike old)
 
 -- nothing moves between the lists
-pub unmoved-once : (old new : CoreParts) → IsKept old new → new.waiting ≡ old.waiting → new.workers ≡ old.workers
+pub unmoved-once : (old new : CoreParts) → KeepsParts old new → new.waiting ≡ old.waiting → new.workers ≡ old.workers
     → EachStandsOnce (core_state old) → EachStandsOnce (core_state new)
 unmoved-once old new kept waiting workers =
     alike-once (core_state old) (core_state new)
@@ -270,7 +270,7 @@ unmoved-once old new kept waiting workers =
       long =
           length-map new.monitors.items monitor_state
           ∙ sym (length-map new.monitors.items part_of)
-          ∙ ap (λ (qs : List Part). length qs) kept.parts
+          ∙ ap (λ (qs : List MonitorPart). length qs) kept.parts
           ∙ length-map old.monitors.items part_of
           ∙ sym (length-map old.monitors.items monitor_state);
       each = λ i.

@@ -44,9 +44,9 @@ use Rattle.workers_core.specs.declared.job.Job.{Job}
 use Rattle.workers_core.specs.declared.core_parts.CoreParts.{CoreParts}
 use Rattle.workers_core.specs.declared.monitor.Monitor.{Monitor}
 use Rattle.workers_core.specs.States.{CoreState, MonitorState, WorkerState, BatchState, EachStandsOnce, published_by}
-use Rattle.workers_core.specs.Standing.{monitor_state, variables_in, seen, Stands}
+use Rattle.workers_core.specs.Standing.{monitor_state, variables_in, seen, MonitorStands}
 use Rattle.workers_core.specs.Parts.{core_state, worker_state, batch_state, AreAllBefore}
-use Rattle.workers_core.specs.Opening.{Part, IsNew, part_of, parts_from, opened_monitor}
+use Rattle.workers_core.specs.Opening.{MonitorPart, IsNew, part_of, parts_from, opened_monitor}
 use Rattle.workers_core.specs.Wanted.{wanted_in}
 use Rattle.workers_core.specs.Cores.{IsFirstWindow, IsOpened, opening_state}
 use Rattle.workers_core.proofs.CorePartLaws.{get-mapped}
@@ -81,7 +81,7 @@ first-window j n cs asked (Err e) is places fits dump clock rows columns size fi
 
 -- before its first clock a monitor stands in the first window
 pub stands-new : (j : Job) (n : ℕ) (w : Window) (m : Monitor) (i : ℕ) → IsFirstWindow j n w
-    → slice_get (parts_from 0 j.programs.items) i ≡ Some (part_of m) → IsNew m → Stands w m
+    → slice_get (parts_from 0 j.programs.items) i ≡ Some (part_of m) → IsNew m → MonitorStands w m
 stands-new j n w m i h part new =
     let vs = variables_of j.dump in
     let places = places_in (columns_in w) in
@@ -163,7 +163,7 @@ opened j n most f h states parts new waiting workers board =
         sound = record {
           monitors = λ i m is.
               stands-new j most f.window m i h
-              (sym (ap (λ (qs : List Part). slice_get qs i) parts)
+              (sym (ap (λ (qs : List MonitorPart). slice_get qs i) parts)
               ∙ get-mapped part_of ms i m is) (new i m is);
           known = λ i b is. absurd (cc (is, board));
           batches = λ i b m is there. absurd (cc (is, board));

@@ -39,7 +39,8 @@ pub struct Monitor {
 }
 
 impl Monitor {
-    ghost use Rattle.workers_core.specs.Standing.{monitor_state, seen, AreSampled, IsSame, Stands};
+    ghost use Rattle.workers_core.specs.Standing.{monitor_state, seen, AreSampled, IsSame};
+    ghost use Rattle.workers_core.specs.Standing.{MonitorStands};
     ghost use Rattle.workers_core.specs.Standing.{IsOneMore, IsUnmoved, IsCleared};
     ghost use Rattle.workers_core.specs.Parts.{batch_state};
     ghost use Rattle.workers_core.specs.States.{batch};
@@ -106,12 +107,12 @@ impl Monitor {
     /// The clocks up to one of the window's. There is room for what they decide. What the buffer
     /// holds is lost: each clock's verdicts go through it.
     pub fn advance(&mut self, window: &Window<'_>, to: u64, decided: &mut ArrayVec<Decided, 1024>)
-        requires stands { Stands window.now self.old }
+        requires stands { MonitorStands window.now self.old }
         requires ahead { self.old.machine.state.standing.now ≤ to }
         requires inside { to ≤ end_in window.now }
         requires spare { length self.old.machine.state.standing.attempts
             + (to - self.old.machine.state.standing.now) ≤ self.old.decided.room }
-        ensures stands { Stands window.now self.new }
+        ensures stands { MonitorStands window.now self.new }
         ensures same { IsSame self.old self.new }
         ensures place { self.new.machine.state.standing.now ≡ to }
         ensures moved { (c : Contents) → IsOver window.now c →

@@ -21,9 +21,9 @@ use Rattle.crossbeam_queue.specs.Passes.{Pass, view}
 use Rattle.workers_shared.specs.declared.numbered.Numbered.{Numbered}
 use Rattle.workers_shared.specs.declared.hand.Hand.{Hand}
 use Rattle.workers_shared.specs.declared.bench.Bench.{Bench}
-use Rattle.workers_shared.specs.Monitors.{IsAt}
-use Rattle.workers_shared.specs.Hands.{hand, Rises, end_of}
-use Rattle.workers_shared.specs.Benches.{IsOf}
+use Rattle.workers_shared.specs.Monitors.{IsMonitorAt}
+use Rattle.workers_shared.specs.Hands.{hand, NumbersRise, end_of}
+use Rattle.workers_shared.specs.Benches.{IsPassOfBench}
 use Rattle.workers_rounds.specs.declared.work.Published.{Published}
 use Rattle.workers_rounds.specs.declared.work.Worked.{Worked}
 
@@ -47,7 +47,7 @@ pub record IsBatch (j : Job) (a b : ℕ) (x : Numbered) (batch : Batch) : Type 0
 
 -- The job's monitor at the end of the window, with a receipt of this board for its batch.
 pub record IsPublished (j : Job) (w : Window) (board : Board) (p : Published) : Type 0 where
-  pub at_end : IsAt j (end_in w) p.monitor
+  pub at_end : IsMonitorAt j (end_in w) p.monitor
   pub of_board : IsReceiptOf board p.receipt
   pub batch : IsBatch j (first_in w) (end_in w) p.monitor (shown_by p.receipt)
 
@@ -74,20 +74,20 @@ numbers_back published kept = map published_number published ++ kept_number kept
 
 -- What a worker that began with the view `from`, the share `given` and so many claims has come to.
 -- It has each monitor that its pass took since then, once.
-pub record Has {L : Type 0} (bench : Bench) (board : Board) (w : Window) (from : Hand)
+pub record HasWorked {L : Type 0} (bench : Bench) (board : Board) (w : Window) (from : Hand)
     (given : Share L) (claimed : ℕ) (pass : Pass Numbered Hand) (share : Share L) (claims : ℕ)
     (published : List Published) (kept : Option Numbered) : Type 0 where
-  pub of : IsOf bench pass
+  pub of : IsPassOfBench bench pass
   pub taken : view pass
       ≡ hand from.parts from.puts from.round from.put (from.taken ++ numbers_back published kept)
-  pub rises : Rises (view pass).taken
+  pub rises : NumbersRise (view pass).taken
       × (end_of 0 (view pass).taken ≤ length bench.job.now.programs.items)
   pub at_end : All (IsPublished bench.job.now w board) published
-  pub at_own : IfSome kept (λ m. IsAt bench.job.now (clock_of m) m)
+  pub at_own : IfSome kept (λ m. IsMonitorAt bench.job.now (clock_of m) m)
   pub shared : (parts share ≡ parts given)
       × (amounts share ≡ plus (amounts given) (published_counts published))
   pub counted : claims ≡ claimed + length (numbers_back published kept)
 
 abbrev pub Works : {L : Type 0} → Bench → Board → Window → Hand → Share L → ℕ → Worked L → Type 0
 Works bench board window from given claimed w =
-    Has bench board window from given claimed w.pass w.share w.claims w.published.items w.kept
+    HasWorked bench board window from given claimed w.pass w.share w.claims w.published.items w.kept

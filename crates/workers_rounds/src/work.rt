@@ -4,13 +4,13 @@ ghost use Rattle.std.specs.Prelude.{◌≡◌, ◌≤◌, ◌^◌, ◌<◌, ℕ,
 ghost use Rattle.crossbeam_queue.specs.Passes.{view};
 ghost use Rattle.cycle_window.specs.Held.{first_in, end_in};
 ghost use Rattle.workers_core.specs.declared.job.Job.{Job};
-ghost use Rattle.workers_core.specs.Standing.{Stands};
+ghost use Rattle.workers_core.specs.Standing.{MonitorStands};
 ghost use Rattle.workers_shared.specs.Shares.{parts, amounts, EachAtMost};
-ghost use Rattle.workers_shared.specs.Monitors.{IsAt};
+ghost use Rattle.workers_shared.specs.Monitors.{IsMonitorAt};
 ghost use Rattle.workers_shared.specs.Windows.{IsWindowFor};
-ghost use Rattle.workers_shared.specs.Hands.{Rises, end_of};
+ghost use Rattle.workers_shared.specs.Hands.{NumbersRise, end_of};
 ghost use Rattle.workers_shared.specs.Passes.{parts_of};
-ghost use Rattle.workers_shared.specs.Benches.{IsOf};
+ghost use Rattle.workers_shared.specs.Benches.{IsPassOfBench};
 ghost use Rattle.workers_rounds.specs.Works.{Works, IsSized, IsPublished, clock_of};
 
 use crate::passage::pass_through;
@@ -71,14 +71,14 @@ pub(crate) fn run_one(
     mut given: Numbered,
     decided: &mut ArrayVec<Decided, 1024>,
 ) -> (Numbered, Option<Receipt>)
-    requires stands { Stands window.now given.monitor.value }
+    requires stands { MonitorStands window.now given.monitor.value }
     requires here { clock_of given ≡ first_in window.now }
     requires sized { IsSized window.now }
     ensures number { result.0.number ≡ given.number }
     ensures refused { IfNone result.1 ((j : Job) → IsWindowFor j window.now
-        → IsAt j (first_in window.now) given → IsAt j (clock_of result.0) result.0) }
+        → IsMonitorAt j (first_in window.now) given → IsMonitorAt j (clock_of result.0) result.0) }
     ensures published { IfSome result.1 (λ receipt. (j : Job) → IsWindowFor j window.now
-        → IsAt j (first_in window.now) given
+        → IsMonitorAt j (first_in window.now) given
         → IsPublished j window.now board.now (record { monitor = result.0; receipt = receipt })) }
 {
     match pass_through(alloc, window, &mut given, decided) {
@@ -105,8 +105,9 @@ pub fn work<L: Tallying, G: Gate, R: Wait>(
     worker: usize,
     mut claims: u64,
 ) -> Worked<L>
-    requires pass { IsOf bench.now pass × ((view pass).puts ≡ false) × (0 < parts_of pass) }
-    requires taken { Rises (view pass).taken
+    requires pass { IsPassOfBench bench.now pass × ((view pass).puts ≡ false)
+        × (0 < parts_of pass) }
+    requires taken { NumbersRise (view pass).taken
         × (end_of 0 (view pass).taken ≤ length bench.now.job.now.programs.items) }
     requires window { IsWindowFor bench.now.job.now window.now × IsSized window.now }
     requires round { bench.now.at ≡ first_in window.now }

@@ -10,9 +10,11 @@ use Rattle.crossbeam_queue.proofs.Lists.{at_set, at_snoc}
 use Rattle.workers_shared.specs.declared.numbered.Numbered.{Numbered}
 use Rattle.workers_shared.specs.declared.hand.Round.{Round}
 use Rattle.workers_shared.specs.declared.hand.Hand.{Hand}
-use Rattle.workers_shared.specs.Hands.{whole, total, RisesFrom, end_of, Rises, number_of, numbers, hand, with_put}
+use Rattle.workers_shared.specs.Hands.{whole, total, NumbersRiseFrom, end_of, NumbersRise, number_of, numbers, hand}
+use Rattle.workers_shared.specs.Hands.{with_put}
 use Rattle.workers_shared.specs.Hands.{with_taken}
-use Rattle.workers_shared.specs.Hands.{joined, no_round, fresh, idle, Fits, AllFit, Kept, Leaves, TakesOne, IsOfRound}
+use Rattle.workers_shared.specs.Hands.{joined, no_round, fresh, idle, Fits, AllFit, Kept, LeavesTaken, TakesOne}
+use Rattle.workers_shared.specs.Hands.{IsOfRound}
 
 -- ---- sums
 
@@ -42,7 +44,8 @@ two_of f (x ∷ xs) (suc i) (suc j) v u apart e h = omega (arith, two_of f xs i 
 
 -- ---- rising numbers
 
-rises_push : (low : ℕ) (xs : List ℕ) (x : ℕ) → RisesFrom low xs → end_of low xs ≤ x → RisesFrom low (xs ++ x ∷ [])
+rises_push : (low : ℕ) (xs : List ℕ) (x : ℕ) → NumbersRiseFrom low xs → end_of low xs ≤ x
+    → NumbersRiseFrom low (xs ++ x ∷ [])
 rises_push low [] x h above = (above, tt)
 rises_push low (y ∷ ys) x h above = (h.0, rises_push (y + 1) ys x h.1 above)
 
@@ -50,7 +53,7 @@ pub end_push : (low : ℕ) (xs : List ℕ) (x : ℕ) → end_of low (xs ++ x ∷
 end_push low [] x = refl
 end_push low (y ∷ ys) x = end_push (y + 1) ys x
 
-rises_after : (low : ℕ) (xs ys : List ℕ) → RisesFrom low (xs ++ ys) → RisesFrom (end_of low xs) ys
+rises_after : (low : ℕ) (xs ys : List ℕ) → NumbersRiseFrom low (xs ++ ys) → NumbersRiseFrom (end_of low xs) ys
 rises_after low [] ys h = h
 rises_after low (x ∷ xs) ys h = rises_after (x + 1) xs ys h.1
 
@@ -126,7 +129,7 @@ puts n pass v x part may of_job order items views room k at =
         round = k.round;
         gone = k.gone;
         putter = k.putter;
-        rises = subst Rises (sym grown) (rises_push 0 all x.number k.rises above);
+        rises = subst NumbersRise (sym grown) (rises_push 0 all x.number k.rises above);
         of_job = All-push (IsOfRound k.round) items x k.of_job
             (subst (λ (r : Option Round). IsOfRound r x) (mine.same_round part) of_job);
         parts = let s = total_set (λ (u : Hand). u.parts) views pass v w at in let p = k.parts in omega arith;
@@ -159,7 +162,7 @@ takes pass v part x items views k at =
     append_assoc k.gone (x.number ∷ []) (numbers items) in
     let above : end_of 0 k.gone ≤ x.number = (rises_after 0 k.gone (numbers (x ∷ items)) k.rises).0 in
     let ended : end_of 0 gone ≡ x.number + 1 = end_push 0 k.gone x.number in
-    let rising : v.puts ≡ false → Rises w.taken × (end_of 0 w.taken ≤ end_of 0 gone) =
+    let rising : v.puts ≡ false → NumbersRise w.taken × (end_of 0 w.taken ≤ end_of 0 gone) =
     (λ p. let r = mine.rises p in
     (rises_push 0 v.taken x.number r.0 (omega (arith, r.1)), omega (arith, end_push 0 v.taken x.number))) in (
       w,
@@ -167,7 +170,7 @@ takes pass v part x items views k at =
         round = k.round;
         gone = gone;
         putter = k.putter;
-        rises = subst Rises (sym same) k.rises;
+        rises = subst NumbersRise (sym same) k.rises;
         of_job = All-tail (IsOfRound k.round) x items k.of_job;
         parts = let s = total_set (λ (u : Hand). u.parts) views pass v w at in let p = k.parts in omega arith;
         taken = λ h. let s = total_set (λ (u : Hand). total h u.taken) views pass v w at in let t = k.taken h in
@@ -306,7 +309,7 @@ alone f (x ∷ xs) (suc pass) v all idles e =
     let more = one_of (λ (u : Hand). u.parts) xs pass v e in
     omega (arith, alone f xs pass v (omega arith) (λ j u h. idles (suc j) u h) e, idles 0 x refl (omega arith))
 
-pub leaves : (pass : ℕ) (v : Hand) → v.puts ≡ true → v.parts ≡ whole → Learns Kept pass v (Leaves v)
+pub leaves : (pass : ℕ) (v : Hand) → v.puts ≡ true → v.parts ≡ whole → Learns Kept pass v (LeavesTaken v)
 leaves pass v may all items views k at = (
   k.gone,
   ((k.fits pass v at).may_put may).1,
@@ -315,7 +318,7 @@ leaves pass v may all items views k at = (
 )
 
 -- what is left over, weighed
-pub left_over : (v : Hand) (items : List Numbered) → Leaves v items → (h : ℕ → ℕ) → total h v.put
+pub left_over : (v : Hand) (items : List Numbered) → LeavesTaken v items → (h : ℕ → ℕ) → total h v.put
     ≡ total h v.taken + total h (numbers items)
 left_over v items l h = ap (total h) l.1 ∙ omega (arith, total-append h l.0 (numbers items), l.2 h)
 
@@ -324,12 +327,12 @@ one_each [] = refl
 one_each (x ∷ xs) = omega (arith, one_each xs)
 
 -- how many are left over
-pub left_count : (v : Hand) (items : List Numbered) → Leaves v items → total (λ _. 1) v.put
+pub left_count : (v : Hand) (items : List Numbered) → LeavesTaken v items → total (λ _. 1) v.put
     ≡ total (λ _. 1) v.taken + length items
 left_count v items l = omega (arith, left_over v items l (λ _. 1), one_each items)
 
 -- where as many were taken as were put, what was taken weighs what was put
-pub none_left : (v : Hand) (items : List Numbered) → Leaves v items → total (λ _. 1) v.put ≡ total (λ _. 1) v.taken
+pub none_left : (v : Hand) (items : List Numbered) → LeavesTaken v items → total (λ _. 1) v.put ≡ total (λ _. 1) v.taken
     → (h : ℕ → ℕ) → total h v.put ≡ total h v.taken
 none_left v [] l same h = omega (arith, left_over v [] l h)
 none_left v (x ∷ xs) l same h = absurd (omega (arith, left_count v (x ∷ xs) l))
@@ -357,8 +360,8 @@ numbers-append [] ys = refl
 numbers-append (x ∷ xs) ys = ap (λ l. x.number ∷ l) (numbers-append xs ys)
 
 -- of monitors whose numbers rise, the next stands above those before it
-pub next_rises : (all ys rest : List Numbered) (m : Numbered) → Rises (numbers all) → ys ++ m ∷ rest ≡ all
+pub next_rises : (all ys rest : List Numbered) (m : Numbered) → NumbersRise (numbers all) → ys ++ m ∷ rest ≡ all
     → end_of 0 (numbers ys) ≤ m.number
 next_rises all ys rest m rises is =
-    (rises_after 0 (numbers ys) (numbers (m ∷ rest)) (subst Rises (ap numbers (sym is)
+    (rises_after 0 (numbers ys) (numbers (m ∷ rest)) (subst NumbersRise (ap numbers (sym is)
     ∙ numbers-append ys (m ∷ rest)) rises)).0

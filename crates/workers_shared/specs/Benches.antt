@@ -15,8 +15,8 @@ abbrev pub round_of : Bench → Option Round
 round_of bench = round_at bench.job.now bench.at
 
 -- the pass is of this bench and its round
-abbrev pub IsOf : Bench → Pass Numbered Hand → Type 0
-IsOf bench pass = IsPassOf bench.queue pass × ((view pass).round ≡ round_of bench)
+abbrev pub IsPassOfBench : Bench → Pass Numbered Hand → Type 0
+IsPassOfBench bench pass = IsPassOf bench.queue pass × ((view pass).round ≡ round_of bench)
 
 -- how many monitors the bench has room for
 abbrev pub room_of : Bench → ℕ

@@ -9,7 +9,7 @@ HaveParts n blanks =
     × (blanks.disabled.parts ≡ n)
 
 -- they have these names
-abbrev pub AreOf : ℕ → ℕ → ℕ → ℕ → Blanks → Type 0
-AreOf holds vacuous fails disabled blanks =
+abbrev pub HaveNames : ℕ → ℕ → ℕ → ℕ → Blanks → Type 0
+HaveNames holds vacuous fails disabled blanks =
     (blanks.holds.name ≡ holds) × (blanks.vacuous.name ≡ vacuous) × (blanks.fails.name ≡ fails)
     × (blanks.disabled.name ≡ disabled)

@@ -6,7 +6,7 @@ use lib.ListN.{get_elem?}
 use Rattle.workers_shared.specs.declared.numbered.Numbered.{Numbered}
 use Rattle.workers_shared.specs.declared.hand.Round.{Round}
 use Rattle.workers_shared.specs.declared.hand.Hand.{Hand}
-use Rattle.workers_shared.specs.Monitors.{IsAt}
+use Rattle.workers_shared.specs.Monitors.{IsMonitorAt}
 
 -- how many parts the right to know the whole is cut into
 abbrev pub whole : ℕ
@@ -18,17 +18,17 @@ total f [] = 0
 total f (x ∷ xs) = f x + total f xs
 
 -- strictly rising numbers, from low on
-abbrev pub RisesFrom : ℕ → List ℕ → Type 0
-RisesFrom low [] = Unit {0}
-RisesFrom low (x ∷ xs) = (low ≤ x) × RisesFrom (x + 1) xs
+abbrev pub NumbersRiseFrom : ℕ → List ℕ → Type 0
+NumbersRiseFrom low [] = Unit {0}
+NumbersRiseFrom low (x ∷ xs) = (low ≤ x) × NumbersRiseFrom (x + 1) xs
 
 -- one past the last of rising numbers
 abbrev pub end_of : ℕ → List ℕ → ℕ
 end_of low [] = low
 end_of low (x ∷ xs) = end_of (x + 1) xs
 
-abbrev pub Rises : List ℕ → Type 0
-Rises xs = RisesFrom 0 xs
+abbrev pub NumbersRise : List ℕ → Type 0
+NumbersRise xs = NumbersRiseFrom 0 xs
 
 abbrev pub number_of : Numbered → ℕ
 number_of m = m.number
@@ -55,7 +55,7 @@ no_round = None
 -- the monitor is that of its number, at the round's first clock
 abbrev pub IsOfRound : Option Round → Numbered → Type 0
 IsOfRound None x = ⊥
-IsOfRound (Some r) x = IsAt r.job r.at x
+IsOfRound (Some r) x = IsMonitorAt r.job r.at x
 
 -- a pass that has put and taken nothing
 abbrev pub fresh : ℕ → Bool → Option Round → Hand
@@ -70,7 +70,7 @@ pub record Fits (round : Option Round) (gone all : List ℕ) (putter pass : ℕ)
     Type 0 where
   pub idle : v.parts ≡ 0 → v.taken ≡ []
   pub same_round : 0 < v.parts → v.round ≡ round
-  pub rises : v.puts ≡ false → Rises v.taken × (end_of 0 v.taken ≤ end_of 0 gone)
+  pub rises : v.puts ≡ false → NumbersRise v.taken × (end_of 0 v.taken ≤ end_of 0 gone)
   pub may_put : v.puts ≡ true → (pass ≡ putter) × (v.put ≡ all)
 
 abbrev pub AllFit : (ℕ → Hand → Type 0) → List Hand → Type 0
@@ -83,19 +83,19 @@ pub record Kept (items : List Numbered) (views : List Hand) : Type 0 where
   pub round : Option Round
   pub gone : List ℕ
   pub putter : ℕ
-  pub rises : Rises (gone ++ numbers items)
+  pub rises : NumbersRise (gone ++ numbers items)
   pub of_job : All (IsOfRound round) items
   pub parts : total (λ (v : Hand). v.parts) views ≡ whole
   pub taken : (h : ℕ → ℕ) → total (λ (v : Hand). total h v.taken) views ≡ total h gone
   pub fits : AllFit (Fits round gone (gone ++ numbers items) putter) views
 
 -- what was put is what was taken, which weighs what v took, and then what the bench holds
-abbrev pub Leaves : Hand → List Numbered → Type 0
-Leaves v items =
+abbrev pub LeavesTaken : Hand → List Numbered → Type 0
+LeavesTaken v items =
     (gone : List ℕ) × (v.put ≡ gone ++ numbers items)
     × ((h : ℕ → ℕ) → total h v.taken ≡ total h gone)
 
 -- a take of the monitor x, which is the job's. What a taking pass took rises
 abbrev pub TakesOne : Hand → Numbered → Hand → Type 0
 TakesOne v x w =
-    (w ≡ with_taken v x.number) × IsOfRound v.round x × (v.puts ≡ false → Rises w.taken)
+    (w ≡ with_taken v x.number) × IsOfRound v.round x × (v.puts ≡ false → NumbersRise w.taken)

@@ -11,7 +11,7 @@ use Rattle.workers_shared.specs.declared.numbered.Numbered.{Numbered}
 
 -- It is the job's monitor of its number, stands at this clock, has nothing to tell, and is in the
 -- checked machine's state over the trace's first rows.
-pub record IsAt (j : Job) (at : ℕ) (x : Numbered) : Type 0 where
+pub record IsMonitorAt (j : Job) (at : ℕ) (x : Numbered) : Type 0 where
   pub part : slice_get (parts_from 0 j.programs.items) x.number ≡ Some (part_of x.monitor.value)
   pub accepted : IsAccepted x.monitor.value.machine.program
   pub declared : x.monitor.value.machine.program.header.limits.attempts ≤ x.monitor.value.attempts

@@ -34,9 +34,9 @@ impl<'j> Bench<'j> {
     ghost use Rattle.std.specs.Prelude.{◌≡◌, ◌≤◌, ◌<◌, ◌+◌, ℕ, true, IfOk, IfSome, IfNone, All};
     ghost use Rattle.std.specs.Prelude.{vec_len, length};
     ghost use Rattle.crossbeam_queue.specs.Passes.{view};
-    ghost use Rattle.workers_shared.specs.Monitors.{IsAt};
+    ghost use Rattle.workers_shared.specs.Monitors.{IsMonitorAt};
     ghost use Rattle.workers_shared.specs.Hands.{whole, total, end_of, with_put, TakesOne, numbers};
-    ghost use Rattle.workers_shared.specs.Benches.{IsOf, room_of, round_of, round_at};
+    ghost use Rattle.workers_shared.specs.Benches.{IsPassOfBench, room_of, round_of, round_at};
     ghost use Rattle.workers_shared.specs.Passes.{PutsNone, TakesNone, parts_of, taken_of};
 
     /// A bench for the job's round from the clock `at`, with room for so many monitors, 1 to 4,096;
@@ -54,10 +54,10 @@ impl<'j> Bench<'j> {
         ensures room { IfOk result (λ made. room_of made.0 ≡ room) }
         ensures job { IfOk result (λ made. (made.0.job.now ≡ job.now) × (made.0.at ≡ at)) }
         ensures putting { IfOk result (λ made.
-            IsOf made.0 made.1 × PutsNone (round_at job.now at) workers made.1) }
+            IsPassOfBench made.0 made.1 × PutsNone (round_at job.now at) workers made.1) }
         ensures count { IfOk result (λ made. vec_len made.2 ≡ workers) }
         ensures taking { IfOk result (λ made.
-            All (λ pass. IsOf made.0 pass × TakesNone (round_at job.now at) pass)
+            All (λ pass. IsPassOfBench made.0 pass × TakesNone (round_at job.now at) pass)
             made.2.items) }
     {
         Bench::open::<Brand>(alloc, job, at, room, workers)
@@ -76,10 +76,10 @@ impl<'j> Bench<'j> {
         ensures room { IfOk result (λ made. room_of made.0 ≡ room) }
         ensures job { IfOk result (λ made. (made.0.job.now ≡ job.now) × (made.0.at ≡ at)) }
         ensures putting { IfOk result (λ made.
-            IsOf made.0 made.1 × PutsNone K.round workers made.1) }
+            IsPassOfBench made.0 made.1 × PutsNone K.round workers made.1) }
         ensures count { IfOk result (λ made. vec_len made.2 ≡ workers) }
         ensures taking { IfOk result (λ made.
-            All (λ pass. IsOf made.0 pass × TakesNone K.round pass) made.2.items) }
+            All (λ pass. IsPassOfBench made.0 pass × TakesNone K.round pass) made.2.items) }
     {
         let rest = Vec::with_capacity(alloc, room)?;
         let mut passes = Vec::with_capacity(alloc, workers)?;
@@ -102,11 +102,11 @@ impl<'j> Bench<'j> {
     /// Puts a monitor after the others, and gives the pass back. The monitor comes back only where
     /// the bench was full.
     pub fn put(&self, rt: &impl Wait, mut pass: Pass, monitor: Numbered) -> (Pass, Option<Numbered>)
-        requires of { IsOf self.now pass }
+        requires of { IsPassOfBench self.now pass }
         requires may { ((view pass).puts ≡ true) × (0 < parts_of pass) }
-        requires job { IsAt self.now.job.now self.now.at monitor }
+        requires job { IsMonitorAt self.now.job.now self.now.at monitor }
         requires order { end_of 0 (view pass).put ≤ monitor.number }
-        ensures of { IsOf self.now result.0 }
+        ensures of { IsPassOfBench self.now result.0 }
         ensures put { IfNone result.1 (view result.0 ≡ with_put (view pass) monitor.number) }
         ensures back { IfSome result.1 (λ m. (m ≡ monitor) × (view result.0 ≡ view pass)) }
         ensures full { IfSome result.1 (λ m. room_of self.now ≤ length (view pass).put) }
@@ -117,11 +117,11 @@ impl<'j> Bench<'j> {
 
     /// Takes the front monitor, if there is one, and gives the pass back.
     pub fn claim(&self, rt: &impl Wait, mut pass: Pass) -> (Pass, Option<Numbered>)
-        requires of { IsOf self.now pass }
+        requires of { IsPassOfBench self.now pass }
         requires may { 0 < parts_of pass }
-        ensures of { IsOf self.now result.0 }
+        ensures of { IsPassOfBench self.now result.0 }
         ensures some { IfSome result.1 (λ m. TakesOne (view pass) m (view result.0)) }
-        ensures job { IfSome result.1 (λ m. IsAt self.now.job.now self.now.at m) }
+        ensures job { IfSome result.1 (λ m. IsMonitorAt self.now.job.now self.now.at m) }
         ensures none { IfNone result.1 (view result.0 ≡ view pass) }
         ensures same { parts_of result.0 ≡ parts_of pass }
     {
@@ -132,7 +132,7 @@ impl<'j> Bench<'j> {
     /// The monitors that the bench still holds, with all its passes brought together: the pass that
     /// puts, and all those that take.
     pub fn finish(self, rt: &impl Wait, pass: Pass, passes: Vec<Pass>) -> Vec<Numbered>
-        requires of { IsOf self pass × All (IsOf self) passes.items }
+        requires of { IsPassOfBench self pass × All (IsPassOfBench self) passes.items }
         requires may { ((view pass).puts ≡ true) × (0 < parts_of pass) }
         requires all { parts_of pass + total parts_of passes.items ≡ whole }
         // What was put is what the passes took and what is left, each as often: however the numbers
@@ -140,7 +140,7 @@ impl<'j> Bench<'j> {
         ensures rest { (h : ℕ → ℕ) → total h (view pass).put
             ≡ (taken_of h pass + total (taken_of h) passes.items)
             + total h (numbers result.items) }
-        ensures job { All (IsAt self.entry.job.now self.entry.at) result.items }
+        ensures job { All (IsMonitorAt self.entry.job.now self.entry.at) result.items }
     {
         let Bench {
             job: _,

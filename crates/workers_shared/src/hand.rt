@@ -111,7 +111,7 @@ impl Outcome<Numbered, Hand> for Whole {
 }
 
 impl Lesson<Numbered, Hand> for Whole {
-    ghost use Rattle.workers_shared.specs.Hands.{Leaves};
+    ghost use Rattle.workers_shared.specs.Hands.{LeavesTaken};
 
-    ghost fact = { Leaves };
+    ghost fact = { LeavesTaken };
 }

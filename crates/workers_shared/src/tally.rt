@@ -269,7 +269,7 @@ impl<L: Tallying> Tally<L> {
     ghost use Rattle.std.specs.Prelude.{◌≡◌, ◌^◌, ◌<◌, ◌≤◌, ◌∷◌, [], IfOk, All, vec_len, true};
     ghost use Rattle.std.specs.List.{sum_by};
     ghost use Rattle.workers_shared.specs.Counts.{counts_of};
-    ghost use Rattle.workers_shared.specs.Blanks.{AreOf, HaveParts};
+    ghost use Rattle.workers_shared.specs.Blanks.{HaveNames, HaveParts};
     ghost use Rattle.workers_shared.specs.Shares.{parts, amounts, sums, plus, IsFresh, each_capped};
     ghost use Rattle.workers_shared.specs.Shares.{EachWithin, EachAtMost};
 
@@ -282,7 +282,7 @@ impl<L: Tallying> Tally<L> {
     ) -> Result<(Tally<L>, Vec<Share<L>>), AllocError>
         requires workers { (0 < workers) × (workers ≡ L.shares) }
         requires blanks { HaveParts workers blanks
-            × AreOf L.holds L.vacuous L.fails L.disabled blanks }
+            × HaveNames L.holds L.vacuous L.fails L.disabled blanks }
         ensures one_each { IfOk result (λ made. vec_len made.1 ≡ workers) }
         ensures fresh { IfOk result (λ made. All IsFresh made.1.items) }
     {

@@ -7,7 +7,7 @@ use Rattle.assertions.specs.Shapes.{written_form}
 use Rattle.compiler_positions.specs.declared.fault.SectionFault.TheVariants.{TooLong}
 use Rattle.compiler_positions.specs.Laws.{section_for}
 use Rattle.compiler_positions.specs.Lengths.{HasLongSection}
-use Rattle.compiler_positions.specs.Rows.{IsPlaced, sift_data}
+use Rattle.compiler_positions.specs.Rows.{IsClosedTable, sift_data}
 use Rattle.compiler_positions.specs.Sequences.{atom_of, coded_section}
 use Rattle.compiler_positions.proofs.ResultLaws.{ok_view, err_view}
 use Rattle.compiler_positions.proofs.SequenceLaws.{kept-placed, kept-for}
@@ -15,7 +15,7 @@ use Rattle.compiler_positions.proofs.section.positions_of.Goals as goal
 
 pub section_at-requires : goal.section_at-requires
 section_at-requires c =
-    subst IsPlaced (sym (c.in_ok-kept.ensures ∙ ap sift_data c.in_ok-table.ensures.ok))
+    subst IsClosedTable (sym (c.in_ok-kept.ensures ∙ ap sift_data c.in_ok-table.ensures.ok))
     (kept-placed (written_form c.args.sequence.now) c.requires.ordered c.requires.bound)
 
 pub returns-clause-ok : goal.returns-clause-ok

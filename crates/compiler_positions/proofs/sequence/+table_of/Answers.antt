@@ -9,7 +9,7 @@ use Rattle.assertions.specs.Listed.{EachBoolean, IsListed}
 use Rattle.assertions.specs.Written.{Written, boolean, delay, lead, repeat, or, and, intersect, throughout}
 use Rattle.assertions.specs.Written.{weight, IsOrdered}
 use Rattle.compiler_positions.specs.Plans.{weighs}
-use Rattle.compiler_positions.specs.Rows.{TableData, IsPlaced, rows_size, still_data, either_data, both_data}
+use Rattle.compiler_positions.specs.Rows.{TableData, IsClosedTable, rows_size, still_data, either_data, both_data}
 use Rattle.compiler_positions.specs.Rows.{repeat_data}
 use Rattle.compiler_positions.specs.Rows.{during_data, apart_data, lead_in_data, pair_data}
 use Rattle.compiler_positions.specs.declared.fault.SectionFault.{SectionFault}
@@ -51,8 +51,8 @@ short_on (Err f) d w v e is short same all = is
 told : (w v : Written Boolean) → w ≡ v → listed_for w ≡ listed_for v
 told w v e = ap listed_for e
 
-placed_as : (t : TableData) (w : Written Boolean) → t ≡ listed_for w → IsOrdered w → weight w ≤ 127 → IsPlaced t
-placed_as t w is ordered bound = subst IsPlaced (sym is) (placed-for w ordered bound)
+placed_as : (t : TableData) (w : Written Boolean) → t ≡ listed_for w → IsOrdered w → weight w ≤ 127 → IsClosedTable t
+placed_as t w is ordered bound = subst IsClosedTable (sym is) (placed-for w ordered bound)
 
 length_as : (t : TableData) (w : Written Boolean) → t ≡ listed_for w → IsOrdered w → length t.rows ≤ weight w
 length_as t w is ordered = omega (arith, ap (λ (x : TableData). length x.rows) is, length-for w ordered)

@@ -4,7 +4,7 @@ use Rattle.workers_shared.specs.declared.numbered.Numbered.{Numbered}
 use Rattle.workers_shared.specs.declared.hand.Hand.{Hand}
 use Rattle.workers_shared.specs.Hands.{total}
 use Rattle.workers_shared.specs.Passes.{parts_of, TakesNone}
-use Rattle.workers_shared.specs.Benches.{IsOf, round_at}
+use Rattle.workers_shared.specs.Benches.{IsPassOfBench, round_at}
 use Rattle.workers_shared.proofs.Keeps.{total_push, all_popped}
 use Rattle.trials_workers.proofs.claims.round_alone.Goals as goal
 
@@ -19,7 +19,7 @@ finish-rest-requires-clause-all g c =
     let one : length made.passes.items ≡ 1 = omega (arith, made.ensures.count, made.passes.ok.0) in
     let none = none-before parts_of _ _ _ c.in-Some.ensures.items one in
     let pushed = total_push parts_of _ _ _ c.in_ok-push.ensures.items in
-    let free = λ (p : Pass Numbered Hand). IsOf made.bench p × TakesNone (round_at c.args.job.now 0) p in
+    let free = λ (p : Pass Numbered Hand). IsPassOfBench made.bench p × TakesNone (round_at c.args.job.now 0) p in
     let taken = all_popped free _ _ _ c.in-Some.ensures.items made.ensures.taking in
     let fresh : parts_of c.in-Some.taking ≡ 1 = ap (λ (v : Hand). v.parts) taken.1.1 in
     let worked : parts_of c.work-worked.result.pass ≡ parts_of c.in-Some.taking =

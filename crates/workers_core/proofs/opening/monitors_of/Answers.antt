@@ -3,7 +3,7 @@ use Rattle.std.specs.Prelude.{slice_get}
 use Rattle.std.proofs.lemmas.List.{map-append}
 use Rattle.workers_core.specs.declared.monitor.Monitor.{Monitor}
 use Rattle.workers_core.specs.Standing.{monitor_state}
-use Rattle.workers_core.specs.Opening.{Part, IsNew, part_of, part_at, opened_monitor}
+use Rattle.workers_core.specs.Opening.{MonitorPart, IsNew, part_of, part_at, opened_monitor}
 use Rattle.workers_core.proofs.CorePartLaws.{each-push}
 use Rattle.workers_core.proofs.OpeningLaws as laws
 use Rattle.workers_core.proofs.opening.monitors_of.Goals as goal
@@ -39,7 +39,7 @@ loop-verified-preserved c =
           ∙ laws.parts-next ps i c.loop-verified.from _ p (map part_of old) (part_of m) lt
           c.verified-item.is inv.from inv.parts part;
       from = laws.signals-next ps i c.loop-verified.from m.to _ p lt c.verified-item.is inv.from
-          (ap (λ (q : Part). q.to) part);
+          (ap (λ (q : MonitorPart). q.to) part);
       new = λ n x is.
           each-push IsNew old m inv.new one.new n x
           (sym (ap (λ (ys : List Monitor). slice_get ys n) pushed) ∙ is);

@@ -4,12 +4,12 @@ use Rattle.std.proofs.lemmas.List.Elements.{All-head, All-tail, All-append, All-
 use Rattle.workers_shared.specs.declared.hand.Hand.{Hand}
 use Rattle.workers_shared.specs.Hands.{total}
 use Rattle.workers_shared.specs.Passes.{parts_of, taken_of}
-use Rattle.workers_shared.specs.Benches.{IsOf}
+use Rattle.workers_shared.specs.Benches.{IsPassOfBench}
 use Rattle.workers_rounds.specs.declared.round.Member.{Member}
 use Rattle.workers_rounds.specs.Works.{IsPublished, published_count}
 use Rattle.workers_rounds.specs.Adding.{kind_of, amount_of, added_by, added_by_worked, counted_by}
 use Rattle.workers_rounds.proofs.Added.{counts-append}
-use Rattle.workers_rounds.specs.Runs.{Ends, published_numbers, IsMember}
+use Rattle.workers_rounds.specs.Runs.{EndsRound, published_numbers, IsMember}
 use Rattle.workers_shared.proofs.Keeps.{all_pushed, total_push}
 use Rattle.workers_rounds.proofs.Orders.{published_more, back_none}
 use Rattle.workers_rounds.proofs.round.gathered.Goals as goal
@@ -17,7 +17,7 @@ use Rattle.workers_rounds.proofs.round.gathered.Goals as goal
 pub loop-worked-preserved : goal.loop-worked-preserved
 loop-worked-preserved g c =
     let was = c.loop-worked.invariant in let steps = c.in-Some.ensures.steps in
-    let E = Ends c.args.bench.now c.args.board.now c.args.window.now in
+    let E = EndsRound c.args.bench.now c.args.board.now c.args.window.now in
     let P = IsPublished c.args.bench.now.job.now c.args.window.now c.args.board.now in
     let all = subst (All E) steps.0 was.3 in
     let ends = All-head E c.in-Some.worked (into_iter_items c.next.new.self) all in
@@ -27,7 +27,7 @@ loop-worked-preserved g c =
       search rules,
       (search rules, search rules),
       All-tail E c.in-Some.worked (into_iter_items c.next.new.self) all,
-      all_pushed (IsOf c.args.bench.now) _ _ _ pushed was.4 ends.of,
+      all_pushed (IsPassOfBench c.args.bench.now) _ _ _ pushed was.4 ends.of,
       omega (
         arith,
         total_push parts_of _ _ _ pushed,

@@ -3,7 +3,7 @@ use Rattle.std.specs.Vec.Iter.{into_iter_items}
 use Rattle.std.proofs.lemmas.List.Elements.{All-head, All-tail}
 use Rattle.cycle_window.specs.Held.{first_in}
 use Rattle.workers_rounds.specs.declared.work.Published.{Published}
-use Rattle.workers_shared.specs.Monitors.{IsAt}
+use Rattle.workers_shared.specs.Monitors.{IsMonitorAt}
 use Rattle.workers_shared.specs.Hands.{total, numbers}
 use Rattle.workers_rounds.specs.Works.{IsPublished, published_count}
 use Rattle.workers_rounds.specs.Runs.{published_numbers}
@@ -21,7 +21,7 @@ use Rattle.workers_rounds.proofs.round.run_rest.Goals as goal
 
 pub run_one-monitor-requires-clause-stands : goal.run_one-monitor-requires-clause-stands
 run_one-monitor-requires-clause-stands g c =
-    let P = IsAt c.args.job.now (first_in c.args.window.now) in
+    let P = IsMonitorAt c.args.job.now (first_in c.args.window.now) in
     let all = subst (All P) c.in-Some.ensures.steps.0 c.loop-monitor.invariant.0 in
     let here = All-head P c.in-Some.monitor (into_iter_items c.next.new.self) all in
     stands-at c.args.job.now c.args.window.now (first_in c.args.window.now) c.in-Some.monitor c.requires.window.0
@@ -29,7 +29,7 @@ run_one-monitor-requires-clause-stands g c =
 
 pub run_one-monitor-requires-clause-here : goal.run_one-monitor-requires-clause-here
 run_one-monitor-requires-clause-here g c =
-    let P = IsAt c.args.job.now (first_in c.args.window.now) in
+    let P = IsMonitorAt c.args.job.now (first_in c.args.window.now) in
     let all = subst (All P) c.in-Some.ensures.steps.0 c.loop-monitor.invariant.0 in
     (All-head P c.in-Some.monitor (into_iter_items c.next.new.self) all).now
 
@@ -38,7 +38,7 @@ is_within-requires g c = let was = c.loop-monitor.invariant in omega (arith, was
 
 pub read-requires : goal.read-requires
 read-requires g c =
-    let P = IsAt c.args.job.now (first_in c.args.window.now) in
+    let P = IsMonitorAt c.args.job.now (first_in c.args.window.now) in
     let all = subst (All P) c.in-Some.ensures.steps.0 c.loop-monitor.invariant.0 in
     let here = All-head P c.in-Some.monitor (into_iter_items c.next.new.self) all in
     let done = rw c.in-Some-receipt.is at c.run_one-monitor.ensures.published in
@@ -50,7 +50,7 @@ add-totals-requires-clause-part g c = let was =
 
 pub add-totals-requires-clause-fits : goal.add-totals-requires-clause-fits
 add-totals-requires-clause-fits g c =
-    let P = IsAt c.args.job.now (first_in c.args.window.now) in
+    let P = IsMonitorAt c.args.job.now (first_in c.args.window.now) in
     let all = subst (All P) c.in-Some.ensures.steps.0 c.loop-monitor.invariant.0 in
     let here = All-head P c.in-Some.monitor (into_iter_items c.next.new.self) all in
     let p : Published = record { monitor = c.run_one-monitor.result.0; receipt = c.in-Some-receipt.receipt } in
@@ -65,7 +65,7 @@ add-totals-requires-clause-fits g c =
 pub loop-monitor-preserved : goal.loop-monitor-preserved
 loop-monitor-preserved g c =
     let was = c.loop-monitor.invariant in let steps = c.in-Some.ensures.steps in
-    let P = IsAt c.args.job.now (first_in c.args.window.now) in
+    let P = IsMonitorAt c.args.job.now (first_in c.args.window.now) in
     let all = subst (All P) steps.0 was.0 in
     let m = c.in-Some.monitor in
     let p : Published = record { monitor = c.run_one-monitor.result.0; receipt = c.in-Some-receipt.receipt } in

@@ -2,7 +2,7 @@ use Rattle.std.proofs.Common.{◌≡◌, ◌+◌, ◌<◌, ℕ, All, vec_len}
 use Rattle.std.specs.Vec.Iter.{into_iter_items}
 use Rattle.cycle_window.specs.Held.{first_in}
 use Rattle.workers_shared.specs.Shares.{parts}
-use Rattle.workers_shared.specs.Monitors.{IsAt}
+use Rattle.workers_shared.specs.Monitors.{IsMonitorAt}
 use Rattle.workers_shared.specs.Hands.{total, numbers}
 use Rattle.workers_rounds.specs.Works.{IsPublished, published_count}
 use Rattle.workers_rounds.specs.Adding.{kind_of, amount_of}
@@ -11,7 +11,7 @@ use Rattle.workers_rounds.proofs.round.run_rest.Given as goal
 
 abbrev pub invariant-loop-monitor : goal.invariant-loop-monitor
 invariant-loop-monitor g l =
-    All (IsAt l.job (first_in l.window)) (into_iter_items l.monitor-iterator)
+    All (IsMonitorAt l.job (first_in l.window)) (into_iter_items l.monitor-iterator)
     × ((h : ℕ → ℕ) → total h (published_numbers l.published.items) + total h
     (numbers (into_iter_items l.monitor-iterator))
     ≡ total h (published_numbers l.fn.published.items) + total h (numbers l.fn.rest.items))

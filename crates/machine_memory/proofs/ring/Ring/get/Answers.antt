@@ -1,6 +1,6 @@
 use Rattle.std.proofs.Common.{◌≤◌, ◌<◌, ◌∙◌, sym, ap, arith}
 use Rattle.machine_memory.proofs.TurnedLaws.{row_fits, rows_fit, history_of-slots, history_of-depth}
-use Rattle.machine_memory.proofs.TurnedLaws.{past-history_of}
+use Rattle.machine_memory.proofs.TurnedLaws.{get_or-history_of}
 use Rattle.machine_memory.proofs.ring.Ring.get.Goals as goal
 
 pub behind-row-requires-clause-back : goal.behind-row-requires-clause-back
@@ -63,5 +63,5 @@ returns c =
     ) in
     c.read.ensures
     ∙ rw (← c.self.view_is) (sym
-    (past-history_of r.depth r.slots r.newest c.args.back c.behind-row.result c.args.slot r.store
+    (get_or-history_of r.depth r.slots r.newest c.args.back c.behind-row.result c.args.slot r.store
     c.self.invariant c.behind-row.ensures reach range))

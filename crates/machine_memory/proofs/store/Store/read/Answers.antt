@@ -1,6 +1,6 @@
 use Rattle.std.proofs.Common.{◌≡◌, ◌<◌, length, get_or, ap, sym, ◌∙◌, arith}
 use Rattle.std.specs.Prelude.{Some}
-use Rattle.machine_memory.specs.Held.{values_of}
+use Rattle.machine_memory.specs.Filled.{values_of}
 use Rattle.machine_memory.proofs.Fills.{get_or-held}
 use Rattle.machine_memory.proofs.store.Store.read.Goals as goal
 

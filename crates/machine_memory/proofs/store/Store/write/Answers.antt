@@ -1,5 +1,5 @@
 use Rattle.std.proofs.Common.{◌+◌, ◌≤◌, length, sym, ap, arith, ◌∙◌}
-use Rattle.machine_memory.specs.Held.{values_of}
+use Rattle.machine_memory.specs.Filled.{values_of}
 use Rattle.machine_memory.proofs.Fills.{AllHeld-map, values_of-is, row-values}
 use Rattle.machine_memory.proofs.store.Store.write.Goals as goal
 
