@@ -141,7 +141,8 @@ impl Monitor {
         ensures batch { batch_state result ≡ batch number (monitor_state self.old) }
         ensures cleared { IsCleared self.old self.new }
     {
-        let decided = mem::replace(&mut self.decided, Streaks::new(alloc));
+        let mut decided = mem::replace(&mut self.decided, Streaks::new(alloc));
+        decided.shrink_to_fit();
         let first = self.since;
         let end = self.machine.now();
         self.since = end;
