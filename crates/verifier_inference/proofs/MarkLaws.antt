@@ -12,7 +12,7 @@ use Rattle.verifier_inference.specs.declared.fault.Fault.{Fault}
 use Rattle.verifier_inference.specs.Inference.{Message, agreed, merge, arrival_at, entry, Found, found}
 use Rattle.verifier_inference.specs.Order.{number_of, fault_part, IsUpTo, found_place, IsIn, IsFirstFound}
 use Rattle.verifier_inference.specs.Scans.{IsFirstOf}
-use Rattle.verifier_inference.specs.Marks.{marked, Reached, is_up_to}
+use Rattle.verifier_inference.specs.Marks.{marked, MarksReached, is_up_to}
 use Rattle.verifier_inference.proofs.ArrivalLaws.{set_same, set_other}
 use Rattle.verifier_inference.proofs.OrderLaws.{in_append, in_left, in_right}
 
@@ -20,8 +20,8 @@ merge_mark : (m : Bool) → merge [] (marked m) ≡ agreed []
 merge_mark true = refl
 merge_mark false = refl
 
-pub marked_set : (base at to : ℕ) (marks : List Bool) (ms : List Message) → base + at ≡ to → Reached base marks ms
-    → Reached base (set marks at true) (record { to = to; list = [] } ∷ ms)
+pub marked_set : (base at to : ℕ) (marks : List Bool) (ms : List Message) → base + at ≡ to → MarksReached base marks ms
+    → MarksReached base (set marks at true) (record { to = to; list = [] } ∷ ms)
 marked_set base at to marks ms e reached k mark h =
     elim (cases_eq k at) [
       | inl same ↦
@@ -44,7 +44,7 @@ unmarked zero k mark h = cc
 unmarked (suc n) zero mark h = cc
 unmarked (suc n) (suc k) mark h = unmarked n k mark h
 
-pub first_mark : (base n : ℕ) → Reached base (set (replicate n false) 0 true) (entry base)
+pub first_mark : (base n : ℕ) → MarksReached base (set (replicate n false) 0 true) (entry base)
 first_mark base n =
     marked_set base 0 base (replicate n false) [] (omega arith) (λ k mark h. ap marked (unmarked n k mark h))
 

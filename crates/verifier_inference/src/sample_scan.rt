@@ -16,7 +16,7 @@ ghost use Rattle.verifier_inference.specs.Views.{rules_of};
 use crate::arrival::{Arrival, first_arrivals, send, take_arrival};
 use crate::frame::Frame;
 use crate::refusal::Refusal;
-use crate::stack::{Outcome, apply, is_there};
+use crate::stack::{RuleOutcome, apply, is_there};
 use bytecode::{Flow, SampleInstr};
 use std::alloc::{AllocError, Global};
 
@@ -116,9 +116,9 @@ fn leave(
         return Ok(Vec::new(alloc));
     };
     match apply(frame, instr, &mut stack)? {
-        Outcome::TooFew => Err(Refusal::Underflow(pc)),
-        Outcome::Misfit => Err(Refusal::Operand(pc)),
-        Outcome::Leaves => {
+        RuleOutcome::TooFew => Err(Refusal::Underflow(pc)),
+        RuleOutcome::Misfit => Err(Refusal::Operand(pc)),
+        RuleOutcome::Leaves => {
             if stack.len() > 1024 {
                 return Err(Refusal::Overflow(pc));
             }

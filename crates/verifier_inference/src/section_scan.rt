@@ -8,7 +8,7 @@ ghost use Rattle.verifier_inference.specs.Inference.{faults_at};
 ghost use Rattle.verifier_inference.specs.Inference.{code_faults, entry};
 ghost use Rattle.verifier_inference.specs.Order.{first_refusal};
 ghost use Rattle.verifier_inference.specs.Scans.{IsFirstOf};
-ghost use Rattle.verifier_inference.specs.Marks.{marked, Reached, found_in};
+ghost use Rattle.verifier_inference.specs.Marks.{marked, MarksReached, found_in};
 ghost use Rattle.verifier_inference.specs.Sections.{blocks_faults, section_faults, start_faults};
 ghost use Rattle.verifier_inference.specs.Sections.{instructions_in};
 ghost use Rattle.bytecode.specs.Views.{section_data};
@@ -93,8 +93,8 @@ fn mark_on(marks: &mut [bool], base: usize, k: usize, flow: Flow)
     requires forward { jump_faults (base + length marks.old) (base + k) flow ≡ [] }
     requires ends { end_faults (base + length marks.old) (base + k) flow ≡ [] }
     ensures long { length marks.new ≡ length marks.old }
-    ensures marks { (ms : List Message) → Reached base marks.old ms →
-        Reached base marks.new (sends (base + k) flow [] ms) }
+    ensures marks { (ms : List Message) → MarksReached base marks.old ms →
+        MarksReached base marks.new (sends (base + k) flow [] ms) }
 {
     match flow {
         Flow::Stops => {}
@@ -120,7 +120,7 @@ fn scan_marks(
     requires some { 0 < length block.now }
     requires long { length marks.old ≡ length block.now }
     requires fits { base + length block.now < 2 ^ 64 }
-    requires entry { Reached base marks.old (entry base) }
+    requires entry { MarksReached base marks.old (entry base) }
     ensures { IsFirstOf
         (code_faults (block_rules (section_of_side side) atoms positions p) base block.now)
         (found_in (section_of_side side) result) }
