@@ -31,13 +31,13 @@ use Rattle.bytecode.specs.Values.{ProgramData}
 use Rattle.vcd_reader.specs.Variables.{Declared, size_of}
 use Rattle.cycle_window.specs.declared.fault.WindowFault.{WindowFault}
 use Rattle.cycle_window.specs.declared.fault.WindowFault.TheVariants as windows
-use Rattle.cycle_window.specs.Bound.{Wanted, OtherWidth, IsClock, IsClockFault}
+use Rattle.cycle_window.specs.Bound.{Wanted, OtherWidth, IsClock, IsClockFault, IsSignalFault}
 use Rattle.cycle_window.specs.Bound.{misfit, first_refused, HasClock}
 use Rattle.machine_runs.specs.Reported.{wanted_slot}
 use Rattle.workers_core.specs.declared.job_fault.JobFault.{JobFault}
 use Rattle.workers_core.specs.declared.job_fault.JobFault.TheVariants as faults
 use Rattle.workers_core.specs.Faults.{window_fault}
-use Rattle.workers_core.specs.Wanted.{wanted_in, IsGoodCount, SaysRefused, WhyNoJob, WhyUnfit}
+use Rattle.workers_core.specs.Wanted.{wanted_in, IsGoodCount, WhyNoJob, WhyUnfit}
 
 abbrev signals_wanted : ProgramData → List Wanted
 signals_wanted p = map wanted_slot p.signals
@@ -68,23 +68,23 @@ clock-why vs path ps (windows.SignalWidth p) h = absurd h
 clock-why vs path ps windows.Memory h = tt
 
 -- why programs can't run, behind their number
-pub refused-why : (vs : List Declared) (ps : List ProgramData) (e : JobFault) → IsGoodCount ps
-    → SaysRefused (first_refused vs (wanted_in ps)) e → WhyUnfit vs ps e
-refused-why vs ps faults.NoClock count h = absurd h
-refused-why vs ps faults.ClockWidth count h = absurd h
-refused-why vs ps faults.BadJob count h = absurd h
-refused-why vs ps (faults.NoSignal p) count h = (count, h)
-refused-why vs ps (faults.SignalWidth p) count h = (count, h)
-refused-why vs ps faults.Memory count h = tt
+pub signals-why : (vs : List Declared) (ps : List ProgramData) (e : WindowFault) → IsGoodCount ps
+    → IsSignalFault vs (wanted_in ps) e → WhyUnfit vs ps (window_fault e)
+signals-why vs ps windows.NoClock count h = absurd h
+signals-why vs ps windows.ClockWidth count h = absurd h
+signals-why vs ps (windows.NoSignal p) count h = (count, h)
+signals-why vs ps (windows.SignalWidth p) count h = (count, h)
+signals-why vs ps windows.Memory count h = tt
 
 -- why there is no job, behind the clock
 pub unfit-why : (vs : List Declared) (path : List ℕ) (ps : List ProgramData) (e : JobFault)
     → HasClock vs path → WhyUnfit vs ps e → WhyNoJob vs path ps e
-unfit-why vs path ps faults.NoClock clock h = absurd h
-unfit-why vs path ps faults.ClockWidth clock h = absurd h
+unfit-why vs path ps (faults.Window windows.NoClock) clock h = absurd h
+unfit-why vs path ps (faults.Window windows.ClockWidth) clock h = absurd h
+unfit-why vs path ps (faults.Window (windows.NoSignal p)) clock h = (clock, h.0, h.1)
+unfit-why vs path ps (faults.Window (windows.SignalWidth p)) clock h = (clock, h.0, h.1)
+unfit-why vs path ps (faults.Window windows.Memory) clock h = absurd h
 unfit-why vs path ps faults.BadJob clock h = (clock, h)
-unfit-why vs path ps (faults.NoSignal p) clock h = (clock, h.0, h.1)
-unfit-why vs path ps (faults.SignalWidth p) clock h = (clock, h.0, h.1)
 unfit-why vs path ps faults.Memory clock h = tt
 
 pub all-unfit :
