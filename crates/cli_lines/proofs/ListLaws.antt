@@ -37,15 +37,11 @@ use Rattle.cycle_window.specs.Bound.{first_refused}
 use Rattle.compiler.specs.declared.fault.CompileFault.{CompileFault}
 use Rattle.compiler.specs.declared.fault.CompileFault.TheVariants as faults
 use Rattle.compiler.specs.Faults.{WhyNotCompiled}
-use Rattle.workers_core.specs.declared.job_fault.JobFault.{JobFault}
-use Rattle.workers_core.specs.declared.job_fault.JobFault.TheVariants as jobs
-use Rattle.workers_core.specs.Wanted.{wanted_in, WhyUnfit}
 use Rattle.cli_lines.specs.declared.fault.LinesFault.{LinesFault}
 use Rattle.cli_lines.specs.declared.fault.LinesFault.TheVariants.{Program, BadJob, Memory}
 use Rattle.cli_lines.specs.Faults.{
   IsMadeOf,
   HasAcceptedProgram,
-  IsNoMisfit,
   program_fault,
   WhyNoPrograms,
   WhyBadJob,
@@ -146,16 +142,6 @@ job-lines suite ps BadJob made why =
       programs = have-programs suite suite.assertions.items ps made;
     }
 job-lines suite ps Memory made why = tt
-
--- no fault of a clock or of a signal, where all signals fit
-pub no-misfit : (vs : List Declared) (ps : List ProgramData) (e : JobFault)
-    → first_refused vs (wanted_in ps) ≡ None → WhyUnfit vs ps e → IsNoMisfit e
-no-misfit vs ps jobs.NoClock none why = why
-no-misfit vs ps jobs.ClockWidth none why = why
-no-misfit vs ps jobs.BadJob none why = tt
-no-misfit vs ps (jobs.NoSignal path) none why = absurd cc
-no-misfit vs ps (jobs.SignalWidth path) none why = absurd cc
-no-misfit vs ps jobs.Memory none why = tt
 
 -- what an error that is known says
 pub err-is : {X E : Type 0} (r : Result X E) (e : E) (Why : E → Type 0) → IsErrAnd r (λ f. f ≡ e)

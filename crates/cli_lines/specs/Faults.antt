@@ -9,8 +9,6 @@ use Rattle.compiler.specs.declared.fault.CompileFault.{CompileFault}
 use Rattle.compiler.specs.declared.fault.CompileFault.TheVariants as compiles
 use Rattle.compiler.specs.Faults.{WhyNotCompiled, HasNoFault}
 use Rattle.compiler.specs.Programs.{IsProgramOf}
-use Rattle.workers_core.specs.declared.job_fault.JobFault.{JobFault}
-use Rattle.workers_core.specs.declared.job_fault.JobFault.TheVariants as jobs
 use Rattle.workers_core.specs.Wanted.{IsBadCount}
 use Rattle.cli_lines.specs.declared.fault.LinesFault.{LinesFault}
 use Rattle.cli_lines.specs.declared.fault.LinesFault.TheVariants.{Program, BadJob, Memory}
@@ -47,12 +45,6 @@ WhyNoPrograms suite (Program compiles.Memory) = ⊥
 WhyNoPrograms suite (Program fault) = HasNoProgram suite fault
 WhyNoPrograms suite BadJob = ⊥
 WhyNoPrograms suite Memory = Unit {0}
-
--- it is no fault of the clock or of a signal
-abbrev pub IsNoMisfit : JobFault → Type 0
-IsNoMisfit jobs.BadJob = Unit {0}
-IsNoMisfit jobs.Memory = Unit {0}
-IsNoMisfit fault = ⊥
 
 -- why these programs are no job
 abbrev pub WhyBadJob : List ProgramData → LinesFault → Type 0
