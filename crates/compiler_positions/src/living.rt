@@ -18,7 +18,7 @@ pub(crate) fn is_marked(marks: &[bool], position: usize) -> bool
 
 /// How many of the positions below one are marked.
 pub(crate) fn rank_of(marks: &[bool], position: usize) -> usize
-    ensures kept_below { result ≡ kept_below (is_marked_at marks.now) position }
+    ensures rank { result ≡ kept_below (is_marked_at marks.now) position }
     ensures few { result ≤ position }
 {
     let mut count = 0;
