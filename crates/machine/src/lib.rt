@@ -31,6 +31,8 @@ mod machine;
 mod memory;
 mod obligations;
 mod own;
+mod progress;
+mod repeats;
 mod row;
 mod sample_code;
 mod stacked;
