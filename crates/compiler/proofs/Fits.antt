@@ -28,7 +28,7 @@ use Rattle.verifier_inference.specs.declared.refusal.Refusal.{Refusal}
 use Rattle.verifier_inference.specs.declared.refusal.Refusal.TheVariants.{SlotRange, Cycle}
 use Rattle.verifier_inference.specs.Rules.{block_rules}
 use Rattle.verifier_inference.specs.Typing.{IsFine}
-use Rattle.verifier_inference.specs.Sections.{IsSection, AreTyped, size_of}
+use Rattle.verifier_inference.specs.Sections.{IsSection, AreTyped, instructions_in}
 use Rattle.compiler_expressions.proofs.FitLaws.{samples-fit}
 use Rattle.assertions.specs.Marks.{is_marked, places_from}
 use Rattle.assertions.proofs.SlotLaws.{place-at}
@@ -115,7 +115,7 @@ all-by-index f (x ∷ xs) each =
     both (f x) (list_all f xs) (each 0 x refl) (all-by-index f xs (λ k y is. each (suc k) y is))
 
 blocks-fit : (section atoms positions p base : ℕ) (bs : List (List BlockInstr)) → atoms ≤ 256 → positions ≤ 256
-    → base + size_of bs ≤ 4096 →
+    → base + instructions_in bs ≤ 4096 →
     AreTyped section atoms positions p base bs → list_all (fits_list fits_block) bs ≡ true
 blocks-fit section atoms positions p base [] few many short typed = refl
 blocks-fit section atoms positions p base (b ∷ bs) few many short typed =
@@ -127,7 +127,8 @@ blocks-fit section atoms positions p base (b ∷ bs) few many short typed =
     (typed.0.each k i is))))
     (blocks-fit section atoms positions (p + 1) (base + length b) bs few many (omega (arith, short)) typed.1)
 
-section-fits : (number atoms : ℕ) (s : SectionData) → atoms ≤ 127 → length s.blocks ≤ 127 → size_of s.blocks ≤ 4096
+section-fits : (number atoms : ℕ) (s : SectionData) → atoms ≤ 127 → length s.blocks ≤ 127
+    → instructions_in s.blocks ≤ 4096
     → IsSection number atoms s →
     fits_section s ≡ true
 section-fits number atoms s few many short is =

@@ -22,7 +22,7 @@ use Rattle.bytecode.specs.declared.flow.Flow.TheVariants.{Stops, GoesOn, Jumps, 
 use Rattle.bytecode.specs.declared.block_instr.BlockInstr.{BlockInstr}
 use Rattle.bytecode.specs.Values.{ProgramData, SectionData}
 use Rattle.bytecode.specs.Instructions.{frame_of, sample_flow, block_flow}
-use Rattle.verifier_inference.specs.Sections.{IsSection, size_of}
+use Rattle.verifier_inference.specs.Sections.{IsSection, instructions_in}
 use Rattle.verifier_inference.specs.Typing.{longest_list}
 use Rattle.verifier.specs.Limits.{path_of, paths_from, longest_path, path_sum}
 use Rattle.verifier.specs.Programs.{IsAtom, IsWellFormed, HasRoom, IsAccepted, least_limits, least_attempts}
@@ -68,7 +68,7 @@ paths-short pc (flow ∷ flows) (suc j) = omega (arith, paths-short (pc + 1) flo
 longest-short : (pc : ℕ) (flows : List Flow) → longest_path pc flows ≤ length flows
 longest-short pc flows = paths-short pc flows 0
 
-sum-short : (base : ℕ) (bs : List (List BlockInstr)) → path_sum base bs ≤ size_of bs
+sum-short : (base : ℕ) (bs : List (List BlockInstr)) → path_sum base bs ≤ instructions_in bs
 sum-short base [] = omega arith
 sum-short base (b ∷ bs) =
     let here = longest-short base (map block_flow b) in

@@ -26,7 +26,7 @@ use Rattle.expressions.proofs.Chains.{width-joined, total_above}
 use Rattle.bytecode.specs.Instructions.{FrameData}
 use Rattle.compiler_expressions.specs.Codes.{Slots}
 use Rattle.compiler_expressions.specs.Samples.{Held, rule_terms, clear_terms, counter_terms}
-use Rattle.compiler_expressions.specs.Chosen.{term_found, terms_at, held_at}
+use Rattle.compiler_expressions.specs.Chosen.{term_found, terms_at, held_counters}
 use Rattle.compiler_expressions.specs.Laws.{EachPart, IsNarrow, HasSlot, IsInFrame, ProgramsAreNarrow}
 
 pub each-self : (P : Term → Type 0) (e : Term) → EachPart P e → P e
@@ -269,8 +269,8 @@ terms-narrow all (place ∷ places) =
 pub programs-are-narrow : ProgramsAreNarrow
 programs-are-narrow booleans atoms counters stores =
     both-narrow (terms_at booleans atoms)
-    (flat_map (λ h. counter_terms h.counter) (held_at counters stores))
-    (terms-narrow booleans atoms) (held-narrow (held_at counters stores))
+    (flat_map (λ h. counter_terms h.counter) (held_counters counters stores))
+    (terms-narrow booleans atoms) (held-narrow (held_counters counters stores))
 
 -- two facts of each part as one
 pub each-placed :

@@ -24,7 +24,7 @@ use Rattle.compiler_expressions.specs.Codes.{Slots, slot_of, code_of, need, reac
 use Rattle.compiler_expressions.specs.Samples.{Held, held_slot, next_code, next_need, counter_terms}
 use Rattle.compiler_expressions.specs.Samples.{sample_code, sample_need, sample_reach}
 use Rattle.compiler_expressions.specs.Samples.{largest}
-use Rattle.compiler_expressions.specs.Chosen.{terms_at, held_at}
+use Rattle.compiler_expressions.specs.Chosen.{terms_at, held_counters}
 
 -- P holds of an expression and of each of its parts.
 abbrev pub EachPart : (Term → Type 0) → Term → Type 0
@@ -142,7 +142,7 @@ abbrev pub ProgramsAreNarrow : Type 0
 ProgramsAreNarrow =
     (booleans : List Expr) (atoms : List ℕ) (counters : List Counter) (stores : List ℕ) →
     AllByRecursion (EachPart IsNarrow)
-    (program_terms (terms_at booleans atoms) (held_at counters stores))
+    (program_terms (terms_at booleans atoms) (held_counters counters stores))
 
 -- Code that some table types, with lists of at most so many operands, that reads at most so far
 -- back and has one path.
@@ -179,7 +179,7 @@ SamplesTell =
     })
     (p.header.limits.budget - length p.sample)
 
--- EachPart instruction of the sample code of a program can be written to a file.
+-- Each instruction of the sample code of a program can be written to a file.
 abbrev pub SamplesFit : Type 0
 SamplesFit =
     (f : FrameData) (at : Slots) (es : List Term) (hs : List Held) → IsFrame f at es hs →

@@ -10,8 +10,9 @@ use Rattle.bytecode.specs.declared.block_instr.BlockInstr.{BlockInstr}
 use Rattle.machine_definition.specs.Blocks.{Visit, ended}
 use Rattle.compiler_positions.specs.Tables.{Edge, SomeOf, HasNumber}
 use Rattle.machine_sections.specs.Effects.{effect, effects}
-use Rattle.compiler_positions.specs.Sections.{edge_size, guards, enter_all, accept_if, edge_code, block_of, blocks_of}
-use Rattle.compiler_positions.specs.Sections.{rows_of}
+use Rattle.compiler_positions.specs.Sections.{edge_size, guards, enter_all, accept_if, edge_code, position_block}
+use Rattle.compiler_positions.specs.Sections.{position_blocks}
+use Rattle.compiler_positions.specs.Sections.{rows_from}
 use Rattle.compiler_positions.specs.Sections.{bits}
 
 -- a bit more
@@ -198,11 +199,11 @@ module _ (atoms : List Bool) where
   made_all [] v = v
   made_all (e ∷ es) v = made_all es (made e v)
 
-  block-effect : (es : List (Edge ℕ)) (base : ℕ) (v : Visit) → effect atoms zero base (block_of base es) v
+  block-effect : (es : List (Edge ℕ)) (base : ℕ) (v : Visit) → effect atoms zero base (position_block base es) v
       ≡ made_all es v
   block-effect [] base v = refl
   block-effect (e ∷ es) base v =
-      edge-effect e base (block_of (base + edge_size e) es) v ∙ block-effect es (base + edge_size e) (made e v)
+      edge-effect e base (position_block (base + edge_size e) es) v ∙ block-effect es (base + edge_size e) (made e v)
 
   -- what the blocks of a set make
   abbrev pub made_by : ℕ → (ℕ → List (Edge ℕ)) → ℕ → ℕ → Visit → Visit
@@ -210,11 +211,11 @@ module _ (atoms : List Bool) where
   made_by set row p (suc count) v = made_by set row (p + 1) count (if bit_at set p == 1 then made_all (row p) v else v)
 
   pub blocks-effects : (set : ℕ) (row : ℕ → List (Edge ℕ)) (p base count : ℕ) (v : Visit)
-      → effects atoms set p base (blocks_of base (rows_of row p count)) v ≡ made_by set row p count v
+      → effects atoms set p base (position_blocks base (rows_from row p count)) v ≡ made_by set row p count v
   blocks-effects set row p base zero v = refl
   blocks-effects set row p base (suc count) v =
-      let next : ℕ = base + length (block_of base (row p)) in
-      ap (λ w. effects atoms set (p + 1) next (blocks_of next (rows_of row (p + 1) count))
+      let next : ℕ = base + length (position_block base (row p)) in
+      ap (λ w. effects atoms set (p + 1) next (position_blocks next (rows_from row (p + 1) count))
       (if bit_at set p == 1 then w else v)) (block-effect (row p) base v)
       ∙ blocks-effects set row (p + 1) next count (if bit_at set p == 1 then made_all (row p) v else v)
 

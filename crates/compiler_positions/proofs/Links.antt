@@ -7,9 +7,9 @@ use Rattle.compiler_positions.specs.Plans.{Plan, link}
 use Rattle.compiler_positions.specs.States.{PlanState, Nullable, First, Ends, StepsTo}
 use Rattle.std.specs.List.{flat_map}
 use Rattle.compiler_positions.specs.Tables.{Edge, Table, HasNumber, Fires, Enters, Accepts, NumbersStates, shift}
-use Rattle.compiler_positions.specs.Tables.{shifted, picked}
+use Rattle.compiler_positions.specs.Tables.{shifted_edge, picked_if}
 use Rattle.compiler_positions.specs.Tables.{onward}
-use Rattle.compiler_positions.specs.Tables.{leading, joined, fusing, crossing, link_table}
+use Rattle.compiler_positions.specs.Tables.{leading, joined_edges, fusing, crossing, link_table}
 use Rattle.compiler_positions.proofs.Lists.{SomeOf-each, map-SomeOf, SomeOf-append, append-SomeOf, SomeOf-flat}
 use Rattle.compiler_positions.proofs.Lists.{flat-SomeOf}
 use Rattle.compiler_positions.proofs.Lists.{SomeOf-picked, picked-SomeOf, SomeOf-Has, Has-SomeOf, Has-shift, shift-Has}
@@ -30,7 +30,7 @@ module _ (B : Type 0) (fuses follows : Bool) (t w u : Table B) (holds : B → �
   abbrev Accept : List (Edge B) → Type 0
   Accept = AcceptIn B holds i
 
-  joined-Enter : (q : ℕ) (e : Edge B) (fs : List (Edge B)) → Enter q (map (joined (t.size + w.size) e) fs)
+  joined-Enter : (q : ℕ) (e : Edge B) (fs : List (Edge B)) → Enter q (map (joined_edges (t.size + w.size) e) fs)
       → Fires holds i e × ((y : ℕ) × (t.size + w.size + y ≡ q) × Enter y fs)
   joined-Enter q e [] h = absurd h
   joined-Enter q e (f ∷ fs) (inl h) =
@@ -40,7 +40,7 @@ module _ (B : Type 0) (fuses follows : Bool) (t w u : Table B) (holds : B → �
   joined-Enter q e (f ∷ fs) (inr h) = let x = joined-Enter q e fs h in (x.0, (x.1.0, x.1.1, inr x.1.2))
 
   Enter-joined : (q y : ℕ) (e : Edge B) (fs : List (Edge B)) → Fires holds i e → t.size + w.size + y ≡ q → Enter y fs
-      → Enter q (map (joined (t.size + w.size) e) fs)
+      → Enter q (map (joined_edges (t.size + w.size) e) fs)
   Enter-joined q y e [] fires same h = absurd h
   Enter-joined q y e (f ∷ fs) fires same (inl h) =
       inl (
@@ -49,7 +49,8 @@ module _ (B : Type 0) (fuses follows : Bool) (t w u : Table B) (holds : B → �
       )
   Enter-joined q y e (f ∷ fs) fires same (inr h) = inr (Enter-joined q y e fs fires same h)
 
-  joined-Accept : (e : Edge B) (fs : List (Edge B)) → Accept (map (joined (t.size + w.size) e) fs) → Fires holds i e
+  joined-Accept : (e : Edge B) (fs : List (Edge B)) → Accept (map (joined_edges (t.size + w.size) e) fs)
+      → Fires holds i e
       × Accept fs
   joined-Accept e [] h = absurd h
   joined-Accept e (f ∷ fs) (inl h) =
@@ -57,7 +58,7 @@ module _ (B : Type 0) (fuses follows : Bool) (t w u : Table B) (holds : B → �
   joined-Accept e (f ∷ fs) (inr h) = let x = joined-Accept e fs h in (x.0, inr x.1)
 
   Accept-joined : (e : Edge B) (fs : List (Edge B)) → Fires holds i e → Accept fs
-      → Accept (map (joined (t.size + w.size) e) fs)
+      → Accept (map (joined_edges (t.size + w.size) e) fs)
   Accept-joined e [] fires h = absurd h
   Accept-joined e (f ∷ fs) fires (inl h) =
       inl (append-EachOf (λ b. IsTrue (holds b i)) e.wanted f.wanted fires h.0, h.1)
@@ -78,7 +79,7 @@ module _ (B : Type 0) (fuses follows : Bool) (t w u : Table B) (holds : B → �
   pub lead-Enter : (q : ℕ) (es : List (Edge B)) → Enter q (flat_map lead es) → Leading q es
   lead-Enter q [] h = absurd h
   lead-Enter q (e ∷ es) (inl h) =
-      elim (SomeOf-append (λ x. x ≡ q) e.enters (picked (e.accepts && follows) (onward t w u)) h.1) [
+      elim (SomeOf-append (λ x. x ≡ q) e.enters (picked_if (e.accepts && follows) (onward t w u)) h.1) [
         | inl a ↦ inl (inl (h.0, a))
         | inr a ↦
             let p = SomeOf-picked (λ x. x ≡ q) (e.accepts && follows) (onward t w u) a in
@@ -91,7 +92,7 @@ module _ (B : Type 0) (fuses follows : Bool) (t w u : Table B) (holds : B → �
         | inl a ↦
             let p =
             SomeOf-picked (λ e. Fires holds i e × HasNumber e.enters q) (e.accepts && fuses)
-            (map (joined (t.size + w.size) e) firsts) a in
+            (map (joined_edges (t.size + w.size) e) firsts) a in
             let b = and_parts e.accepts fuses p.0 in
             let x = joined-Enter q e firsts p.1 in
             inr (inr (inl (x.0, b.0), b.1, x.1.0, x.1.1, x.1.2))
@@ -102,14 +103,14 @@ module _ (B : Type 0) (fuses follows : Bool) (t w u : Table B) (holds : B → �
       flat-SomeOf (λ e. Fires holds i e × HasNumber e.enters q) lead es
       (SomeOf-each (λ e. Fires holds i e × HasNumber e.enters q) (λ e. Enter q (lead e)) es
       (λ e a.
-      inl (a.0, append-SomeOf (λ x. x ≡ q) e.enters (picked (e.accepts && follows) (onward t w u)) (inl a.1))) h)
+      inl (a.0, append-SomeOf (λ x. x ≡ q) e.enters (picked_if (e.accepts && follows) (onward t w u)) (inl a.1))) h)
   Enter-lead q es (inr (inl h)) =
       flat-SomeOf (λ e. Fires holds i e × HasNumber e.enters q) lead es
       (SomeOf-each (λ e. Fires holds i e × (e.accepts ≡ true)) (λ e. Enter q (lead e)) es
       (λ e a.
       inl (
         a.0,
-        append-SomeOf (λ x. x ≡ q) e.enters (picked (e.accepts && follows) (onward t w u))
+        append-SomeOf (λ x. x ≡ q) e.enters (picked_if (e.accepts && follows) (onward t w u))
             (inr (picked-SomeOf (λ x. x ≡ q) (e.accepts && follows) (onward t w u) (and_from e.accepts follows a.1 h.1)
             h.2)),
       )) h.0)
@@ -118,7 +119,7 @@ module _ (B : Type 0) (fuses follows : Bool) (t w u : Table B) (holds : B → �
       (SomeOf-each (λ e. Fires holds i e × (e.accepts ≡ true)) (λ e. Enter q (lead e)) es
       (λ e a.
       inr (picked-SomeOf (λ e. Fires holds i e × HasNumber e.enters q) (e.accepts && fuses)
-      (map (joined (t.size + w.size) e) firsts) (and_from e.accepts fuses a.1 h.1)
+      (map (joined_edges (t.size + w.size) e) firsts) (and_from e.accepts fuses a.1 h.1)
       (Enter-joined q h.2 e firsts a.0 h.3 h.4))) h.0)
 
   abbrev pub Closing : List (Edge B) → Type 0
@@ -141,7 +142,7 @@ module _ (B : Type 0) (fuses follows : Bool) (t w u : Table B) (holds : B → �
         | inl a ↦
             let p =
             SomeOf-picked (λ e. Fires holds i e × (e.accepts ≡ true)) (e.accepts && fuses)
-            (map (joined (t.size + w.size) e) firsts) a in
+            (map (joined_edges (t.size + w.size) e) firsts) a in
             let b = and_parts e.accepts fuses p.0 in
             let x = joined-Accept e firsts p.1 in
             inr (inl (x.0, b.0), b.1, x.1)
@@ -162,7 +163,7 @@ module _ (B : Type 0) (fuses follows : Bool) (t w u : Table B) (holds : B → �
       (SomeOf-each (λ e. Fires holds i e × (e.accepts ≡ true)) (λ e. Accept (lead e)) es
       (λ e a.
       inr (picked-SomeOf (λ e. Fires holds i e × (e.accepts ≡ true)) (e.accepts && fuses)
-      (map (joined (t.size + w.size) e) firsts) (and_from e.accepts fuses a.1 h.1)
+      (map (joined_edges (t.size + w.size) e) firsts) (and_from e.accepts fuses a.1 h.1)
       (Accept-joined e firsts a.0 h.2))) h.0)
 
   -- what the edges of the middle part lead to
@@ -170,7 +171,7 @@ module _ (B : Type 0) (fuses follows : Bool) (t w u : Table B) (holds : B → �
       → ((y : ℕ) × (t.size + y ≡ q) × Enter y es) ⊎ (Accept es × HasNumber (shift (t.size + w.size) u.starts) q)
   crossing-Enter q [] h = absurd h
   crossing-Enter q (e ∷ es) (inl h) =
-      elim (SomeOf-append (λ x. x ≡ q) (shift t.size e.enters) (picked e.accepts (shift (t.size + w.size) u.starts))
+      elim (SomeOf-append (λ x. x ≡ q) (shift t.size e.enters) (picked_if e.accepts (shift (t.size + w.size) u.starts))
       h.1) [
         | inl a ↦ let x = Has-shift t.size e.enters q a in inl (x.0, x.1, inl (h.0, x.2))
         | inr a ↦ let p =
@@ -187,7 +188,7 @@ module _ (B : Type 0) (fuses follows : Bool) (t w u : Table B) (holds : B → �
       (λ e. Fires holds i e × HasNumber (crossing t w u e).enters q) es
       (λ e a. (
         a.0,
-        append-SomeOf (λ x. x ≡ q) (shift t.size e.enters) (picked e.accepts
+        append-SomeOf (λ x. x ≡ q) (shift t.size e.enters) (picked_if e.accepts
             (shift (t.size + w.size) u.starts)) (inl (shift-Has t.size e.enters h.0 q h.1 a.1)),
       )) h.2)
   Enter-crossing q es (inr h) =
@@ -196,7 +197,7 @@ module _ (B : Type 0) (fuses follows : Bool) (t w u : Table B) (holds : B → �
       (λ e. Fires holds i e × HasNumber (crossing t w u e).enters q)
       es (λ e a. (
         a.0,
-        append-SomeOf (λ x. x ≡ q) (shift t.size e.enters) (picked e.accepts
+        append-SomeOf (λ x. x ≡ q) (shift t.size e.enters) (picked_if e.accepts
             (shift (t.size + w.size) u.starts))
             (inr (picked-SomeOf (λ x. x ≡ q) e.accepts (shift (t.size + w.size) u.starts) a.1 h.1)),
       )) h.0)
@@ -238,14 +239,14 @@ module _ (B : Type 0) (fuses follows : Bool) (r g s : Plan B) (t w u : Table B) 
       (ap (λ p. map (crossing t w u) (w.row p)) e)
 
   back : (z : PlanState s) → whole.row (t.size + w.size + ss.number z)
-      ≡ map (shifted (t.size + w.size)) (u.row (ss.number z))
+      ≡ map (shifted_edge (t.size + w.size)) (u.row (ss.number z))
   back z =
       let e : t.size + w.size + ss.number z - (t.size + w.size) ≡ ss.number z = omega arith in
       rw (
         le-ltb (t.size + w.size + ss.number z) t.size (omega arith),
         le-ltb (t.size + w.size + ss.number z) (t.size + w.size) (omega arith),
       )
-      (ap (λ p. map (shifted (t.size + w.size)) (u.row p)) e)
+      (ap (λ p. map (shifted_edge (t.size + w.size)) (u.row p)) e)
 
   link-below : (x : PlanState r ⊎ (PlanState g ⊎ PlanState s)) → link-number x < t.size + w.size + u.size
   unfolding link-number
@@ -281,7 +282,8 @@ module _ (B : Type 0) (fuses follows : Bool) (r g s : Plan B) (t w u : Table B) 
   onward-First : (q : ℕ) → HasNumber (onward t w u) q → ((y : PlanState g) × (t.size + sg.number y ≡ q) × First g y)
       ⊎ ((z : PlanState s) × (t.size + w.size + ss.number z ≡ q) × Nullable g × First s z)
   onward-First q h =
-      elim (SomeOf-append (λ x. x ≡ q) (shift t.size w.starts) (picked w.empty (shift (t.size + w.size) u.starts)) h) [
+      elim (SomeOf-append (λ x. x ≡ q) (shift t.size w.starts)
+      (picked_if w.empty (shift (t.size + w.size) u.starts)) h) [
         | inl a ↦
             let x = Has-shift t.size w.starts q a in
             let y = (sg.starts x.0).0 x.2 in
@@ -296,10 +298,10 @@ module _ (B : Type 0) (fuses follows : Bool) (r g s : Plan B) (t w u : Table B) 
   First-onward : (q : ℕ) → ((y : PlanState g) × (t.size + sg.number y ≡ q) × First g y)
       ⊎ ((z : PlanState s) × (t.size + w.size + ss.number z ≡ q) × Nullable g × First s z) → HasNumber (onward t w u) q
   First-onward q (inl h) =
-      append-SomeOf (λ x. x ≡ q) (shift t.size w.starts) (picked w.empty (shift (t.size + w.size) u.starts))
+      append-SomeOf (λ x. x ≡ q) (shift t.size w.starts) (picked_if w.empty (shift (t.size + w.size) u.starts))
       (inl (shift-Has t.size w.starts (sg.number h.0) q h.1 ((sg.starts (sg.number h.0)).1 (h.0, refl, h.2))))
   First-onward q (inr h) =
-      append-SomeOf (λ x. x ≡ q) (shift t.size w.starts) (picked w.empty (shift (t.size + w.size) u.starts))
+      append-SomeOf (λ x. x ≡ q) (shift t.size w.starts) (picked_if w.empty (shift (t.size + w.size) u.starts))
       (inr (picked-SomeOf (λ x. x ≡ q) w.empty (shift (t.size + w.size) u.starts) (sg.empty.1 h.2)
       (shift-Has (t.size + w.size) u.starts (ss.number h.0) q h.1
       ((ss.starts (ss.number h.0)).1 (h.0, refl, h.3)))))
@@ -406,7 +408,8 @@ module _ (B : Type 0) (fuses follows : Bool) (r g s : Plan B) (t w u : Table B) 
     λ h. subst (EnterIn B holds i q) (sym (back x)) (fro h),
   )
     where
-      fro : NextOf holds (inr (inr x)) i q → EnterIn B holds i q (map (shifted (t.size + w.size)) (u.row (ss.number x)))
+      fro : NextOf holds (inr (inr x)) i q
+          → EnterIn B holds i q (map (shifted_edge (t.size + w.size)) (u.row (ss.number x)))
       fro (inl y, e, st) = absurd st
       fro (inr (inl y), e, st) = absurd st
       fro (inr (inr z), e, st) =
@@ -448,7 +451,7 @@ module _ (B : Type 0) (fuses follows : Bool) (r g s : Plan B) (t w u : Table B) 
       × First (link fuses follows r g s) x)
   unfolding link-number
   link-starts q = (
-    λ h. elim (SomeOf-append (λ x. x ≡ q) t.starts (picked (follows && t.empty) (onward t w u)) h) [
+    λ h. elim (SomeOf-append (λ x. x ≡ q) t.starts (picked_if (follows && t.empty) (onward t w u)) h) [
       | inl a ↦ let x = (sr.starts q).0 a in (inl x.0, x.1, x.2)
       | inr a ↦
           let p = SomeOf-picked (λ x. x ≡ q) (follows && t.empty) (onward t w u) a in
@@ -464,14 +467,14 @@ module _ (B : Type 0) (fuses follows : Bool) (r g s : Plan B) (t w u : Table B) 
       fro : ((x : PlanState r ⊎ (PlanState g ⊎ PlanState s)) × (link-number x ≡ q) × First (link fuses follows r g s) x)
           → HasNumber whole.starts q
       fro (inl x, e, f) =
-          append-SomeOf (λ x. x ≡ q) t.starts (picked (follows && t.empty) (onward t w u))
+          append-SomeOf (λ x. x ≡ q) t.starts (picked_if (follows && t.empty) (onward t w u))
           (inl ((sr.starts q).1 (x, e, f)))
       fro (inr (inl y), e, f) =
-          append-SomeOf (λ x. x ≡ q) t.starts (picked (follows && t.empty) (onward t w u))
+          append-SomeOf (λ x. x ≡ q) t.starts (picked_if (follows && t.empty) (onward t w u))
           (inr (picked-SomeOf (λ x. x ≡ q) (follows && t.empty) (onward t w u)
           (and_from follows t.empty f.0 (sr.empty.1 f.1)) (First-onward q (inl (y, e, f.2)))))
       fro (inr (inr z), e, f) =
-          append-SomeOf (λ x. x ≡ q) t.starts (picked (follows && t.empty) (onward t w u))
+          append-SomeOf (λ x. x ≡ q) t.starts (picked_if (follows && t.empty) (onward t w u))
           (inr (picked-SomeOf (λ x. x ≡ q) (follows && t.empty) (onward t w u)
           (and_from follows t.empty f.0 (sr.empty.1 f.1)) (First-onward q (inr (z, e, f.2, f.3)))))
 

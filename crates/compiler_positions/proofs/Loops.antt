@@ -9,7 +9,7 @@ use Rattle.std.proofs.lemmas.Bool.{leb-true, le-leb, eqb-true, eq-eqb, both_ways
 use Rattle.compiler_positions.specs.Plans.{Plan, loop}
 use Rattle.compiler_positions.specs.States.{PlanState, Nullable, First, Ends, StepsTo}
 use Rattle.compiler_positions.specs.Tables.{Edge, Table, HasNumber, Fires, Enters, Accepts, NumbersStates, shift}
-use Rattle.compiler_positions.specs.Tables.{picked, numbers}
+use Rattle.compiler_positions.specs.Tables.{picked_if, numbers_from}
 use Rattle.compiler_positions.specs.Tables.{copies}
 use Rattle.compiler_positions.specs.Tables.{looping, loop_table}
 use Rattle.compiler_positions.proofs.Lists.{SomeOf-each, map-SomeOf, SomeOf-append, append-SomeOf, SomeOf-flat}
@@ -24,7 +24,8 @@ module _ (B : Type 0) (t : Table B) (least most : ℕ) (holds : B → ℕ → Bo
       ⊎ (AcceptIn B holds i es × HasNumber (copies t (c + 1) most) q)
   looping-Enter q [] h = absurd h
   looping-Enter q (e ∷ es) (inl h) =
-      elim (SomeOf-append (λ x. x ≡ q) (shift (c * t.size) e.enters) (picked e.accepts (copies t (c + 1) most)) h.1) [
+      elim (SomeOf-append (λ x. x ≡ q) (shift (c * t.size) e.enters)
+      (picked_if e.accepts (copies t (c + 1) most)) h.1) [
         | inl a ↦ let x = Has-shift (c * t.size) e.enters q a in inl (x.0, x.1, inl (h.0, x.2))
         | inr a ↦ let p = SomeOf-picked (λ x. x ≡ q) e.accepts (copies t (c + 1) most) a in inr (inl (h.0, p.0), p.1)
       ]
@@ -40,7 +41,7 @@ module _ (B : Type 0) (t : Table B) (least most : ℕ) (holds : B → ℕ → Bo
       (λ e. Fires holds i e × HasNumber (looping t least most c e).enters q) es
       (λ e a. (
         a.0,
-        append-SomeOf (λ x. x ≡ q) (shift (c * t.size) e.enters) (picked e.accepts
+        append-SomeOf (λ x. x ≡ q) (shift (c * t.size) e.enters) (picked_if e.accepts
             (copies t (c + 1) most)) (inl (shift-Has (c * t.size) e.enters h.0 q h.1 a.1)),
       )) h.2)
   Enter-looping q es (inr h) =
@@ -49,7 +50,7 @@ module _ (B : Type 0) (t : Table B) (least most : ℕ) (holds : B → ℕ → Bo
       (λ e. Fires holds i e × HasNumber (looping t least most c e).enters q) es
       (λ e a. (
         a.0,
-        append-SomeOf (λ x. x ≡ q) (shift (c * t.size) e.enters) (picked e.accepts
+        append-SomeOf (λ x. x ≡ q) (shift (c * t.size) e.enters) (picked_if e.accepts
             (copies t (c + 1) most)) (inr (picked-SomeOf (λ x. x ≡ q) e.accepts (copies t (c + 1) most) a.1 h.1)),
       )) h.0)
 
@@ -155,9 +156,9 @@ module _ (B : Type 0) (r : Plan B) (least most : ℕ) (t : Table B) (sr : Number
   copies-Copy first q h =
       let a =
       SomeOf-Has (λ c. HasNumber (shift (c * t.size) t.starts) q)
-      (numbers first (if t.empty then most - first else min 1 (most - first)))
+      (numbers_from first (if t.empty then most - first else min 1 (most - first)))
       (SomeOf-flat (λ x. x ≡ q) (λ c. shift (c * t.size) t.starts)
-      (numbers first (if t.empty then most - first else min 1 (most - first))) h) in
+      (numbers_from first (if t.empty then most - first else min 1 (most - first))) h) in
       let c : ℕ = a.0 in
       let range = Has-numbers first (if t.empty then most - first else min 1 (most - first)) c a.1 in
       let which = count-copy first c range.0 range.1 in
@@ -168,9 +169,9 @@ module _ (B : Type 0) (r : Plan B) (least most : ℕ) (t : Table B) (sr : Number
   Copy-copies : (first q : ℕ) → Copy first q → HasNumber (copies t first most) q
   Copy-copies first q h =
       flat-SomeOf (λ x. x ≡ q) (λ c. shift (c * t.size) t.starts)
-      (numbers first (if t.empty then most - first else min 1 (most - first)))
+      (numbers_from first (if t.empty then most - first else min 1 (most - first)))
       (Has-SomeOf (λ c. HasNumber (shift (c * t.size) t.starts) q)
-      (numbers first (if t.empty then most - first else min 1 (most - first))) h.0
+      (numbers_from first (if t.empty then most - first else min 1 (most - first))) h.0
       (numbers-Has first (if t.empty then most - first else min 1 (most - first)) h.0 h.2
       (copy-count first h.0 h.2 h.3 h.4))
       (shift-Has (h.0 * t.size) t.starts (sr.number h.1) q h.5 ((sr.starts (sr.number h.1)).1 (h.1, refl, h.6))))

@@ -6,7 +6,7 @@ use Rattle.std.proofs.lemmas.Bool.{lt-ltb, le-ltb, cases_lt, or_cases, or_left, 
 use Rattle.compiler_positions.specs.Plans.{Plan, tick, skip, any, under}
 use Rattle.compiler_positions.specs.States.{PlanState, First, Ends, StepsTo}
 use Rattle.compiler_positions.specs.Tables.{Edge, Table, SomeOf, HasNumber, Fires, Enters, Accepts, NumbersStates}
-use Rattle.compiler_positions.specs.Tables.{shift, shifted}
+use Rattle.compiler_positions.specs.Tables.{shift, shifted_edge}
 use Rattle.compiler_positions.specs.Tables.{tick_table}
 use Rattle.compiler_positions.specs.Tables.{skip_table, any_table, wanting, under_table}
 use Rattle.compiler_positions.proofs.Lists.{SomeOf-each, SomeOf-map, map-SomeOf, SomeOf-append, append-SomeOf}
@@ -21,22 +21,22 @@ module _ (B : Type 0) (holds : B → ℕ → Bool) (i : ℕ) where
   AcceptIn es = SomeOf (λ e. Fires holds i e × (e.accepts ≡ true)) es
 
   -- edges moved up
-  pub shifted-Enter : (n q : ℕ) (es : List (Edge B)) → EnterIn q (map (shifted n) es) → (y : ℕ) × (n + y ≡ q)
+  pub shifted-Enter : (n q : ℕ) (es : List (Edge B)) → EnterIn q (map (shifted_edge n) es) → (y : ℕ) × (n + y ≡ q)
       × EnterIn y es
   shifted-Enter n q [] h = absurd h
   shifted-Enter n q (e ∷ es) (inl h) = let x = Has-shift n e.enters q h.1 in (x.0, x.1, inl (h.0, x.2))
   shifted-Enter n q (e ∷ es) (inr h) = let x = shifted-Enter n q es h in (x.0, x.1, inr x.2)
 
-  pub Enter-shifted : (n q y : ℕ) (es : List (Edge B)) → n + y ≡ q → EnterIn y es → EnterIn q (map (shifted n) es)
+  pub Enter-shifted : (n q y : ℕ) (es : List (Edge B)) → n + y ≡ q → EnterIn y es → EnterIn q (map (shifted_edge n) es)
   Enter-shifted n q y [] e h = absurd h
   Enter-shifted n q y (x ∷ es) e (inl h) = inl (h.0, shift-Has n x.enters y q e h.1)
   Enter-shifted n q y (x ∷ es) e (inr h) = inr (Enter-shifted n q y es e h)
 
-  pub shifted-Accept : (n : ℕ) (es : List (Edge B)) → AcceptIn (map (shifted n) es) → AcceptIn es
-  shifted-Accept n es h = SomeOf-map (λ e. Fires holds i e × (e.accepts ≡ true)) (shifted n) es h
+  pub shifted-Accept : (n : ℕ) (es : List (Edge B)) → AcceptIn (map (shifted_edge n) es) → AcceptIn es
+  shifted-Accept n es h = SomeOf-map (λ e. Fires holds i e × (e.accepts ≡ true)) (shifted_edge n) es h
 
-  pub Accept-shifted : (n : ℕ) (es : List (Edge B)) → AcceptIn es → AcceptIn (map (shifted n) es)
-  Accept-shifted n es h = map-SomeOf (λ e. Fires holds i e × (e.accepts ≡ true)) (shifted n) es h
+  pub Accept-shifted : (n : ℕ) (es : List (Edge B)) → AcceptIn es → AcceptIn (map (shifted_edge n) es)
+  Accept-shifted n es h = map-SomeOf (λ e. Fires holds i e × (e.accepts ≡ true)) (shifted_edge n) es h
 
 -- a boolean
 module _ (B : Type 0) (b : B) where
@@ -80,10 +80,11 @@ module _ (B : Type 0) (r s : Plan B) (t u : Table B) (sr : NumbersStates r t) (s
   any-front : (x : PlanState r) → (any_table t u).row (sr.number x) ≡ t.row (sr.number x)
   any-front x = rw (lt-ltb (sr.number x) t.size (sr.below x)) refl
 
-  any-back : (y : PlanState s) → (any_table t u).row (t.size + ss.number y) ≡ map (shifted t.size) (u.row (ss.number y))
+  any-back : (y : PlanState s) → (any_table t u).row (t.size + ss.number y)
+      ≡ map (shifted_edge t.size) (u.row (ss.number y))
   any-back y =
       let e : t.size + ss.number y - t.size ≡ ss.number y = omega arith in
-      rw (le-ltb (t.size + ss.number y) t.size (omega arith)) (ap (λ p. map (shifted t.size) (u.row p)) e)
+      rw (le-ltb (t.size + ss.number y) t.size (omega arith)) (ap (λ p. map (shifted_edge t.size) (u.row p)) e)
 
   any-enters : (holds : B → ℕ → Bool) (x : PlanState r ⊎ PlanState s) (i q : ℕ)
       → Enters holds (any_table t u) (any-number x) i q ↔ ((y : PlanState r ⊎ PlanState s) × (any-number y ≡ q)
@@ -108,7 +109,7 @@ module _ (B : Type 0) (r s : Plan B) (t u : Table B) (sr : NumbersStates r t) (s
   )
     where
       back : ((y : PlanState r ⊎ PlanState s) × (any-number y ≡ q) × StepsTo holds (any r s) (inr x) i y)
-          → EnterIn B holds i q (map (shifted t.size) (u.row (ss.number x)))
+          → EnterIn B holds i q (map (shifted_edge t.size) (u.row (ss.number x)))
       back (inl y, e, st) = absurd st
       back (inr y, e, st) =
           Enter-shifted B holds i t.size q (ss.number y) (u.row (ss.number x)) e

@@ -3,7 +3,7 @@ use Rattle.std.proofs.Common.{inl, inr}
 use Rattle.std.specs.Prelude.{◌≡◌, ◌⊎◌, ℕ, zero, suc, ◌+◌, ◌<◌, ◌≤◌, max, Bool, IsTrue}
 use Rattle.assertions.specs.Segments.{Matches, Chain}
 use Rattle.compiler_positions.specs.Plans.{Plan, tick, skip, any, all, pair, under, loop, link}
-use Rattle.compiler_positions.specs.Plans.{shape}
+use Rattle.compiler_positions.specs.Plans.{plan_sequence}
 
 -- A state: which booleans are wanted at this tick.
 abbrev pub PlanState : {B : Type 0} → Plan B → Type 0
@@ -118,14 +118,14 @@ Left holds (under b r) p i j = Left holds r p i j × ((k : ℕ) → i ≤ k → 
 Left holds (loop r least most) t i j =
     (m : ℕ) × Left holds r t.1 i m
     × ((k : ℕ) × (least ≤ t.0 + 1 + k) × (t.0 + 1 + k ≤ most)
-    × Chain (Matches holds (shape r)) k m j)
+    × Chain (Matches holds (plan_sequence r)) k m j)
 Left holds (link fuses follows r g s) (inl p) i j =
     (IsTrue fuses × (e : ℕ) × (i ≤ e) × (e < j) × Left holds r p i (e + 1)
-    × Matches holds (shape s) e j)
-    ⊎ (IsTrue follows × (m : ℕ) × (k : ℕ) × Left holds r p i m × Matches holds (shape g) m k
-    × Matches holds (shape s) k j)
+    × Matches holds (plan_sequence s) e j)
+    ⊎ (IsTrue follows × (m : ℕ) × (k : ℕ) × Left holds r p i m × Matches holds (plan_sequence g) m k
+    × Matches holds (plan_sequence s) k j)
 Left holds (link fuses follows r g s) (inr (inl q)) i j =
-    (m : ℕ) × Left holds g q i m × Matches holds (shape s) m j
+    (m : ℕ) × Left holds g q i m × Matches holds (plan_sequence s) m j
 Left holds (link fuses follows r g s) (inr (inr t)) i j = Left holds s t i j
 
 -- the state is one after n ticks from c

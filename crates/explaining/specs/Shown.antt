@@ -20,9 +20,9 @@ use Rattle.explaining.specs.declared.cells.RowSource.{RowSource}
 use Rattle.explaining.specs.declared.cells.RowSource.TheVariants.{Signal, Counter, Listed}
 
 -- a boolean as a number
-abbrev pub number_of : Bool → ℕ
-number_of true = 1
-number_of false = 0
+abbrev pub bit_number : Bool → ℕ
+bit_number true = 1
+bit_number false = 0
 
 -- the value that a row shows at a clock: that of a signal, of a counter, or of a boolean of the
 -- assertion's list
@@ -30,7 +30,7 @@ abbrev pub value_of_row : Suite → Assertion → Rows → RowSource → ℕ →
 value_of_row suite a rows (Signal place) clock = column rows.signals place clock
 value_of_row suite a rows (Counter place) clock = column rows.counters place clock
 value_of_row suite a rows (Listed place) clock =
-    number_of
+    bit_number
     (is_true_at (samples_of rows)
     (expression_at suite.booleans.items (slice_get a.booleans.items place)) clock)
 

@@ -19,7 +19,7 @@ use Rattle.assertions.specs.declared.assertion.Assertion.{Assertion}
 use Rattle.assertions.specs.Shapes.{shape}
 use Rattle.assertions.specs.Verdicts.{antecedent_of}
 use Rattle.judging.specs.declared.sides.Sides.{Sides}
-use Rattle.judging.specs.Tables.{marks, links, value_at, HasSeen}
+use Rattle.judging.specs.Tables.{marks, has_link, seen_value, HasSeen}
 use Rattle.judging.specs.Courses.{AreSides}
 use Rattle.judging.proofs.DecisionLaws.{broken_here, first_true-same}
 use Rattle.judging.proofs.ShiftLaws.{end_down, end_up, broken_down, broken_up}
@@ -115,14 +115,14 @@ module _ (value : Boolean → ℕ → Bool) (a : Assertion) (start end : ℕ) (v
     (seen : HasSeen value start values) (long : start + length values ≡ end) (are : AreSides values a sides) where
   abbrev breaks_there : ℕ → Bool
   breaks_there e =
-      marks sides.ends.items (e + 1) && not (some_in e sides.room (links sides.consequents e))
+      marks sides.ends.items (e + 1) && not (some_in e sides.room (has_link sides.consequents e))
 
   there_here : first_true 0 (length values) breaks_there
-      ≡ first_true 0 (length values) (breaks (value_at values) (length values) (antecedent_of a) (shape a.consequent))
+      ≡ first_true 0 (length values) (breaks (seen_value values) (length values) (antecedent_of a) (shape a.consequent))
   there_here =
       first_true-same 0 (length values) breaks_there
-      (breaks (value_at values) (length values) (antecedent_of a) (shape a.consequent))
-      (λ e from below. broken_here Boolean (value_at values) (length values) (antecedent_of a) (shape a.consequent)
+      (breaks (seen_value values) (length values) (antecedent_of a) (shape a.consequent))
+      (λ e from below. broken_here Boolean (seen_value values) (length values) (antecedent_of a) (shape a.consequent)
       sides.count sides.room sides.ends.items sides.obligations.items sides.consequents are.seen are.ends are.wide
       are.obliged are.consequents e below)
 
@@ -130,21 +130,23 @@ module _ (value : Boolean → ℕ → Bool) (a : Assertion) (start end : ℕ) (v
   module _ (o : Option ℕ) (below : ℕ) (ends : List Bool) (len : below ≡ length values)
       (same : ends ≡ sides.ends.items)
       (found : o ≡ first_true 0 below
-      (λ e. marks ends (e + 1) && not (some_in e sides.room (links sides.consequents e)))) where
+      (λ e. marks ends (e + 1) && not (some_in e sides.room (has_link sides.consequents e)))) where
     searched : o
-        ≡ first_true 0 (length values) (breaks (value_at values) (length values) (antecedent_of a) (shape a.consequent))
+        ≡ first_true 0 (length values)
+        (breaks (seen_value values) (length values) (antecedent_of a) (shape a.consequent))
     searched =
         found
-        ∙ ap (λ k. first_true 0 k (λ e. marks ends (e + 1) && not (some_in e sides.room (links sides.consequents e))))
+        ∙ ap (λ k. first_true 0 k
+        (λ e. marks ends (e + 1) && not (some_in e sides.room (has_link sides.consequents e))))
         len
         ∙ ap (λ (l : List Bool). first_true 0 (length values)
-        (λ e. marks l (e + 1) && not (some_in e sides.room (links sides.consequents e)))) same
+        (λ e. marks l (e + 1) && not (some_in e sides.room (has_link sides.consequents e)))) same
         ∙ there_here
 
     pub none_law : o ≡ None → Fails value (antecedent_of a) (shape a.consequent) end start → ⊥
     none_law is =
         subst (λ n. Fails value (antecedent_of a) (shape a.consequent) n start → ⊥) long
-        (none_broken Boolean value (value_at values) start (length values) (λ b k below. seen.each b k below)
+        (none_broken Boolean value (seen_value values) start (length values) (λ b k below. seen.each b k below)
         (antecedent_of a) (shape a.consequent) (sym searched ∙ is))
 
     pub some_law : (k : ℕ) (cause : Cause) → o ≡ Some k → cause.broken ≡ start + k
@@ -154,10 +156,10 @@ module _ (value : Boolean → ℕ → Bool) (a : Assertion) (start end : ℕ) (v
         let there : (e : ℕ) → Contains cause.ends.items e ↔ IsEndTick ends start (length values) e =
         subst (λ n. (e : ℕ) → Contains cause.ends.items e ↔ IsEndTick ends start n e) len lists in
         let at : (j : ℕ) → j < length values + 1
-        → marks ends j ≡ is_leading (sat (value_at values) (length values)) (antecedent_of a) 0 j =
+        → marks ends j ≡ is_leading (sat (seen_value values) (length values)) (antecedent_of a) 0 j =
         λ j inside. ap (λ (l : List Bool). marks l j) same ∙ are.ends j (omega (arith, are.seen)) in
         subst (λ n. IsCause value (antecedent_of a) (shape a.consequent) n start cause) long
-        (first_broken Boolean value (value_at values) start (length values) (λ b k below. seen.each b k below)
+        (first_broken Boolean value (seen_value values) start (length values) (λ b k below. seen.each b k below)
         (antecedent_of a) (shape a.consequent) ends at k cause (sym searched ∙ is) broken there)
 
 -- one place more

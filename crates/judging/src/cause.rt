@@ -6,7 +6,7 @@ ghost use Rattle.assertions.specs.Quantifiers.{some_in, first_true};
 ghost use Rattle.assertions.specs.Attempts.{Fails};
 ghost use Rattle.assertions.specs.Shapes.{shape};
 ghost use Rattle.assertions.specs.Verdicts.{antecedent_of};
-ghost use Rattle.judging.specs.Tables.{marks, links, HasSeen};
+ghost use Rattle.judging.specs.Tables.{marks, has_link, HasSeen};
 ghost use Rattle.judging.specs.Courses.{value_over};
 ghost use Rattle.judging.specs.Causes.{IsCause, IsEndTick};
 
@@ -57,7 +57,7 @@ fn seen_between(
 fn first_broken(ends: &[bool], consequents: &Table, below: usize, count: usize) -> Option<usize>
     requires { below < 2 ^ 60 }
     ensures { result ≡ first_true 0 below (λ e.
-        marks ends.now (e + 1) && not (some_in e count (links consequents.now e))) }
+        marks ends.now (e + 1) && not (some_in e count (has_link consequents.now e))) }
 {
     for place in 0..below {
         if is_marked(ends, place + 1) && !some_mark(consequents.row(place), place, count) {

@@ -23,8 +23,8 @@ AreSuiteRows suite rows =
     cell rows k place < 2 ^ s.width
 
 -- a row of the signals at some places
-abbrev pub picked : List ℕ → List ℕ → List ℕ
-picked places row = map (λ place. slice_index row place) places
+abbrev pub picked_row : List ℕ → List ℕ → List ℕ
+picked_row places row = map (λ place. slice_index row place) places
 
 -- the verdicts on an assertion of the suite over these rows
 abbrev pub AreVerdictsOver : Suite → List (List ℕ) → Assertion → List Verdict → Type 0
@@ -44,5 +44,5 @@ ProgramsDecide =
     (suite : Suite) (a : Assertion) (p : ProgramData) → IsAccepted p →
     (of : IsProgramOf suite a p) → (rows : List (List ℕ)) → AreSuiteRows suite rows →
     (verdicts : List Verdict) → AreVerdictsOver suite rows a verdicts →
-    IsLineOver p (map (picked of.layout.signals) rows)
+    IsLineOver p (map (picked_row of.layout.signals) rows)
     (line_data_of (string_bytes a.name) verdicts)

@@ -14,7 +14,8 @@ use Rattle.types_sequences.specs.Drafts.{Draft, IsNumberIn}
 use Rattle.types_names.specs.Scopes.{Scope, path_text, first_byte}
 use Rattle.types_names.specs.Columns.{columns_of}
 use Rattle.types_suites.specs.declared.fault.TypeFault.TheVariants.{OtherClock}
-use Rattle.types_suites.specs.Texts.{declarations_of, counters_of, assertions_of, label_text, clocks_unlike, clock_of}
+use Rattle.types_suites.specs.Texts.{declarations_of, counters_of, assertions_of, label_text, clocks_unlike}
+use Rattle.types_suites.specs.Texts.{suite_clock}
 use Rattle.types_suites.specs.Readings.{AllRead}
 use Rattle.types_suites.specs.Suites.{AreSignals, AreCounters, AreAssertions}
 use Rattle.compiler.specs.declared.fault.CompileFault.{CompileFault}
@@ -162,7 +163,7 @@ module _ (law : SmallHaveCode) (keep : SuitesKeepTo) where
       }))
       at in
       let one =
-      one_clock (clock_of (assertions_of items)) (assertions_of items) place found.form
+      one_clock (suite_clock (assertions_of items)) (assertions_of items) place found.form
       (λ byte. x.typed.faultless (OtherClock byte)) found.is in
       record {
         has =

@@ -29,7 +29,7 @@ use Rattle.types_suites.specs.declared.fault.TypeFault.TheVariants.{CyclicSequen
 use Rattle.types_suites.specs.Readings.{Dot, dot, joined_by, outline, outline_steps, outline_others, outline_by}
 use Rattle.types_suites.specs.Readings.{least_of, extra_of}
 use Rattle.types_suites.specs.Texts.{declarations_of, assertions_of, label_byte, assertions_after, name_made}
-use Rattle.types_suites.specs.Texts.{names_from, repeated_names, duplicates, label_text, clocks_unlike, clock_of}
+use Rattle.types_suites.specs.Texts.{names_from, repeated_names, duplicates, label_text, clocks_unlike, suite_clock}
 use Rattle.types_suites.specs.Texts.{other_clocks, tree_byte, sequence_byte, led_byte, is_led}
 use Rattle.types_suites.specs.Readings.{outlines_of}
 use Rattle.types_suites.specs.Faults.{Side, outline_before, antecedents_in, consequent_in, sides_of}
@@ -247,8 +247,8 @@ module _ (lies : ℕ → ℕ × ℕ) where
       ≡ other_clocks (assertions_of items)
   other_clocks-moved items =
       ap (λ (clock : List ℕ). clocks_unlike clock (assertions_of (map (moved_item lies) items)))
-      (clock-moved lies items) ∙ ap (clocks_unlike (clock_of (assertions_of items))) (assertions-moved items)
-      ∙ differing-moved (clock_of (assertions_of items)) (assertions_of items)
+      (clock-moved lies items) ∙ ap (clocks_unlike (suite_clock (assertions_of items))) (assertions-moved items)
+      ∙ differing-moved (suite_clock (assertions_of items)) (assertions_of items)
 
   -- outlines
   module _ (s : Scope) where

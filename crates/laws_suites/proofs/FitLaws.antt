@@ -30,7 +30,7 @@ use Rattle.types_names.specs.Asked.{scope_for}
 use Rattle.types_names.specs.Columns.{is_listed, with_path, with_paths, columns_of}
 use Rattle.types_names.specs.Columns.{file_signals}
 use Rattle.types_expressions.specs.Meanings.{Means}
-use Rattle.types_suites.specs.Texts.{declarations_of, counters_of, assertions_of, clock_of}
+use Rattle.types_suites.specs.Texts.{declarations_of, counters_of, assertions_of, suite_clock}
 use Rattle.types_suites.specs.Texts.{label_text}
 use Rattle.types_suites.specs.Readings.{IsBooleanOf, AllRead}
 use Rattle.types_suites.specs.Suites.{AreSignals, IsCondition, IsRule, AreCounters, IsDisabling}
@@ -69,7 +69,7 @@ signal_paths s (c ∷ cs) (x ∷ xs) h g =
     (subst IsPathText (sym g.0.0) h.0, signal_paths s cs xs h.1 g.1)
 
 clock_path : (items : List ItemForm) → HasAssertion items →
-    AllByRecursion IsSpoken (assertions_of items) → IsPathText (clock_of (assertions_of items))
+    AllByRecursion IsSpoken (assertions_of items) → IsPathText (suite_clock (assertions_of items))
 clock_path [] has h = elim has [ ]
 clock_path (counter c ∷ items) has h = clock_path items has h
 clock_path (declaration d ∷ items) has h = clock_path items has h

@@ -17,7 +17,7 @@ use Rattle.types_sequences.specs.Drafts as drafts
 use Rattle.types_sequences.specs.Drafts.{Draft, spelling_of, named_within, IsWrittenOut}
 use Rattle.types_sequences.specs.Implications.{rewritten_antecedent}
 use Rattle.types_sequences.specs.Outlines.{map_draft, map_written}
-use Rattle.types_sequences.specs.Leaves.{place_in}
+use Rattle.types_sequences.specs.Leaves.{place_listed}
 use Rattle.types_sequences.proofs.MapLaws.{spelled_map, named_map, spells_map}
 use Rattle.types_names.specs.Scopes.{Scope, sequence_named}
 use Rattle.types_suites.specs.Readings.{least_of, extra_of, IsBooleanOf, ReadsBoolean, joined_by, Reads, ReadsSteps}
@@ -242,17 +242,17 @@ module _ (s : Scope) (cs : List (List ℕ)) (bs : List Expr) where
   IsPlaceOf p t = IsBooleanOf s cs bs t (Listed p)
 
   zip_more : (b : Boolean) (o : Leaf) (ps : List ℕ) (ts : List Tree) → IsLeafOf b o → AllZip IsPlaceOf ps ts →
-      AllZip IsPlaceOf (place_in b ++ ps) (given o ++ ts)
+      AllZip IsPlaceOf (place_listed b ++ ps) (given o ++ ts)
   zip_more One None ps ts h k = k
   zip_more One (Some t) ps ts h k = elim h [ ]
   zip_more (Listed p) None ps ts h k = elim h [ ]
   zip_more (Listed p) (Some t) ps ts h k = (h, k)
 
   pub pairs_zip : (zs : List Pair) →
-      AllZip IsPlaceOf (flat_map place_in (map first_of zs)) (flat_map given (map second_of zs))
+      AllZip IsPlaceOf (flat_map place_listed (map first_of zs)) (flat_map given (map second_of zs))
   pairs_zip [] = tt
   pairs_zip (z ∷ zs) =
-      zip_more z.first z.second (flat_map place_in (map first_of zs)) (flat_map given (map second_of zs)) z.same
+      zip_more z.first z.second (flat_map place_listed (map first_of zs)) (flat_map given (map second_of zs)) z.same
       (pairs_zip zs)
 
   pub zip_two : (ps qs : List ℕ) (ts us : List Tree) → AllZip IsPlaceOf ps ts → AllZip IsPlaceOf qs us →

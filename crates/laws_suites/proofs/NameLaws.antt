@@ -198,7 +198,7 @@ module _ (s : Scope) (cs : List (List ℕ)) where
     read_named words (Some x) e h =
         moved (terms.slice h.part) e h.is (named_in words h.part.name h.names)
 
-    -- EachPart name of what an expression means.
+    -- Each name of what an expression means.
     mutual
       unfolding Means
 

@@ -21,7 +21,7 @@ use Rattle.compiler_expressions.specs.Laws.{EachPart, IsNoChange, size}
 use Rattle.compiler_positions.specs.Laws.{IsPlain, booleans}
 use Rattle.types_sequences.specs.Drafts.{Draft}
 use Rattle.types_sequences.specs.Outlines.{map_written}
-use Rattle.types_sequences.specs.Leaves.{leaves, place_in, places_of, is_one, form_of}
+use Rattle.types_sequences.specs.Leaves.{leaves, place_listed, sequence_places, is_one, form_of}
 use Rattle.types_sequences.proofs.MapLaws.{weight_map, spells_one}
 use Rattle.types_names.specs.Scopes.{Scope}
 use Rattle.types_names.specs.Asked.{scope_for}
@@ -143,15 +143,15 @@ module _ (s : Scope) (cs : List (List ℕ)) (bs : List Expr) where
     abbrev side_written : Written Leaf
     side_written = map_written (second_of s cs bs) both.both
 
-    side_zip : AllZip (IsPlaceOf s cs bs) (places_of m.meant) (expressions_of side_written)
+    side_zip : AllZip (IsPlaceOf s cs bs) (sequence_places m.meant) (expressions_of side_written)
     side_zip =
         let z = both.both in
         let one = sym (leaves_map (first_of s cs bs) z) ∙ ap leaves both.first in
         let two = sym (leaves_map (second_of s cs bs) z) in
-        subst (λ (xs : List Boolean). AllZip (IsPlaceOf s cs bs) (flat_map place_in xs)
+        subst (λ (xs : List Boolean). AllZip (IsPlaceOf s cs bs) (flat_map place_listed xs)
         (flat_map given (leaves side_written))) one
         (subst (λ (xs : List Leaf). AllZip (IsPlaceOf s cs bs)
-        (flat_map place_in (map (first_of s cs bs) (leaves z))) (flat_map given xs)) two
+        (flat_map place_listed (map (first_of s cs bs) (leaves z))) (flat_map given xs)) two
         (pairs_zip s cs bs (leaves z)))
 
     side_small : IsSmallSide side_written → IsSmallSide made
@@ -226,16 +226,16 @@ module _ (suite : Suite) (s : Scope) (cs : List (List ℕ)) (items : List ItemFo
       -- the places of all that is meant, as often as it is written
       abbrev meant_places : List ℕ
       meant_places =
-          places_of h.antecedent_meant.meant ++ (places_of h.consequent_meant.meant ++ off_places h.off)
+          sequence_places h.antecedent_meant.meant ++ (sequence_places h.consequent_meant.meant ++ off_places h.off)
 
       all_zip : AllZip (IsPlaceOf s cs bs) meant_places (all_expressions a before behind)
       all_zip =
-          zip_two s cs bs (places_of h.antecedent_meant.meant)
-          (places_of h.consequent_meant.meant ++ off_places h.off) (expressions_of before)
+          zip_two s cs bs (sequence_places h.antecedent_meant.meant)
+          (sequence_places h.consequent_meant.meant ++ off_places h.off) (expressions_of before)
           (expressions_of behind ++ given a.disable)
           (side_zip s cs bs bodies (tree_bodies s items) made.booleans.items h.antecedent
           (antecedent_trees s a.property) (written_form made.antecedent) h.antecedent_meant v)
-          (zip_two s cs bs (places_of h.consequent_meant.meant) (off_places h.off) (expressions_of behind)
+          (zip_two s cs bs (sequence_places h.consequent_meant.meant) (off_places h.off) (expressions_of behind)
           (given a.disable)
           (side_zip s cs bs bodies (tree_bodies s items) made.booleans.items h.consequent
           (consequent_trees s a.property) (written_form made.consequent) h.consequent_meant w)
@@ -245,11 +245,11 @@ module _ (suite : Suite) (s : Scope) (cs : List (List ℕ)) (items : List ItemFo
       list_fewer g P =
           let one = h.antecedent_meant in
           let two = h.consequent_meant in
-          let rest = places_of two.kept ++ off_places h.off in
+          let rest = sequence_places two.kept ++ off_places h.off in
           subst (λ (ps : List ℕ). Fewer g P ps meant_places) (sym h.list)
-          (fewer_two g P (places_of one.kept) rest (places_of one.meant)
-          (places_of two.meant ++ off_places h.off) (places_kept g P one.meant one.kept one.trimmed)
-          (fewer_two g P (places_of two.kept) (off_places h.off) (places_of two.meant) (off_places h.off)
+          (fewer_two g P (sequence_places one.kept) rest (sequence_places one.meant)
+          (sequence_places two.meant ++ off_places h.off) (places_kept g P one.meant one.kept one.trimmed)
+          (fewer_two g P (sequence_places two.kept) (off_places h.off) (sequence_places two.meant) (off_places h.off)
           (places_kept g P two.meant two.kept two.trimmed) (fewer_same g P (off_places h.off))))
 
       has_many : 127 < length made.booleans.items → HasManyBooleans s items a

@@ -32,7 +32,7 @@ use Rattle.compiler_expressions.specs.Laws.{EachPart, IsNoChange, size}
 use Rattle.laws_suites.specs.WrittenOut.{tree_size, links_size, parts_size}
 use Rattle.laws_suites.specs.Small.{IsNoCounter, IsStill, AreStillLinks, AreStillParts}
 
--- EachPart operator and operand of a text is at most two of what it means, one of which is spared.
+-- Each operator and operand of a text is at most two of what it means, one of which is spared.
 binary_size : (op : Binary) (a b : Term) → size (binary_term op a b) ≡ 1 + (size a + size b)
 binary_size (Arithmetic op) a b = refl
 binary_size (Shift op) a b = refl

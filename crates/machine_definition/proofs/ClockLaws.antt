@@ -16,7 +16,7 @@ use Rattle.machine_definition.specs.Clocks.{visit_attempts, visit_obligations, s
 use Rattle.machine_definition.specs.Clocks.{disabling, opened, open_if, end_clock, clock_on, clock_after}
 use Rattle.machine_definition.specs.Machine.{State, Outcome, opening, with_row, sample_of, stored, with_standing}
 use Rattle.machine_definition.specs.Machine.{clock, clocks}
-use Rattle.machine_definition.specs.Awaited.{accepted_of, ticks_of}
+use Rattle.machine_definition.specs.Awaited.{accepted_of, fate_ticks}
 use Rattle.signals.specs.declared.verdict.Decided.{Decided}
 use Rattle.machine_definition.specs.OpenTicks.{OpenAttempt, OpenStanding, OpenSettled, OpenSettlement, OpenVisits}
 use Rattle.machine_definition.specs.OpenTicks.{OpenState, OpenOutcome, visit_each, settle_each, end_open}
@@ -145,7 +145,7 @@ settled-end now fates (trapped t) q e =
 
 module _ (p : ProgramData) (now : ℕ) (atoms : List Bool) (ticks : List ℕ) where
   fated : (live : List Attempt) (os : List Obligation) (r : Ran (List Fate)) →
-      IfDone (λ (fates : List Fate). ticks_of fates ≡ ticks_in os) r → AreTicksIn ticks (ticks_in os) →
+      IfDone (λ (fates : List Fate). fate_ticks fates ≡ ticks_in os) r → AreTicksIn ticks (ticks_in os) →
       ran_map open_settled
       (and_then r (λ fates left.
       and_then (settle_all now fates live left) (λ x left. done (left_live now fates x) left)))
@@ -270,7 +270,7 @@ end-young : (p : ProgramData) (now : ℕ) (atoms : List Bool) (live : List Attem
     AllByRecursion (IsYoung (now + 1)) live → AllByRecursion (λ t. t < now + 1) (ticks_in os) →
     IfDone LeavesYoung (end_clock p now atoms live left os)
 end-young p now atoms live left os h k =
-    done_then (λ (fates : List Fate). ticks_of fates ≡ ticks_in os) LeavesYoung
+    done_then (λ (fates : List Fate). fate_ticks fates ≡ ticks_in os) LeavesYoung
     (visit_obligations p.consequent atoms os left)
     (λ fates left. and_then (settle_all now fates live left) (λ x left. done (left_live now fates x) left))
     (fates-ticks p.consequent atoms os left)

@@ -7,8 +7,8 @@ use Rattle.std.proofs.lemmas.Bool.{cases_Bool, eq-eqb}
 use Rattle.std.proofs.lemmas.Map.Views.{any-filter_same}
 use Rattle.machine_definition.specs.Clocks.{Attempt, Fate, awaits, is_broken, is_ended, staying, some_broken}
 use Rattle.machine_definition.specs.Clocks.{some_open}
-use Rattle.machine_definition.specs.Awaited.{accepted_of, ticks_of}
-use Rattle.machine_definition.specs.OpenTicks.{OpenAttempt, is_awaited, is_failed}
+use Rattle.machine_definition.specs.Awaited.{accepted_of, fate_ticks}
+use Rattle.machine_definition.specs.OpenTicks.{OpenAttempt, is_awaited, is_open_broken}
 
 -- the attempt with those of these ticks at which it accepted
 abbrev pub open_at : List ℕ → Attempt → OpenAttempt
@@ -41,11 +41,11 @@ is_awaited-at ticks a t there =
 abbrev pub AreTicksIn : List ℕ → List ℕ → Type 0
 AreTicksIn ticks = AllByRecursion (λ t. is_tick_in ticks t ≡ true)
 
-pub failed-at : (ticks : List ℕ) (a : Attempt) (fates : List Fate) → AreTicksIn ticks (ticks_of fates) →
-    is_failed (open_at ticks a) fates ≡ some_broken a fates
+pub failed-at : (ticks : List ℕ) (a : Attempt) (fates : List Fate) → AreTicksIn ticks (fate_ticks fates) →
+    is_open_broken (open_at ticks a) fates ≡ some_broken a fates
 failed-at ticks a [] h = refl
 failed-at ticks a (f ∷ fs) h =
-    ap (λ b. (is_broken f && b) || is_failed (open_at ticks a) fs) (is_awaited-at ticks a f.tick h.0)
+    ap (λ b. (is_broken f && b) || is_open_broken (open_at ticks a) fs) (is_awaited-at ticks a f.tick h.0)
     ∙ ap (λ b. (is_broken f && awaits a f.tick) || b) (failed-at ticks a fs h.1)
 
 -- of ticks that are listed, those that it awaits are those at which it accepted
@@ -58,7 +58,7 @@ filtered-at ticks a (t ∷ ts) h =
     ∙ ap (λ l. cond (awaits a t) (t ∷ l) l) (filtered-at ticks a ts h.1)
 
 -- those that stay are listed
-pub staying-in : (ticks : List ℕ) (fates : List Fate) → AreTicksIn ticks (ticks_of fates) →
+pub staying-in : (ticks : List ℕ) (fates : List Fate) → AreTicksIn ticks (fate_ticks fates) →
     AreTicksIn ticks (map (λ o. o.tick) (staying fates))
 staying-in ticks [] h = tt
 staying-in ticks (f ∷ fs) h = elim (cases_Bool (is_ended f)) [

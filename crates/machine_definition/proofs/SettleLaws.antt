@@ -8,9 +8,10 @@ use Rattle.signals.specs.declared.verdict.Verdict.TheVariants.{Holds, Vacuous, F
 use Rattle.machine_definition.specs.Outcomes.{Ran, done, trapped, and_then}
 use Rattle.machine_definition.specs.Clocks.{Attempt, Fate, Settlement, settle, settle_all, disable_all, ends, stays}
 use Rattle.machine_definition.specs.Clocks.{staying, some_broken, some_open}
-use Rattle.machine_definition.specs.Awaited.{accepted_of, ticks_of, is_some}
+use Rattle.machine_definition.specs.Awaited.{accepted_of, fate_ticks, is_some}
 use Rattle.machine_definition.proofs.Awaited.{keeps}
-use Rattle.machine_definition.specs.OpenTicks.{OpenAttempt, OpenSettlement, is_failed, is_awaited, ends_now, stays_open}
+use Rattle.machine_definition.specs.OpenTicks.{OpenAttempt, OpenSettlement, is_open_broken, is_awaited, ends_now}
+use Rattle.machine_definition.specs.OpenTicks.{stays_open}
 use Rattle.machine_definition.specs.OpenTicks.{settle_open, settle_each, disable_each}
 use Rattle.machine_definition.proofs.MemberLaws.{open_at, AreTicksIn, failed-at, filtered-at, staying-in}
 use Rattle.machine_definition.proofs.RanLaws.{ran_map, IfDone}
@@ -21,7 +22,7 @@ stay_ticks fates = map (λ o. o.tick) (staying fates)
 abbrev pub open_settlement : List Fate → Settlement → OpenSettlement
 open_settlement fates r = record { live = map (open_at (stay_ticks fates)) r.live; decided = r.decided }
 
-module _ (now : ℕ) (fates : List Fate) (ticks : List ℕ) (all : AreTicksIn ticks (ticks_of fates)) where
+module _ (now : ℕ) (fates : List Fate) (ticks : List ℕ) (all : AreTicksIn ticks (fate_ticks fates)) where
   -- what a settlement comes to, by whether the attempt failed and what it awaits
   abbrev shape : Attempt → OpenSettlement → Bool → List ℕ → OpenSettlement
   shape a r failed awaited =
@@ -63,7 +64,7 @@ module _ (now : ℕ) (fates : List Fate) (ticks : List ℕ) (all : AreTicksIn ti
       else ends_now a.start (if not (a.awaited == 0) then Holds now else Vacuous now) rest
       )) (keeps.waits a fates)
       ∙ sym (ap (λ b. shape a rest b (accepted_of a (stay_ticks fates))) (failed-at ticks a fates all))
-      ∙ sym (ap (shape a rest (is_failed (open_at ticks a) fates))
+      ∙ sym (ap (shape a rest (is_open_broken (open_at ticks a) fates))
       (filtered-at ticks a (stay_ticks fates) (staying-in ticks fates all)))
 
   next : (a : Attempt) (r : Ran Settlement) (s : Ran OpenSettlement) → ran_map (open_settlement fates) r ≡ s →

@@ -14,7 +14,7 @@ use Rattle.machine_definition.specs.Clocks.{Attempt, Obligation, Fate, Visits, v
 use Rattle.machine_definition.specs.Clocks.{visit_obligations}
 use Rattle.machine_definition.specs.Clocks.{awaits, is_ended, staying}
 use Rattle.machine_definition.specs.Bounds.{EachIn}
-use Rattle.machine_definition.specs.Awaited.{accepted_of, ticks_of}
+use Rattle.machine_definition.specs.Awaited.{accepted_of, fate_ticks}
 use Rattle.machine_definition.proofs.Awaited.{keeps}
 use Rattle.machine_definition.specs.OpenTicks.{OpenAttempt, OpenVisits, visited_open, visit_each}
 use Rattle.machine_definition.proofs.MemberLaws.{open_at}
@@ -186,24 +186,25 @@ visits-young s atoms now (a ∷ others) (suc left) h =
 
 -- the fates of obligations have their ticks
 pub fates-ticks : (s : SectionData) (atoms : List Bool) (os : List Obligation) (left : ℕ) →
-    IfDone (λ (fates : List Fate). ticks_of fates ≡ map (λ o. o.tick) os) (visit_obligations s atoms os left)
+    IfDone (λ (fates : List Fate). fate_ticks fates ≡ map (λ o. o.tick) os) (visit_obligations s atoms os left)
 fates-ticks s atoms [] left = refl
 fates-ticks s atoms (o ∷ os) zero = tt
 fates-ticks s atoms (o ∷ os) (suc left) =
-    done_any (λ (fates : List Fate). ticks_of fates ≡ map (λ o. o.tick) (o ∷ os)) (visit s atoms o.positions left)
+    done_any (λ (fates : List Fate). fate_ticks fates ≡ map (λ o. o.tick) (o ∷ os)) (visit s atoms o.positions left)
     (λ v left. and_then (visit_obligations s atoms os left) (λ fs left. done
     (record { tick = o.tick; positions = v.entered; kept = v.accepted } ∷ fs) left))
     (λ v left. more v (visit_obligations s atoms os left) (fates-ticks s atoms os left))
   where
-    more : (v : Visit) (r : Ran (List Fate)) → IfDone (λ (fates : List Fate). ticks_of fates ≡ map (λ o. o.tick) os) r →
-        IfDone (λ (fates : List Fate). ticks_of fates ≡ map (λ o. o.tick) (o ∷ os))
+    more : (v : Visit) (r : Ran (List Fate))
+        → IfDone (λ (fates : List Fate). fate_ticks fates ≡ map (λ o. o.tick) os) r →
+        IfDone (λ (fates : List Fate). fate_ticks fates ≡ map (λ o. o.tick) (o ∷ os))
         (and_then r (λ fs left. done
         (record { tick = o.tick; positions = v.entered; kept = v.accepted } ∷ fs) left))
     more v (done fs left) k = ap (λ ts. o.tick ∷ ts) k
     more v (trapped t) k = tt
 
 -- those that stay are past where all are
-pub staying-past : (now : ℕ) (fates : List Fate) → AllByRecursion (λ t. t < now) (ticks_of fates) →
+pub staying-past : (now : ℕ) (fates : List Fate) → AllByRecursion (λ t. t < now) (fate_ticks fates) →
     AllByRecursion (IsPast now) (staying fates)
 staying-past now [] h = tt
 staying-past now (f ∷ fs) h = elim (cases_Bool (is_ended f)) [

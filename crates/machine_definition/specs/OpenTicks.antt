@@ -62,8 +62,8 @@ visit_each s atoms now (a ∷ others) left =
     left)))
 
 -- an obligation that it awaits is broken
-abbrev pub is_failed : OpenAttempt → List Fate → Bool
-is_failed a fates = list_any (λ f. is_broken f && is_awaited a f.tick) fates
+abbrev pub is_open_broken : OpenAttempt → List Fate → Bool
+is_open_broken a fates = list_any (λ f. is_broken f && is_awaited a f.tick) fates
 
 -- it awaits those of its ticks whose obligations stay
 abbrev pub with_open : List Fate → OpenAttempt → OpenAttempt
@@ -93,7 +93,7 @@ ends_now start verdict r =
 -- awaits an open one; else it holds where it ever accepted, and is vacuous where not.
 abbrev pub settle_open : ℕ → List Fate → OpenAttempt → OpenSettlement → OpenSettlement
 settle_open now fates a r =
-    if is_failed a fates
+    if is_open_broken a fates
     then ends_now a.start (Fails now) r
     else (
     if is_some (with_open fates a).awaited || not (a.positions == 0)

@@ -15,12 +15,12 @@ pub record Told : Type 0 where
   pub decided : List Decided
   pub cost : ℕ
 
-abbrev pub told : ProgramData → State → List (List ℕ) → List Told
-told p s [] = []
-told p s (signals ∷ later) = elim (clock p s signals) [
+abbrev pub told_clocks : ProgramData → State → List (List ℕ) → List Told
+told_clocks p s [] = []
+told_clocks p s (signals ∷ later) = elim (clock p s signals) [
   | done o left ↦
       record { decided = o.decided; cost = p.header.limits.budget - left }
-      ∷ told p o.state later
+      ∷ told_clocks p o.state later
   | trapped t ↦ []
 ]
 
@@ -56,7 +56,8 @@ two_positions =
 -- vacuous at tick 2, at a cost of 10, 19 and 13.
 abbrev pub TwoPositionsRun : Type 0
 TwoPositionsRun =
-    told two_positions (opening two_positions) ((1 ∷ 0 ∷ []) ∷ (1 ∷ 1 ∷ []) ∷ (0 ∷ 0 ∷ []) ∷ [])
+    told_clocks two_positions (opening two_positions)
+    ((1 ∷ 0 ∷ []) ∷ (1 ∷ 1 ∷ []) ∷ (0 ∷ 0 ∷ []) ∷ [])
     ≡ record { decided = []; cost = 10 }
     ∷ record { decided = at 0 (Holds 1) ∷ []; cost = 19 }
     ∷ record { decided = at 1 (Vacuous 2) ∷ at 2 (Vacuous 2) ∷ []; cost = 13 }
@@ -91,7 +92,7 @@ first_positions =
 -- fails at tick 2. These cost 14, 9 and 16.
 abbrev pub FirstPositionsRun : Type 0
 FirstPositionsRun =
-    told first_positions (opening first_positions) ((1 ∷ []) ∷ (0 ∷ []) ∷ (0 ∷ []) ∷ [])
+    told_clocks first_positions (opening first_positions) ((1 ∷ []) ∷ (0 ∷ []) ∷ (0 ∷ []) ∷ [])
     ≡ record { decided = at 0 (Holds 0) ∷ []; cost = 14 }
     ∷ record { decided = []; cost = 9 }
     ∷ record { decided = at 1 (Fails 2) ∷ []; cost = 16 }

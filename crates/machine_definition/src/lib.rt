@@ -25,4 +25,4 @@
 
 mod laws;
 
-pub use laws::{awaited_ticks_law, never_traps, open_ticks_law, worked_first_run, worked_run};
+pub use laws::{never_traps, open_ticks_law, worked_first_run, worked_run};

@@ -10,7 +10,7 @@ use Rattle.std.proofs.lemmas.List.{get_or-append_right, get_or_append_left}
 use Rattle.std.proofs.Math.Seq.{take-append_seam, drop-append_seam}
 use native.Mathlib.Nat.{zero-mul, suc-mul}
 use Rattle.machine_memory.specs.History.{History, zeros, cleared, pushed, KeepsLastRows}
-use Rattle.machine_memory.specs.Turned.{rows_of, turned, history_of, IsTurned, IsRowBefore, IsBehind}
+use Rattle.machine_memory.specs.Turned.{cut_rows, turned, history_of, IsTurned, IsRowBefore, IsBehind}
 
 -- how many values so many rows have
 one_more : (n s : ℕ) → suc n * s ≡ s + n * s
@@ -22,7 +22,7 @@ row_first row rest s e = rw (← e) (take-append_seam row rest)
 row_rest : (row rest : List ℕ) (s : ℕ) → length row ≡ s → drop s (row ++ rest) ≡ rest
 row_rest row rest s e = rw (← e) (drop-append_seam row rest)
 
-take-rows_of : (m k s : ℕ) (xs : List ℕ) → m ≤ k → take m (rows_of k s xs) ≡ rows_of m s xs
+take-rows_of : (m k s : ℕ) (xs : List ℕ) → m ≤ k → take m (cut_rows k s xs) ≡ cut_rows m s xs
 take-rows_of zero k s xs le = refl
 take-rows_of (suc m) zero s xs le = absurd (omega arith)
 take-rows_of (suc m) (suc k) s xs le = ap (λ rs. take s xs ∷ rs) (take-rows_of m k s (drop s xs)
@@ -30,7 +30,7 @@ take-rows_of (suc m) (suc k) s xs le = ap (λ rs. take s xs ∷ rs) (take-rows_o
 
 -- what stands behind the rows changes none
 rows_of-append : (k s : ℕ) (xs ys : List ℕ) → k * s ≤ length xs
-    → rows_of k s (xs ++ ys) ≡ rows_of k s xs
+    → cut_rows k s (xs ++ ys) ≡ cut_rows k s xs
 rows_of-append zero s xs ys le = refl
 rows_of-append (suc k) s xs ys le =
     let here : s ≤ length xs = omega (arith, one_more k s) in
@@ -38,7 +38,7 @@ rows_of-append (suc k) s xs ys le =
     rw (take-append-le s xs ys here, drop-append-le s xs ys here) (ap (λ rs. take s xs ∷ rs)
     (rows_of-append k s (drop s xs) ys rest))
 
-rows_of-zeros : (k s n : ℕ) → n ≡ k * s → rows_of k s (replicate n 0) ≡ replicate k (zeros s)
+rows_of-zeros : (k s n : ℕ) → n ≡ k * s → cut_rows k s (replicate n 0) ≡ replicate k (zeros s)
 rows_of-zeros zero s n e = refl
 rows_of-zeros (suc k) s n e =
     let here : s ≤ n = omega (arith, one_more k s) in
@@ -48,7 +48,7 @@ rows_of-zeros (suc k) s n e =
 
 -- a value of a row stands in the list
 get_or-rows_of : (k s : ℕ) (xs : List ℕ) (b i : ℕ) → b < k → i < s
-    → get_or (get_or (rows_of k s xs) b []) i 0 ≡ get_or xs (b * s + i) 0
+    → get_or (get_or (cut_rows k s xs) b []) i 0 ≡ get_or xs (b * s + i) 0
 get_or-rows_of zero s xs b i lt here = absurd (omega arith)
 get_or-rows_of (suc k) s xs zero i lt here = get_or-take s xs i 0 here
     ∙ ap (λ j. get_or xs j 0) (omega (arith, zero-mul s))
@@ -126,9 +126,9 @@ history_of-zeros depth slots =
     let size : n ≡ suc depth * slots = ap (λ k. k * slots) (add-one depth) in
     let start : 0 * slots ≡ 0 = zero-mul slots in
     let same : turned (0 * slots) all ≡ all ++ [] = ap (λ k. turned k all) start in
-    let rows : rows_of (suc depth) slots (all ++ []) ≡ rows_of (suc depth) slots all =
+    let rows : cut_rows (suc depth) slots (all ++ []) ≡ cut_rows (suc depth) slots all =
     rows_of-append (suc depth) slots all [] (omega (arith, length-replicate n nought)) in
-    let zero_rows : rows_of (suc depth) slots all ≡ replicate (suc depth) (zeros slots) =
+    let zero_rows : cut_rows (suc depth) slots all ≡ replicate (suc depth) (zeros slots) =
     rows_of-zeros (suc depth) slots n size in
     let more : replicate (suc depth) (zeros slots) ≡ replicate (depth + 1) (zeros slots) =
     ap (λ k. replicate k (zeros slots)) (sym (add-one depth)) in
@@ -137,14 +137,14 @@ history_of-zeros depth slots =
       slots = slots;
       rows =
           rs;
-    } in h) (ap (λ xs. rows_of (suc depth) slots xs) same ∙ rows ∙ zero_rows ∙ more)
+    } in h) (ap (λ xs. cut_rows (suc depth) slots xs) same ∙ rows ∙ zero_rows ∙ more)
 
 -- the rows before a list's end: what a push keeps
 kept : (depth slots : ℕ) (front last xs : List ℕ) → xs ≡ front ++ last
     → length front ≡ depth * slots
-    → take depth (rows_of (suc depth) slots xs) ≡ rows_of depth slots front
+    → take depth (cut_rows (suc depth) slots xs) ≡ cut_rows depth slots front
 kept depth slots front last xs e long =
-    take-rows_of depth (suc depth) slots xs (omega arith) ∙ ap (λ ys. rows_of depth slots ys) e
+    take-rows_of depth (suc depth) slots xs (omega arith) ∙ ap (λ ys. cut_rows depth slots ys) e
     ∙ rows_of-append depth slots front last (omega arith)
 
 -- seen from a later row, the row before it is the last
@@ -174,8 +174,8 @@ round depth slots newest row values e f le =
 -- a push keeps the rows behind the new one
 turned-kept : (depth slots newest row : ℕ) (values : List ℕ)
     → IsTurned depth slots newest values → IsRowBefore depth newest row
-    → take depth (rows_of (suc depth) slots (turned
-    (newest * slots) values)) ≡ rows_of depth slots (drop (row * slots + slots) values ++ take
+    → take depth (cut_rows (suc depth) slots (turned
+    (newest * slots) values)) ≡ cut_rows depth slots (drop (row * slots + slots) values ++ take
     (row * slots) values)
 turned-kept depth slots newest row values t b =
     let full : length values ≡ depth * slots + slots = t.full ∙ next_row depth slots in
@@ -216,11 +216,11 @@ history_of-written depth slots newest row values new t b long =
     turned-written (row * slots) new values fits in
     let same : behind ≡ drop (row * slots + slots) values ++ take (row * slots) values =
     ap (λ k. drop (row * slots + k) values ++ take (row * slots) values) long in
-    let older : rows_of depth slots behind
-    ≡ take depth (rows_of (suc depth) slots (turned (newest * slots) values)) =
-    ap (λ xs. rows_of depth slots xs) same ∙ sym (turned-kept depth slots newest row values t b) in
-    let rows : rows_of (suc depth) slots (new ++ behind)
-    ≡ new ∷ take depth (rows_of (suc depth) slots (turned (newest * slots) values)) =
+    let older : cut_rows depth slots behind
+    ≡ take depth (cut_rows (suc depth) slots (turned (newest * slots) values)) =
+    ap (λ xs. cut_rows depth slots xs) same ∙ sym (turned-kept depth slots newest row values t b) in
+    let rows : cut_rows (suc depth) slots (new ++ behind)
+    ≡ new ∷ take depth (cut_rows (suc depth) slots (turned (newest * slots) values)) =
     rw (row_first new behind slots long, row_rest new behind slots long) (ap
     (λ rs. new ∷ rs) older) in
     ap (λ rs. let h : History = record {
@@ -228,7 +228,7 @@ history_of-written depth slots newest row values new t b long =
       slots = slots;
       rows =
           rs;
-    } in h) (ap (λ xs. rows_of (suc depth) slots xs) whole ∙ rows)
+    } in h) (ap (λ xs. cut_rows (suc depth) slots xs) whole ∙ rows)
 
 pub IsTurned-written : (depth slots newest row : ℕ) (values new : List ℕ)
     → IsTurned depth slots newest values → IsRowBefore depth newest row → length new ≡ slots
@@ -262,7 +262,7 @@ get_or-history_of depth slots newest back row slot values t b reach range =
     let full : length values ≡ depth * slots + slots = t.full ∙ next_row depth slots in
     let fits = row_fits depth slots row b.inside in
     let start : newest * slots ≤ depth * slots = product_le newest depth slots t.inside in
-    let place : get_or (get_or (rows_of (suc depth) slots (turned
+    let place : get_or (get_or (cut_rows (suc depth) slots (turned
     (newest * slots) values)) back []) slot 0 ≡ get_or (turned (newest * slots) values)
     (back * slots + slot) 0 =
     get_or-rows_of (suc depth) slots (turned (newest * slots) values) back slot

@@ -5,9 +5,9 @@ use Rattle.std.specs.Prelude.{take, drop}
 use Rattle.machine_memory.specs.History.{History}
 
 -- so many rows of `slots` values
-abbrev pub rows_of : ℕ → ℕ → List ℕ → List (List ℕ)
-rows_of zero slots values = []
-rows_of (suc n) slots values = take slots values ∷ rows_of n slots (drop slots values)
+abbrev pub cut_rows : ℕ → ℕ → List ℕ → List (List ℕ)
+cut_rows zero slots values = []
+cut_rows (suc n) slots values = take slots values ∷ cut_rows n slots (drop slots values)
 
 -- the values from a place on, and round the end
 abbrev pub turned : ℕ → List ℕ → List ℕ
@@ -17,7 +17,7 @@ unfoldable pub history_of : ℕ → ℕ → ℕ → List ℕ → History
 history_of depth slots newest values = record {
   depth = depth;
   slots = slots;
-  rows = rows_of (suc depth) slots (turned (newest * slots) values);
+  rows = cut_rows (suc depth) slots (turned (newest * slots) values);
 }
 
 -- the sizes, and that the newest row is one of the rows

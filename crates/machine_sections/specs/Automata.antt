@@ -11,13 +11,13 @@ pub record Automaton : Type 0 where
   pub step : ℕ → ℕ → Visit
 
 -- the positions after so many ticks from c
-abbrev pub places : Automaton → ℕ → ℕ → ℕ
-places a c zero = a.start
-places a c (suc k) = (a.step (c + k) (places a c k)).entered
+abbrev pub positions_at : Automaton → ℕ → ℕ → ℕ
+positions_at a c zero = a.start
+positions_at a c (suc k) = (a.step (c + k) (positions_at a c k)).entered
 
 -- it accepts at the tick so many ticks after c
 abbrev pub accepts : Automaton → ℕ → ℕ → Bool
-accepts a c k = (a.step (c + k) (places a c k)).accepted
+accepts a c k = (a.step (c + k) (positions_at a c k)).accepted
 
 -- the ticks at which it accepted, of so many from c: bit j stands for tick c + j
 abbrev pub accepted_at : Automaton → ℕ → ℕ → ℕ
@@ -32,4 +32,4 @@ pub record AutomatonFollows {B : Type 0} (value : B → ℕ → Bool) (r : Antec
     (a : Automaton) : Type 0
   where
     pub ends : (c k : ℕ) → IsTrue (accepts a c k) ↔ Leads value r c (c + k + 1)
-    pub over : (c k : ℕ) → (places a c k ≡ 0) ↔ IsAntecedentOver value r (c + k) c
+    pub over : (c k : ℕ) → (positions_at a c k ≡ 0) ↔ IsAntecedentOver value r (c + k) c

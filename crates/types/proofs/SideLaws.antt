@@ -16,7 +16,7 @@ use Rattle.types.specs.declared.side.Side.{Side}
 use Rattle.types_suites.specs.Readings.{Dot, dot}
 use Rattle.types_suites.specs.Faults as faults
 use Rattle.types_suites.specs.Faults.{SideAt}
-use Rattle.types.specs.Sides.{IsWeighed, AreWeighed, AreLight, places_where, is_wide, is_degenerate, is_empty}
+use Rattle.types.specs.Sides.{IsWeighed, AreWeighed, AreLight, places_where, is_wide, is_degenerate, is_side_empty}
 
 -- the test tells what is so of what a side says, where something is known of what it tells
 abbrev pub Tells : (Side → Type 0) → (Bool → Written Dot → Type 0) → (Side → Bool) → Type 0
@@ -160,7 +160,7 @@ tells_degenerate bodies x y h light = (
       (subst (λ (b : Bool). IsDegenerateBy b (kernel dot h.meant)) (sym h.first) so),
 )
 
-pub tells_empty : Tells Any (λ first w. AdmitsEmpty (kernel dot w)) is_empty
+pub tells_empty : Tells Any (λ first w. AdmitsEmpty (kernel dot w)) is_side_empty
 tells_empty bodies x y h known = (
   λ t. empty-Matches Dot always dot h.meant 0 h.ordered (sym h.empty ∙ t),
   λ so. h.empty ∙ Matches-empty Dot always dot h.meant 0 h.ordered so,

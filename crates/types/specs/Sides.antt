@@ -50,8 +50,8 @@ is_wide y = nat_lt 127 y.facts.weight
 abbrev pub is_degenerate : Side → Bool
 is_degenerate y = not y.ticks || (y.first && y.facts.empty)
 
-abbrev pub is_empty : Side → Bool
-is_empty y = y.facts.empty
+abbrev pub is_side_empty : Side → Bool
+is_side_empty y = y.facts.empty
 
 -- It is the entry of something; those of both sides are.
 pub record IsKnownEntry (e : Entry) : Type 0 where

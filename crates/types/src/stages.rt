@@ -3,7 +3,7 @@
 ghost use Rattle.std.specs.Prelude.{◌≡◌, ◌<◌, ℕ, true, false, map, length, IfOk, IfErr};
 ghost use Rattle.parser_grammar.specs.Views.{item_of};
 ghost use Rattle.types_names.specs.Views.{scope_of};
-ghost use Rattle.types_suites.specs.Texts.{assertions_of, clock_of};
+ghost use Rattle.types_suites.specs.Texts.{assertions_of, suite_clock};
 ghost use Rattle.types_suites.specs.Readings.{Where, outlines_of};
 ghost use Rattle.types_suites.specs.Faults.{Text, sides_of, consequents_of, ClearTo, IsFaultless};
 ghost use Rattle.types_suites.specs.Faults.{IsTypeFault};
@@ -84,7 +84,7 @@ fn check_clocks(
     clock: &str,
 ) -> Result<(), TypeFault>
     requires clear { ClearTo (scope_of scope.now) (map item_of items.now) 4 }
-    requires clock { clock.now ≡ clock_of (assertions_of (map item_of items.now)) }
+    requires clock { clock.now ≡ suite_clock (assertions_of (map item_of items.now)) }
     ensures ok { IfOk result (λ _. ClearTo (scope_of scope.now) (map item_of items.now) 5) }
     ensures err { IfErr result (IsTypeFault (scope_of scope.now) (map item_of items.now)) }
 {
@@ -101,7 +101,7 @@ pub(crate) fn check_expressions(
     items: &[ItemTree],
     clock: &str,
 ) -> Result<(), TypeFault>
-    requires { clock.now ≡ clock_of (assertions_of (map item_of items.now)) }
+    requires { clock.now ≡ suite_clock (assertions_of (map item_of items.now)) }
     ensures ok { IfOk result (λ _. ClearTo (scope_of scope.now) (map item_of items.now) 5) }
     ensures err { IfErr result (IsTypeFault (scope_of scope.now) (map item_of items.now)) }
 {

@@ -12,7 +12,7 @@ ghost use Rattle.types_names.specs.Columns.{all_listed, file_signals, columns_of
 ghost use Rattle.types_names.specs.Faults.{file_faults};
 ghost use Rattle.types_names.specs.Views.{scope_of, columns_in};
 ghost use Rattle.types_sequences.specs.Placed.{ExtendsPlaces};
-ghost use Rattle.types_suites.specs.Texts.{declarations_of, assertions_of, clock_of};
+ghost use Rattle.types_suites.specs.Texts.{declarations_of, assertions_of, suite_clock};
 ghost use Rattle.types_suites.specs.Readings.{Where, outlines_of};
 ghost use Rattle.types_suites.specs.Faults.{Text, sides_of, consequents_of, ClearTo, IsFaultless};
 ghost use Rattle.types_suites.specs.Faults.{IsTypeFault};
@@ -126,7 +126,7 @@ fn suite_of(
 ) -> Result<Suite, TypeFault>
     requires columns { columns_in columns.now
         ≡ columns_of (scope_of scope.now) (map item_of items.now) }
-    requires clock { string_bytes clock ≡ clock_of (assertions_of (map item_of items.now)) }
+    requires clock { string_bytes clock ≡ suite_clock (assertions_of (map item_of items.now)) }
     requires declared { (t : Tree) (p : ℕ) → sequence_named (scope_of scope.now) t ≡ Some p
         → p < length (declarations_of (map item_of items.now)) }
     requires clear { ClearTo (scope_of scope.now) (map item_of items.now) 5 }

@@ -4,7 +4,7 @@ use Rattle.std.proofs.Common.{sym, subst, ◌∙◌}
 use Rattle.std.proofs.lemmas.Bool.{or_left, or_right, eq-eqb, cases_lt, false≢true}
 use Rattle.std.proofs.lemmas.Option.{slice_get_past}
 use Rattle.types_sequences.specs.Drafts.{Draft, IsNumberIn, uses_of, uses_at, reaches_by, SomeCyclic}
-use Rattle.types_sequences.specs.Marks.{mark_at, leads}
+use Rattle.types_sequences.specs.Marks.{mark_at, leads_to_goal}
 use Rattle.types_sequences.specs.Sweeps.{Covers, AreQuiet}
 use Rattle.types_sequences.specs.Cycles.{ReachesCycle}
 use Rattle.types_sequences.proofs.SweepLaws.{no_use_passes}
@@ -29,13 +29,15 @@ pub some_cyclic : {B : Type 0} (bodies : List (Draft B)) (p : ℕ) → ReachesCy
 some_cyclic bodies p r = (r.place, declared_by_reach bodies r.cyclic.0 r.place r.place r.cyclic.1, r.cyclic)
 
 not_quiet : {B : Type 0} (bodies : List (Draft B)) (goal : ℕ) (marks : List Bool) (left : List ℕ) (p q : ℕ) →
-    AreQuiet bodies goal marks left → IsNumberIn q (uses_at bodies p) → leads marks goal q ≡ true → IsNumberIn p left
+    AreQuiet bodies goal marks left → IsNumberIn q (uses_at bodies p) → leads_to_goal marks goal q ≡ true
+    → IsNumberIn p left
     → ⊥
 not_quiet bodies goal marks left p q quiet i l here =
-    false≢true (sym (no_use_passes (leads marks goal) (uses_at bodies p) q (quiet p here) i) ∙ l)
+    false≢true (sym (no_use_passes (leads_to_goal marks goal) (uses_at bodies p) q (quiet p here) i) ∙ l)
 
 mark_of : {B : Type 0} (bodies : List (Draft B)) (goal : ℕ) (marks : List Bool) (left : List ℕ) (p q : ℕ) →
-    AreQuiet bodies goal marks left → Covers marks left p → IsNumberIn q (uses_at bodies p) → leads marks goal q ≡ true
+    AreQuiet bodies goal marks left → Covers marks left p → IsNumberIn q (uses_at bodies p) → leads_to_goal marks goal q
+    ≡ true
     → mark_at marks p ≡ true
 mark_of bodies goal marks left p q quiet (inl m) i l = m
 mark_of bodies goal marks left p q quiet (inr here) i l = elim (not_quiet bodies goal marks left p q quiet i l here) [ ]

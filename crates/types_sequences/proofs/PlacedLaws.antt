@@ -20,7 +20,7 @@ use Rattle.types_sequences.specs.Drafts.{IsNumberIn}
 use Rattle.types_sequences.specs.Placed.{atom_true, MatchesByPlaces, IsPlacedBoolean, ExtendsPlaces, AddsPlaces}
 use Rattle.types_sequences.specs.Placed.{AllListed}
 use Rattle.types_sequences.specs.Placed.{ArePlaced}
-use Rattle.types_sequences.specs.Leaves.{leaves, place_in, places_of, is_one, form_of}
+use Rattle.types_sequences.specs.Leaves.{leaves, place_listed, sequence_places, is_one, form_of}
 use Rattle.types_sequences.proofs.InLaws.{in_last}
 use Rattle.types_sequences.proofs.UsedLaws.{each_listed}
 use Rattle.types_sequences.proofs.AlikeLaws.{alike_one, alike_one_of, alike_after, alike_later, alike_times}
@@ -118,19 +118,20 @@ of_two before between after v w f g p h =
 
 -- the list behind a boolean, and behind two parts
 pub list_pushed : (before after : List ℕ) (place : ℕ) (b : Boolean) → b ≡ Listed place →
-    after ≡ before ++ place ∷ [] → after ≡ before ++ places_of (boolean b)
-list_pushed before after place b is pushed = pushed ∙ ap (λ (c : Boolean). before ++ places_of (boolean c)) (sym is)
+    after ≡ before ++ place ∷ [] → after ≡ before ++ sequence_places (boolean b)
+list_pushed before after place b is pushed = pushed
+    ∙ ap (λ (c : Boolean). before ++ sequence_places (boolean c)) (sym is)
 
-pub list_same : (before : List ℕ) (b : Boolean) → b ≡ One → before ≡ before ++ places_of (boolean b)
+pub list_same : (before : List ℕ) (b : Boolean) → b ≡ One → before ≡ before ++ sequence_places (boolean b)
 list_same before b is =
-    sym (append-nil before) ∙ ap (λ (c : Boolean). before ++ places_of (boolean c)) (sym is)
+    sym (append-nil before) ∙ ap (λ (c : Boolean). before ++ sequence_places (boolean c)) (sym is)
 
-list_two : (before between after : List ℕ) (xs ys : List Boolean) → between ≡ before ++ flat_map place_in xs →
-    after ≡ between ++ flat_map place_in ys → after ≡ before ++ flat_map place_in (xs ++ ys)
+list_two : (before between after : List ℕ) (xs ys : List Boolean) → between ≡ before ++ flat_map place_listed xs →
+    after ≡ between ++ flat_map place_listed ys → after ≡ before ++ flat_map place_listed (xs ++ ys)
 list_two before between after xs ys f g =
-    g ∙ ap (λ (ps : List ℕ). ps ++ flat_map place_in ys) f
-    ∙ append_assoc before (flat_map place_in xs) (flat_map place_in ys)
-    ∙ ap (λ (ps : List ℕ). before ++ ps) (sym (flat_map-append place_in xs ys))
+    g ∙ ap (λ (ps : List ℕ). ps ++ flat_map place_listed ys) f
+    ∙ append_assoc before (flat_map place_listed xs) (flat_map place_listed ys)
+    ∙ ap (λ (ps : List ℕ). before ++ ps) (sym (flat_map-append place_listed xs ys))
 
 -- what is placed of a sequence, from its parts
 extends_two : (before between after : List ℕ) → ExtendsPlaces before between → ExtendsPlaces between after
@@ -240,7 +241,7 @@ module _ (before between after : List ℕ) (v w a b : Written Boolean) (x : AreP
 
 pub are_boolean : (before after : List ℕ) (a b : Boolean) → ExtendsPlaces before after
     → ((e : List Expr) (more : List ℕ) → IsPlacedBoolean e (after ++ more) a b) → IsListed (length after) b
-    → AddsPlaces (boolean a) before after → after ≡ before ++ places_of (boolean a) → is_one b ≡ is_one a
+    → AddsPlaces (boolean a) before after → after ≡ before ++ sequence_places (boolean a) → is_one b ≡ is_one a
     → ArePlaced before after (boolean a) (boolean b)
 are_boolean before after a b grows placed listed own list form =
     record {
@@ -257,7 +258,7 @@ are_boolean before after a b grows placed listed own list form =
 pub are_throughout : (before between after : List ℕ) (a b : Boolean) (w u : Written Boolean)
     → ExtendsPlaces before between
     → ((e : List Expr) (more : List ℕ) → IsPlacedBoolean e (between ++ more) a b) → IsListed (length between) b
-    → AddsPlaces (boolean a) before between → between ≡ before ++ places_of (boolean a) → is_one b ≡ is_one a
+    → AddsPlaces (boolean a) before between → between ≡ before ++ sequence_places (boolean a) → is_one b ≡ is_one a
     → ArePlaced between after w u → ArePlaced before after (throughout a w) (throughout b u)
 are_throughout before between after a b w u grows placed listed own list form y =
     record {

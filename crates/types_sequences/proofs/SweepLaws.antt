@@ -4,7 +4,7 @@ use Rattle.std.proofs.Common.{length, set, length-append, append-nil, ◌≢◌,
 use Rattle.std.proofs.lemmas.List.{length-set, get_or-set_same, get_or-set_other}
 use Rattle.std.proofs.lemmas.Bool.{or_cases, or_parts, eqb-true, cases_eq, false≢true}
 use Rattle.types_sequences.specs.Drafts.{Draft, IsNumberIn, uses_at}
-use Rattle.types_sequences.specs.Marks.{some_use, mark_at, leads}
+use Rattle.types_sequences.specs.Marks.{some_use, mark_at, leads_to_goal}
 use Rattle.types_sequences.specs.Sweeps.{Reaches, AreSound, Covers, AreQuiet}
 use Rattle.types_sequences.proofs.InLaws.{in_front, in_back, in_either, in_last}
 
@@ -48,9 +48,9 @@ reaches_goal bodies goal marks p q sound i (inl e) =
 reaches_goal bodies goal marks p q sound i (inr m) = (let r = sound q m in (suc r.0, (q, i, r.1)))
 
 leads_reaches : {B : Type 0} (bodies : List (Draft B)) (goal : ℕ) (marks : List Bool) (p : ℕ) →
-    AreSound bodies goal marks → some_use (leads marks goal) (uses_at bodies p) ≡ true → Reaches bodies p goal
+    AreSound bodies goal marks → some_use (leads_to_goal marks goal) (uses_at bodies p) ≡ true → Reaches bodies p goal
 leads_reaches bodies goal marks p sound h =
-    let f = some_use_passes (leads marks goal) (uses_at bodies p) h in
+    let f = some_use_passes (leads_to_goal marks goal) (uses_at bodies p) h in
     reaches_goal bodies goal marks p f.0 sound f.1 (or_cases (f.0 == goal) (mark_at marks f.0) f.2)
 
 -- a mark more
@@ -105,7 +105,7 @@ covered_after marks more rest still p q keeps last (inr i) = by_part (in_either 
 
 pub mark : {B : Type 0} (bodies : List (Draft B)) (goal : ℕ) (before : List Bool) (places : List ℕ) (marks : List Bool)
     (left rest still : List ℕ) (q : ℕ) →
-    left ≡ rest ++ q ∷ [] → q < length marks → some_use (leads marks goal) (uses_at bodies q) ≡ true →
+    left ≡ rest ++ q ∷ [] → q < length marks → some_use (leads_to_goal marks goal) (uses_at bodies q) ≡ true →
     State bodies goal before places marks left still → State bodies goal before places (set marks q true) rest still
 mark {B} bodies goal before places marks left rest still q e h leads_on s =
     record {
@@ -128,7 +128,7 @@ mark {B} bodies goal before places marks left rest still q e h leads_on s =
 
 pub keep : {B : Type 0} (bodies : List (Draft B)) (goal : ℕ) (before : List Bool) (places : List ℕ) (marks : List Bool)
     (left rest still : List ℕ) (q : ℕ) →
-    left ≡ rest ++ q ∷ [] → some_use (leads marks goal) (uses_at bodies q) ≡ false →
+    left ≡ rest ++ q ∷ [] → some_use (leads_to_goal marks goal) (uses_at bodies q) ≡ false →
     State bodies goal before places marks left still → State bodies goal before places marks rest (still ++ q ∷ [])
 keep {B} bodies goal before places marks left rest still q e quiet s =
     record {
@@ -160,10 +160,10 @@ keep {B} bodies goal before places marks left rest still q e quiet s =
         inr (by_part p (in_either p (rest ++ q ∷ []) still (subst (λ (xs : List ℕ). IsNumberIn p (xs ++ still)) e i)))
 
     still_quiet : (p : ℕ) → AreQuiet bodies goal marks still → IsNumberIn p still ⊎ (p ≡ q)
-        → some_use (leads marks goal) (uses_at bodies p) ≡ false
+        → some_use (leads_to_goal marks goal) (uses_at bodies p) ≡ false
     still_quiet p all (inl i) = all p i
     still_quiet p all (inr same) =
-        subst (λ (x : ℕ). some_use (leads marks goal) (uses_at bodies x) ≡ false) (sym same) quiet
+        subst (λ (x : ℕ). some_use (leads_to_goal marks goal) (uses_at bodies x) ≡ false) (sym same) quiet
 
 pub skip : {B : Type 0} (bodies : List (Draft B)) (goal : ℕ) (before : List Bool) (places : List ℕ) (marks : List Bool)
     (left rest still : List ℕ) (q : ℕ) →

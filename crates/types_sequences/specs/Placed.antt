@@ -10,7 +10,7 @@ use Rattle.assertions.specs.Shapes.{is_true_at, value_in}
 use Rattle.assertions.specs.Listed.{EachBoolean, IsUsed, IsListed}
 use Rattle.types_sequences.specs.Drafts.{IsNumberIn}
 use Rattle.types_sequences.specs.Entries.{Alike}
-use Rattle.types_sequences.specs.Leaves.{places_of, form_of}
+use Rattle.types_sequences.specs.Leaves.{sequence_places, form_of}
 
 -- whether a boolean that has its place among a suite's expressions is true at a tick
 abbrev pub atom_true : List Expr → Samples → Boolean → ℕ → Bool
@@ -51,5 +51,5 @@ pub record ArePlaced (before after : List ℕ) (w u : Written Boolean) : Type 0 
   pub ordered : IsOrdered w → IsOrdered u
   pub listed : AllListed after u
   pub own : AddsPlaces w before after
-  pub list : after ≡ before ++ places_of w
+  pub list : after ≡ before ++ sequence_places w
   pub form : form_of u ≡ form_of w

@@ -9,7 +9,7 @@ ghost use Rattle.assertions.specs.Written.{weight, IsOrdered};
 ghost use Rattle.types_sequences.specs.Placed.{MatchesByPlaces, IsPlacedBoolean, ExtendsPlaces};
 ghost use Rattle.types_sequences.specs.Placed.{AllListed, AddsPlaces};
 ghost use Rattle.types_sequences.specs.Placed.{ArePlaced};
-ghost use Rattle.types_sequences.specs.Leaves.{places_of, is_one, form_of};
+ghost use Rattle.types_sequences.specs.Leaves.{sequence_places, is_one, form_of};
 
 use crate::make::boxed;
 use assertions::{Boolean, Sequence};
@@ -25,7 +25,7 @@ pub fn place_boolean(boolean: Boolean, places: &mut Vec<usize>) -> Result<Boolea
     ensures own { OnOk result
         (AddsPlaces (written.boolean boolean) places.old.items places.new.items) }
     ensures list { OnOk result (places.new.items
-        ≡ places.old.items ++ places_of (written.boolean boolean)) }
+        ≡ places.old.items ++ sequence_places (written.boolean boolean)) }
     ensures form { IfOk result (λ b. is_one b ≡ is_one boolean) }
 {
     match boolean {
@@ -107,7 +107,7 @@ pub fn place_sequence(
     ensures own { OnOk result
         (AddsPlaces (written_form sequence.now) places.old.items places.new.items) }
     ensures list { OnOk result (places.new.items
-        ≡ places.old.items ++ places_of (written_form sequence.now)) }
+        ≡ places.old.items ++ sequence_places (written_form sequence.now)) }
     ensures form { IfOk result (λ b. form_of (written_form b.value)
         ≡ form_of (written_form sequence.now)) }
 {

@@ -29,7 +29,7 @@ use Rattle.types_suites.specs.Suites.{IsMeant, IsDisabling, IsDisablingPlace, Is
 use Rattle.types_suites.specs.Suites.{IsDisabledBy, off_places}
 use Rattle.types_suites.specs.Resolved.{IsResolved, AreResolved}
 use Rattle.types_suites.specs.Made.{IsFitting, IsSide, IsPlacedAt, AreAt, kept_by, kept_of}
-use Rattle.types_sequences.specs.Leaves.{places_of, form_of}
+use Rattle.types_sequences.specs.Leaves.{sequence_places, form_of}
 use Rattle.types_sequences.specs.Trimmed.{IsTrimmed}
 
 -- two things of what a call gives, and what follows from one that isn't of it
@@ -82,9 +82,9 @@ side_of booleans places more e x w made low is h p listed form =
 
 -- and the list behind it
 pub list_by : (before after : List ℕ) (e : Entry) (x : Box Sequence Global) → e.sequence ≡ Some x →
-    after ≡ before ++ places_of (written_form x.value) → after ≡ before ++ places_of (kept_of e)
+    after ≡ before ++ sequence_places (written_form x.value) → after ≡ before ++ sequence_places (kept_of e)
 list_by before after e x is h =
-    h ∙ ap (λ (u : Written Boolean). before ++ places_of u) (sym (ap kept_by is))
+    h ∙ ap (λ (u : Written Boolean). before ++ sequence_places u) (sym (ap kept_by is))
 
 -- Only its booleans have places.
 meant_too : (w : Written Boolean) (p : ℕ) → IsUsedOrOne w (Listed p) → IsUsed (Listed p) w
@@ -149,13 +149,13 @@ places_used start first second third v w o none f g h p i =
 
 -- the list behind both sides and the disabling place, where none was there at first
 pub list_whole : (start first second third : List ℕ) (v w : Written Boolean) (o : Option ℕ) →
-    start ≡ [] → first ≡ start ++ places_of v → second ≡ first ++ places_of w →
-    third ≡ second ++ off_places o → third ≡ places_of v ++ (places_of w ++ off_places o)
+    start ≡ [] → first ≡ start ++ sequence_places v → second ≡ first ++ sequence_places w →
+    third ≡ second ++ off_places o → third ≡ sequence_places v ++ (sequence_places w ++ off_places o)
 list_whole start first second third v w o none f g h =
     h ∙ ap (λ (ps : List ℕ). ps ++ off_places o) g
-    ∙ ap (λ (ps : List ℕ). (ps ++ places_of w) ++ off_places o)
-    (f ∙ ap (λ (ps : List ℕ). ps ++ places_of v) none)
-    ∙ append_assoc (places_of v) (places_of w) (off_places o)
+    ∙ ap (λ (ps : List ℕ). (ps ++ sequence_places w) ++ off_places o)
+    (f ∙ ap (λ (ps : List ℕ). ps ++ sequence_places v) none)
+    ∙ append_assoc (sequence_places v) (sequence_places w) (off_places o)
 
 module _ (s : Scope) (cs : List (List ℕ)) (e : List Expr) where
   disabling_made : (places : List ℕ) (t : Option Tree) (p : Option ℕ) (b : Option Boolean) → IsDisabledBy s cs e t p
@@ -206,7 +206,7 @@ module _ (s : Scope) (cs : List (List ℕ)) (e : List Expr) where
         IsPlacedAt e places m.disabling b →
         ((p : ℕ) → IsNumberIn p places → IsUsed (Listed p) r.antecedent_entry.meant
         ⊎ (IsUsed (Listed p) r.consequent_entry.meant ⊎ (m.disabling ≡ Some p))) →
-        places ≡ places_of before_kept ++ (places_of behind_kept ++ off_places m.disabling) →
+        places ≡ sequence_places before_kept ++ (sequence_places behind_kept ++ off_places m.disabling) →
         IsAssertion s cs e bodies before a made
     unfolding meant_of
     assertion_made before a m r made first second before_kept behind_kept b places name led one two off list h g d used

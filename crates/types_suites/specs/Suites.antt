@@ -22,14 +22,14 @@ use Rattle.types_sequences.specs.Drafts as drafts
 use Rattle.types_sequences.specs.Implications.{rewritten_antecedent}
 use Rattle.types_sequences.specs.Drafts.{Draft, IsWrittenOut, IsNumberIn}
 use Rattle.types_sequences.specs.Placed.{MatchesByPlaces, IsPlacedBoolean, AllListed}
-use Rattle.types_sequences.specs.Leaves.{places_of, form_of}
+use Rattle.types_sequences.specs.Leaves.{sequence_places, form_of}
 use Rattle.types_sequences.specs.Trimmed.{IsTrimmed}
 use Rattle.types_names.specs.Scopes.{Scope, width_in}
 use Rattle.types_names.specs.Columns.{columns_of}
 use Rattle.types_expressions.specs.Meanings.{Means}
 use Rattle.types_suites.specs.Options.{OptionZip}
 use Rattle.types_suites.specs.Readings.{IsBooleanOf, Reads, AllRead}
-use Rattle.types_suites.specs.Texts.{declarations_of, counters_of, assertions_of, clock_of}
+use Rattle.types_suites.specs.Texts.{declarations_of, counters_of, assertions_of, suite_clock}
 use Rattle.types_suites.specs.Texts.{label_text, is_led}
 
 -- A signal that the text reads at the path, with its width.
@@ -145,7 +145,8 @@ pub record IsAssertion (s : Scope) (columns : List (List ℕ)) (booleans : List 
   pub off : Option ℕ
   pub disabled : IsDisabledBy s columns booleans a.disable off
   pub list : made.booleans.items
-      ≡ places_of antecedent_meant.kept ++ (places_of consequent_meant.kept ++ off_places off)
+      ≡ sequence_places antecedent_meant.kept
+      ++ (sequence_places consequent_meant.kept ++ off_places off)
 
 -- Several, in their order, before which so many stand.
 abbrev pub AreAssertions : Scope → List (List ℕ) → List Expr → List (Draft Boolean) → ℕ
@@ -157,7 +158,7 @@ AreAssertions s columns booleans bodies before forms made =
 -- The suite says what the text says.
 pub record IsSuite (s : Scope) (items : List ItemForm) (suite : Suite) : Type 0 where
   pub bodies : List (Draft Boolean)
-  pub clock : string_bytes suite.clock ≡ clock_of (assertions_of items)
+  pub clock : string_bytes suite.clock ≡ suite_clock (assertions_of items)
   pub signals : AreSignals s (columns_of s items) suite.names.items
   pub counters : AreCounters s (columns_of s items) (counters_of items) suite.counters.items
   pub read : AllRead s (columns_of s items) suite.booleans.items

@@ -5,7 +5,7 @@ ghost use Rattle.assertions.specs.Shapes.{written_form};
 ghost use Rattle.assertions.specs.Written.{weight, IsOrdered};
 ghost use Rattle.types_sequences.specs.Entries.{Bodies, IsTheEntryOf};
 ghost use Rattle.types_sequences.specs.Placed.{ExtendsPlaces, AddsPlaces};
-ghost use Rattle.types_sequences.specs.Leaves.{places_of};
+ghost use Rattle.types_sequences.specs.Leaves.{sequence_places};
 ghost use Rattle.types_suites.specs.Readings.{Where};
 ghost use Rattle.types_suites.specs.Suites.{IsAssertion, AreAssertions, off_places};
 ghost use Rattle.types_suites.specs.Resolved.{IsResolved, AreResolved};
@@ -33,7 +33,7 @@ fn side_of(
     ensures used { (w : Side) → IsTheEntryOf w entry.now →
         OnOk result (AddsPlaces w places.old.items places.new.items) }
     ensures list { OnOk result (places.new.items
-        ≡ places.old.items ++ places_of (kept_of entry.now)) }
+        ≡ places.old.items ++ sequence_places (kept_of entry.now)) }
 {
     match &entry.sequence {
         Some(sequence) => place_sequence(alloc, sequence, places),

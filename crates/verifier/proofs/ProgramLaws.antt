@@ -14,7 +14,7 @@ use Rattle.bytecode.specs.Values.{ProgramData}
 use Rattle.verifier.specs.Programs.{disable_faults, header_refusals, part_faults, least_stack}
 use Rattle.verifier.specs.Programs.{HasRoom, IsAtom, IsWellFormed}
 use Rattle.verifier_inference.proofs.TypingLaws.{nil_parts, nil_map, longest_typed}
-use Rattle.verifier_inference.specs.Scans.{longest_from}
+use Rattle.verifier_inference.specs.Scans.{longest_agreed}
 use Rattle.verifier.proofs.HeaderLaws.{header_clear, header_none}
 
 atom_there : (disable : Option ℕ) (atoms : ℕ) → disable_faults disable atoms ≡ [] → IsAtom disable atoms
@@ -72,5 +72,5 @@ pub longest_is_least : (p : ProgramData) (table : ℕ → List ℕ) → IsCodeTy
     → AreShort (sample_rules (frame_of p)) 0 p.sample table → least_stack p ≡ longest_list table 0 p.sample
 longest_is_least p table typed short =
     (let e : length p.sample ≡ 0 + length p.sample =
-    omega arith in ap (λ n. longest_from (sample_rules (frame_of p)) n 0 p.sample (entry 0)) e)
+    omega arith in ap (λ n. longest_agreed (sample_rules (frame_of p)) n 0 p.sample (entry 0)) e)
     ∙ longest_typed (sample_rules (frame_of p)) 0 p.sample table typed short

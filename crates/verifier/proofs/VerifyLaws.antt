@@ -5,7 +5,7 @@ use Rattle.verifier_inference.specs.declared.refusal.Refusal.{Refusal}
 use Rattle.verifier_inference.specs.declared.refusal.Refusal.TheVariants.{Memory}
 use Rattle.verifier_inference.specs.Rules.{sample_rules}
 use Rattle.verifier_inference.specs.Inference.{Found, found, code_faults}
-use Rattle.verifier_inference.specs.Order.{IsIn, IsFirstFound, IsFirstRefusal, first_of}
+use Rattle.verifier_inference.specs.Order.{IsIn, IsFirstFound, IsFirstRefusal, first_refusal}
 use Rattle.verifier_inference.specs.Scans.{IsFirstOf}
 use Rattle.verifier_inference.specs.Sections.{section_faults}
 use Rattle.bytecode.specs.Instructions.{frame_of}
@@ -85,7 +85,7 @@ module _ (p : ProgramData) where
       (both_none (header ++ sample) antecedent (both_none header sample none_h none_s) none_a) f
 
   -- as the code finds them
-  pub refused_header : (r : Refusal) → Some r ≡ first_of (header_refusals p) → IsFirstRefusal r (part_faults p)
+  pub refused_header : (r : Refusal) → Some r ≡ first_refusal (header_refusals p) → IsFirstRefusal r (part_faults p)
   refused_header r h =
       record {
         fault = found 0 0 r;
@@ -96,13 +96,13 @@ module _ (p : ProgramData) where
         is = refl;
       }
 
-  header_none : None ≡ first_of (header_refusals p) → header ≡ []
+  header_none : None ≡ first_refusal (header_refusals p) → header ≡ []
   header_none h = ap (map (found 0 0)) (none_first (header_refusals p) h)
 
-  pub room : None ≡ first_of (header_refusals p) → HasRoom p
+  pub room : None ≡ first_refusal (header_refusals p) → HasRoom p
   room h = (header_clear p (none_first (header_refusals p) h)).0
 
-  pub refused_sample : (r : Refusal) → None ≡ first_of (header_refusals p) → (r ≡ Memory) ⊎ IsFirstRefusal r sample
+  pub refused_sample : (r : Refusal) → None ≡ first_refusal (header_refusals p) → (r ≡ Memory) ⊎ IsFirstRefusal r sample
       → (r ≡ Memory) ⊎ IsFirstRefusal r (part_faults p)
   refused_sample r none (inl m) = inl m
   refused_sample r none (inr f) =
@@ -114,7 +114,7 @@ module _ (p : ProgramData) where
         is = f.is;
       })
 
-  pub refused_antecedent : (pc : ℕ) (r : Refusal) → None ≡ first_of (header_refusals p) → sample ≡ []
+  pub refused_antecedent : (pc : ℕ) (r : Refusal) → None ≡ first_refusal (header_refusals p) → sample ≡ []
       → IsFirstOf antecedent (Some (found 2 pc r)) → IsFirstRefusal r (part_faults p)
   refused_antecedent pc r none none_s f =
       record {
@@ -123,7 +123,8 @@ module _ (p : ProgramData) where
         is = refl;
       }
 
-  pub refused_consequent : (pc : ℕ) (r : Refusal) → None ≡ first_of (header_refusals p) → sample ≡ [] → antecedent ≡ []
+  pub refused_consequent : (pc : ℕ) (r : Refusal) → None ≡ first_refusal (header_refusals p) → sample ≡ [] → antecedent
+      ≡ []
       → IsFirstOf consequent (Some (found 3 pc r)) → IsFirstRefusal r (part_faults p)
   refused_consequent pc r none none_s none_a f =
       record {
@@ -132,7 +133,7 @@ module _ (p : ProgramData) where
         is = refl;
       }
 
-  pub no_part : None ≡ first_of (header_refusals p) → sample ≡ [] → antecedent ≡ [] → consequent ≡ []
+  pub no_part : None ≡ first_refusal (header_refusals p) → sample ≡ [] → antecedent ≡ [] → consequent ≡ []
       → part_faults p ≡ []
   no_part none none_s none_a none_c =
       both_none (header ++ sample ++ antecedent) consequent

@@ -4,7 +4,7 @@ ghost use Rattle.std.specs.Prelude.{◌≡◌, ◌<◌, ◌≤◌, ◌+◌, ◌-
 ghost use Rattle.std.specs.Prelude.{slice_index, IfOk};
 ghost use Rattle.bytecode.specs.Instructions.{sample_flow, block_flow};
 ghost use Rattle.verifier.specs.Limits.{path_of, paths_from, longest_path, path_sum};
-ghost use Rattle.verifier_inference.specs.Sections.{size_of};
+ghost use Rattle.verifier_inference.specs.Sections.{instructions_in};
 ghost use Rattle.verifier_inference.specs.Views.{blocks_of};
 
 use bytecode::{BlockInstr, Flow, SampleInstr};
@@ -107,7 +107,7 @@ fn block_path(alloc: Global, base: usize, block: &[BlockInstr]) -> Result<usize,
 
 /// The sum of the longest paths of the blocks.
 pub(crate) fn path_sum(alloc: Global, blocks: &[Vec<BlockInstr>]) -> Result<usize, AllocError>
-    requires { size_of (blocks_of blocks.now) ≤ 4096 }
+    requires { instructions_in (blocks_of blocks.now) ≤ 4096 }
     ensures sum { IfOk result (λ sum. sum ≡ path_sum 0 (blocks_of blocks.now)) }
     ensures few { IfOk result (λ sum. sum ≤ 4096) }
 {

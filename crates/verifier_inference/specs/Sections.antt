@@ -35,6 +35,6 @@ pub record IsSection (section atoms : ℕ) (s : SectionData) : Type 0 where
   pub blocks : AreTyped section atoms (length s.blocks) 0 0 s.blocks
 
 -- how many instructions the blocks have
-abbrev pub size_of : List (List BlockInstr) → ℕ
-size_of [] = 0
-size_of (b ∷ bs) = length b + size_of bs
+abbrev pub instructions_in : List (List BlockInstr) → ℕ
+instructions_in [] = 0
+instructions_in (b ∷ bs) = length b + instructions_in bs

@@ -10,7 +10,7 @@ use Rattle.machine_definition.specs.Runs.{open_ones}
 use Rattle.machine_runs.specs.Batches.{batch_of}
 use Rattle.machine_runs.specs.Lines.{attempts_of}
 use Rattle.workers_core.specs.declared.job.Job.{Job}
-use Rattle.workers_core.specs.Opening.{part_of}
+use Rattle.workers_core.specs.Opening.{monitor_part}
 use Rattle.workers_core.specs.Values.{Says, job_value, rows_over}
 use Rattle.workers_lines.specs.declared.growing_line.GrowingLine.{GrowingLine}
 use Rattle.workers_lines.specs.Taken.{TookIn}
@@ -33,7 +33,7 @@ module _ (j : Job) (x : Numbered) (p : ProgramData) (h : IsMonitorAt j (clocks_o
       (batch_of p (rows_over (job_value j) c p) 0 (clocks_of j))
   came c says =
       let q = x.monitor.value.machine.program in
-      let same : q ≡ p = program-at 0 j.programs.items x.number p (part_of x.monitor.value) is h.part in
+      let same : q ≡ p = program-at 0 j.programs.items x.number p (monitor_part x.monitor.value) is h.part in
       subst (λ (r : ProgramData). ComesTo r (rows_over (job_value j) c r) x.monitor.value.machine.state
       (batch_of r (rows_over (job_value j) c r) 0 (clocks_of j))) same
       (comes-to q h.accepted (rows_over (job_value j) c q) (clocks_of j) x.monitor.value.machine.state

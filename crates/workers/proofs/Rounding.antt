@@ -17,7 +17,7 @@ use Rattle.workers_shared.specs.Windows.{IsWindowFor}
 use Rattle.workers_shared.specs.Monitors.{IsMonitorAt}
 use Rattle.workers_rounds.specs.declared.work.Published.{Published}
 use Rattle.workers_rounds.specs.Works.{IsSized, IsPublished, published_count}
-use Rattle.workers_rounds.specs.Adding.{kind_of}
+use Rattle.workers_rounds.specs.Adding.{is_of_kind}
 use Rattle.workers.specs.Tallied.{told_by}
 use Rattle.workers.proofs.Adding.{sum-told, round-count}
 use Rattle.workers_rounds.specs.Runs.{upto, published_numbers}
@@ -98,7 +98,7 @@ module _ (j : Job) (v w : Window) (ms : List Numbered) (ls : List GrowingLine) (
     pub next-tallied : (new : List GrowingLine) → length new ≡ length ls →
         ((i : ℕ) (l m : GrowingLine) (p : Published) → slice_get ls i ≡ Some l → slice_get ps i ≡ Some p
         → slice_get new i ≡ Some m → Takes l (shown_by p.receipt).decided.items m) →
-        (k : ℕ) → told_by k new ≡ told_by k ls + published_count (kind_of k) ps
+        (k : ℕ) → told_by k new ≡ told_by k ls + published_count (is_of_kind k) ps
     next-tallied new long took k =
         sum-told k ls new ps as-many (long ∙ as-many) (λ i l m p at of to.
         round-count j w board i l m p (placed-number ps (length ms) i p order of)

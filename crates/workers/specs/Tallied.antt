@@ -21,13 +21,14 @@ abbrev pub told_by : ℕ → List GrowingLine → ℕ
 told_by k ls = sum_by (λ (l : GrowingLine). count_in k l.counts) ls
 
 -- what lines say
-abbrev pub said_by : ℕ → List Line → ℕ
-said_by k ls = sum_by (λ (l : Line). count_in k l.counts) ls
+abbrev pub lines_said : ℕ → List Line → ℕ
+lines_said k ls = sum_by (λ (l : Line). count_in k l.counts) ls
 
 -- the four numbers are those of the lines, each held at the largest number
 abbrev pub AreTotals : List ℕ → List Line → Type 0
 AreTotals totals ls =
-    totals ≡ each_capped (said_by 0 ls ∷ said_by 1 ls ∷ said_by 2 ls ∷ said_by 3 ls ∷ [])
+    totals ≡ each_capped
+    (lines_said 0 ls ∷ lines_said 1 ls ∷ lines_said 2 ls ∷ lines_said 3 ls ∷ [])
 
 module _ {L : Type 0} where
   -- what all these shares have

@@ -10,7 +10,7 @@ ghost use Rattle.workers_lines.specs.Lines.{AreLinesOf};
 ghost use Rattle.workers_shared.specs.declared.numbered.Numbered.{Numbered};
 ghost use Rattle.workers_shared.specs.Monitors.{IsMonitorAt};
 ghost use Rattle.workers.specs.Between.{IsTold, clocks_of};
-ghost use Rattle.workers.specs.Tallied.{count_in, told_by, said_by};
+ghost use Rattle.workers.specs.Tallied.{count_in, told_by, lines_said};
 
 use std::alloc::{AllocError, Global};
 use std::mem;
@@ -64,7 +64,7 @@ pub(crate) fn lines_of(
         → IfOk result (λ ls. AreLinesOf (job_value job.now) c (map line ls.items)) }
     ensures count { IfOk result (λ ls.
         All (λ l. attempts_of l.counts ≡ clocks_of job.now) ls.items) }
-    ensures kinds { (k : ℕ) → IfOk result (λ ls. said_by k ls.items ≡ told_by k told.items) }
+    ensures kinds { (k : ℕ) → IfOk result (λ ls. lines_said k ls.items ≡ told_by k told.items) }
 {
     let mut told = told;
     let mut lines = Vec::with_capacity(alloc, programs.len())?;

@@ -71,7 +71,7 @@ use Rattle.workers_core.specs.States.{
   advance_one,
   next_advance,
   BatchState,
-  cleared,
+  monitor_cleared,
   batch,
   publish_by,
   publish_one,
@@ -93,7 +93,7 @@ use Rattle.workers_core.specs.Parts.{
   EachIsKnown,
   IsRight,
 }
-use Rattle.workers_core.specs.Opening.{MonitorPart, part_of}
+use Rattle.workers_core.specs.Opening.{MonitorPart, monitor_part}
 use Rattle.bytecode.specs.Values.{ProgramData}
 use Rattle.std.proofs.lemmas.List.{length-set}
 use Rattle.workers_core.proofs.PlaceLaws.{same-part, unmoved-same, right-same, stands-unmoved}
@@ -363,7 +363,7 @@ abbrev published : CoreState → ℕ → ℕ → MonitorState → CoreState
 published s w i m = record {
   first = s.first;
   end = s.end;
-  monitors = slice_set s.monitors i (cleared m);
+  monitors = slice_set s.monitors i (monitor_cleared m);
   waiting = s.waiting;
   workers = slice_set s.workers w
       (record { hand = None; done = done_of (slice_get s.workers w) ++ i ∷ [] });
@@ -396,7 +396,7 @@ same-parts s ms ns ws vs bs cs h k l =
     ap (λ (x : List MonitorState). parts s x ws bs) h
     ∙ ap (λ (x : List WorkerState). parts s ns x bs) k ∙ ap (parts s ns vs) l
 
-pub cleared-state : (m r : Monitor) → IsCleared m r → monitor_state r ≡ cleared (monitor_state m)
+pub cleared-state : (m r : Monitor) → IsCleared m r → monitor_state r ≡ monitor_cleared (monitor_state m)
 cleared-state m r u =
     let of : Running → ℕ → List Decided → MonitorState = λ machine since decided.
     record {
@@ -410,7 +410,7 @@ cleared-state m r u =
     ∙ ap (of m.machine m.machine.state.standing.now) u.decided
 
 pub cleared-set : (ms : List Monitor) (i : ℕ) (m new : Monitor) → IsCleared m new
-    → slice_set (map monitor_state ms) i (cleared (monitor_state m))
+    → slice_set (map monitor_state ms) i (monitor_cleared (monitor_state m))
     ≡ map monitor_state (slice_set ms i new)
 cleared-set ms i m new u =
     ap (slice_set (map monitor_state ms) i) (sym (cleared-state m new u))
@@ -561,20 +561,20 @@ abbrev part : ProgramData → ℕ → ℕ → MonitorPart
 part p a b = record { program = p; from = a; to = b }
 
 -- a monitor that goes on keeps its part of a row
-part-same : (old new : Monitor) → IsSame old new → part_of new ≡ part_of old
+part-same : (old new : Monitor) → IsSame old new → monitor_part new ≡ monitor_part old
 part-same old new same =
     ap (λ (p : ProgramData). part p new.from new.to) same.program
     ∙ ap (λ (n : ℕ). part old.machine.program n new.to) same.from
     ∙ ap (part old.machine.program old.from) same.to
 
 pub parts-set : (ms : List Monitor) (i : ℕ) (old new : Monitor) → slice_get ms i ≡ Some old
-    → IsSame old new → map part_of (slice_set ms i new) ≡ map part_of ms
-parts-set ms i old new at same = set-same part_of ms i old new at (part-same old new same)
+    → IsSame old new → map monitor_part (slice_set ms i new) ≡ map monitor_part ms
+parts-set ms i old new at same = set-same monitor_part ms i old new at (part-same old new same)
 
 pub parts-cleared : (ms : List Monitor) (i : ℕ) (old new : Monitor) → slice_get ms i ≡ Some old
-    → IsCleared old new → map part_of (slice_set ms i new) ≡ map part_of ms
+    → IsCleared old new → map monitor_part (slice_set ms i new) ≡ map monitor_part ms
 parts-cleared ms i old new at u =
-    set-same part_of ms i old new at
+    set-same monitor_part ms i old new at
     (ap (λ (r : Running). part r.program new.from new.to) u.machine
     ∙ ap (λ (n : ℕ). part old.machine.program n new.to) u.from
     ∙ ap (part old.machine.program old.from) u.to)

@@ -35,9 +35,9 @@ use Rattle.workers_core.specs.declared.monitor.Monitor.{Monitor}
 use Rattle.workers_core.specs.States.{MonitorState, BatchState, place}
 use Rattle.workers_core.specs.Standing.{monitor_state, seen}
 use Rattle.workers_core.specs.Parts.{batch_state}
-use Rattle.workers_core.specs.Opening.{MonitorPart, part_of, parts_from}
+use Rattle.workers_core.specs.Opening.{MonitorPart, monitor_part, parts_from}
 use Rattle.workers_core.specs.Cores.{IsCore}
-use Rattle.workers_core.specs.Values.{Says, job_value, value_of}
+use Rattle.workers_core.specs.Values.{Says, job_value, core_value_of}
 use Rattle.workers_core.specs.Following.{IsInState, IsBatchOf, PublishesAll, FollowsMachine}
 use Rattle.workers_core.proofs.CorePartLaws.{get-mapped}
 use Rattle.workers_core.proofs.CoreLaws.{holds, sees}
@@ -78,7 +78,7 @@ parts-programs a (p ∷ ps) =
 
 of-parts : (ms : List Monitor)
     → map (λ (m : MonitorState). m.program) (map monitor_state ms)
-    ≡ map (λ (q : MonitorPart). q.program) (map part_of ms)
+    ≡ map (λ (q : MonitorPart). q.program) (map monitor_part ms)
 of-parts [] = refl
 of-parts (m ∷ ms) = ap (λ (xs : List ProgramData). m.machine.program ∷ xs) (of-parts ms)
 
@@ -108,7 +108,7 @@ module _ (j : Job) (f : CoreParts) (c : Contents) (core : IsCore j f)
       (over-end f.window c (core.window.over c (holds j c says)))
 
   whole-at : (i : ℕ) (m : Monitor) → slice_get f.monitors.items i ≡ Some m
-      → PublishesAll (value_of j f) c i (monitor_state m)
+      → PublishesAll (core_value_of j f) c i (monitor_state m)
   whole-at i m at =
       let p = m.machine.program in
       let now = m.machine.state.standing.now in
@@ -142,7 +142,7 @@ module _ (j : Job) (f : CoreParts) (c : Contents) (core : IsCore j f)
         },
       )
 
-  pub core-follows : FollowsMachine (value_of j f) c
+  pub core-follows : FollowsMachine (core_value_of j f) c
   core-follows = record {
     ticks = j.ticks c (holds j c says);
     once = core.once;
@@ -158,7 +158,7 @@ module _ (j : Job) (f : CoreParts) (c : Contents) (core : IsCore j f)
         (omega (arith, high, ticks-left));
     whole = λ i s is.
         let r = found monitor_state f.monitors.items i s is in
-        subst (PublishesAll (value_of j f) c i) r.is (whole-at i r.item r.at);
+        subst (PublishesAll (core_value_of j f) c i) r.is (whole-at i r.item r.at);
     monitors = λ i s is.
         let r = found monitor_state f.monitors.items i s is in
         subst (IsInState (job_value j) c) r.is (in-state i r.item r.at);

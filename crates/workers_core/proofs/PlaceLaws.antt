@@ -58,7 +58,7 @@ use Rattle.std.proofs.Math.Logic.{∥∥₁_elim}
 use Rattle.std.proofs.Math.Bridge.{le_prop}
 use Rattle.machine_runs.proofs.JoinLaws.{between-joins, come-on, ends-in}
 use Rattle.workers_core.specs.declared.monitor.Monitor.{Monitor}
-use Rattle.workers_core.specs.States.{MonitorState, moved}
+use Rattle.workers_core.specs.States.{MonitorState, monitor_moved}
 use Rattle.workers_core.specs.Standing.{
   monitor_state,
   part,
@@ -198,10 +198,10 @@ some-state p q s a b xs ys h k l =
 -- what went on is the checked machine's
 pub gone-moved : (rows : List (List ℕ)) (old new : Monitor) → IsSame old new →
     HasGone rows old new →
-    moved (monitor_state old) (run_from old.machine.program old.machine.state rows)
+    monitor_moved (monitor_state old) (run_from old.machine.program old.machine.state rows)
     ≡ monitor_state new
 gone-moved rows old new same gone =
-    ap (moved (monitor_state old)) gone.ran
+    ap (monitor_moved (monitor_state old)) gone.ran
     ∙ some-state old.machine.program new.machine.program new.machine.state old.since new.since
     (old.decided.items ++ gone.decided) new.decided.items
     (sym same.program) (sym same.since) (sym gone.told)

@@ -9,7 +9,7 @@ use Rattle.cycle_window.specs.Held.{columns_in, places_in, size_in, first_in, en
 use Rattle.workers_core.specs.declared.job.Job.{Job}
 use Rattle.workers_core.specs.declared.core_parts.CoreParts.{CoreParts}
 use Rattle.workers_core.specs.States.{CoreState, EachStandsOnce}
-use Rattle.workers_core.specs.Opening.{part_of, parts_from, opened_monitor}
+use Rattle.workers_core.specs.Opening.{monitor_part, parts_from, opened_monitor}
 use Rattle.workers_core.specs.Parts.{core_state, AreSoundParts}
 use Rattle.workers_core.specs.Wanted.{wanted_in}
 
@@ -43,7 +43,7 @@ pub record IsCore (j : Job) (f : CoreParts) : Type 0 where
   pub window : IsWindowOf f.window j.dump j.clocks
   pub places : map Some (places_in (columns_in f.window))
       ≡ places_of (variables_of j.dump) (wanted_in j.programs.items)
-  pub parts : map part_of f.monitors.items ≡ parts_from 0 j.programs.items
+  pub parts : map monitor_part f.monitors.items ≡ parts_from 0 j.programs.items
 
 -- the parts of a core before its first step, of so many workers and by windows of so many clocks
 pub record IsOpened (j : Job) (n most : ℕ) (f : CoreParts) : Type 0 where

@@ -13,8 +13,8 @@ pub record MonitorPart : Type 0 where
   pub from : ℕ
   pub to : ℕ
 
-abbrev pub part_of : Monitor → MonitorPart
-part_of m = record { program = m.machine.program; from = m.from; to = m.to }
+abbrev pub monitor_part : Monitor → MonitorPart
+monitor_part m = record { program = m.machine.program; from = m.from; to = m.to }
 
 abbrev pub part_at : ℕ → ProgramData → MonitorPart
 part_at from p = record { program = p; from = from; to = from + length p.signals }

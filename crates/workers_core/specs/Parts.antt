@@ -11,7 +11,7 @@ use Rattle.workers_core.specs.declared.worker.Worker.{Worker}
 use Rattle.workers_core.specs.declared.core_parts.CoreParts.{CoreParts}
 use Rattle.workers_core.specs.States.{CoreState, WorkerState, BatchState, Setting, published_by}
 use Rattle.workers_core.specs.Standing.{monitor_state, seen, MonitorStands}
-use Rattle.workers_core.specs.Opening.{part_of}
+use Rattle.workers_core.specs.Opening.{monitor_part}
 
 abbrev pub worker_state : Worker → WorkerState
 worker_state w = record { hand = w.hand; done = w.done.items }
@@ -77,7 +77,7 @@ pub record AreSoundParts (f : CoreParts) : Type 0 where
 pub record KeepsParts (old new : CoreParts) : Type 0 where
   pub columns : columns_in new.window ≡ columns_in old.window
   pub size : size_in new.window ≡ size_in old.window
-  pub parts : map part_of new.monitors.items ≡ map part_of old.monitors.items
+  pub parts : map monitor_part new.monitors.items ≡ map monitor_part old.monitors.items
 
 -- the trace's rows of each monitor's program are those that it sees
 abbrev pub SeeAs : Setting → Window → Contents → List Monitor → Type 0

@@ -44,7 +44,7 @@ impl Monitor {
     ghost use Rattle.workers_core.specs.Standing.{IsOneMore, IsUnmoved, IsCleared};
     ghost use Rattle.workers_core.specs.Parts.{batch_state};
     ghost use Rattle.workers_core.specs.States.{batch};
-    ghost use Rattle.workers_core.specs.Opening.{IsNew, part_of, part_at, opened_monitor};
+    ghost use Rattle.workers_core.specs.Opening.{IsNew, monitor_part, part_at, opened_monitor};
 
     /// A program before its first clock, with its part of a row from a place on.
     pub(crate) fn new(
@@ -53,7 +53,7 @@ impl Monitor {
         from: usize,
     ) -> Result<Monitor, AllocError>
         ensures opened { IfOk result (λ m. monitor_state m ≡ opened_monitor verified.now) }
-        ensures part { IfOk result (λ m. part_of m ≡ part_at from verified.now) }
+        ensures part { IfOk result (λ m. monitor_part m ≡ part_at from verified.now) }
         ensures new { IfOk result IsNew }
     {
         let width = verified.program().signals.len();
@@ -141,7 +141,8 @@ impl Monitor {
         ensures batch { batch_state result ≡ batch number (monitor_state self.old) }
         ensures cleared { IsCleared self.old self.new }
     {
-        let decided = mem::replace(&mut self.decided, Streaks::new(alloc));
+        let mut decided = mem::replace(&mut self.decided, Streaks::new(alloc));
+        decided.shrink_to_fit();
         let first = self.since;
         let end = self.machine.now();
         self.since = end;

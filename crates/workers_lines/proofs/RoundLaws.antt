@@ -53,10 +53,10 @@ use Rattle.workers_core.specs.States.{
   is_below,
   held,
   done_of,
-  cleared,
+  monitor_cleared,
   batch,
   advanced,
-  moved,
+  monitor_moved,
   with_monitor,
   put,
   put_each,
@@ -337,13 +337,13 @@ module _ (g : Setting) (count : ℕ) where
       slice_set ws 0 (record { hand = None; done = done_of (slice_get ws 0) ++ behind ∷ [] }) in
       let hand : held s.workers 0 ≡ Some behind =
       ap (λ (ws : List WorkerState). held ws 0) h.workers in
-      let quiet : StandsAtClock s.end (cleared m) = record { at = h.at; told = refl } in
+      let quiet : StandsAtClock s.end (monitor_cleared m) = record { at = h.at; told = refl } in
       record {
         next =
             record {
               first = s.first;
               end = s.end;
-              monitors = slice_set s.monitors behind (cleared m);
+              monitors = slice_set s.monitors behind (monitor_cleared m);
               waiting = s.waiting;
               workers = down s.workers;
               board = s.board ++ batch behind m ∷ [];
@@ -351,17 +351,17 @@ module _ (g : Setting) (count : ℕ) where
         is = publishing s 0 behind m hand h.held h.at;
         holds = (
           record {
-            many = length-set s.monitors behind (cleared m) ∙ h.many;
+            many = length-set s.monitors behind (monitor_cleared m) ∙ h.many;
             some = h.some;
             inside = h.inside;
             few = omega (arith, h.few);
             waiting = h.waiting;
             workers = ap down h.workers ∙ ap (one_worker None) (range-next behind);
             front = λ i x is lt.
-                each-other (λ n y. n < behind + 1 → StandsAtClock s.end y) s.monitors behind (cleared m)
+                each-other (λ n y. n < behind + 1 → StandsAtClock s.end y) s.monitors behind (monitor_cleared m)
                 (λ n y ne e le. h.front n y e (omega (arith, ne, le))) (λ le. quiet) i x is lt;
             rest = λ i x is le.
-                each-other (λ n y. behind + 1 ≤ n → StandsAtClock s.first y) s.monitors behind (cleared m)
+                each-other (λ n y. behind + 1 ≤ n → StandsAtClock s.first y) s.monitors behind (monitor_cleared m)
                 (λ n y ne e more. h.rest n y e (omega (arith, more)))
                 (λ more. absurd (omega (arith, more))) i x is le;
           },
@@ -377,8 +377,8 @@ many-rows j c p ticks =
 
 -- a monitor behind a run without a trap
 moved-to : (m : MonitorState) (r : Ran Outcome) (o : Outcome) (to : ℕ) → r ≡ done o 0
-    → o.state.standing.now ≡ to → place (moved m r) ≡ to
-moved-to m r o to is at = ap (λ (x : Ran Outcome). place (moved m x)) is ∙ at
+    → o.state.standing.now ≡ to → place (monitor_moved m r) ≡ to
+moved-to m r o to is at = ap (λ (x : Ran Outcome). place (monitor_moved m x)) is ∙ at
 
 -- the monitor in the hand runs to the window's end
 pub advances : (v : CoreValue) (c : Contents) (count behind k : ℕ) →

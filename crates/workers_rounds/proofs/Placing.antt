@@ -32,7 +32,7 @@ use Rattle.workers_core.specs.declared.monitor.Monitor.{Monitor}
 use Rattle.workers_core.specs.States.{BatchState, batch}
 use Rattle.workers_core.specs.Standing.{monitor_state, variables_in, seen, MonitorStands, IsSame, IsUnmoved, IsCleared}
 use Rattle.workers_core.specs.Parts.{batch_state}
-use Rattle.workers_core.specs.Opening.{MonitorPart, part_of, parts_from}
+use Rattle.workers_core.specs.Opening.{MonitorPart, monitor_part, parts_from}
 use Rattle.workers_core.specs.Jobs.{sampled}
 use Rattle.workers_core.specs.Values.{Says, job_value, rows_over}
 use Rattle.workers_core.proofs.CoreLaws.{holds, says-something}
@@ -54,7 +54,7 @@ length-parts a (p ∷ ps) = omega (arith, length-parts (a + length p.signals) ps
 pub below : (j : Job) (at : ℕ) (x : Numbered) → IsMonitorAt j at x → x.number < length j.programs.items
 below j at x h = omega (
   arith,
-  slice_get_within (parts_from 0 j.programs.items) x.number (part_of x.monitor.value) h.part,
+  slice_get_within (parts_from 0 j.programs.items) x.number (monitor_part x.monitor.value) h.part,
   length-parts 0 j.programs.items,
 )
 
@@ -85,11 +85,11 @@ module _ (j : Job) (w : Window) (h : IsWindowFor j w) where
       record { variables = held.variables; steps = held.steps }
 
   module _ (m : Monitor) (i : ℕ)
-      (part : slice_get (parts_from 0 j.programs.items) i ≡ Some (part_of m)) where
-    pub placed : IsPlaced (variables_of j.dump) (places_in (columns_in w)) (part_of m)
+      (part : slice_get (parts_from 0 j.programs.items) i ≡ Some (monitor_part m)) where
+    pub placed : IsPlaced (variables_of j.dump) (places_in (columns_in w)) (monitor_part m)
     placed =
         each-placed (variables_of j.dump) (places_in (columns_in w)) j.programs.items 0
-        (omega arith) h.places i (part_of m) part
+        (omega arith) h.places i (monitor_part m) part
 
     -- a monitor sees the trace's rows of its program
     pub sees : (c : Contents) → Says (job_value j) c
@@ -109,7 +109,7 @@ module _ (j : Job) (w : Window) (h : IsWindowFor j w) where
         let vs = variables_of j.dump in
         let p = m.machine.program in
         let fit : first_refused vs (map wanted_slot p.signals) ≡ None =
-        each-accepted vs j.programs.items 0 h.fits i (part_of m) part in
+        each-accepted vs j.programs.items 0 h.fits i (monitor_part m) part in
         subst (λ (ds : List Declared).
         map (λ (v : ℕ). size_of ds v) (variables_in w m)
         ≡ map (λ (s : SlotData). s.width) p.signals) says.variables
@@ -199,17 +199,17 @@ module _ (j : Job) (w : Window) (x y : Numbered) (m : Monitor) (b : Batch) (h : 
     (same : IsSame x.monitor.value m) (stands : MonitorStands w m)
     (now : m.machine.state.standing.now ≡ end_in w) (cleared : IsCleared m y.monitor.value)
     (is : batch_state b ≡ batch x.number (monitor_state m)) where
-  part-is : part_of m ≡ part_of x.monitor.value
+  part-is : monitor_part m ≡ monitor_part x.monitor.value
   part-is = λ i. record { program = same.program i; from = same.from i; to = same.to i }
 
-  part-now : part_of y.monitor.value ≡ part_of m
+  part-now : monitor_part y.monitor.value ≡ monitor_part m
   part-now = λ i. record {
     program = ap (λ (r : Running). r.program) cleared.machine i;
     from = cleared.from i;
     to = cleared.to i;
   }
 
-  part-m : slice_get (parts_from 0 j.programs.items) x.number ≡ Some (part_of m)
+  part-m : slice_get (parts_from 0 j.programs.items) x.number ≡ Some (monitor_part m)
   part-m = here.part ∙ ap (λ (q : MonitorPart). Some q) (sym part-is)
 
   come-m : (c : Contents) → Says (job_value j) c →

@@ -5,8 +5,8 @@ use Rattle.cycle_window.specs.declared.window.Window.{Window}
 use Rattle.workers_shared.specs.declared.board.Board.{Board}
 use Rattle.workers_shared.specs.Shares.{parts, amounts, EachAtMost}
 use Rattle.workers_shared.specs.declared.bench.Bench.{Bench}
-use Rattle.workers_shared.specs.Hands.{NumbersRise, end_of}
-use Rattle.workers_shared.specs.Passes.{parts_of}
+use Rattle.workers_shared.specs.Hands.{NumbersRise, end_after}
+use Rattle.workers_shared.specs.Passes.{pass_parts}
 use Rattle.workers_shared.specs.Benches.{IsPassOfBench}
 use Rattle.workers_rounds.specs.declared.crew.Task.{Task}
 use Rattle.workers_rounds.specs.declared.work.Worked.{Worked}
@@ -16,9 +16,9 @@ module _ {L : Type 0} where
   -- the worker may work at this bench
   pub record MayWork (bench : Bench) (task : Task L) : Type 0 where
     pub pass : IsPassOfBench bench task.pass × ((view task.pass).puts ≡ false)
-        × (0 < parts_of task.pass)
+        × (0 < pass_parts task.pass)
     pub taken : NumbersRise (view task.pass).taken
-        × (end_of 0 (view task.pass).taken ≤ length bench.job.now.programs.items)
+        × (end_after 0 (view task.pass).taken ≤ length bench.job.now.programs.items)
     pub share : (0 < parts task.share) × EachAtMost (amounts task.share) (2 ^ 55)
     pub claims : task.claims ≤ 2 ^ 55
 

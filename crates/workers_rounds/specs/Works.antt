@@ -22,7 +22,7 @@ use Rattle.workers_shared.specs.declared.numbered.Numbered.{Numbered}
 use Rattle.workers_shared.specs.declared.hand.Hand.{Hand}
 use Rattle.workers_shared.specs.declared.bench.Bench.{Bench}
 use Rattle.workers_shared.specs.Monitors.{IsMonitorAt}
-use Rattle.workers_shared.specs.Hands.{hand, NumbersRise, end_of}
+use Rattle.workers_shared.specs.Hands.{hand, NumbersRise, end_after}
 use Rattle.workers_shared.specs.Benches.{IsPassOfBench}
 use Rattle.workers_rounds.specs.declared.work.Published.{Published}
 use Rattle.workers_rounds.specs.declared.work.Worked.{Worked}
@@ -31,8 +31,8 @@ use Rattle.workers_rounds.specs.declared.work.Worked.{Worked}
 abbrev pub IsSized : Window → Type 0
 IsSized w = (first_in w ≤ end_in w) × (end_in w - first_in w ≤ 65536)
 
-abbrev pub clock_of : Numbered → ℕ
-clock_of x = x.monitor.value.machine.state.standing.now
+abbrev pub monitor_clock_of : Numbered → ℕ
+monitor_clock_of x = x.monitor.value.machine.state.standing.now
 
 -- The batch of the job's monitor over the clocks from a to b.
 pub record IsBatch (j : Job) (a b : ℕ) (x : Numbered) (batch : Batch) : Type 0 where
@@ -81,9 +81,9 @@ pub record HasWorked {L : Type 0} (bench : Bench) (board : Board) (w : Window) (
   pub taken : view pass
       ≡ hand from.parts from.puts from.round from.put (from.taken ++ numbers_back published kept)
   pub rises : NumbersRise (view pass).taken
-      × (end_of 0 (view pass).taken ≤ length bench.job.now.programs.items)
+      × (end_after 0 (view pass).taken ≤ length bench.job.now.programs.items)
   pub at_end : All (IsPublished bench.job.now w board) published
-  pub at_own : IfSome kept (λ m. IsMonitorAt bench.job.now (clock_of m) m)
+  pub at_own : IfSome kept (λ m. IsMonitorAt bench.job.now (monitor_clock_of m) m)
   pub shared : (parts share ≡ parts given)
       × (amounts share ≡ plus (amounts given) (published_counts published))
   pub counted : claims ≡ claimed + length (numbers_back published kept)

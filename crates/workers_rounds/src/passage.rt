@@ -6,7 +6,7 @@ ghost use Rattle.workers_core.specs.declared.job.Job.{Job};
 ghost use Rattle.workers_core.specs.Standing.{MonitorStands};
 ghost use Rattle.workers_shared.specs.Monitors.{IsMonitorAt};
 ghost use Rattle.workers_shared.specs.Windows.{IsWindowFor};
-ghost use Rattle.workers_rounds.specs.Works.{IsSized, IsBatch, clock_of};
+ghost use Rattle.workers_rounds.specs.Works.{IsSized, IsBatch, monitor_clock_of};
 
 use arrayvec::ArrayVec;
 use cycle_window::Window;
@@ -24,7 +24,7 @@ pub(crate) fn pass_through(
     decided: &mut ArrayVec<Decided, 1024>,
 ) -> Result<Batch, AllocError>
     requires stands { MonitorStands window.now given.old.monitor.value }
-    requires here { clock_of given.old ≡ first_in window.now }
+    requires here { monitor_clock_of given.old ≡ first_in window.now }
     requires sized { IsSized window.now }
     ensures number { given.new.number ≡ given.old.number }
     ensures refused { OnErr result ((j : Job) (at : ℕ)

@@ -8,13 +8,13 @@ ghost use Rattle.workers_shared.specs.Shares.{parts};
 ghost use Rattle.workers_shared.specs.Monitors.{IsMonitorAt};
 ghost use Rattle.workers_shared.specs.Windows.{IsWindowFor};
 ghost use Rattle.workers_shared.specs.Hands.{hand, total, numbers};
-ghost use Rattle.workers_shared.specs.Passes.{parts_of, taken_of, TakesNone};
+ghost use Rattle.workers_shared.specs.Passes.{pass_parts, taken_of, TakesNone};
 ghost use Rattle.workers_shared.specs.Benches.{IsPassOfBench, room_of, round_of};
 ghost use Rattle.workers_rounds.specs.Works.{IsSized, IsPublished};
 ghost use Rattle.workers_rounds.specs.Works.{published_count};
-ghost use Rattle.workers_rounds.specs.Adding.{HaveAdded, kind_of, amount_of, added_by};
+ghost use Rattle.workers_rounds.specs.Adding.{HaveAdded, is_of_kind, amount_of, added_by};
 ghost use Rattle.workers_rounds.specs.Adding.{added_by_tasks};
-ghost use Rattle.workers_rounds.specs.Adding.{added_by_worked, counted_by};
+ghost use Rattle.workers_rounds.specs.Adding.{added_by_worked, kind_counted};
 ghost use Rattle.workers_rounds.specs.Runs.{upto, published_numbers, IsMember, Begins, EndsRound};
 ghost use Rattle.workers_rounds.specs.Runs.{TakenIs};
 
@@ -42,7 +42,7 @@ pub struct Member<L: Tallying> {
 /// Puts a round's monitors on the bench, in their order.
 pub fn put_all(rt: &impl Wait, bench: &Bench<'_>, mut pass: Pass, monitors: Vec<Numbered>) -> Pass
     requires of { IsPassOfBench bench.now pass }
-    requires may { ((view pass).puts ≡ true) × (0 < parts_of pass) × ((view pass).put ≡ []) }
+    requires may { ((view pass).puts ≡ true) × (0 < pass_parts pass) × ((view pass).put ≡ []) }
     requires order { numbers monitors.items ≡ upto 0 (vec_len monitors) }
     requires job { All (IsMonitorAt bench.now.job.now bench.now.at) monitors.items }
     requires room { vec_len monitors ≤ room_of bench.now }
@@ -114,7 +114,7 @@ fn gathered<L: Tallying>(
 ) -> Result<Results<L>, AllocError>
     requires { All (EndsRound bench.now board.now window.now) all.items }
     ensures of { IfOk result (λ r. All (IsPassOfBench bench.now) r.passes.items) }
-    ensures parts { IfOk result (λ r. total parts_of r.passes.items ≡ vec_len all) }
+    ensures parts { IfOk result (λ r. total pass_parts r.passes.items ≡ vec_len all) }
     ensures taken { IfOk result (λ r. TakenIs r.passes.items r.published.items) }
     ensures at_end { IfOk result (λ r.
         All (IsPublished bench.now.job.now window.now board.now) r.published.items) }
@@ -123,7 +123,7 @@ fn gathered<L: Tallying>(
     ensures added { (k : ℕ) → IfOk result (λ r.
         added_by k r.members.items ≡ added_by_worked k all.items) }
     ensures counted { (k : ℕ) → IfOk result (λ r.
-        published_count (kind_of k) r.published.items ≡ counted_by k all.items) }
+        published_count (is_of_kind k) r.published.items ≡ kind_counted k all.items) }
 {
     let _ = bench;
     let _ = board;
@@ -178,8 +178,8 @@ fn run_rest<L: Tallying, G: Gate, R: Wait>(
         (All (IsPublished job.now window.now board.now) published.new.items) }
     ensures part { parts share.new ≡ 1 }
     ensures added { (k : ℕ) → OnOk result
-        (amount_of k share.new + published_count (kind_of k) published.old.items
-        ≡ amount_of k share.old + published_count (kind_of k) published.new.items) }
+        (amount_of k share.new + published_count (is_of_kind k) published.old.items
+        ≡ amount_of k share.old + published_count (is_of_kind k) published.new.items) }
 {
     let _ = job;
     let mut decided = ArrayVec::new();

@@ -8,10 +8,10 @@ ghost use Rattle.workers_core.specs.Standing.{MonitorStands};
 ghost use Rattle.workers_shared.specs.Shares.{parts, amounts, EachAtMost};
 ghost use Rattle.workers_shared.specs.Monitors.{IsMonitorAt};
 ghost use Rattle.workers_shared.specs.Windows.{IsWindowFor};
-ghost use Rattle.workers_shared.specs.Hands.{NumbersRise, end_of};
-ghost use Rattle.workers_shared.specs.Passes.{parts_of};
+ghost use Rattle.workers_shared.specs.Hands.{NumbersRise, end_after};
+ghost use Rattle.workers_shared.specs.Passes.{pass_parts};
 ghost use Rattle.workers_shared.specs.Benches.{IsPassOfBench};
-ghost use Rattle.workers_rounds.specs.Works.{Works, IsSized, IsPublished, clock_of};
+ghost use Rattle.workers_rounds.specs.Works.{Works, IsSized, IsPublished, monitor_clock_of};
 
 use crate::passage::pass_through;
 use arrayvec::ArrayVec;
@@ -72,11 +72,12 @@ pub(crate) fn run_one(
     decided: &mut ArrayVec<Decided, 1024>,
 ) -> (Numbered, Option<Receipt>)
     requires stands { MonitorStands window.now given.monitor.value }
-    requires here { clock_of given ≡ first_in window.now }
+    requires here { monitor_clock_of given ≡ first_in window.now }
     requires sized { IsSized window.now }
     ensures number { result.0.number ≡ given.number }
     ensures refused { IfNone result.1 ((j : Job) → IsWindowFor j window.now
-        → IsMonitorAt j (first_in window.now) given → IsMonitorAt j (clock_of result.0) result.0) }
+        → IsMonitorAt j (first_in window.now) given
+        → IsMonitorAt j (monitor_clock_of result.0) result.0) }
     ensures published { IfSome result.1 (λ receipt. (j : Job) → IsWindowFor j window.now
         → IsMonitorAt j (first_in window.now) given
         → IsPublished j window.now board.now (record { monitor = result.0; receipt = receipt })) }
@@ -106,9 +107,9 @@ pub fn work<L: Tallying, G: Gate, R: Wait>(
     mut claims: u64,
 ) -> Worked<L>
     requires pass { IsPassOfBench bench.now pass × ((view pass).puts ≡ false)
-        × (0 < parts_of pass) }
+        × (0 < pass_parts pass) }
     requires taken { NumbersRise (view pass).taken
-        × (end_of 0 (view pass).taken ≤ length bench.now.job.now.programs.items) }
+        × (end_after 0 (view pass).taken ≤ length bench.now.job.now.programs.items) }
     requires window { IsWindowFor bench.now.job.now window.now × IsSized window.now }
     requires round { bench.now.at ≡ first_in window.now }
     requires share { (0 < parts share) × EachAtMost (amounts share) (2 ^ 55) }

@@ -10,10 +10,11 @@ use Rattle.crossbeam_queue.proofs.Lists.{at_set, at_snoc}
 use Rattle.workers_shared.specs.declared.numbered.Numbered.{Numbered}
 use Rattle.workers_shared.specs.declared.hand.Round.{Round}
 use Rattle.workers_shared.specs.declared.hand.Hand.{Hand}
-use Rattle.workers_shared.specs.Hands.{whole, total, NumbersRiseFrom, end_of, NumbersRise, number_of, numbers, hand}
+use Rattle.workers_shared.specs.Hands.{whole, total, NumbersRiseFrom, end_after, NumbersRise, monitor_number, numbers}
+use Rattle.workers_shared.specs.Hands.{hand}
 use Rattle.workers_shared.specs.Hands.{with_put}
 use Rattle.workers_shared.specs.Hands.{with_taken}
-use Rattle.workers_shared.specs.Hands.{joined, no_round, fresh, idle, Fits, AllFit, Kept, LeavesTaken, TakesOne}
+use Rattle.workers_shared.specs.Hands.{hands_joined, no_round, fresh, idle, Fits, AllFit, Kept, LeavesTaken, TakesOne}
 use Rattle.workers_shared.specs.Hands.{IsOfRound}
 
 -- ---- sums
@@ -44,16 +45,16 @@ two_of f (x ∷ xs) (suc i) (suc j) v u apart e h = omega (arith, two_of f xs i 
 
 -- ---- rising numbers
 
-rises_push : (low : ℕ) (xs : List ℕ) (x : ℕ) → NumbersRiseFrom low xs → end_of low xs ≤ x
+rises_push : (low : ℕ) (xs : List ℕ) (x : ℕ) → NumbersRiseFrom low xs → end_after low xs ≤ x
     → NumbersRiseFrom low (xs ++ x ∷ [])
 rises_push low [] x h above = (above, tt)
 rises_push low (y ∷ ys) x h above = (h.0, rises_push (y + 1) ys x h.1 above)
 
-pub end_push : (low : ℕ) (xs : List ℕ) (x : ℕ) → end_of low (xs ++ x ∷ []) ≡ x + 1
+pub end_push : (low : ℕ) (xs : List ℕ) (x : ℕ) → end_after low (xs ++ x ∷ []) ≡ x + 1
 end_push low [] x = refl
 end_push low (y ∷ ys) x = end_push (y + 1) ys x
 
-rises_after : (low : ℕ) (xs ys : List ℕ) → NumbersRiseFrom low (xs ++ ys) → NumbersRiseFrom (end_of low xs) ys
+rises_after : (low : ℕ) (xs ys : List ℕ) → NumbersRiseFrom low (xs ++ ys) → NumbersRiseFrom (end_after low xs) ys
 rises_after low [] ys h = h
 rises_after low (x ∷ xs) ys h = rises_after (x + 1) xs ys h.1
 
@@ -115,7 +116,7 @@ begins = record {
 }
 
 pub puts : (n pass : ℕ) (v : Hand) (x : Numbered) → 0 < v.parts → v.puts ≡ true → IsOfRound v.round x
-    → end_of 0 v.put ≤ x.number
+    → end_after 0 v.put ≤ x.number
     → Pushes Kept n pass v x (λ w. w ≡ with_put v x.number)
 puts n pass v x part may of_job order items views room k at =
     let w : Hand = with_put v x.number in
@@ -123,7 +124,7 @@ puts n pass v x part may of_job order items views room k at =
     let all : List ℕ = k.gone ++ numbers items in
     let grown : k.gone ++ numbers (items ++ x ∷ []) ≡ all ++ x.number ∷ [] = numbers_push k.gone items x in
     let put_is : v.put ≡ all = (mine.may_put may).1 in
-    let above : end_of 0 all ≤ x.number = subst (λ l. end_of 0 l ≤ x.number) put_is order in (
+    let above : end_after 0 all ≤ x.number = subst (λ l. end_after 0 l ≤ x.number) put_is order in (
       w,
       record {
         round = k.round;
@@ -160,9 +161,9 @@ takes pass v part x items views k at =
     let gone : List ℕ = k.gone ++ x.number ∷ [] in
     let same : gone ++ numbers items ≡ k.gone ++ numbers (x ∷ items) =
     append_assoc k.gone (x.number ∷ []) (numbers items) in
-    let above : end_of 0 k.gone ≤ x.number = (rises_after 0 k.gone (numbers (x ∷ items)) k.rises).0 in
-    let ended : end_of 0 gone ≡ x.number + 1 = end_push 0 k.gone x.number in
-    let rising : v.puts ≡ false → NumbersRise w.taken × (end_of 0 w.taken ≤ end_of 0 gone) =
+    let above : end_after 0 k.gone ≤ x.number = (rises_after 0 k.gone (numbers (x ∷ items)) k.rises).0 in
+    let ended : end_after 0 gone ≡ x.number + 1 = end_push 0 k.gone x.number in
+    let rising : v.puts ≡ false → NumbersRise w.taken × (end_after 0 w.taken ≤ end_after 0 gone) =
     (λ p. let r = mine.rises p in
     (rises_push 0 v.taken x.number r.0 (omega (arith, r.1)), omega (arith, end_push 0 v.taken x.number))) in (
       w,
@@ -249,9 +250,9 @@ deals pass v r some_parts may put taken first items views k at =
     }
 
 pub merges : (pass : ℕ) (v : Hand) (other : ℕ) (u : Hand) → v.puts ≡ true → 0 < v.parts
-    → Merges Kept pass v other u (joined v u) idle
+    → Merges Kept pass v other u (hands_joined v u) idle
 merges pass v other u may part items views k at two at' =
-    let both : Hand = joined v u in
+    let both : Hand = hands_joined v u in
     let mine = k.fits pass v at in
     let vs : List Hand = set views pass both in
     let F : ℕ → Hand → Type 0 = Fits k.round k.gone (k.gone ++ numbers items) k.putter in
@@ -361,7 +362,7 @@ numbers-append (x ∷ xs) ys = ap (λ l. x.number ∷ l) (numbers-append xs ys)
 
 -- of monitors whose numbers rise, the next stands above those before it
 pub next_rises : (all ys rest : List Numbered) (m : Numbered) → NumbersRise (numbers all) → ys ++ m ∷ rest ≡ all
-    → end_of 0 (numbers ys) ≤ m.number
+    → end_after 0 (numbers ys) ≤ m.number
 next_rises all ys rest m rises is =
     (rises_after 0 (numbers ys) (numbers (m ∷ rest)) (subst NumbersRise (ap numbers (sym is)
     ∙ numbers-append ys (m ∷ rest)) rises)).0

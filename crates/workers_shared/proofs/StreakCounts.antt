@@ -27,7 +27,7 @@ use Rattle.signals.specs.declared.verdict.Verdict.{Verdict}
 use Rattle.signals.specs.declared.verdict.Decided.{Decided}
 use Rattle.verdicts.specs.Tallies.{is_holds, is_vacuous, is_fails, is_disabled}
 use Rattle.machine_runs.specs.declared.streak.Streak.{Streak}
-use Rattle.machine_runs.specs.Streaks.{attempts_in, attempts_in_all}
+use Rattle.machine_runs.specs.Streaks.{streak_attempts, attempts_in_all}
 use Rattle.machine_runs.proofs.StreakLaws.{streak-more, streak-count, IsKind}
 use Rattle.machine_runs.proofs.StreakLaws.{kind-holds, kind-vacuous, kind-fails, kind-disabled}
 use Rattle.workers_shared.specs.Counts.{count_of, counts_of}
@@ -43,7 +43,7 @@ four : (a b c d e f g h : ℕ) → a ≡ e → b ≡ f → c ≡ g → d ≡ h �
 four a b c d e f g h i j k l = cc
 
 pub streak-counts : (s : Streak) →
-    counts_alike s.first.verdict s.count ≡ counts_of (attempts_in s)
+    counts_alike s.first.verdict s.count ≡ counts_of (streak_attempts s)
 streak-counts s =
     let holds = streak-count is_holds kind-holds s in
     let vacuous = streak-count is_vacuous kind-vacuous s in
@@ -55,10 +55,10 @@ streak-counts s =
 pub counts-more : (is : Verdict → Bool) (xs : List Streak) (i : ℕ) (s : Streak) → i < length xs →
     s ≡ get_or xs i s →
     count_of is (attempts_in_all (take (i + 1) xs))
-    ≡ count_of is (attempts_in_all (take i xs)) + count_of is (attempts_in s)
+    ≡ count_of is (attempts_in_all (take i xs)) + count_of is (streak_attempts s)
 counts-more is xs i s below same =
     ap (count_of is) (streak-more xs i s below same)
-    ∙ sum_by-append _ (attempts_in_all (take i xs)) (attempts_in s)
+    ∙ sum_by-append _ (attempts_in_all (take i xs)) (streak_attempts s)
 
 -- the first streaks have no more than all
 pub counts-few : (is : Verdict → Bool) (xs : List Streak) (i : ℕ) →
@@ -67,6 +67,6 @@ counts-few is xs i =
     let split : count_of is (attempts_in_all xs)
     ≡ count_of is (attempts_in_all (take i xs)) + count_of is (attempts_in_all (drop i xs)) =
     ap (λ (zs : List Streak). count_of is (attempts_in_all zs)) (sym (take-append-drop i xs))
-    ∙ ap (count_of is) (flat_map-append attempts_in (take i xs) (drop i xs))
+    ∙ ap (count_of is) (flat_map-append streak_attempts (take i xs) (drop i xs))
     ∙ sum_by-append _ (attempts_in_all (take i xs)) (attempts_in_all (drop i xs)) in
     omega (arith, split)

@@ -23,18 +23,18 @@ NumbersRiseFrom low [] = Unit {0}
 NumbersRiseFrom low (x ∷ xs) = (low ≤ x) × NumbersRiseFrom (x + 1) xs
 
 -- one past the last of rising numbers
-abbrev pub end_of : ℕ → List ℕ → ℕ
-end_of low [] = low
-end_of low (x ∷ xs) = end_of (x + 1) xs
+abbrev pub end_after : ℕ → List ℕ → ℕ
+end_after low [] = low
+end_after low (x ∷ xs) = end_after (x + 1) xs
 
 abbrev pub NumbersRise : List ℕ → Type 0
 NumbersRise xs = NumbersRiseFrom 0 xs
 
-abbrev pub number_of : Numbered → ℕ
-number_of m = m.number
+abbrev pub monitor_number : Numbered → ℕ
+monitor_number m = m.number
 
 abbrev pub numbers : List Numbered → List ℕ
-numbers ms = map number_of ms
+numbers ms = map monitor_number ms
 
 abbrev pub hand : ℕ → Bool → Option Round → List ℕ → List ℕ → Hand
 hand parts puts round put taken =
@@ -46,8 +46,8 @@ with_put v source = hand v.parts v.puts v.round (v.put ++ source ∷ []) v.taken
 abbrev pub with_taken : Hand → ℕ → Hand
 with_taken v source = hand v.parts v.puts v.round v.put (v.taken ++ source ∷ [])
 
-abbrev pub joined : Hand → Hand → Hand
-joined v w = hand (v.parts + w.parts) v.puts v.round v.put (v.taken ++ w.taken)
+abbrev pub hands_joined : Hand → Hand → Hand
+hands_joined v w = hand (v.parts + w.parts) v.puts v.round v.put (v.taken ++ w.taken)
 
 abbrev pub no_round : Option Round
 no_round = None
@@ -70,7 +70,7 @@ pub record Fits (round : Option Round) (gone all : List ℕ) (putter pass : ℕ)
     Type 0 where
   pub idle : v.parts ≡ 0 → v.taken ≡ []
   pub same_round : 0 < v.parts → v.round ≡ round
-  pub rises : v.puts ≡ false → NumbersRise v.taken × (end_of 0 v.taken ≤ end_of 0 gone)
+  pub rises : v.puts ≡ false → NumbersRise v.taken × (end_after 0 v.taken ≤ end_after 0 gone)
   pub may_put : v.puts ≡ true → (pass ≡ putter) × (v.put ≡ all)
 
 abbrev pub AllFit : (ℕ → Hand → Type 0) → List Hand → Type 0

@@ -5,14 +5,15 @@ use Rattle.verifier.specs.Programs.{IsAccepted}
 use Rattle.machine_definition.specs.Outcomes.{done}
 use Rattle.machine_definition.specs.Machine.{opening, clocks}
 use Rattle.workers_core.specs.declared.job.Job.{Job}
-use Rattle.workers_core.specs.Opening.{part_of, parts_from}
+use Rattle.workers_core.specs.Opening.{monitor_part, parts_from}
 use Rattle.workers_core.specs.Values.{Says, job_value, rows_over}
 use Rattle.workers_shared.specs.declared.numbered.Numbered.{Numbered}
 
 -- It is the job's monitor of its number, stands at this clock, has nothing to tell, and is in the
 -- checked machine's state over the trace's first rows.
 pub record IsMonitorAt (j : Job) (at : ℕ) (x : Numbered) : Type 0 where
-  pub part : slice_get (parts_from 0 j.programs.items) x.number ≡ Some (part_of x.monitor.value)
+  pub part : slice_get (parts_from 0 j.programs.items) x.number
+      ≡ Some (monitor_part x.monitor.value)
   pub accepted : IsAccepted x.monitor.value.machine.program
   pub declared : x.monitor.value.machine.program.header.limits.attempts ≤ x.monitor.value.attempts
   pub now : x.monitor.value.machine.state.standing.now ≡ at

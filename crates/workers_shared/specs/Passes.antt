@@ -14,8 +14,8 @@ PutsNone round workers pass = view pass ≡ fresh (whole - workers) true round
 abbrev pub TakesNone : Option Round → Pass Numbered Hand → Type 0
 TakesNone round pass = view pass ≡ fresh 1 false round
 
-abbrev pub parts_of : Pass Numbered Hand → ℕ
-parts_of pass = (view pass).parts
+abbrev pub pass_parts : Pass Numbered Hand → ℕ
+pass_parts pass = (view pass).parts
 
 -- what the pass took, each weighed by h
 abbrev pub taken_of : (ℕ → ℕ) → Pass Numbered Hand → ℕ

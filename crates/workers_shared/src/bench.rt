@@ -35,9 +35,10 @@ impl<'j> Bench<'j> {
     ghost use Rattle.std.specs.Prelude.{vec_len, length};
     ghost use Rattle.crossbeam_queue.specs.Passes.{view};
     ghost use Rattle.workers_shared.specs.Monitors.{IsMonitorAt};
-    ghost use Rattle.workers_shared.specs.Hands.{whole, total, end_of, with_put, TakesOne, numbers};
+    ghost use Rattle.workers_shared.specs.Hands.{whole, total, end_after, with_put, TakesOne};
+    ghost use Rattle.workers_shared.specs.Hands.{numbers};
     ghost use Rattle.workers_shared.specs.Benches.{IsPassOfBench, room_of, round_of, round_at};
-    ghost use Rattle.workers_shared.specs.Passes.{PutsNone, TakesNone, parts_of, taken_of};
+    ghost use Rattle.workers_shared.specs.Passes.{PutsNone, TakesNone, pass_parts, taken_of};
 
     /// A bench for the job's round from the clock `at`, with room for so many monitors, 1 to 4,096;
     /// the pass that puts; and for each of 1 to 64 workers a pass that takes. No other call takes
@@ -103,9 +104,9 @@ impl<'j> Bench<'j> {
     /// the bench was full.
     pub fn put(&self, rt: &impl Wait, mut pass: Pass, monitor: Numbered) -> (Pass, Option<Numbered>)
         requires of { IsPassOfBench self.now pass }
-        requires may { ((view pass).puts ≡ true) × (0 < parts_of pass) }
+        requires may { ((view pass).puts ≡ true) × (0 < pass_parts pass) }
         requires job { IsMonitorAt self.now.job.now self.now.at monitor }
-        requires order { end_of 0 (view pass).put ≤ monitor.number }
+        requires order { end_after 0 (view pass).put ≤ monitor.number }
         ensures of { IsPassOfBench self.now result.0 }
         ensures put { IfNone result.1 (view result.0 ≡ with_put (view pass) monitor.number) }
         ensures back { IfSome result.1 (λ m. (m ≡ monitor) × (view result.0 ≡ view pass)) }
@@ -118,12 +119,12 @@ impl<'j> Bench<'j> {
     /// Takes the front monitor, if there is one, and gives the pass back.
     pub fn claim(&self, rt: &impl Wait, mut pass: Pass) -> (Pass, Option<Numbered>)
         requires of { IsPassOfBench self.now pass }
-        requires may { 0 < parts_of pass }
+        requires may { 0 < pass_parts pass }
         ensures of { IsPassOfBench self.now result.0 }
         ensures some { IfSome result.1 (λ m. TakesOne (view pass) m (view result.0)) }
         ensures job { IfSome result.1 (λ m. IsMonitorAt self.now.job.now self.now.at m) }
         ensures none { IfNone result.1 (view result.0 ≡ view pass) }
-        ensures same { parts_of result.0 ≡ parts_of pass }
+        ensures same { pass_parts result.0 ≡ pass_parts pass }
     {
         let monitor = self.queue.pop_as::<Takes, _>(rt, &mut pass);
         (pass, monitor)
@@ -133,8 +134,8 @@ impl<'j> Bench<'j> {
     /// puts, and all those that take.
     pub fn finish(self, rt: &impl Wait, pass: Pass, passes: Vec<Pass>) -> Vec<Numbered>
         requires of { IsPassOfBench self pass × All (IsPassOfBench self) passes.items }
-        requires may { ((view pass).puts ≡ true) × (0 < parts_of pass) }
-        requires all { parts_of pass + total parts_of passes.items ≡ whole }
+        requires may { ((view pass).puts ≡ true) × (0 < pass_parts pass) }
+        requires all { pass_parts pass + total pass_parts passes.items ≡ whole }
         // What was put is what the passes took and what is left, each as often: however the numbers
         // are weighed, the two weigh the same.
         ensures rest { (h : ℕ → ℕ) → total h (view pass).put

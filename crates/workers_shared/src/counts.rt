@@ -1,7 +1,7 @@
 //! How many verdicts of each kind a batch has.
 
 ghost use Rattle.std.specs.Prelude.{◌≡◌, ◌^◌};
-ghost use Rattle.machine_runs.specs.Streaks.{attempts_in};
+ghost use Rattle.machine_runs.specs.Streaks.{streak_attempts};
 ghost use Rattle.workers_shared.specs.Counts.{counts_of};
 ghost use Rattle.workers_shared.specs.Shares.{EachAtMost};
 
@@ -10,7 +10,7 @@ use signals::Verdict;
 
 /// How many attempts of the streak hold, are vacuous, fail and are disabled.
 fn streak_counts(streak: &Streak) -> [u64; 4]
-    ensures { result ≡ counts_of (attempts_in streak.now) }
+    ensures { result ≡ counts_of (streak_attempts streak.now) }
 {
     let count = streak.count;
     match streak.first.verdict {

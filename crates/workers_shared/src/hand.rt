@@ -65,9 +65,9 @@ impl<K: Rounding> Split<Hand> for Deals<K> {
 pub struct Gathers;
 
 impl Join<Hand> for Gathers {
-    ghost use Rattle.workers_shared.specs.Hands.{joined, idle};
+    ghost use Rattle.workers_shared.specs.Hands.{hands_joined, idle};
 
-    ghost both = { joined };
+    ghost both = { hands_joined };
 
     ghost spent = { idle };
 }

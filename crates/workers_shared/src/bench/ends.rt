@@ -2,7 +2,7 @@
 ghost use Rattle.std.specs.Prelude.{◌≡◌, ◌≤◌, ◌<◌, ◌+◌, ℕ, true, [], All, vec_capacity};
 ghost use Rattle.crossbeam_queue.specs.Passes.{view, IsPassOf, ruled_capacity};
 ghost use Rattle.workers_shared.specs.Hands.{whole, total, numbers, IsOfRound};
-ghost use Rattle.workers_shared.specs.Passes.{parts_of, taken_of};
+ghost use Rattle.workers_shared.specs.Passes.{pass_parts, taken_of};
 
 use super::Pass;
 use crate::hand::{Fair, Gathers, Hand, Whole};
@@ -17,10 +17,10 @@ pub(super) fn gather(
     mut passes: Vec<Pass>,
 ) -> Pass
     requires of { IsPassOf queue.now pass × All (IsPassOf queue.now) passes.items }
-    requires may { ((view pass).puts ≡ true) × (0 < parts_of pass) }
-    requires all { parts_of pass + total parts_of passes.items ≡ whole }
+    requires may { ((view pass).puts ≡ true) × (0 < pass_parts pass) }
+    requires all { pass_parts pass + total pass_parts passes.items ≡ whole }
     ensures of { IsPassOf queue.now result }
-    ensures whole { (parts_of result ≡ whole) × ((view result).puts ≡ true) }
+    ensures whole { (pass_parts result ≡ whole) × ((view result).puts ≡ true) }
     ensures put { ((view result).put ≡ (view pass).put)
         × ((view result).round ≡ (view pass).round) }
     ensures taken { (h : ℕ → ℕ) → taken_of h result
@@ -40,7 +40,7 @@ pub(super) fn drain(
     mut rest: Vec<Numbered>,
 ) -> Vec<Numbered>
     requires of { IsPassOf queue.now pass }
-    requires whole { (parts_of pass ≡ whole) × ((view pass).puts ≡ true) }
+    requires whole { (pass_parts pass ≡ whole) × ((view pass).puts ≡ true) }
     requires room { (rest.items ≡ []) × (ruled_capacity queue.now ≤ vec_capacity rest) }
     ensures rest { (h : ℕ → ℕ) → total h (view pass).put
         ≡ taken_of h pass + total h (numbers result.items) }

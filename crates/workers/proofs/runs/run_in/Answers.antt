@@ -12,7 +12,7 @@ use Rattle.verdicts.specs.Lines.{LineData, ReportData, report_of}
 use Rattle.verdicts.specs.Shown.{data_of}
 use Rattle.workers_core.specs.Values.{job_value}
 use Rattle.workers_lines.specs.Lines.{AreLinesOf}
-use Rattle.workers.specs.Tallied.{shared_by, said_by}
+use Rattle.workers.specs.Tallied.{shared_by, lines_said}
 use Rattle.workers.proofs.runs.run_in.Goals as goal
 
 pub run_rounds-requires-clause-between : goal.run_rounds-requires-clause-between
@@ -68,7 +68,7 @@ report_with-requires g c =
     let shares = c.in_ok-shares.shares.items in
     let lines = c.in_ok-lines.lines.items in
     c.total-totals.ensures
-    ∙ four-held (λ (k : ℕ). shared_by k shares) (λ (k : ℕ). said_by k lines)
+    ∙ four-held (λ (k : ℕ). shared_by k shares) (λ (k : ℕ). lines_said k lines)
     (λ k.
     c.in_ok-shares.ensures.added k
     ∙ (c.in_ok-members-2.ensures.tallied k ∙ sym (c.in_ok-lines.ensures.kinds k)))

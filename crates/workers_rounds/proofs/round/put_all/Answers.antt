@@ -4,7 +4,7 @@ use Rattle.workers_shared.specs.Monitors.{IsMonitorAt}
 use Rattle.std.specs.Vec.Iter.{into_iter_items}
 use Rattle.workers_shared.specs.declared.hand.Hand.{Hand}
 use Rattle.workers_shared.specs.declared.numbered.Numbered.{Numbered}
-use Rattle.workers_shared.specs.Hands.{end_of, numbers, NumbersRise}
+use Rattle.workers_shared.specs.Hands.{end_after, numbers, NumbersRise}
 use Rattle.workers_shared.proofs.Keeps.{next_rises}
 use Rattle.workers_rounds.proofs.Orders.{rises_upto, middle}
 use Rattle.workers_rounds.proofs.round.put_all.Goals as goal
@@ -16,7 +16,7 @@ put-back-requires-clause-order g c =
     let above = next_rises c.args.monitors.items c.loop-monitor.yielded (into_iter_items c.next.new.self) m
     (subst NumbersRise (sym c.requires.order) (rises_upto 0 (vec_len c.args.monitors)))
     (ap (λ l. c.loop-monitor.yielded ++ l) (sym steps.0) ∙ was.2) in
-    subst (λ (v : Hand). end_of 0 v.put ≤ m.number) (sym was.1) above
+    subst (λ (v : Hand). end_after 0 v.put ≤ m.number) (sym was.1) above
 
 pub put-back-requires-clause-job : goal.put-back-requires-clause-job
 put-back-requires-clause-job g c =

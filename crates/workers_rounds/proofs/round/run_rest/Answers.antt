@@ -12,7 +12,7 @@ use Rattle.machine_runs.specs.declared.batch.Batch.{Batch}
 use Rattle.workers_shared.specs.Shares.{amounts, plus, EachAtMost}
 use Rattle.workers_shared.specs.Counts.{count_of, counts_of}
 use Rattle.workers_shared.specs.Receipts.{shown_by}
-use Rattle.workers_rounds.specs.Adding.{kind_of, amount_of}
+use Rattle.workers_rounds.specs.Adding.{is_of_kind, amount_of}
 use Rattle.workers_rounds.proofs.Added.{same-amount, more-amount, counts-push}
 use Rattle.workers_rounds.proofs.Placing.{stands-at}
 use Rattle.workers_rounds.proofs.Running.{fits-one}
@@ -88,14 +88,14 @@ loop-monitor-preserved g c =
           let one : amount_of k c.is_within.new.share ≡ amount_of k c.loop-monitor.share =
           same-amount k _ _ c.is_within.ensures.same in
           let grown : amount_of k c.add-totals.new.share
-          ≡ amount_of k c.is_within.new.share + count_of (kind_of k) (shown_by p.receipt).decided.items =
+          ≡ amount_of k c.is_within.new.share + count_of (is_of_kind k) (shown_by p.receipt).decided.items =
           more-amount k c.is_within.new.share c.add-totals.new.share (shown_by p.receipt).decided.items
           (c.add-totals.ensures.grown
           ∙ ap (λ (b : Batch). plus (amounts c.is_within.new.share)
           (counts_of b.decided.items)) c.read.ensures) in
-          let more : published_count (kind_of k) c.push.new.self.items
-          ≡ published_count (kind_of k) c.loop-monitor.published.items + count_of (kind_of k)
+          let more : published_count (is_of_kind k) c.push.new.self.items
+          ≡ published_count (is_of_kind k) c.loop-monitor.published.items + count_of (is_of_kind k)
           (shown_by p.receipt).decided.items =
-          counts-push (kind_of k) c.loop-monitor.published.items c.push.new.self.items p pushed in
+          counts-push (is_of_kind k) c.loop-monitor.published.items c.push.new.self.items p pushed in
           omega (arith, was.4 k)),
     )

@@ -7,7 +7,7 @@ use Rattle.machine_samples.specs.Runs.{HasRun}
 use Rattle.machine_samples.proofs.RowLaws.{AreRows-pushed}
 use Rattle.machine.specs.Live.{standing_of, HasAdvanced}
 use Rattle.machine.specs.Memory.{state_of}
-use Rattle.machine.specs.SampleCode.{rows_of}
+use Rattle.machine.specs.SampleCode.{newest_rows}
 use Rattle.machine.proofs.RowLaws.{whole-row}
 use Rattle.std.proofs.Math.ListN.{length-map}
 use Rattle.machine_definition.specs.Outcomes.{done}
@@ -23,7 +23,7 @@ counted f xs = rw length-map refl
 pub run-cost-requires-clause-rows : goal.run-cost-requires-clause-rows
 run-cost-requires-clause-rows c =
     let p = data_of c.args.program.now in
-    subst (λ ws. AreRows p ws (rows_of p c.args.self.now.code c.args.self.now.history))
+    subst (λ ws. AreRows p ws (newest_rows p c.args.self.now.code c.args.self.now.history))
     (sym c.as_slice.ensures.value) c.requires.memory.history
 
 pub run-cost-requires-clause-values : goal.run-cost-requires-clause-values
@@ -53,8 +53,8 @@ returns-clause-memory c =
     let s = state_of p c.args.self.now in
     let widths = c.args.self.now.frame.slots.items in
     let row = 1 ∷ (c.args.signals.now ++ c.args.self.now.counters.items) in
-    let before = rows_of p c.args.self.now.code c.args.self.now.history in
-    let after = rows_of p c.run-cost.new.self c.run-cost.new.history in
+    let before = newest_rows p c.args.self.now.code c.args.self.now.history in
+    let after = newest_rows p c.run-cost.new.self c.run-cost.new.history in
     let pushed-is : after ≡ pushed before row =
     c.run-cost.ensures.pushed
     ∙ ap (λ l. pushed before (1 ∷ (c.args.signals.now ++ l))) c.as_mut_slice-2.ensures.value in
@@ -109,8 +109,8 @@ returns-clause-clock c =
     let s = state_of p c.args.self.now in
     let widths = c.args.self.now.frame.slots.items in
     let row = 1 ∷ (c.args.signals.now ++ c.args.self.now.counters.items) in
-    let before = rows_of p c.args.self.now.code c.args.self.now.history in
-    let after = rows_of p c.run-cost.new.self c.run-cost.new.history in
+    let before = newest_rows p c.args.self.now.code c.args.self.now.history in
+    let after = newest_rows p c.run-cost.new.self c.run-cost.new.history in
     let pushed-is : after ≡ pushed before row =
     c.run-cost.ensures.pushed
     ∙ ap (λ l. pushed before (1 ∷ (c.args.signals.now ++ l))) c.as_mut_slice-2.ensures.value in

@@ -5,7 +5,7 @@ use Rattle.workers_shared.specs.declared.hand.Round.{Round}
 use Rattle.std.specs.Prelude.{Option}
 use Rattle.workers_shared.specs.declared.hand.Hand.{Hand}
 use Rattle.workers_shared.specs.Hands.{IsOfRound, total, numbers}
-use Rattle.workers_shared.specs.Passes.{parts_of, taken_of}
+use Rattle.workers_shared.specs.Passes.{pass_parts, taken_of}
 use Rattle.workers_shared.proofs.Keeps.{takes, leaves, left_count, none_left, total_push, weigh_pushed, all_pushed}
 use Rattle.workers_shared.proofs.Keeps.{none_fail}
 use Rattle.workers_shared.proofs.bench.ends.drain.Goals as goal
