@@ -12,3 +12,4 @@ pub mod SampleLaws
 pub mod MemoryLaws
 pub mod OwnLaws
 pub mod AgainLaws
+pub mod SteadyLaws

@@ -74,7 +74,8 @@ fn open_obligation(accepted: bool, program: &Program, now: u64, pool: &mut Pool<
 impl Live {
     /// Whether nothing is live.
     pub(crate) fn is_idle(&self) -> bool
-        ensures { IsTrue result → (self.now.attempts.live ≡ []) × (self.now.obligations.live ≡ []) }
+        ensures { IsTrue result → (self.entry.now.attempts.live ≡ [])
+            × (self.entry.now.obligations.live ≡ []) }
     {
         self.attempts.len() == 0 && self.obligations.len() == 0
     }

@@ -115,7 +115,6 @@ impl Memory {
     pub(crate) fn is_newest(&self, program: &Program, signals: &[u128]) -> bool
         requires accepted { IsAccepted (data_of program.now) }
         requires memory { IsMemory (data_of program.now) self.now }
-        requires row { IsRowOf (data_of program.now) signals.now }
         ensures { IsTrue result → newest_in (data_of program.now) self.now.code
             ≡ 1 ∷ (signals.now ++ self.now.counters.items) }
     {
