@@ -1,6 +1,6 @@
 //! What is live between clocks.
 
-ghost use Rattle.std.specs.Prelude.{◌≡◌, ◌+◌, ◌^◌, ◌<◌, ◌≤◌, ◌++◌, ◌∷◌, [], Some, length};
+ghost use Rattle.std.specs.Prelude.{◌≡◌, ◌+◌, ◌^◌, ◌<◌, ◌≤◌, ◌++◌, ◌∷◌, [], Some, length, IsTrue};
 ghost use Rattle.bytecode.specs.Programs.{data_of};
 ghost use Rattle.verifier.specs.Programs.{IsAccepted};
 ghost use Rattle.machine_definition.specs.Clocks.{disabling};
@@ -72,6 +72,14 @@ fn open_obligation(accepted: bool, program: &Program, now: u64, pool: &mut Pool<
 }
 
 impl Live {
+    /// Whether nothing is live.
+    pub(crate) fn is_idle(&self) -> bool
+        ensures { IsTrue result → (self.entry.now.attempts.live ≡ [])
+            × (self.entry.now.obligations.live ≡ []) }
+    {
+        self.attempts.len() == 0 && self.obligations.len() == 0
+    }
+
     /// A clock, by the pools.
     fn full_clock(
         &mut self,
@@ -188,7 +196,7 @@ impl Live {
             (standing_of self.new.now self.new.attempts self.new.obligations)
             left.new out.new.items }
     {
-        if self.attempts.len() == 0 && self.obligations.len() == 0 {
+        if self.is_idle() {
             self.own_clock(program, bases, atoms, left, out);
             return;
         }

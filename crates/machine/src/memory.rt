@@ -1,6 +1,6 @@
 //! The memory of a machine.
 
-ghost use Rattle.std.specs.Prelude.{◌≡◌, ◌+◌, ◌^◌, ◌<◌, ◌≤◌, length, IfOk};
+ghost use Rattle.std.specs.Prelude.{◌≡◌, ◌+◌, ◌^◌, ◌<◌, ◌≤◌, ◌∷◌, ◌++◌, length, IfOk, IsTrue};
 ghost use Rattle.std.specs.Prelude.{replicate, false, vec_capacity};
 ghost use Rattle.bytecode.specs.Programs.{data_of};
 ghost use Rattle.verifier.specs.Programs.{IsAccepted};
@@ -8,6 +8,7 @@ ghost use Rattle.machine_definition.specs.Machine.{opening};
 ghost use Rattle.machine.specs.Code.{AreBasesOf};
 ghost use Rattle.machine.specs.Memory.{IsLiveAtFirst, IsMemory, state_of, running_of};
 ghost use Rattle.machine.specs.Running.{IsOneClock, IsRowOf};
+ghost use Rattle.machine.specs.Again.{newest_in};
 
 use crate::bases::Bases;
 use crate::live::Live;
@@ -110,6 +111,17 @@ impl Memory {
         })
     }
 
+    /// Whether the newest row has these values of the signals, and the counters as they stand.
+    pub(crate) fn is_newest(&self, program: &Program, signals: &[u128]) -> bool
+        requires accepted { IsAccepted (data_of program.now) }
+        requires memory { IsMemory (data_of program.now) self.now }
+        ensures { IsTrue result → newest_in (data_of program.now) self.now.code
+            ≡ 1 ∷ (signals.now ++ self.now.counters.items) }
+    {
+        self.code
+            .is_newest(program, signals, self.counters.as_slice())
+    }
+
     /// A clock over the values of the signals: it adds what it decides to `out`, and answers its
     /// cost.
     pub(crate) fn clock(
@@ -127,6 +139,9 @@ impl Memory {
         ensures clock { IsOneClock (running_of (data_of program.now) self.old 0)
             signals.now out.old.items
             (running_of (data_of program.now) self.new result) out.new.items }
+        ensures within { result ≤ (data_of program.now).header.limits.budget }
+        ensures newest { newest_in (data_of program.now) self.new.code
+            ≡ 1 ∷ (signals.now ++ self.old.counters.items) }
     {
         let budget = u64::from(program.limits.budget);
         let cost = self.code.run(

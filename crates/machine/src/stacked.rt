@@ -43,6 +43,7 @@ impl Stacked {
             result atoms.new counters.new }
         ensures cost { result ≤ longest_run (data_of program.now) }
         ensures kept { AreValues (data_of program.now).counters counters.new }
+        ensures newest { self.new.row.items ≡ 1 ∷ (signals.now ++ counters.old) }
     {
         fill_row(&mut self.row, signals, counters);
         history.push(&self.row);
