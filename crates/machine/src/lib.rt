@@ -21,9 +21,9 @@
 //! ```
 //!
 //! A contract sees the program, the state of the checked machine, and the cost of the last clock:
-//! `specs/Running.antt`; what is noted of the last clocks, in `specs/Again.antt`. The definitions of
-//! a clock stand in `machine_definition`: `clock` there
-//! says what a clock comes to, with every test that it could fail.
+//! `specs/Running.antt`. What is noted of the last clocks: `specs/Again.antt`. The definitions of a
+//! clock stand in `machine_definition`: `clock` there says what a clock comes to, with every test
+//! that it could fail.
 //!
 //! Not promised: that memory suffices for a machine, or that a foreign program means anything.
 #![tactic(auto)]
