@@ -2,7 +2,7 @@
 -- (options) and subcommands; `subcommand_of` says which subcommand words name, and with which
 -- rows (an option's id, and the values behind it or else its defaults).
 use Rattle.std.specs.Prelude.{◌≡◌, ℕ, ◌≤◌, List, [], ◌∷◌, Option, Some, None, Ok, true, codes}
-use Rattle.std.specs.Prelude.{String, string_bytes}
+use Rattle.std.specs.Prelude.{String, string_bytes, Bool, false, ◌||◌, bytes_eq}
 use Rattle.std.specs.Global.{Global}
 use Rattle.std.specs.Option.{option_map}
 use Rattle.std.specs.Str.Parse.{ParsesUnsigned}
@@ -69,8 +69,11 @@ dump_app name other =
 abbrev pub text_app : Text → App
 text_app name = with_rule (dump_app name (codes "sva")) axi_rule
 
+-- with options for files into which other forms of the report are written
 abbrev pub check_app : App
-check_app = with_rule (with_rule (text_app (codes "check")) workers_rule) window_rule
+check_app =
+    let team = with_rule (with_rule (text_app (codes "check")) workers_rule) window_rule in
+    with_rule (with_rule team (option_rule (codes "junit"))) (option_rule (codes "json"))
 
 abbrev pub build_app : App
 build_app =
@@ -99,10 +102,10 @@ upgrade_app =
     with_rule (with_rule (new_app (codes "upgrade")) (word_rule (codes "code")))
     (file_rule (codes "out"))
 
--- `svamon`, which wants a subcommand
+-- `svamon`, which has a version and wants a subcommand
 abbrev pub svamon_top : App
 svamon_top = record (new_app (codes "svamon")) {
-  top = record (new_app (codes "svamon")).top { subcommand_required = true };
+  top = record (new_app (codes "svamon")).top { has_version = true; subcommand_required = true };
 }
 
 -- with the first three of its commands
@@ -159,6 +162,10 @@ HasWanted rows only start most =
     Gives (codes "only") rows only × GivesNumber (codes "start") rows start
     × IsNumber (codes "most") 65536 rows most
 
+-- the files into which other forms of the report are written, if there are any
+abbrev pub HasForms : List Row → Option (String Global) → Option (String Global) → Type 0
+HasForms rows junit json = Gives (codes "junit") rows junit × Gives (codes "json") rows json
+
 -- a dump, and a program to run over it
 abbrev pub HasProgram : List Row → String Global → String Global → Type 0
 HasProgram rows vcd code =
@@ -166,7 +173,7 @@ HasProgram rows vcd code =
 
 -- the command that makes such a request
 abbrev pub command_of : Request → Text
-command_of (Check vcd sva axi workers window) = codes "check"
+command_of (Check vcd sva axi workers window junit json) = codes "check"
 command_of (Build vcd sva axi name out) = codes "build"
 command_of (Verify code) = codes "verify"
 command_of (Run vcd code workers window) = codes "run"
@@ -177,8 +184,8 @@ command_of (Upgrade code out) = codes "upgrade"
 
 -- the request has what the rows of its command give
 abbrev pub IsGiven : List Row → Request → Type 0
-IsGiven rows (Check vcd sva axi workers window) =
-    HasText rows vcd sva axi × HasTeam rows workers window
+IsGiven rows (Check vcd sva axi workers window junit json) =
+    HasText rows vcd sva axi × HasTeam rows workers window × HasForms rows junit json
 IsGiven rows (Build vcd sva axi name out) = HasText rows vcd sva axi × HasOutput rows name out
 IsGiven rows (Verify code) = Gives (codes "code") rows (Some code)
 IsGiven rows (Run vcd code workers window) =
@@ -200,6 +207,13 @@ pub record IsNamed (matches : ArgMatches) (request : Request) : Type 0 where
   pub rows : List Row
   pub entered : subcommand_rows_of matches ≡ Some (command_of request, rows)
   pub given : IsGiven rows request
+
+-- the first word behind the program's name asks for its version
+abbrev pub asks_for_version : List Text → Bool
+asks_for_version [] = false
+asks_for_version (name ∷ []) = false
+asks_for_version (name ∷ word ∷ words) =
+    bytes_eq word (codes "--version") || bytes_eq word (codes "-V")
 
 -- the words ask for this: they name its command, with these rows
 pub record IsAsked (words : List Text) (request : Request) : Type 0 where

@@ -4,12 +4,13 @@ ghost use Rattle.std.specs.Prelude.{◌≡◌, Some, IfOk, true, false, codes};
 ghost use Rattle.clap.specs.Words.{App, app_of, rule_of, new_app, with_rule, with_subcommand};
 ghost use Rattle.clap.specs.declared.builder.value_parser.ValueParser.TheVariants.{Unsigned};
 ghost use Rattle.cli_words.specs.Words.{file_rule, word_rule, axi_rule, workers_rule};
-ghost use Rattle.cli_words.specs.Words.{window_rule};
+ghost use Rattle.cli_words.specs.Words.{option_rule, window_rule};
 ghost use Rattle.cli_words.specs.Words.{text_app, check_app, build_app, verify_app, run_app};
 ghost use Rattle.cli_words.specs.Words.{judge_app, rules_app, upgrade_app, first_app};
 ghost use Rattle.cli_words.specs.Words.{explain_app, only_rule, start_rule, most_rule};
 ghost use Rattle.cli_words.specs.Words.{svamon_app};
 
+use crate::release::VERSION;
 use clap::{Arg, Command, value_parser};
 use std::alloc::{AllocError, Global};
 
@@ -135,6 +136,17 @@ fn most_option<'a>(alloc: Global) -> Arg<'a>
     within_sizes(option)
 }
 
+/// The option for a file into which another form of the report is written, which may be left out.
+fn form_option<'a>(alloc: Global, name: &'a str, help: &'a str) -> Arg<'a>
+    ensures rule { rule_of result ≡ option_rule name.entry.now }
+    ensures local { result.global ≡ false }
+{
+    Arg::new(alloc, name)
+        .long(name)
+        .value_name("FILE")
+        .help(help)
+}
+
 /// A command that reads a dump and another file.
 fn dump_command<'a>(
     alloc: Global,
@@ -170,9 +182,17 @@ fn check_command<'a>(alloc: Global) -> Result<Command<'a>, AllocError>
     ensures { IfOk result (λ c. app_of c ≡ check_app) }
 {
     let about = "Judges assertions over a dump and prints the report";
+    let junit = form_option(
+        alloc,
+        "junit",
+        "Writes the report into a file, as JUnit's XML",
+    );
+    let json = form_option(alloc, "json", "Writes the report into a file, as JSON");
     text_command(alloc, "check", about)?
         .arg(workers_option(alloc))?
-        .arg(window_option(alloc))
+        .arg(window_option(alloc))?
+        .arg(junit)?
+        .arg(json)
 }
 
 fn build_command<'a>(alloc: Global) -> Result<Command<'a>, AllocError>
@@ -251,6 +271,7 @@ fn first_commands<'a>(alloc: Global) -> Result<Command<'a>, AllocError>
 {
     let svamon = Command::new(alloc, "svamon")
         .about("Checks SystemVerilog assertions over recorded waveforms")
+        .version(VERSION)
         .subcommand_required(true);
     let svamon = with_subcommand(svamon, check_command(alloc))?;
     let svamon = with_subcommand(svamon, build_command(alloc))?;

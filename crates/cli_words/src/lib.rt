@@ -2,7 +2,7 @@
 //!
 //! ```text
 //! match read_words(alloc, &["svamon", "check", "--vcd", "top.vcd", "--sva", "rules.sva"]) {
-//!     Ok(Request::Check { vcd, sva, axi, workers, window }) => ..,   // paths, None, 4 and 1,024
+//!     Ok(Request::Check { vcd, sva, axi, workers, window, junit, json }) => ..,
 //!     Ok(Request::Build { vcd, sva, axi, name, out }) => ..,
 //!     Ok(Request::Verify { code }) => ..,
 //!     Ok(Request::Run { vcd, code, workers, window }) => ..,
@@ -18,18 +18,21 @@
 //! The words are read by `clap`, and what they give is `clap`'s own definition of that
 //! (`subcommand_of`, for a command written out in `specs/Words.antt`): the command that is named,
 //! and for each of its options the value behind it or else its default; the file of `verify` and
-//! that of `upgrade` is a word alone, and `--axi` may be left out where a text is read, which gives
-//! None. The contract of `read_words` says that a request is that command with those values, that
-//! there are 1 to 64 workers, that a window has from 1 to 65,536 clocks, and that so many attempts
-//! are explained at most. Not promised: which words are refused, and with what text; tests show
-//! that.
+//! that of `upgrade` is a word alone, and `--axi` may be left out where a text is read, as may
+//! `--junit` and `--json` of `check`, which gives None. The contract of `read_words` says that a
+//! request is that command with those values, that there are 1 to 64 workers, that a window has
+//! from 1 to 65,536 clocks, and that so many attempts are explained at most. Words of which
+//! `asks_for_version` holds are answered with `VERSION`, and ask for nothing else. Not promised:
+//! which words are refused, and with what text; tests show that.
 #![tactic(auto)]
 
 mod command;
 mod fault;
 mod read;
+mod release;
 mod request;
 
 pub use fault::WordsFault;
 pub use read::read_words;
+pub use release::{VERSION, asks_for_version};
 pub use request::Request;

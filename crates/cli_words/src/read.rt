@@ -57,6 +57,8 @@ fn check_request(alloc: Global, options: &ArgMatches) -> Result<Request, WordsFa
         axi: option_of(alloc, options, "axi")?,
         workers,
         window,
+        junit: option_of(alloc, options, "junit")?,
+        json: option_of(alloc, options, "json")?,
     })
 }
 

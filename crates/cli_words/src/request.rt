@@ -14,6 +14,10 @@ pub enum Request {
         workers: u64,
         /// From 1 to 65,536.
         window: u64,
+        /// The file into which the report is written as JUnit's XML.
+        junit: Option<String>,
+        /// The file into which the report is written as JSON.
+        json: Option<String>,
     },
     /// Writes the bytecode of one assertion of a text into a file.
     Build {

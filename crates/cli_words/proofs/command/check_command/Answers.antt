@@ -4,8 +4,14 @@ use Rattle.cli_words.proofs.command.check_command.Goals as goal
 
 pub returns : goal.returns
 returns c =
-    let team =
+    let workers =
     one_option _ _ _ _ _ c.in_ok-arg.ensures c.in_ok-text_command.ensures c.workers_option.ensures.rule
     c.workers_option.ensures.local in
-    IfOk-weaker c.arg-2.result _ _
-    (λ r h. one_option _ r _ _ _ h team c.window_option.ensures.rule c.window_option.ensures.local) c.arg-2.ensures
+    let window =
+    one_option _ _ _ _ _ c.in_ok-arg-2.ensures workers c.window_option.ensures.rule c.window_option.ensures.local in
+    let junit =
+    one_option _ _ _ _ _ c.in_ok-arg-3.ensures window c.form_option-junit.ensures.rule
+    c.form_option-junit.ensures.local in
+    IfOk-weaker c.arg-4.result _ _
+    (λ r h. one_option _ r _ _ _ h junit c.form_option-json.ensures.rule c.form_option-json.ensures.local)
+    c.arg-4.ensures

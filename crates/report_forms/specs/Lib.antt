@@ -1,0 +1,6 @@
+pub mod Grown
+pub mod Provenances
+pub mod Outcomes
+pub mod Escapes
+pub mod JsonForm
+pub mod JunitForm
