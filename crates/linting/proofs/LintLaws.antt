@@ -1,5 +1,5 @@
 -- The refusals of a text, as far as a loop has come.
-use Rattle.std.proofs.Common.{◌≡◌, ◌++◌, ◌∷◌, [], ◌+◌, ℕ, List, map, length, None, sym, ap, ◌∙◌, subst, arith, refl}
+use Rattle.std.proofs.Common.{◌≡◌, ◌++◌, ◌∷◌, [], ◌+◌, ℕ, List, map, length, None, sym, ap, ◌∙◌, subst, refl}
 use Rattle.std.proofs.lemmas.List.{map_push, length_push}
 use Rattle.linting.specs.declared.front.Refusal.{Refusal}
 use Rattle.linting.specs.Linted.{AreRefusals, IsTold, more, none, without}
@@ -38,4 +38,5 @@ told-last refuses ends text left rs all r before refused pushed =
 -- how many there are then
 pub length-more : (rs all : List Refusal) (r : Refusal) (n : ℕ) → all ≡ rs ++ r ∷ [] → length rs ≡ n
     → length all ≡ n + 1
-length-more rs all r n pushed long = ap (λ (xs : List Refusal). length xs) pushed ∙ length_push rs r ∙ ap (λ (k : ℕ). k + 1) long
+length-more rs all r n pushed long =
+    ap (λ (xs : List Refusal). length xs) pushed ∙ length_push rs r ∙ ap (λ (k : ℕ). k + 1) long

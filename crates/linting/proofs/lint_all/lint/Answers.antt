@@ -1,4 +1,4 @@
-use Rattle.std.proofs.Common.{◌≡◌, [], ◌+◌, ℕ, List, length, sym, ap, ◌∙◌, subst, refl, arith}
+use Rattle.std.proofs.Common.{◌≡◌, [], ◌+◌, ℕ, List, length, sym, ap, ◌∙◌, subst, arith}
 use Rattle.linting.specs.declared.front.Refusal.{Refusal}
 use Rattle.linting.specs.Blanked.{blanked}
 use Rattle.linting.specs.Linted.{without}
