@@ -1,8 +1,8 @@
 -- What a run over a source, a text and a sink comes to.
-use Rattle.std.specs.Prelude.{◌≡◌, ℕ, ◌≤◌, List, string_bytes, false}
+use Rattle.std.specs.Prelude.{◌≡◌, ℕ, ◌≤◌, List, None, string_bytes, false}
 use Rattle.std.specs.Io.KnownBytes.{Appends}
-use Rattle.signals.specs.Source.{after_failure}
-use Rattle.signals.specs.Sink.{AppendsFront}
+use Rattle.signals.specs.Source.{SourceState, after_failure}
+use Rattle.signals.specs.Sink.{SinkState, AppendsFront}
 use Rattle.lexer.specs.declared.token.Token.{Token}
 use Rattle.lexer.specs.Covering.{IsFaulty}
 use Rattle.parser_grammar.specs.Trees.{ItemForm}
@@ -30,7 +30,7 @@ use Rattle.cli_faults.specs.declared.fault.Fault.TheVariants.{Vcd, Lex, Parse, T
 use Rattle.cli_faults.specs.declared.fault.Fault.TheVariants.{BadSize, BadWorkers, BadJob, Window}
 use Rattle.cli_faults.specs.declared.fault.Fault.TheVariants.{Report}
 use Rattle.cli_faults.specs.declared.fault.Fault.TheVariants.{Memory}
-use Rattle.cli_faults.specs.Runs.{Run, totals_of, IsUnwritten, IsUnread, IsOutOfMemory}
+use Rattle.cli_faults.specs.Runs.{Run, run_of, totals_of, IsUnwritten, IsUnread, IsOutOfMemory}
 use Rattle.cli_faults.specs.Runs.{IsOutOfRange, IsUntouched}
 use Rattle.workers_core.specs.Values.{IsBadTeam}
 use Rattle.cli.specs.Named.{scope_over}
@@ -48,6 +48,20 @@ pub record IsAnswered (r : Run) (totals : List ℕ) : Type 0 where
   pub reads : r.source_after.failures ≡ r.source_before.failures
   pub writes : r.sink_after.failures ≡ r.sink_before.failures
   pub flushed : r.sink_after.keeps_back ≡ false
+
+-- The source gave all its bytes, and this is the report on them and on the text. No call failed.
+pub record IsMade (text : List ℕ) (before after : SourceState) (report : ReportData) : Type 0 where
+  pub bytes : List ℕ
+  pub gave : Gave before.remaining after.remaining bytes
+  pub is_report : IsReport bytes text report
+  pub reads : after.failures ≡ before.failures
+
+-- a run that writes nothing, whatever its sink is
+abbrev pub no_sink : SinkState
+no_sink = record { contents = None; failures = 0; keeps_back = false }
+
+abbrev pub reading_of : List ℕ → SourceState → SourceState → Run
+reading_of text before after = run_of text before after no_sink no_sink
 
 -- the text has tokens, no file spells them, and the fault stands at one of them
 pub record HasNoItems (text : List ℕ) (fault : ParseFault) : Type 0 where

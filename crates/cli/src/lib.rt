@@ -3,6 +3,7 @@
 //! ```text
 //! let totals = check_one(alloc, &mut dump, text, 1024, &mut out)?;  // the report
 //! let totals = check_all(&rt, alloc, &mut dump, text, 4, 1024, &gate, &mut out)?; // by 4 workers
+//! let timed = report_all(&rt, alloc, &mut dump, text, 4, 1024, &gate)?;   // and times of clocks
 //! let totals = judge_one(alloc, &mut dump, text, &mut out)?;        // the same, by the slow judge
 //! let bytes = build_one(alloc, &mut dump, text, "grant")?;          // an assertion's program
 //! let count = explain_one(alloc, &mut dump, text, "rules.sva", &wanted, &mut out)?;  // failures
@@ -30,6 +31,8 @@ mod heads;
 mod judged;
 mod programs;
 mod text;
+mod timed;
+mod times;
 mod wanted;
 
 pub use build::build_one;
@@ -38,4 +41,5 @@ pub use cli_faults::{Fault, fault_line, status};
 pub use cli_lines::{Gate, NoGate};
 pub use cli_words::{Request, WordsFault, read_words};
 pub use explain::explain_one;
+pub use timed::{TimedReport, report_all};
 pub use wanted::Wanted;

@@ -1,0 +1,25 @@
+use Rattle.std.proofs.Common.{sym, subst}
+use Rattle.cycle_window.specs.Held.{code_in}
+use Rattle.verdicts.specs.Shown.{data_of}
+use Rattle.cli_lines.specs.Lines.{rows_at}
+use Rattle.cli.specs.Outcomes.{WhyNoneByPrograms}
+use Rattle.cli.proofs.ProgramLaws.{team_rows}
+use Rattle.cli.proofs.CheckedLaws.{has_report, no_report}
+use Rattle.cli.proofs.timed.timed_by_team.Goals as goal
+
+pub returns-clause-err : goal.returns-clause-err
+returns-clause-err g c = λ k holds.
+    let t = c.in_ok-suite.field-0 in
+    let text = c.args.text.now in
+    subst (WhyNoneByPrograms k text) (sym c.lines_fault.ensures)
+    (no_report k c.args.dump text t.suite (code_in t.clocks) holds (c.in_ok-suite.ensures.says k holds)
+    c.in_ok-suite.ensures.clock c.in-Err.fault c.in-Err.ensures.refused)
+
+pub returns-in-Ok-clause-ok : goal.returns-in-Ok-clause-ok
+returns-in-Ok-clause-ok g c = λ k holds.
+    let t = c.in_ok-suite.field-0 in
+    has_report k c.args.dump c.args.text.now t.suite (code_in t.clocks) holds
+    (c.in_ok-suite.ensures.says k holds) c.in_ok-suite.ensures.clock (data_of c.in-Ok.report)
+    (λ signals named.
+    team_rows t.suite (rows_at k signals (code_in t.clocks)) (data_of c.in-Ok.report)
+    (c.in-Ok.ensures.report k signals holds named))
